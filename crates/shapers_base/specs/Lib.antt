@@ -1,0 +1,6 @@
+pub mod Buffer
+pub mod Category
+pub mod Clusters
+pub mod Glyph
+pub mod Map
+pub mod Refusals

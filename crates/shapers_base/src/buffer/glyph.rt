@@ -1,0 +1,64 @@
+use super::category::hb_unicode_general_category_t;
+
+/// One glyph of the buffer, or before the font's mapping one character.
+#[derive(Clone, Copy, Debug, PartialEq, Eq)]
+pub struct hb_glyph_info_t {
+    /// A character before the font's mapping, a glyph number after it.
+    pub glyph_id: u32,
+    /// The place in the text that the glyph leads back to.
+    pub cluster: u32,
+    /// The features that are on, above the three glyph flags.
+    pub mask: u32,
+    /// The syllable: a serial in the high four bits, the kind in the low four.
+    pub syllable: u8,
+    pub category: u8,
+    pub auxiliary: u8,
+    pub general_category: hb_unicode_general_category_t,
+    pub modified_combining_class: u8,
+    /// The component of a ligature that a mark stands on, 0 to 15.
+    pub lig_comp: u8,
+    pub substituted: bool,
+    pub ligated: bool,
+    pub multiplied: bool,
+    pub ignorable: bool,
+    pub continuation: bool,
+}
+
+impl hb_glyph_info_t {
+    /// All zero, of category Cc, with no marks.
+    pub const DEFAULT: Self = hb_glyph_info_t {
+        glyph_id: 0,
+        cluster: 0,
+        mask: 0,
+        syllable: 0,
+        category: 0,
+        auxiliary: 0,
+        general_category: hb_unicode_general_category_t::Cc,
+        modified_combining_class: 0,
+        lig_comp: 0,
+        substituted: false,
+        ligated: false,
+        multiplied: false,
+        ignorable: false,
+        continuation: false,
+    };
+}
+
+/// Where a glyph is drawn and how far it moves the pen, in font units.
+#[derive(Clone, Copy, Debug, PartialEq, Eq)]
+pub struct GlyphPosition {
+    pub x_advance: i32,
+    pub y_advance: i32,
+    pub x_offset: i32,
+    pub y_offset: i32,
+}
+
+impl GlyphPosition {
+    /// All zero.
+    pub const ZERO: Self = GlyphPosition {
+        x_advance: 0,
+        y_advance: 0,
+        x_offset: 0,
+        y_offset: 0,
+    };
+}

@@ -1,0 +1,37 @@
+ghost use Rattle.std.specs.Prelude.{◌≡◌};
+
+/// A tag of the OpenType registry: four bytes.
+#[derive(Clone, Copy, Debug, PartialEq, Eq)]
+pub struct hb_tag_t(pub [u8; 4]);
+
+impl hb_tag_t {
+    pub fn from_bytes(bytes: [u8; 4]) -> Self
+        ensures { result.0 ≡ bytes }
+    {
+        hb_tag_t(bytes)
+    }
+
+    pub fn to_bytes(self) -> [u8; 4]
+        ensures { result ≡ self.0 }
+    {
+        self.0
+    }
+}
+
+/// A script, by its ISO 15924 code: four bytes, as `Thai`.
+#[derive(Clone, Copy, Debug, PartialEq, Eq)]
+pub struct Script(pub [u8; 4]);
+
+impl Script {
+    pub fn from_bytes(bytes: [u8; 4]) -> Self
+        ensures { result.0 ≡ bytes }
+    {
+        Script(bytes)
+    }
+
+    pub fn to_bytes(self) -> [u8; 4]
+        ensures { result ≡ self.0 }
+    {
+        self.0
+    }
+}
