@@ -1,0 +1,2 @@
+//! Thai and Lao.
+mod sara_am;
