@@ -1,2 +1,3 @@
 pub mod ClusterLemmas
+mod Rows
 pub mod SyllableLemmas

@@ -5,4 +5,5 @@ pub mod Glyph
 pub mod GlyphFlags
 pub mod Map
 pub mod Refusals
+pub mod SyllableLaws
 pub mod Syllables

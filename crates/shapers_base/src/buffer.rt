@@ -26,7 +26,7 @@ pub use glyph::{GlyphPosition, hb_glyph_info_t};
 pub use glyph_flags::glyph_flag;
 pub use level::{BufferClusterLevel, Direction};
 pub use refusal::ShaperError;
-pub use syllables::Span;
+pub use syllables::{Span, syllables_are_runs};
 pub use tag::{Script, hb_tag_t};
 
 /// How many characters of context a buffer keeps on each side.

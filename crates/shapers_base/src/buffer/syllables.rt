@@ -1,6 +1,7 @@
 //! Syllables in the buffer: longest runs of glyphs of equal syllable bytes.
 ghost use Rattle.std.specs.Prelude.{◌≡◌, ◌==◌, ◌+◌, ◌<◌, ◌≤◌, All, is_ok, OnOk, OnErr, IfErr, IsTrue, length, drop, map};
 ghost use Rattle.shapers_base.specs.GlyphFlags.{with_stretch};
+ghost use Rattle.shapers_base.specs.SyllableLaws.{SyllablesAreRuns};
 ghost use Rattle.shapers_base.specs.Syllables.{first_syllable_len, spans_cover, with_spans, with_bytes, span_bytes, has_byte, in_syllable};
 ghost use Rattle.shapers_base.specs.declared.buffer.refusal.ShaperError.TheVariants.{SpansDontCover};
 ghost use Rattle.std.specs.List.{prefix_len, list_any};
@@ -112,3 +113,9 @@ fn set_syllable(glyphs: &mut [hb_glyph_info_t], byte: u8)
         glyph.syllable = byte;
     }
 }
+
+/// The first syllable of a text is the longest run of its byte, and the others are the syllables of
+/// what follows it.
+pub fn syllables_are_runs()
+    ensures { SyllablesAreRuns }
+{}
