@@ -2,7 +2,10 @@ pub mod Buffer
 pub mod Category
 pub mod Clusters
 pub mod Glyph
+pub mod GlyphFlags
 pub mod ListLaws
 pub mod Lists
 pub mod Map
 pub mod Refusals
+pub mod SyllableLaws
+pub mod Syllables
