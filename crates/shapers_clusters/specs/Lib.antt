@@ -1,0 +1,3 @@
+pub mod Appended
+pub mod Joined
+pub mod Merging
