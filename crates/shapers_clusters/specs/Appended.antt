@@ -8,7 +8,7 @@ use Rattle.shapers_base.specs.declared.buffer.glyph.hb_glyph_info_t.{hb_glyph_in
 use Rattle.shapers_base.specs.declared.buffer.level.BufferClusterLevel.{BufferClusterLevel}
 use Rattle.shapers_base.specs.Glyph.{clusters, default_glyph}
 use Rattle.shapers_base.specs.Clusters.{least, first_cluster, last_cluster, in_cluster, flooded, merged, merge, merge_all, merges, stretch_of}
-use Rattle.shapers_clusters.specs.Joined.{opening, opening-clusters, least-le, map-reverse}
+use Rattle.shapers_clusters.specs.Joined.{opening, opening-at, opening-clusters, least-le, map-reverse}
 use Rattle.shapers_clusters.specs.Merging.{length-merge}
 
 flooded-same : (c : ℕ) (gs : List hb_glyph_info_t) → flooded c c gs ≡ gs
@@ -30,10 +30,6 @@ flooded-defaults c m n gs h = elim (cases_eq c m) [
 least-opening : (cs : List ℕ) → 0 < length cs → least cs ≤ opening cs
 least-opening [] h = omega arith
 least-opening (c ∷ cs) h = least-le (c ∷ cs) 0 h
-
-opening-at : (cs : List ℕ) → opening cs ≡ get_or cs 0 0
-opening-at [] = refl
-opening-at (c ∷ cs) = refl
 
 -- the least cluster is at most the last one
 least-last : (gs : List hb_glyph_info_t) → 0 < length gs → least (clusters gs) ≤ last_cluster gs

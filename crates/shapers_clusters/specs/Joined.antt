@@ -59,6 +59,10 @@ pub map-reverse : {X Y : Type 0} (f : X → Y) (xs : List X) → map f (reverse 
 map-reverse f [] = refl
 map-reverse f (x ∷ xs) = ap (map f) (reverse-append (x ∷ []) xs) ∙ map_push f (reverse xs) x ∙ ap (λ l. l ++ f x ∷ []) (map-reverse f xs) ∙ sym (reverse-append (f x ∷ []) (map f xs))
 
+pub opening-at : (cs : List ℕ) → opening cs ≡ get_or cs 0 0
+opening-at [] = refl
+opening-at (c ∷ cs) = refl
+
 pub opening-clusters : (gs : List hb_glyph_info_t) → first_cluster gs ≡ opening (clusters gs)
 opening-clusters [] = refl
 opening-clusters (g ∷ gs) = refl
@@ -86,14 +90,14 @@ pub clusters-merge : (level : BufferClusterLevel) (s e : ℕ) (gs : List hb_glyp
 clusters-merge level s e gs = map-if clusters (merges level && not (nat_lt (e - s) 2)) (merged s e gs) gs _ _ (clusters-merged s e gs) refl
 
 -- how far a flood reaches
-record Flood (c m : ℕ) (xs ys : List ℕ) : Type 0 where
-  end : ℕ
-  within : end ≤ length xs
-  same_length : length ys ≡ length xs
-  old : (j : ℕ) → j < end → get_or xs j 0 ≡ c
-  new : (j : ℕ) → j < end → get_or ys j 0 ≡ m
-  edge : end < length xs → get_or xs end 0 ≢ c
-  rest : (j : ℕ) → end ≤ j → get_or ys j 0 ≡ get_or xs j 0
+pub record Flood (c m : ℕ) (xs ys : List ℕ) : Type 0 where
+  pub end : ℕ
+  pub within : end ≤ length xs
+  pub same_length : length ys ≡ length xs
+  pub old : (j : ℕ) → j < end → get_or xs j 0 ≡ c
+  pub new : (j : ℕ) → j < end → get_or ys j 0 ≡ m
+  pub edge : end < length xs → get_or xs end 0 ≢ c
+  pub rest : (j : ℕ) → end ≤ j → get_or ys j 0 ≡ get_or xs j 0
 
 flood-more : (c m : ℕ) (xs ys : List ℕ) → Flood c m xs ys → Flood c m (c ∷ xs) (m ∷ ys)
 flood-more c m xs ys f = record {
@@ -114,7 +118,7 @@ flood-miss c m xs x n = grind (arith, nat_tests)
 flood-stops : (c m x : ℕ) (xs : List ℕ) → x ≢ c → Flood c m (x ∷ xs) (x ∷ xs)
 flood-stops c m x xs n = record { end = 0; within = omega arith; same_length = refl; old = λ j h. omega arith; new = λ j h. omega arith; edge = λ h. n; rest = λ j h. refl }
 
-flood-is : (c m : ℕ) (xs : List ℕ) → Flood c m xs (flood c m xs)
+pub flood-is : (c m : ℕ) (xs : List ℕ) → Flood c m xs (flood c m xs)
 flood-is c m [] = record { end = 0; within = omega arith; same_length = refl; old = λ j h. omega arith; new = λ j h. omega arith; edge = λ h. omega arith; rest = λ j h. refl }
 flood-is c m (x ∷ xs) =
     let P : List ℕ → Type 0 = λ ys. Flood c m (x ∷ xs) ys in

@@ -1,3 +1,4 @@
 pub mod Appended
 pub mod Joined
 pub mod Merging
+pub mod Spread
