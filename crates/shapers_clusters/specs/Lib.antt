@@ -1,0 +1,6 @@
+pub mod Appended
+pub mod Cuts
+pub mod Joined
+pub mod Merging
+pub mod Neighbours
+pub mod Spread
