@@ -74,9 +74,14 @@ stretch_of_sara_am level am w =
     else if joins_before level && nat_lt 0 am then (am - 1, am + 1) ∷ []
     else []
 
--- the merged stretches, from the left
-abbrev pub sara_am_stretches_after : BufferClusterLevel → List (List hb_glyph_info_t × hb_glyph_info_t) → List (ℕ × ℕ)
-sara_am_stretches_after level each =
-    flat_map (λ p. if is_sara_am p.1.glyph_id then stretch_of_sara_am level (length p.0) (suffix_len (λ g. is_above_base g.glyph_id) p.0) else []) each
+-- what a character at this place merges, with w above-base marks before it
+abbrev pub stretches_at : BufferClusterLevel → ℕ → ℕ → ℕ → List (ℕ × ℕ)
+stretches_at level place u w = if is_sara_am u then stretch_of_sara_am level place w else []
+
+-- the merged stretches, from the left, of glyphs each given with what stands before it
+abbrev pub stretches_of_each : BufferClusterLevel → List (List hb_glyph_info_t × hb_glyph_info_t) → List (ℕ × ℕ)
+stretches_of_each level each = flat_map (λ p. stretches_at level (length p.0) p.1.glyph_id (suffix_len (λ g. is_above_base g.glyph_id) p.0)) each
+
+-- the merged stretches of a text, from the left
 abbrev pub sara_am_stretches : BufferClusterLevel → List hb_glyph_info_t → List (ℕ × ℕ)
-sara_am_stretches level gs = sara_am_stretches_after level (each_after [] gs)
+sara_am_stretches level gs = stretches_of_each level (each_after [] gs)
