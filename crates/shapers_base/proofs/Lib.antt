@@ -1,1 +1,2 @@
 pub mod ClusterLemmas
+pub mod MapLemmas

@@ -3,4 +3,5 @@ pub mod Category
 pub mod Clusters
 pub mod Glyph
 pub mod Map
+pub mod Planner
 pub mod Refusals
