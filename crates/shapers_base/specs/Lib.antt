@@ -6,6 +6,7 @@ pub mod GlyphFlags
 pub mod ListLaws
 pub mod Lists
 pub mod Map
+pub mod Planner
 pub mod Refusals
 pub mod SyllableLaws
 pub mod Syllables
