@@ -1,2 +1,3 @@
+pub mod FormLaws
 pub mod SaraAm
 pub mod Stretches

@@ -1,4 +1,5 @@
 //! Thai and Lao.
+mod forms;
 mod sara_am;
 
 pub use sara_am::rewrite_sara_am;
