@@ -1,3 +1,4 @@
 pub mod FormLaws
+pub mod FormWalks
 pub mod SaraAm
 pub mod Stretches
