@@ -40,19 +40,31 @@ falls_into m g h = elim (cases_lt m g.cluster) [
     | inr l ↦ let P : ℕ → Type 0 = λ m. FallsTo g (in_cluster m g) in let e : g.cluster ≡ m = omega arith in subst P e (let Q : hb_glyph_info_t → Type 0 = FallsTo g in subst Q (sym (in_cluster-same g)) (falls-same g)) ]
 
 in_cluster-twice : (a b : ℕ) (g : hb_glyph_info_t) → a ≤ b → b ≤ g.cluster → in_cluster a (in_cluster b g) ≡ in_cluster a g
-in_cluster-twice a b g h i = ?
+in_cluster-twice a b g h i = elim (cases_lt b g.cluster) [
+      inr l ↦ let e : g.cluster ≡ b = omega arith in ap (in_cluster a) (ap (λ k. in_cluster k g) (sym e) ∙ in_cluster-same g)
+    | inl l ↦ elim (cases_lt a b) [
+        inl k ↦ ap (in_cluster a) (in_cluster-other b g l) ∙ in_cluster-other a (record g { cluster = b; mask = without_flags g.mask }) k
+          ∙ ap (λ (x : ℕ). record g { cluster = a; mask = x }) (without_flags-twice g.mask) ∙ sym (in_cluster-other a g (omega arith))
+      | inr k ↦ let e : b ≡ a = omega arith in ap (λ k. in_cluster k (in_cluster b g)) (sym e) ∙ ap (in_cluster b) (in_cluster-other b g l) ∙ in_cluster-same (record g { cluster = b; mask = without_flags g.mask })
+          ∙ sym (in_cluster-other b g l) ∙ ap (λ k. in_cluster k g) e ] ]
 
 falls_on : (x y z : hb_glyph_info_t) → FallsTo x y → FallsTo y z → FallsTo x z
 falls_on x y z h i = (omega (arith, h.0, i.0), i.1 ∙ ap (in_cluster z.cluster) h.1 ∙ in_cluster-twice z.cluster y.cluster x i.0 h.0)
 
-pub flags_fall : (x y : hb_glyph_info_t) → FallsTo x y → FlagsFall x y
-flags_fall x y h = ?
+flags-without : (n : ℕ) → without_flags n % 8 ≡ 0
+flags-without n = omega arith
 
-all_same : (gs : List hb_glyph_info_t) → AllZip FallsTo gs gs
+pub flags_fall : (x y : hb_glyph_info_t) → FallsTo x y → FlagsFall x y
+flags_fall x y h = record {
+    at_most = h.0;
+    fell = λ l. ap (λ g. g.mask % 8) (h.1 ∙ in_cluster-other y.cluster x l) ∙ flags-without x.mask;
+    kept = λ e. ap (λ g. g.mask % 8) (h.1 ∙ ap (λ k. in_cluster k x) e ∙ in_cluster-same x) }
+
+pub all_same : (gs : List hb_glyph_info_t) → AllZip FallsTo gs gs
 all_same [] = tt
 all_same (g ∷ gs) = (falls-same g, all_same gs)
 
-all_on : (xs ys zs : List hb_glyph_info_t) → AllZip FallsTo xs ys → AllZip FallsTo ys zs → AllZip FallsTo xs zs
+pub all_on : (xs ys zs : List hb_glyph_info_t) → AllZip FallsTo xs ys → AllZip FallsTo ys zs → AllZip FallsTo xs zs
 all_on [] [] [] h i = tt
 all_on [] [] (z ∷ zs) h i = absurd i
 all_on [] (y ∷ ys) zs h i = absurd h
