@@ -1,1 +1,3 @@
 pub mod ClusterLemmas
+mod Rows
+pub mod SyllableLemmas

@@ -2,5 +2,8 @@ pub mod Buffer
 pub mod Category
 pub mod Clusters
 pub mod Glyph
+pub mod GlyphFlags
 pub mod Map
 pub mod Refusals
+pub mod SyllableLaws
+pub mod Syllables
