@@ -2,6 +2,8 @@
 use crate::command::ShaperName;
 use crate::font::LineFont;
 use shapers_base::buffer::{Script, hb_tag_t, hb_unicode_general_category_t};
+use shapers_base::map::hb_ot_map_t;
+use shapers_base::plan::hb_ot_shape_plan_t;
 use std::alloc::{AllocError, Global};
 use std::collections::BTreeMap;
 
@@ -79,6 +81,14 @@ impl Settings {
             pairs: Vec::new(alloc),
             spans: Vec::new(alloc),
             font: LineFont::new(alloc),
+        }
+    }
+
+    /// The plan of these settings.
+    pub fn plan(&self) -> hb_ot_shape_plan_t {
+        hb_ot_shape_plan_t {
+            script: self.script,
+            ot_map: hb_ot_map_t::new(self.found),
         }
     }
 

@@ -270,3 +270,37 @@ fn ends_on_broken_streams(rt: HostRuntime) -> Result<(), Fail> {
     assert!(rt; written.is_empty());
     Ok(())
 }
+
+// The lines, with the Thai shaper and `run preprocess`, leave these glyphs with these clusters.
+fn expect_thai(rt: &impl Abort, alloc: Global, lines: &str, glyphs: &[&str]) -> Result<(), Fail> {
+    let input = format!(in alloc; "set shaper thai\n{lines}\nrun preprocess\n")?;
+    let mut output = String::new(alloc);
+    for glyph in glyphs {
+        writeln!(output, "{glyph} 00000000 00 0 0 0")?;
+    }
+    expect_run(rt, alloc, &input, &output, "", 0)
+}
+
+// A SARA AM is taken apart, before the marks that stand on it.
+#[test]
+fn rewrites_thai(rt: HostRuntime) -> Result<(), Fail> {
+    let alloc = rt.alloc();
+    expect_thai(&rt, alloc, "text", &[])?;
+    let marked = ["0e14 0", "0e4d 1", "0e4b 1", "0e32 1"];
+    expect_thai(&rt, alloc, "text 0E14 0E4B 0E33", &marked)?;
+    let found = "set script Thai\nset found yes\ntext 0E14 0E34 0E48 0E33";
+    let twice_marked = ["0e14 0", "0e4d 1", "0e34 1", "0e48 1", "0e32 1"];
+    expect_thai(&rt, alloc, found, &twice_marked)?;
+    let twice = ["0e4d 0", "0e32 0", "0e4d 0", "0e32 0"];
+    expect_thai(&rt, alloc, "text 0E33 0E33", &twice)?;
+    expect_thai(&rt, alloc, "set maxlen 4\ntext 0E33 0E33", &twice)?;
+    let apart = ["0e4d 0", "0e32 0", "0e4d 1", "0e32 1"];
+    expect_thai(&rt, alloc, "set level 1\ntext 0E33 0E33", &apart)?;
+    let lao = ["0e81 0", "0ecd 1", "0ec8 1", "0eb2 1"];
+    expect_thai(&rt, alloc, "text 0E81 0EC8 0EB3", &lao)?;
+    for lines in ["set maxlen 1\ntext 0E33", "set maxlen 3\ntext 0E33 0E33"] {
+        let input = format!(in alloc; "set shaper thai\n{lines}\nrun preprocess\n")?;
+        expect_run(&rt, alloc, &input, "", "refused: TooLong\n", 1)?;
+    }
+    Ok(())
+}
