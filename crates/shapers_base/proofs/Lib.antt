@@ -1,3 +1,5 @@
 pub mod ClusterLemmas
+pub mod MapLemmas
+mod MapRows
 mod Rows
 pub mod SyllableLemmas

@@ -4,6 +4,7 @@ pub mod Clusters
 pub mod Glyph
 pub mod GlyphFlags
 pub mod Map
+pub mod Planner
 pub mod Refusals
 pub mod SyllableLaws
 pub mod Syllables
