@@ -5,16 +5,21 @@ mod hook;
 mod setting;
 
 use crate::fault::LineFault;
-use crate::settings::{CharacterEntry, LookupRange, Span};
+use crate::tables::{CanonicalPair, CharacterEntry};
 use fields::{
     character, decimal, decimal_to, four_characters, general_category, hexadecimal, signed,
 };
 pub use glyph_field::{GlyphField, Marks};
-pub use hook::{HookCall, PauseName};
+pub use hook::HookCall;
 pub use setting::{Setting, ShaperName};
-use shapers_base::buffer::{CONTEXT_LENGTH, hb_tag_t};
+use shapers_base::buffer::{CONTEXT_LENGTH, Span, hb_tag_t};
 use shapers_base::font::GlyphId;
+use shapers_base::plan::hb_arabic_joining_type_t;
 use std::alloc::Global;
+use std::ops::Range;
+
+// How many lookups there may be.
+const LOOKUPS: usize = 65536;
 
 /// The side of the text that a context stands on.
 #[derive(Clone, Copy)]
@@ -33,11 +38,11 @@ pub enum Command {
     /// `table U J GC K P X`: what the tables say of a character.
     Table(char, CharacterEntry),
     /// `pair A B C`: A and B compose to C, and C decomposes to them.
-    Pair(char, char, char),
+    Pair(CanonicalPair),
     /// `mask T M`: a feature's mask.
     Mask(hb_tag_t, u32),
     /// `stage T I I`: a feature's lookups.
-    Stage(hb_tag_t, LookupRange),
+    Stage(hb_tag_t, Range<usize>),
     /// `set K V`
     Set(Setting),
     /// `text U ..`: the characters of the buffer.
@@ -65,7 +70,11 @@ impl Command {
                 character(u)?,
                 character_entry(entry)?,
             )),
-            ["pair", a, b, c] => Ok(Command::Pair(character(a)?, character(b)?, character(c)?)),
+            ["pair", a, b, c] => Ok(Command::Pair(CanonicalPair {
+                first: character(a)?,
+                second: character(b)?,
+                whole: character(c)?,
+            })),
             ["mask", tag, mask] => feature_mask(tag, mask),
             ["stage", tag, first, end] => feature_stage(tag, first, end),
             ["set", key, value] => Ok(Command::Set(Setting::parse(key, value)?)),
@@ -74,8 +83,8 @@ impl Command {
             ["at", place, name, value] => {
                 Ok(Command::At(decimal(place)?, GlyphField::parse(name, value)?))
             }
-            ["span", length, kind] => Ok(Command::Span(Span {
-                length: decimal(length)?,
+            ["span", len, kind] => Ok(Command::Span(Span {
+                len: decimal::<u32>(len)? as usize,
                 kind: decimal_to(kind, 15)?,
             })),
             ["run", ref call @ ..] => Ok(Command::Run(HookCall::parse(call)?)),
@@ -120,10 +129,17 @@ fn character_entry(fields: &[&str]) -> Result<CharacterEntry, LineFault> {
 }
 
 // A joining type, by its number; there is no 6.
-fn joining_type(field: &str) -> Result<u8, LineFault> {
-    match decimal_to(field, 8)? {
-        6 => Err(LineFault::Unreadable),
-        number => Ok(number),
+fn joining_type(field: &str) -> Result<hb_arabic_joining_type_t, LineFault> {
+    match decimal(field)? {
+        0 => Ok(hb_arabic_joining_type_t::U),
+        1 => Ok(hb_arabic_joining_type_t::L),
+        2 => Ok(hb_arabic_joining_type_t::R),
+        3 => Ok(hb_arabic_joining_type_t::D),
+        4 => Ok(hb_arabic_joining_type_t::GroupAlaph),
+        5 => Ok(hb_arabic_joining_type_t::GroupDalathRish),
+        7 => Ok(hb_arabic_joining_type_t::T),
+        8 => Ok(hb_arabic_joining_type_t::X),
+        _ => Err(LineFault::Unreadable),
     }
 }
 
@@ -138,14 +154,11 @@ fn feature_mask(tag: &str, mask: &str) -> Result<Command, LineFault> {
 
 // A feature and its lookups, from the first to the end, which isn't among them.
 fn feature_stage(tag: &str, first: &str, end: &str) -> Result<Command, LineFault> {
-    let lookups = LookupRange {
-        first: decimal(first)?,
-        end: decimal(end)?,
-    };
-    if lookups.first > lookups.end || lookups.end > 0x10000 {
+    let (first, end) = (decimal(first)?, decimal(end)?);
+    if first > end || end > LOOKUPS {
         return Err(LineFault::Unreadable);
     }
-    Ok(Command::Stage(hb_tag_t(four_characters(tag)?), lookups))
+    Ok(Command::Stage(hb_tag_t(four_characters(tag)?), first..end))
 }
 
 // A side, and the characters there, of which a buffer keeps no more than a few.

@@ -51,6 +51,9 @@ impl From<AllocError> for Fault {
 }
 
 impl Fault {
+    ghost use Rattle.std.specs.Prelude.{◌≡◌};
+    ghost use Rattle.hbhook.specs.Fault.{status_of};
+
     /// The fault of the line of this number.
     pub fn on_line(fault: LineFault, number: usize) -> Self {
         match fault {
@@ -60,7 +63,9 @@ impl Fault {
     }
 
     /// The status that a run with this fault ends with.
-    pub fn status(self) -> u8 {
+    pub fn status(self) -> u8
+        ensures { result ≡ status_of self }
+    {
         match self {
             Fault::Refused(_) => 1,
             Fault::Unreadable(_) | Fault::Broken => 2,

@@ -7,6 +7,7 @@ mod font;
 mod printing;
 mod session;
 mod settings;
+mod tables;
 #[cfg(test)]
 mod tests;
 

@@ -5,7 +5,7 @@ use crate::printing::print_buffer;
 use crate::settings::Settings;
 use rustybuzz_shapers::shaper::{THAI_SHAPER, hb_ot_shaper_t};
 use shapers_base::buffer::{GlyphPosition, hb_buffer_t, hb_glyph_info_t};
-use shapers_base::font::{GlyphId, hb_font_t};
+use shapers_base::font::{GlyphId, Tables, hb_font_t};
 use shapers_base::plan::Preprocess;
 use std::alloc::{AllocError, Global};
 
@@ -38,10 +38,8 @@ impl Session {
                 settings.font.add_glyph(character, glyph, advance)?;
             }
             Command::Applies(lookup, glyphs) => settings.font.add_applied(lookup, glyphs)?,
-            Command::Table(character, entry) => {
-                settings.table.insert(character, entry)?;
-            }
-            Command::Pair(a, b, c) => settings.pairs.push((a, b, c))?,
+            Command::Table(character, entry) => settings.tables.set_entry(character, entry)?,
+            Command::Pair(pair) => settings.tables.add_pair(pair)?,
             Command::Mask(tag, mask) => settings.set_mask(tag, mask)?,
             Command::Stage(tag, lookups) => settings.set_lookups(tag, lookups)?,
             Command::Set(setting) => self.set(setting)?,
@@ -125,7 +123,7 @@ impl Session {
             self.buffer.push(hb_glyph_info_t {
                 glyph_id: u32::from(*character),
                 cluster: u32::try_from(i).map_err(|_| LineFault::Unreadable)?,
-                general_category: self.settings.character_entry(*character).general_category,
+                general_category: self.settings.tables.general_category(*character),
                 ..hb_glyph_info_t::DEFAULT
             })?;
         }
@@ -177,7 +175,7 @@ impl Session {
         if self.buffer.positions_len() > 0 {
             return Err(LineFault::Unreadable);
         }
-        let plan = self.settings.plan();
+        let plan = self.settings.plan()?;
         let answer = shaper.preprocess_text(&plan, &self.settings.font, &mut self.buffer)?;
         match answer {
             Some(Preprocess::Done) => {}

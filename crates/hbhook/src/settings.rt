@@ -1,53 +1,22 @@
 //! What the lines have set so far, but for what the buffer keeps.
+ghost use Rattle.std.specs.Prelude.{◌≡◌, IfOk};
+
 use crate::command::ShaperName;
+use crate::fault::LineFault;
 use crate::font::LineFont;
-use shapers_base::buffer::{Script, hb_tag_t, hb_unicode_general_category_t};
-use shapers_base::map::hb_ot_map_t;
-use shapers_base::plan::hb_ot_shape_plan_t;
+use crate::tables::LineTables;
+use shapers_base::buffer::{Script, Span, hb_tag_t};
+use shapers_base::map::{feature_map_t, hb_ot_map_t};
+use shapers_base::plan::{PlanData, hb_ot_shape_plan_t};
 use std::alloc::{AllocError, Global};
-use std::collections::BTreeMap;
+use std::ops::Range;
 
-/// What the tables say of a character.
-#[derive(Clone, Copy)]
-pub struct CharacterEntry {
-    pub joining_type: u8,
-    pub general_category: hb_unicode_general_category_t,
-    pub indic_category: u8,
-    pub indic_position: u8,
-    pub universal_category: u8,
-}
-
-impl CharacterEntry {
-    /// What holds of a character without a line `table`.
-    pub const DEFAULT: Self = CharacterEntry {
-        joining_type: 0,
-        general_category: hb_unicode_general_category_t::Lo,
-        indic_category: 0,
-        indic_position: 14,
-        universal_category: 0,
-    };
-}
-
-/// Lookups by their numbers, from the first to the end, which isn't among them.
-#[derive(Clone, Copy)]
-pub struct LookupRange {
-    pub first: u32,
-    pub end: u32,
-}
-
-/// A syllable to come: how many glyphs, and its kind.
-#[derive(Clone, Copy)]
-pub struct Span {
-    pub length: u32,
-    pub kind: u8,
-}
-
-/// A feature's mask and lookups.
-#[derive(Clone, Copy)]
-pub struct Feature {
-    pub tag: hb_tag_t,
-    pub mask: u32,
-    pub lookups: LookupRange,
+// A feature's mask and lookups.
+#[derive(Drop)]
+struct Feature {
+    tag: hb_tag_t,
+    mask: u32,
+    lookups: Range<usize>,
 }
 
 /// The settings so far.
@@ -59,11 +28,10 @@ pub struct Settings {
     pub found: bool,
     pub gpos_mark: bool,
     pub global_mask: u32,
-    pub features: Vec<Feature>,
-    pub table: BTreeMap<char, CharacterEntry>,
-    pub pairs: Vec<(char, char, char)>,
-    pub spans: Vec<Span>,
     pub font: LineFont,
+    pub tables: LineTables,
+    pub spans: Vec<Span>,
+    features: Vec<Feature>,
 }
 
 impl Settings {
@@ -76,26 +44,56 @@ impl Settings {
             found: false,
             gpos_mark: false,
             global_mask: 0,
-            features: Vec::new(alloc),
-            table: BTreeMap::new(alloc),
-            pairs: Vec::new(alloc),
-            spans: Vec::new(alloc),
             font: LineFont::new(alloc),
+            tables: LineTables::new(alloc),
+            spans: Vec::new(alloc),
+            features: Vec::new(alloc),
         }
     }
 
     /// The plan of these settings.
-    pub fn plan(&self) -> hb_ot_shape_plan_t {
-        hb_ot_shape_plan_t {
+    pub fn plan(&self) -> Result<hb_ot_shape_plan_t, LineFault>
+        ensures script { IfOk result (λ plan. plan.script ≡ self.now.script) }
+        ensures found { IfOk result (λ plan. plan.ot_map.found ≡ self.now.found) }
+        ensures chosen { IfOk result (λ plan. plan.ot_map.chosen ≡ self.now.chosen) }
+        ensures global { IfOk result (λ plan. plan.ot_map.global ≡ self.now.global_mask) }
+        ensures gpos_mark { IfOk result (λ plan. plan.has_gpos_mark ≡ self.now.gpos_mark) }
+    {
+        Ok(hb_ot_shape_plan_t {
             script: self.script,
-            ot_map: hb_ot_map_t::new(self.found),
-        }
+            ot_map: self.map()?,
+            has_gpos_mark: self.gpos_mark,
+            plan_data: PlanData::None,
+        })
     }
 
-    /// What the tables say of a character.
-    pub fn character_entry(&self, character: char) -> CharacterEntry {
-        let entry = self.table.get(&character).copied();
-        entry.unwrap_or(CharacterEntry::DEFAULT)
+    // The map: the stage of a feature is its place, and place i of the list of lookups is lookup i.
+    fn map(&self) -> Result<hb_ot_map_t, LineFault>
+        ensures found { IfOk result (λ map. map.found ≡ self.now.found) }
+        ensures chosen { IfOk result (λ map. map.chosen ≡ self.now.chosen) }
+        ensures global { IfOk result (λ map. map.global ≡ self.now.global_mask) }
+    {
+        let alloc = *self.features.allocator();
+        let features = self.features.iter().enumerate().map(|(stage, feature)| feature_map_t {
+            tag: feature.tag,
+            mask: feature.mask,
+            stage,
+        });
+        let features = features.collect(alloc)?;
+        let stages = self
+            .features
+            .iter()
+            .map(|feature| feature.lookups.start..feature.lookups.end);
+        let stages = stages.collect(alloc)?;
+        let lookups = self
+            .features
+            .iter()
+            .map(|feature| feature.lookups.end)
+            .max();
+        let lookups = (0..=u16::MAX).take(lookups.unwrap_or(0)).collect(alloc)?;
+        let (global, chosen) = (self.global_mask, self.chosen);
+        let map = hb_ot_map_t::new(features, stages, lookups, global, chosen, self.found);
+        map.ok_or(LineFault::Unreadable)
     }
 
     /// Sets a feature's mask.
@@ -106,13 +104,13 @@ impl Settings {
                 return Ok(());
             }
         }
-        let lookups = LookupRange { first: 0, end: 0 };
+        let lookups = 0..0;
         self.features.push(Feature { tag, mask, lookups })?;
         Ok(())
     }
 
     /// Sets a feature's lookups.
-    pub fn set_lookups(&mut self, tag: hb_tag_t, lookups: LookupRange) -> Result<(), AllocError> {
+    pub fn set_lookups(&mut self, tag: hb_tag_t, lookups: Range<usize>) -> Result<(), AllocError> {
         for feature in self.features.iter_mut() {
             if feature.tag == tag {
                 feature.lookups = lookups;

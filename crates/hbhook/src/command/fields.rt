@@ -1,4 +1,6 @@
 //! What a field of a line may be: a number, a character, a tag, a word of a list.
+ghost use Rattle.std.specs.Prelude.{◌≤◌, IfOk};
+
 use crate::fault::LineFault;
 use shapers_base::buffer::hb_unicode_general_category_t;
 use std::str::FromStr;
@@ -15,7 +17,9 @@ where
 }
 
 /// A number from 0 to `last`, in decimal digits alone.
-pub fn decimal_to(field: &str, last: u8) -> Result<u8, LineFault> {
+pub fn decimal_to(field: &str, last: u8) -> Result<u8, LineFault>
+    ensures { IfOk result (λ number. number ≤ last) }
+{
     let number = decimal(field)?;
     if number > last {
         return Err(LineFault::Unreadable);

@@ -1,26 +1,7 @@
 //! The lines `run NAME ..`.
 use super::fields::{character, decimal};
 use crate::fault::LineFault;
-
-/// The pauses, by name.
-#[derive(Clone, Copy)]
-pub enum PauseName {
-    SetupSyllablesIndic,
-    SetupSyllablesKhmer,
-    SetupSyllablesMyanmar,
-    SetupSyllablesUse,
-    InitialReordering,
-    FinalReordering,
-    ReorderKhmer,
-    ReorderMyanmar,
-    ReorderUse,
-    RecordRphf,
-    RecordPref,
-    RecordStch,
-    ArabicFallbackShape,
-    SyllabicClearVar,
-    ClearSubstitutionFlags,
-}
+use shapers_base::plan::Pause;
 
 /// A hook or a pause, and what it is asked.
 #[derive(Clone, Copy)]
@@ -32,7 +13,7 @@ pub enum HookCall {
     Marks(usize, usize),
     Compose(char, char),
     Decompose(char),
-    Pause(PauseName),
+    Pause(Pause),
 }
 
 impl HookCall {
@@ -51,23 +32,23 @@ impl HookCall {
     }
 }
 
-fn pause_name(name: &str) -> Result<PauseName, LineFault> {
+fn pause_name(name: &str) -> Result<Pause, LineFault> {
     match name {
-        "setup_syllables_indic" => Ok(PauseName::SetupSyllablesIndic),
-        "setup_syllables_khmer" => Ok(PauseName::SetupSyllablesKhmer),
-        "setup_syllables_myanmar" => Ok(PauseName::SetupSyllablesMyanmar),
-        "setup_syllables_use" => Ok(PauseName::SetupSyllablesUse),
-        "initial_reordering" => Ok(PauseName::InitialReordering),
-        "final_reordering" => Ok(PauseName::FinalReordering),
-        "reorder_khmer" => Ok(PauseName::ReorderKhmer),
-        "reorder_myanmar" => Ok(PauseName::ReorderMyanmar),
-        "reorder_use" => Ok(PauseName::ReorderUse),
-        "record_rphf" => Ok(PauseName::RecordRphf),
-        "record_pref" => Ok(PauseName::RecordPref),
-        "record_stch" => Ok(PauseName::RecordStch),
-        "arabic_fallback_shape" => Ok(PauseName::ArabicFallbackShape),
-        "syllabic_clear_var" => Ok(PauseName::SyllabicClearVar),
-        "clear_substitution_flags" => Ok(PauseName::ClearSubstitutionFlags),
+        "setup_syllables_indic" => Ok(Pause::SetupSyllablesIndic),
+        "setup_syllables_khmer" => Ok(Pause::SetupSyllablesKhmer),
+        "setup_syllables_myanmar" => Ok(Pause::SetupSyllablesMyanmar),
+        "setup_syllables_use" => Ok(Pause::SetupSyllablesUse),
+        "initial_reordering" => Ok(Pause::InitialReordering),
+        "final_reordering" => Ok(Pause::FinalReordering),
+        "reorder_khmer" => Ok(Pause::ReorderKhmer),
+        "reorder_myanmar" => Ok(Pause::ReorderMyanmar),
+        "reorder_use" => Ok(Pause::ReorderUse),
+        "record_rphf" => Ok(Pause::RecordRphf),
+        "record_pref" => Ok(Pause::RecordPref),
+        "record_stch" => Ok(Pause::RecordStch),
+        "arabic_fallback_shape" => Ok(Pause::ArabicFallbackShape),
+        "syllabic_clear_var" => Ok(Pause::SyllabicClearVar),
+        "clear_substitution_flags" => Ok(Pause::ClearSubstitutionFlags),
         _ => Err(LineFault::Unreadable),
     }
 }
