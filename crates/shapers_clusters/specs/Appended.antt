@@ -32,7 +32,7 @@ least-opening [] h = omega arith
 least-opening (c ∷ cs) h = least-le (c ∷ cs) 0 h
 
 -- the least cluster is at most the last one
-least-last : (gs : List hb_glyph_info_t) → 0 < length gs → least (clusters gs) ≤ last_cluster gs
+pub least-last : (gs : List hb_glyph_info_t) → 0 < length gs → least (clusters gs) ≤ last_cluster gs
 least-last gs h =
     let e : last_cluster gs ≡ get_or (reverse (clusters gs)) 0 0 = opening-clusters (reverse gs) ∙ ap opening (map-reverse (λ g. g.cluster) gs) ∙ opening-at (reverse (clusters gs)) in
     let n : length (clusters gs) ≡ length gs = length-map gs (λ g. g.cluster) in

@@ -33,7 +33,7 @@ length-merge_all level (st ∷ sts) gs h =
     let e = length-merge level st.0 st.1 gs h.0 in
     length-merge_all level sts (merge level st.0 st.1 gs) (let P : ℕ → Type 0 = λ n. AllByRecursion (λ st. st.1 ≤ n) sts in subst P (sym e) h.1) ∙ e
 
-without_flags-twice : (n : ℕ) → without_flags (without_flags n) ≡ without_flags n
+pub without_flags-twice : (n : ℕ) → without_flags (without_flags n) ≡ without_flags n
 without_flags-twice n = omega arith
 
 plain-in_cluster : (m : ℕ) (g : hb_glyph_info_t) → plain (in_cluster m g) ≡ plain g

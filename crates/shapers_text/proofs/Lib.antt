@@ -1,4 +1,4 @@
-pub mod FormLaws
-pub mod FormWalks
-pub mod SaraAm
-pub mod Stretches
+pub mod ThaiFormLaws
+pub mod ThaiFormWalks
+pub mod ThaiSaraAm
+pub mod ThaiStretches

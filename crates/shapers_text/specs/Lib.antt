@@ -1,3 +1,3 @@
-pub mod Forms
-pub mod Rewriting
 pub mod Thai
+pub mod ThaiForms
+pub mod ThaiRewriting

@@ -1,9 +1,9 @@
 -- One more place of the walk, and the end.
 use Rattle.std.proofs.Common.{◌≡◌, ◌∙◌, ◌∷◌, [], cond, sym, ap, arith}
 use Rattle.shapers_base.specs.Buffer.{Buffer}
-use Rattle.shapers_text.specs.Forms.{is_thai_mark, stretch_of_mark, unsafe_all}
-use Rattle.shapers_text.proofs.Stretches.{with_glyphs, same_fields}
-use Rattle.shapers_text.proofs.FormWalks.{flagging_step}
+use Rattle.shapers_text.specs.ThaiForms.{is_thai_mark, stretch_of_mark, unsafe_all}
+use Rattle.shapers_text.proofs.ThaiStretches.{with_glyphs, same_fields}
+use Rattle.shapers_text.proofs.ThaiFormWalks.{flagging_step}
 use Rattle.shapers_text.proofs.ot_shaper_thai.forms.flag_marks.Goals.{then-is_mark, else-is_mark}
 use Rattle.shapers_text.proofs.ot_shaper_thai.forms.flag_marks.Goals as goal
 

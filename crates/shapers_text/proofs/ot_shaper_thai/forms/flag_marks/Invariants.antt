@@ -1,6 +1,6 @@
 -- The flags set, and those to come.
 use Rattle.std.proofs.Common.{◌≡◌}
-use Rattle.shapers_text.proofs.FormWalks.{Flagging}
+use Rattle.shapers_text.proofs.ThaiFormWalks.{Flagging}
 use Rattle.shapers_text.proofs.ot_shaper_thai.forms.flag_marks.Given as goal
 
 abbrev pub invariant-loop-i : goal.invariant-loop-i

@@ -1,6 +1,6 @@
 -- The forms so far, and the text that is left.
 use Rattle.std.proofs.Common.{◌≡◌, is_some}
-use Rattle.shapers_text.proofs.FormWalks.{Shaping}
+use Rattle.shapers_text.proofs.ThaiFormWalks.{Shaping}
 use Rattle.shapers_text.proofs.ot_shaper_thai.forms.shape_marks.Given as goal
 
 abbrev pub invariant-loop-i : goal.invariant-loop-i

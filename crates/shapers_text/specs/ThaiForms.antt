@@ -2,10 +2,12 @@
 use Rattle.std.specs.Prelude.{ℕ, ◌-◌, ◌+◌, Bool, ◌||◌, ◌&&◌, not, ◌==◌, nat_le, true, false, List, [], ◌∷◌, ◌++◌, length, reverse, map, flat_map, take_while, count_by, find, zip, slice_index_or, slice_set, Option, None, Some, if◌then◌else◌}
 use Rattle.std.specs.List.{list_any, suffix_len}
 use Rattle.shapers_base.specs.declared.buffer.glyph.hb_glyph_info_t.{hb_glyph_info_t}
-use Rattle.shapers_base.specs.declared.buffer.tag.Script.{Script}
+use Rattle.shapers_base.specs.declared.buffer.level.BufferClusterLevel.{BufferClusterLevel}
 use Rattle.shapers_base.specs.Glyph.{default_glyph}
+use Rattle.shapers_base.specs.Clusters.{merge_all}
 use Rattle.shapers_base.specs.GlyphFlags.{unsafe_inside}
 use Rattle.shapers_base.specs.Lists.{last_run, before_last_run, each_after}
+use Rattle.shapers_text.specs.Thai.{rewritten, sara_am_stretches}
 use Rattle.shapers_text.specs.declared.ot_shaper_thai.forms.Consonant.{Consonant}
 use Rattle.shapers_text.specs.declared.ot_shaper_thai.forms.Consonant.TheVariants.{NC, AC, RC, DC, NotConsonant}
 use Rattle.shapers_text.specs.declared.ot_shaper_thai.forms.Mark.{Mark}
@@ -205,6 +207,8 @@ unsafe_all (st ∷ sts) gs = unsafe_all sts (unsafe_inside st.0 st.1 gs)
 abbrev pub pua_shaped : (ℕ → Bool) → List hb_glyph_info_t → List hb_glyph_info_t
 pua_shaped has gs = with_forms has (unsafe_all (mark_stretches (characters gs)) gs)
 
--- whether the script is Thai
-abbrev pub thai_script : Script
-thai_script = record { 0 = 0x54 ∷ 0x68 ∷ 0x61 ∷ 0x69 ∷ [] }
+-- the whole rewriting, with the private use forms or without
+abbrev pub preprocessed : Bool → (ℕ → Bool) → BufferClusterLevel → List hb_glyph_info_t → List hb_glyph_info_t
+preprocessed forms has level gs =
+    let text = rewritten (merge_all level (sara_am_stretches level gs) gs) in
+    if forms then pua_shaped has text else text

@@ -13,9 +13,9 @@ use Rattle.shapers_clusters.specs.Merging.{three_parts}
 use Rattle.shapers_text.specs.declared.ot_shaper_thai.forms.Action.{Action}
 use Rattle.shapers_text.specs.declared.ot_shaper_thai.forms.Base.{Base}
 use Rattle.shapers_text.specs.declared.ot_shaper_thai.forms.Consonant.TheVariants.{NotConsonant}
-use Rattle.shapers_text.proofs.Stretches.{with_glyphs}
-use Rattle.shapers_text.specs.Forms.{stands_above, stands_below, mark_type, is_thai_mark, base_type, marks_above, marks_below, action_of, action_after, shaped_by, forms_between, characters, with_character, with_characters, with_forms, target, form_set, base_after, base_place, stretch_of_mark, mark_stretches_of_each, mark_stretches, unsafe_all}
-use Rattle.shapers_text.proofs.FormLaws.{IsBase, base_push, base_none, base_place_push, length-forms, put, shapes}
+use Rattle.shapers_text.proofs.ThaiStretches.{with_glyphs}
+use Rattle.shapers_text.specs.ThaiForms.{stands_above, stands_below, mark_type, is_thai_mark, base_type, marks_above, marks_below, action_of, action_after, shaped_by, forms_between, characters, with_character, with_characters, with_forms, target, form_set, base_after, base_place, stretch_of_mark, mark_stretches_of_each, mark_stretches, unsafe_all}
+use Rattle.shapers_text.proofs.ThaiFormLaws.{IsBase, base_push, base_none, base_place_push, length-forms, put, shapes}
 
 -- flags leave the characters
 characters-flagged_one : (bits m : ℕ) (g : hb_glyph_info_t) → (with_bits_off bits m g).glyph_id ≡ g.glyph_id
