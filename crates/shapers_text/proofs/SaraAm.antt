@@ -16,8 +16,8 @@ eqb_eq a b h = grind (arith, nat_tests)
 pub apart : (g : hb_glyph_info_t) → is_sara_am g.glyph_id ≡ true → is_above_base g.glyph_id ≡ false
 apart g h =
     elim (or_cases _ _ h) [
-      inl e ↦ ap is_above_base (eqb_eq g.glyph_id 0x0E33 e)
-    | inr e ↦ ap is_above_base (eqb_eq g.glyph_id 0x0EB3 e)
+      | inl e ↦ ap is_above_base (eqb_eq g.glyph_id 0x0E33 e)
+      | inr e ↦ ap is_above_base (eqb_eq g.glyph_id 0x0EB3 e)
     ]
 
 pub take_pushed : (gs : List hb_glyph_info_t) (e : ℕ) (g : hb_glyph_info_t) → 0 < e → e ≤ length gs → g ≡ get_or gs (e - 1) g → take e gs ≡ take (e - 1) gs ++ g ∷ []
@@ -106,11 +106,11 @@ written_next whole gs end pending place end' pending' g w last shorter within =
     let written : drop (place - 1) (set gs (place - 1) g) ≡ behind = drop-set gs (place - 1) g inside ∙ ap (λ n. g ∷ drop n gs) next in
     record {
       joined =
-        ap (λ xs. becomes xs pending' ++ drop (place - 1) (set gs (place - 1) g)) kept
-        ∙ ap (λ xs. after ++ xs) written
-        ∙ sym (append_assoc after (g ∷ []) (drop place gs))
-        ∙ ap (λ xs. xs ++ drop place gs) (sym last)
-        ∙ w.joined;
+          ap (λ xs. becomes xs pending' ++ drop (place - 1) (set gs (place - 1) g)) kept
+          ∙ ap (λ xs. after ++ xs) written
+          ∙ sym (append_assoc after (g ∷ []) (drop place gs))
+          ∙ ap (λ xs. xs ++ drop place gs) (sym last)
+          ∙ w.joined;
       room = ap (λ xs. length (becomes xs pending')) kept ∙ omega arith;
       within = omega (arith, length-set gs (place - 1) g);
     }

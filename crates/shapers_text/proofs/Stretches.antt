@@ -76,7 +76,7 @@ stretches_within_after : (level : BufferClusterLevel) (m : ℕ) (before gs : Lis
 stretches_within_after level m before [] h = tt
 stretches_within_after level m before (g ∷ gs) h =
     all-append m _ _ (within_at level m (length before) g.glyph_id (suffix_len (λ x. is_above_base x.glyph_id) before) (omega arith))
-      (stretches_within_after level m (before ++ g ∷ []) gs (omega (arith, length_push before g)))
+    (stretches_within_after level m (before ++ g ∷ []) gs (omega (arith, length_push before g)))
 
 pub stretches_within : (level : BufferClusterLevel) (gs : List hb_glyph_info_t) → AllByRecursion (λ st. st.1 ≤ length gs) (sara_am_stretches level gs)
 stretches_within level gs = stretches_within_after level (length gs) [] gs (omega arith)
@@ -103,11 +103,11 @@ merging_next level start now len i marks g after marks' within inside m at merge
     let inside_now : i < length now = omega arith in
     let inside_start : i < length start = omega arith in
     let read : g.glyph_id ≡ t.glyph_id =
-      ap (λ x. x.glyph_id) at
-      ∙ sym (get_or-map (λ x. x.glyph_id) now i g 0 inside_now)
-      ∙ ap (λ us. get_or us i 0) m.same_text
-      ∙ get_or-map (λ x. x.glyph_id) start i g 0 inside_start
-      ∙ ap (λ x. x.glyph_id) (sym (get_or-take len start i g inside)) in
+    ap (λ x. x.glyph_id) at
+    ∙ sym (get_or-map (λ x. x.glyph_id) now i g 0 inside_now)
+    ∙ ap (λ us. get_or us i 0) m.same_text
+    ∙ get_or-map (λ x. x.glyph_id) start i g 0 inside_start
+    ∙ ap (λ x. x.glyph_id) (sym (get_or-take len start i g inside)) in
     let before = take i front in
     let behind = drop (i + 1) front in
     let more : take (i + 1) front ≡ before ++ t ∷ [] = take_more front i g inner in
@@ -115,24 +115,24 @@ merging_next level start now len i marks g after marks' within inside m at merge
     let w = suffix_len (λ x. is_above_base x.glyph_id) before in
     let to_come = stretches_of_each level (each_after (take (i + 1) front) behind) in
     let stretches : stretches_of_each level (each_after before (drop i front)) ≡ stretches_at level i g.glyph_id marks ++ to_come =
-      ap (λ xs. stretches_of_each level (each_after before xs)) (drop_more front i g inner)
-      ∙ ap (λ n. stretches_at level n t.glyph_id w ++ stretches_of_each level (each_after (before ++ t ∷ []) behind)) place
-      ∙ ap (λ u. stretches_at level i u w ++ stretches_of_each level (each_after (before ++ t ∷ []) behind)) (sym read)
-      ∙ ap (λ n. stretches_at level i g.glyph_id n ++ stretches_of_each level (each_after (before ++ t ∷ []) behind)) (sym m.marks_before)
-      ∙ ap (λ xs. stretches_at level i g.glyph_id marks ++ stretches_of_each level (each_after xs behind)) (sym more) in
+    ap (λ xs. stretches_of_each level (each_after before xs)) (drop_more front i g inner)
+    ∙ ap (λ n. stretches_at level n t.glyph_id w ++ stretches_of_each level (each_after (before ++ t ∷ []) behind)) place
+    ∙ ap (λ u. stretches_at level i u w ++ stretches_of_each level (each_after (before ++ t ∷ []) behind)) (sym read)
+    ∙ ap (λ n. stretches_at level i g.glyph_id n ++ stretches_of_each level (each_after (before ++ t ∷ []) behind)) (sym m.marks_before)
+    ∙ ap (λ xs. stretches_at level i g.glyph_id marks ++ stretches_of_each level (each_after xs behind)) (sym more) in
     record {
       same_text = ap text merged ∙ text-merge_all level (stretches_at level i g.glyph_id marks) now ∙ m.same_text;
       marks_before =
-        counted
-        ∙ ap (λ n. cond (is_above_base g.glyph_id) n 0) (one_more marks w m.marks_before)
-        ∙ ap (λ u. cond (is_above_base u) (1 + w) 0) read
-        ∙ sym (suffix_len_push (λ x. is_above_base x.glyph_id) before t)
-        ∙ ap (suffix_len (λ x. is_above_base x.glyph_id)) (sym more);
+          counted
+          ∙ ap (λ n. cond (is_above_base g.glyph_id) n 0) (one_more marks w m.marks_before)
+          ∙ ap (λ u. cond (is_above_base u) (1 + w) 0) read
+          ∙ sym (suffix_len_push (λ x. is_above_base x.glyph_id) before t)
+          ∙ ap (suffix_len (λ x. is_above_base x.glyph_id)) (sym more);
       rest =
-        ap (merge_all level to_come) merged
-        ∙ sym (merge_all-append level (stretches_at level i g.glyph_id marks) to_come now)
-        ∙ ap (λ sts. merge_all level sts now) (sym stretches)
-        ∙ m.rest;
+          ap (merge_all level to_come) merged
+          ∙ sym (merge_all-append level (stretches_at level i g.glyph_id marks) to_come now)
+          ∙ ap (λ sts. merge_all level sts now) (sym stretches)
+          ∙ m.rest;
     }
 
 pub merging_marks : (level : BufferClusterLevel) (start now : List hb_glyph_info_t) (len i marks : ℕ) → Merging level start now len i marks → marks ≤ i
@@ -161,7 +161,7 @@ same_fields start mid now gs kept changed =
 pub merging_step : (start mid now : Buffer) (len i marks : ℕ) (g : hb_glyph_info_t) (marks' : ℕ) → len ≤ length start.glyphs → i < len → Merging start.level start.glyphs mid.glyphs len i marks → mid ≡ with_glyphs start mid.glyphs → g ≡ get_or mid.glyphs i g → now ≡ with_glyphs mid (merge_all mid.level (stretches_at mid.level i g.glyph_id marks) mid.glyphs) → marks' ≡ cond (is_above_base g.glyph_id) (marks + 1) 0 → Merging start.level start.glyphs now.glyphs len (i + 1) marks'
 merging_step start mid now len i marks g marks' within inside m kept at changed counted =
     merging_next start.level start.glyphs mid.glyphs len i marks g now.glyphs marks' within inside m at
-      (ap (λ (b : Buffer). b.glyphs) changed ∙ ap (λ (b : Buffer). merge_all b.level (stretches_at b.level i g.glyph_id marks) mid.glyphs) kept) counted
+    (ap (λ (b : Buffer). b.glyphs) changed ∙ ap (λ (b : Buffer). merge_all b.level (stretches_at b.level i g.glyph_id marks) mid.glyphs) kept) counted
 
 -- the text without SARA AM stays, and is as long
 pub unchanged : (level : BufferClusterLevel) (gs : List hb_glyph_info_t) → count_by (λ g. is_sara_am g.glyph_id) gs ≡ 0 → gs ≡ rewritten (merge_all level (sara_am_stretches level gs) gs)

@@ -24,10 +24,10 @@ in_two_piece two xs x none =
 pub in_two_plain : {X : Type 0} (two : InTwo X) (xs : List X) → list_any two.sara_am xs ≡ false → in_two two xs ≡ xs
 in_two_plain two xs none =
     elim (last_of xs) [
-      inl e ↦ ap (in_two two) e ∙ sym e
-    | inr p ↦
-        let parts = none_before_push two.sara_am p.front p.last (sym (ap (list_any two.sara_am) p.parts) ∙ none) in
-        ap (in_two two) p.parts ∙ in_two_piece two p.front p.last parts.0 ∙ ap (λ b. cond b (opened two p.front p.last) (p.front ++ p.last ∷ [])) parts.1 ∙ sym p.parts
+      | inl e ↦ ap (in_two two) e ∙ sym e
+      | inr p ↦
+          let parts = none_before_push two.sara_am p.front p.last (sym (ap (list_any two.sara_am) p.parts) ∙ none) in
+          ap (in_two two) p.parts ∙ in_two_piece two p.front p.last parts.0 ∙ ap (λ b. cond b (opened two p.front p.last) (p.front ++ p.last ∷ [])) parts.1 ∙ sym p.parts
     ]
 
 -- what stands before and after a SARA AM is rewritten for itself
@@ -51,11 +51,11 @@ in_two_push_after two before am after x h none fails =
 pub in_two_push : {X : Type 0} (two : InTwo X) (xs : List X) (x : X) → two.sara_am x ≡ false → in_two two (xs ++ x ∷ []) ≡ in_two two xs ++ x ∷ []
 in_two_push two xs x fails =
     elim (last_pass two.sara_am xs) [
-      inl none ↦ in_two_plain two (xs ++ x ∷ []) (none_pushed two.sara_am xs x none fails) ∙ ap (λ zs. zs ++ x ∷ []) (sym (in_two_plain two xs none))
-    | inr p ↦
-        ap (λ zs. in_two two (zs ++ x ∷ [])) p.parts
-        ∙ in_two_push_after two p.before p.element p.after x p.passes p.none_after fails
-        ∙ ap (λ zs. in_two two zs ++ x ∷ []) (sym p.parts)
+      | inl none ↦ in_two_plain two (xs ++ x ∷ []) (none_pushed two.sara_am xs x none fails) ∙ ap (λ zs. zs ++ x ∷ []) (sym (in_two_plain two xs none))
+      | inr p ↦
+          ap (λ zs. in_two two (zs ++ x ∷ [])) p.parts
+          ∙ in_two_push_after two p.before p.element p.after x p.passes p.none_after fails
+          ∙ ap (λ zs. in_two two zs ++ x ∷ []) (sym p.parts)
     ]
 
 -- where a NIKHAHIT is pending, what stands before an earlier SARA AM is rewritten for itself too
@@ -87,11 +87,11 @@ in_two_push_am_after two before am after x h stops none passes =
 pub in_two_push_am : {X : Type 0} (two : InTwo X) (apart : (x : X) → two.sara_am x ≡ true → two.above_base x ≡ false) (xs : List X) (x : X) → two.sara_am x ≡ true → in_two two (xs ++ x ∷ []) ≡ held two xs (two.nikhahit x) ++ two.sara_aa x ∷ []
 in_two_push_am two apart xs x passes =
     elim (last_pass two.sara_am xs) [
-      inl none ↦ in_two_push_am_first two xs x none passes
-    | inr p ↦
-        ap (λ zs. in_two two (zs ++ x ∷ [])) p.parts
-        ∙ in_two_push_am_after two p.before p.element p.after x p.passes (apart p.element p.passes) p.none_after passes
-        ∙ ap (λ zs. held two zs (two.nikhahit x) ++ two.sara_aa x ∷ []) (sym p.parts)
+      | inl none ↦ in_two_push_am_first two xs x none passes
+      | inr p ↦
+          ap (λ zs. in_two two (zs ++ x ∷ [])) p.parts
+          ∙ in_two_push_am_after two p.before p.element p.after x p.passes (apart p.element p.passes) p.none_after passes
+          ∙ ap (λ zs. held two zs (two.nikhahit x) ++ two.sara_aa x ∷ []) (sym p.parts)
     ]
 
 -- one more above-base mark, or another glyph, where a NIKHAHIT is pending
@@ -130,18 +130,18 @@ longer xs ys y e = ap length e ∙ length_push ys y
 lengths_push : {X : Type 0} (two : InTwo X) (apart : (x : X) → two.sara_am x ≡ true → two.above_base x ≡ false) (xs : List X) (x : X) → Lengths two xs → length (in_two two (xs ++ x ∷ [])) ≡ length (xs ++ x ∷ []) + count_by two.sara_am (xs ++ x ∷ [])
 lengths_push two apart xs x p =
     elim (two.sara_am x) as (λ b. two.sara_am x ≡ b → length (in_two two (xs ++ x ∷ [])) ≡ length (xs ++ x ∷ []) + count_by two.sara_am (xs ++ x ∷ [])) [
-      true ↦ λ h. omega (arith, longer _ _ _ (in_two_push_am two apart xs x h), p.pending (two.nikhahit x), length_push xs x, count_push two.sara_am xs x true h)
-    | false ↦ λ h. omega (arith, longer _ _ _ (in_two_push two xs x h), p.whole, length_push xs x, count_push two.sara_am xs x false h)
+      | true ↦ λ h. omega (arith, longer _ _ _ (in_two_push_am two apart xs x h), p.pending (two.nikhahit x), length_push xs x, count_push two.sara_am xs x true h)
+      | false ↦ λ h. omega (arith, longer _ _ _ (in_two_push two xs x h), p.whole, length_push xs x, count_push two.sara_am xs x false h)
     ] refl
 
 lengths_push_held : {X : Type 0} (two : InTwo X) (apart : (x : X) → two.sara_am x ≡ true → two.above_base x ≡ false) (xs : List X) (x nikhahit : X) → Lengths two xs → length (held two (xs ++ x ∷ []) nikhahit) ≡ length (xs ++ x ∷ []) + count_by two.sara_am (xs ++ x ∷ []) + 1
 lengths_push_held two apart xs x nikhahit p =
     elim (two.above_base x) as (λ b. two.above_base x ≡ b → length (held two (xs ++ x ∷ []) nikhahit) ≡ length (xs ++ x ∷ []) + count_by two.sara_am (xs ++ x ∷ []) + 1) [
-      true ↦ λ h. omega (arith, longer _ _ _ (held_push_mark two xs x nikhahit h), p.pending nikhahit, length_push xs x, count_push two.sara_am xs x false (no_am two apart x h))
-    | false ↦ λ h. omega (arith, longer _ _ _ (held_push_other two xs x nikhahit h), lengths_push two apart xs x p)
+      | true ↦ λ h. omega (arith, longer _ _ _ (held_push_mark two xs x nikhahit h), p.pending nikhahit, length_push xs x, count_push two.sara_am xs x false (no_am two apart x h))
+      | false ↦ λ h. omega (arith, longer _ _ _ (held_push_other two xs x nikhahit h), lengths_push two apart xs x p)
     ] refl
 
 pub lengths : {X : Type 0} (two : InTwo X) (apart : (x : X) → two.sara_am x ≡ true → two.above_base x ≡ false) (xs : List X) → Lengths two xs
 lengths two apart xs =
     from_end (Lengths two) (record { whole = refl; pending = λ n. refl })
-      (λ xs x p. record { whole = lengths_push two apart xs x p; pending = λ n. lengths_push_held two apart xs x n p }) xs
+    (λ xs x p. record { whole = lengths_push two apart xs x p; pending = λ n. lengths_push_held two apart xs x n p }) xs

@@ -1,10 +1,12 @@
 -- SARA AM of Thai and Lao in two.
-use Rattle.std.specs.Prelude.{ℕ, suc, ◌-◌, ◌+◌, Bool, ◌||◌, ◌&&◌, ◌==◌, nat_le, nat_lt, bit_and, true, false, List, [], ◌∷◌, ◌++◌, length, reverse, map, flat_map, if◌then◌else◌}
+use Rattle.std.specs.Prelude.{ℕ, suc, nat_eq, not, codes, Option, None, Some, ◌-◌, ◌+◌, Bool, ◌||◌, ◌&&◌, ◌==◌, nat_le, nat_lt, bit_and, true, false, List, [], ◌∷◌, ◌++◌, length, reverse, map, flat_map, if◌then◌else◌}
 use Rattle.std.specs.List.{suffix_len, enumerate_from}
 use Rattle.shapers_base.specs.declared.buffer.category.hb_unicode_general_category_t.TheVariants.{Mn}
 use Rattle.shapers_base.specs.declared.buffer.glyph.hb_glyph_info_t.{hb_glyph_info_t}
 use Rattle.shapers_base.specs.declared.buffer.level.BufferClusterLevel.{BufferClusterLevel}
 use Rattle.shapers_base.specs.declared.buffer.level.BufferClusterLevel.TheVariants.{MonotoneGraphemes, MonotoneCharacters, Characters}
+use Rattle.std.specs.Cmp.Lexicographic.{pointwise}
+use Rattle.shapers_base.specs.declared.buffer.tag.Script.{Script}
 use Rattle.shapers_base.specs.Lists.{cut_after, last_run, before_last_run, each_after}
 
 -- SARA AM, of Thai and of Lao
@@ -42,6 +44,7 @@ in_two two text = flat_map (λ piece. opened_back two (reverse piece)) (cut_afte
 -- NIKHAHIT and SARA AA out of SARA AM: NIKHAHIT is a continuation of category Mn
 abbrev pub nikhahit : hb_glyph_info_t → hb_glyph_info_t
 nikhahit am = record am { glyph_id = am.glyph_id + 0x1A; general_category = Mn; continuation = true }
+
 abbrev pub sara_aa : hb_glyph_info_t → hb_glyph_info_t
 sara_aa am = record am { glyph_id = am.glyph_id - 1 }
 
@@ -85,3 +88,11 @@ stretches_of_each level each = flat_map (λ p. stretches_at level (length p.0) p
 -- the merged stretches of a text, from the left
 abbrev pub sara_am_stretches : BufferClusterLevel → List hb_glyph_info_t → List (ℕ × ℕ)
 sara_am_stretches level gs = stretches_of_each level (each_after [] gs)
+
+-- whether the plan asks for private use forms: the script is Thai, and GSUB doesn't have it
+abbrev pub is_thai : Option Script → Bool
+is_thai None = false
+is_thai (Some s) = pointwise nat_eq s.0 (codes "Thai")
+
+abbrev pub wants_forms : Option Script → Bool → Bool
+wants_forms plan_script found = is_thai plan_script && not found

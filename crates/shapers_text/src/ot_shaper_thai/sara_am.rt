@@ -94,11 +94,7 @@ fn merge_all_sara_am(buffer: &mut hb_buffer_t, len: usize)
     for i in 0..len {
         let u = buffer.get(i).glyph_id;
         merge_at(buffer, i, u, marks);
-        marks = if is_above_base_mark(u) {
-            marks + 1
-        } else {
-            0
-        };
+        marks = if is_above_base_mark(u) { marks + 1 } else { 0 };
     }
 }
 

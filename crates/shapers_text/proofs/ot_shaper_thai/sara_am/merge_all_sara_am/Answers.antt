@@ -18,11 +18,11 @@ loop-i-preserved c =
     let l = c.loop-i in
     let start = c.args.buffer.now in
     let g = c.get-u.result in
-    let counted : c.if-is_above_base_mark.marks ≡ cond (is_above_base g.glyph_id) (l.marks + 1) 0 = 
-      elim c.if-is_above_base_mark.branch [
-        then-is_above_base_mark w ↦ w.marks-is ∙ sym (ap (λ b. cond b (l.marks + 1) 0) (sym c.is_above_base_mark.ensures ∙ w.if-is_above_base_mark.true))
+    let counted : c.if-is_above_base_mark.marks ≡ cond (is_above_base g.glyph_id) (l.marks + 1) 0 =
+    elim c.if-is_above_base_mark.branch [
+      | then-is_above_base_mark w ↦ w.marks-is ∙ sym (ap (λ b. cond b (l.marks + 1) 0) (sym c.is_above_base_mark.ensures ∙ w.if-is_above_base_mark.true))
       | else-is_above_base_mark w ↦ w.marks-is ∙ sym (ap (λ b. cond b (l.marks + 1) 0) (sym c.is_above_base_mark.ensures ∙ w.if-is_above_base_mark.false))
-      ] in
+    ] in
     let now = c.merge_at.new.buffer in
     record {
       fields = same_fields start l.buffer now _ l.invariant.fields c.merge_at.ensures;

@@ -11,11 +11,11 @@ returns-then-not-is_sara_am-clause-last c =
     let u = c.args.self.now in
     let g = c.get-glyph.result in
     let passed : Passed gs u.end u.nikhahit g =
-      elim c.match-self.branch [
-        in-Some+else-self-eq0+else-not-is_above_base_mark w ↦
+    elim c.match-self.branch [
+      | in-Some+else-self-eq0+else-not-is_above_base_mark w ↦
           passed_pending gs u.end u.nikhahit g w.get.result w.in-Some.nikhahit c.requires.in_range w.in-Some.is w.if-self-eq0.false c.get-glyph.ensures w.get.ensures (sym w.is_above_base_mark.ensures ∙ w.if-not-is_above_base_mark.false)
       | in_default w ↦ passed_none gs u.end u.nikhahit g w.in_default.is c.requires.some
-      ] in
+    ] in
     passed_push gs u.end u.nikhahit g passed c.requires.in_range c.get-glyph.ensures (sym c.is_sara_am.ensures ∙ c.if-not-is_sara_am.true)
 
 pub returns-clause-last : goal.returns-clause-last
@@ -24,11 +24,11 @@ returns-clause-last c =
     let u = c.args.self.now in
     let g = c.get-glyph.result in
     let passed : Passed gs u.end u.nikhahit g =
-      elim c.match-self.branch [
-        in-Some+else-self-eq0+else-not-is_above_base_mark w ↦
+    elim c.match-self.branch [
+      | in-Some+else-self-eq0+else-not-is_above_base_mark w ↦
           passed_pending gs u.end u.nikhahit g w.get.result w.in-Some.nikhahit c.requires.in_range w.in-Some.is w.if-self-eq0.false c.get-glyph.ensures w.get.ensures (sym w.is_above_base_mark.ensures ∙ w.if-not-is_above_base_mark.false)
       | in_default w ↦ passed_none gs u.end u.nikhahit g w.in_default.is c.requires.some
-      ] in
+    ] in
     let last = passed_push_am gs u.end u.nikhahit g passed c.requires.in_range c.get-glyph.ensures (sym c.is_sara_am.ensures ∙ c.if-not-is_sara_am.false) in
     let n = c.nikhahit_from_sara_am.ensures in
     let a = c.sara_aa_from_sara_am.ensures in
