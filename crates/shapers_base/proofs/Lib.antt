@@ -1,3 +1,4 @@
 pub mod ClusterLemmas
 mod Rows
+pub mod SyllabicLemmas
 pub mod SyllableLemmas

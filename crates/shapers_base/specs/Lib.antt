@@ -5,5 +5,6 @@ pub mod Glyph
 pub mod GlyphFlags
 pub mod Map
 pub mod Refusals
+pub mod Syllabic
 pub mod SyllableLaws
 pub mod Syllables
