@@ -1,10 +1,16 @@
 //! What the shapers of syllabic scripts share: syllables by spans, dotted circles, clearing.
-ghost use Rattle.std.specs.Prelude.{◌≡◌, ◌≤◌, All, IfErr, OnErr, OnOk, is_ok, length, map};
+ghost use Rattle.std.specs.Prelude.{◌≡◌, ◌==◌, ◌+◌, ◌-◌, ◌%◌, ◌<◌, ◌≤◌, [], ◌∷◌, All, IfErr, IfOk, IsOk, OnErr, OnOk, drop, take, is_ok, is_some, length, map, if◌then◌else◌};
+ghost use Rattle.std.specs.List.{prefix_len};
+ghost use Rattle.shapers_base.specs.Circles.{circle_in, circled, circled_from, circled_syllable, circles_for, circles_from, last_broken, opens_as_broken, opens_circle, overwritten, rephas_len};
+ghost use Rattle.shapers_base.specs.Clusters.{stretch_of};
+ghost use Rattle.shapers_base.specs.Refusals.{RefusesLength};
 ghost use Rattle.shapers_base.specs.Syllabic.{unsubstituted, with_unsafe_syllables};
 ghost use Rattle.shapers_base.specs.Syllables.{in_syllable, spans_cover, with_spans};
 ghost use Rattle.shapers_base.specs.declared.buffer.refusal.ShaperError.TheVariants.{SpansDontCover};
 
-use crate::buffer::{ShaperError, Span, hb_buffer_t, hb_glyph_info_t};
+use crate::buffer::{BufferFlags, ShaperError, Span, hb_buffer_t, hb_glyph_info_t};
+use crate::font::hb_font_t;
+use bitflags::Flags;
 
 /// The kinds of Indic syllables.
 pub mod indic_syllable {
@@ -123,4 +129,290 @@ pub fn clear_substitution_flags(buffer: &mut hb_buffer_t)
             },
         );
     }
+}
+
+// The character of the dotted circle.
+const DOTTED_CIRCLE: u32 = 0x25CC;
+
+// What circles look like, and where they stand.
+#[derive(Clone, Copy)]
+struct DottedCircles {
+    // the kind of the syllables that get one
+    broken_kind: u8,
+    // the circle, but for cluster, mask and syllable
+    circle: hb_glyph_info_t,
+    // the category of glyphs that stay in front of it
+    repha: Option<u8>,
+}
+
+/// Gives broken syllables a dotted circle, behind their leading glyphs of the repha category where
+/// one is given, else in front. Answers false, with nothing changed, where no syllable is broken, the
+/// caller forbids circles or the font has none. A broken syllable opens a circle unless its byte is
+/// that of the last broken one before it, or it is the first and its byte is 0. Refuses with
+/// `TooLong` where the text would be longer than `max_len`, and with `Memory`; where no circle opens
+/// it takes none.
+pub fn insert_dotted_circles<F: hb_font_t>(
+    face: &F,
+    buffer: &mut hb_buffer_t,
+    broken_syllable_type: u8,
+    dottedcircle_category: u8,
+    repha_category: Option<u8>,
+    dottedcircle_position: Option<u8>,
+) -> Result<bool, ShaperError>
+    requires { buffer.old.positions ≡ [] }
+    ensures answer { let circles = circles_for (F.nominal_glyph face.now 0x25CC) broken_syllable_type dottedcircle_category repha_category dottedcircle_position buffer.old in
+        IfOk result (λ answer. answer ≡ is_some circles) }
+    ensures ok { let circles = circles_for (F.nominal_glyph face.now 0x25CC) broken_syllable_type dottedcircle_category repha_category dottedcircle_position buffer.old in
+        OnOk result (buffer.new ≡ record buffer.old { glyphs = circled circles buffer.old.glyphs }) }
+    ensures length { let circles = circles_for (F.nominal_glyph face.now 0x25CC) broken_syllable_type dottedcircle_category repha_category dottedcircle_position buffer.old in
+        RefusesLength buffer.old.max_len (length (circled circles buffer.old.glyphs)) result }
+    ensures err { OnErr result (buffer.new ≡ buffer.old) }
+    ensures free { let circles = circles_for (F.nominal_glyph face.now 0x25CC) broken_syllable_type dottedcircle_category repha_category dottedcircle_position buffer.old in
+        circled circles buffer.old.glyphs ≡ buffer.old.glyphs → IsOk result }
+{
+    let fits = buffer.len() <= buffer.max_len();
+    prove!(fits);
+    let circles = circles_for(
+        face,
+        buffer,
+        broken_syllable_type,
+        dottedcircle_category,
+        repha_category,
+        dottedcircle_position,
+    );
+    match circles {
+        None => Ok(false),
+        Some(circles) => {
+            circles.insert(buffer)?;
+            Ok(true)
+        }
+    }
+}
+
+// The circles that a buffer gets.
+fn circles_for<F: hb_font_t>(
+    face: &F,
+    buffer: &hb_buffer_t,
+    broken_kind: u8,
+    category: u8,
+    repha: Option<u8>,
+    auxiliary: Option<u8>,
+) -> Option<DottedCircles>
+    ensures { result ≡ circles_for (F.nominal_glyph face.now 0x25CC) broken_kind category repha auxiliary buffer.now }
+{
+    let forbidden = buffer
+        .flags()
+        .contains(BufferFlags::DO_NOT_INSERT_DOTTED_CIRCLE);
+    if forbidden || !buffer.has_broken_syllable() {
+        return None;
+    }
+    match face.get_nominal_glyph(DOTTED_CIRCLE) {
+        None => None,
+        Some(glyph) => {
+            let circle = hb_glyph_info_t {
+                glyph_id: u32::from(glyph.0),
+                category,
+                auxiliary: auxiliary.unwrap_or(0),
+                ..hb_glyph_info_t::DEFAULT
+            };
+            Some(DottedCircles {
+                broken_kind,
+                circle,
+                repha,
+            })
+        }
+    }
+}
+
+// Whether a broken syllable of this byte opens a circle; the last broken one before it has byte
+// `last`, 0 where there is none.
+fn opens_circle(last: u8, byte: u8) -> bool
+    ensures { result ≡ opens_circle last byte }
+{
+    byte != last
+}
+
+impl DottedCircles {
+    // Whether a syllable of this byte is broken.
+    fn is_broken(&self, byte: u8) -> bool
+        ensures { result ≡ (byte % 16 == self.now.broken_kind) }
+    {
+        byte & 0x0F == self.broken_kind
+    }
+
+    // Whether a syllable of this byte is broken and opens a circle.
+    fn opens(&self, last: u8, byte: u8) -> bool
+        ensures { result ≡ opens_as_broken self.now.broken_kind last byte }
+    {
+        self.is_broken(byte) && opens_circle(last, byte)
+    }
+
+    // The byte of the last broken syllable, once one of this byte has followed.
+    fn last_broken(&self, last: u8, byte: u8) -> u8
+        ensures { result ≡ last_broken self.now.broken_kind last byte }
+    {
+        if self.is_broken(byte) { byte } else { last }
+    }
+
+    // Puts the circles into the text.
+    fn insert(&self, buffer: &mut hb_buffer_t) -> Result<(), ShaperError>
+        requires { buffer.old.positions ≡ [] }
+        ensures ok { OnOk result (buffer.new ≡ record buffer.old { glyphs = circled_from self.now 0 buffer.old.glyphs }) }
+        ensures length { RefusesLength buffer.old.max_len (length (circled_from self.now 0 buffer.old.glyphs)) result }
+        ensures err { OnErr result (buffer.new ≡ buffer.old) }
+        ensures free { circled_from self.now 0 buffer.old.glyphs ≡ buffer.old.glyphs → IsOk result }
+    {
+        let count = self.count(buffer);
+        if count == 0 {
+            return Ok(());
+        }
+        open_gap(buffer, count)?;
+        self.close_gap(buffer, count);
+        Ok(())
+    }
+
+    // How many circles the text gets.
+    fn count(&self, buffer: &hb_buffer_t) -> usize
+        ensures fits { length buffer.now.glyphs ≤ buffer.now.max_len }
+        ensures count { result ≡ circles_from self.now 0 buffer.now.glyphs }
+    {
+        let mut count = 0;
+        let mut last = 0;
+        let mut start = 0;
+        while start < buffer.len() {
+            let byte = buffer.get(start).syllable;
+            count += usize::from(self.opens(last, byte));
+            last = self.last_broken(last, byte);
+            start = buffer.next_syllable(start);
+        }
+        count
+    }
+
+    // Moves the text behind a gap down, syllable by syllable, and fills the gap with its circles.
+    fn close_gap(&self, buffer: &mut hb_buffer_t, gap: usize)
+        requires inside { gap ≤ length buffer.old.glyphs }
+        requires fits { gap ≡ circles_from self.now 0 (drop gap buffer.old.glyphs) }
+        ensures { buffer.new ≡ record buffer.old { glyphs = circled_from self.now 0 (drop gap buffer.old.glyphs) } }
+    {
+        let mut last = 0;
+        let mut read = gap;
+        let mut write = 0;
+        while write < read {
+            let byte = buffer.get(read).syllable;
+            let end = buffer.next_syllable(read);
+            let opens = self.opens(last, byte);
+            write = self.move_syllable(buffer, read, end, write, opens);
+            last = self.last_broken(last, byte);
+            read = end;
+        }
+    }
+
+    // Moves a syllable down to place `to`, with its circle if it opens one. Answers where it ends.
+    fn move_syllable(
+        &self,
+        buffer: &mut hb_buffer_t,
+        start: usize,
+        end: usize,
+        to: usize,
+        opens: bool,
+    ) -> usize
+        requires some { start < end }
+        requires inside { end ≤ length buffer.old.glyphs }
+        requires room { to < start }
+        ensures end { let moved = circled_syllable self.now opens (stretch_of start end buffer.old.glyphs) in result ≡ to + length moved }
+        ensures same_length { length buffer.new.glyphs ≡ length buffer.old.glyphs }
+        ensures moved { let moved = circled_syllable self.now opens (stretch_of start end buffer.old.glyphs) in
+            buffer.new ≡ record buffer.old { glyphs = overwritten to moved buffer.old.glyphs } }
+    {
+        if !opens {
+            return move_down(buffer, start, end, to);
+        }
+        let circle = circle_in(buffer.get(start), self.circle);
+        let body = start + self.rephas_len(buffer, start, end);
+        let place = move_down(buffer, start, body, to);
+        buffer.set(place, circle);
+        move_down(buffer, body, end, place + 1)
+    }
+
+    // How many glyphs of a syllable stand in front of its circle.
+    fn rephas_len(&self, buffer: &hb_buffer_t, start: usize, end: usize) -> usize
+        requires in_order { start ≤ end }
+        requires inside { end ≤ length buffer.now.glyphs }
+        ensures within { result ≤ end - start }
+        ensures len { result ≡ rephas_len self.now.repha (stretch_of start end buffer.now.glyphs) }
+    {
+        match self.repha {
+            None => 0,
+            Some(repha) => category_len(buffer, start, end, repha),
+        }
+    }
+}
+
+// How many glyphs from `start` to `end`, from the first one on, have this category.
+fn category_len(buffer: &hb_buffer_t, start: usize, end: usize, category: u8) -> usize
+    requires in_order { start ≤ end }
+    requires inside { end ≤ length buffer.now.glyphs }
+    ensures within { result ≤ end - start }
+    ensures len { result ≡ prefix_len (λ glyph. glyph.category == category) (stretch_of start end buffer.now.glyphs) }
+{
+    for i in start..end {
+        if buffer.get(i).category != category {
+            return i - start;
+        }
+    }
+    end - start
+}
+
+// The circle of a syllable that opens with this glyph.
+fn circle_in(first: hb_glyph_info_t, circle: hb_glyph_info_t) -> hb_glyph_info_t
+    ensures { result ≡ circle_in (first ∷ []) circle }
+{
+    hb_glyph_info_t {
+        cluster: first.cluster,
+        mask: first.mask,
+        syllable: first.syllable,
+        ..circle
+    }
+}
+
+// Adds glyphs in front of the text: `gap` of them, of any value.
+fn open_gap(buffer: &mut hb_buffer_t, gap: usize) -> Result<(), ShaperError>
+    requires { buffer.old.positions ≡ [] }
+    ensures text { OnOk result (drop gap buffer.new.glyphs ≡ buffer.old.glyphs) }
+    ensures size { OnOk result (length buffer.new.glyphs ≡ gap + length buffer.old.glyphs) }
+    ensures others { OnOk result (record buffer.new { glyphs = [] } ≡ record buffer.old { glyphs = [] }) }
+    ensures length { RefusesLength buffer.old.max_len (length buffer.old.glyphs + gap) result }
+    ensures err { OnErr result (buffer.new ≡ buffer.old) }
+{
+    buffer.grow(gap)?;
+    move_up(buffer, gap);
+    Ok(())
+}
+
+// Moves the text up by `by` places; its last `by` glyphs go.
+fn move_up(buffer: &mut hb_buffer_t, by: usize)
+    requires { by ≤ length buffer.old.glyphs }
+    ensures { let kept = take (length buffer.old.glyphs - by) buffer.old.glyphs in
+        buffer.new ≡ record buffer.old { glyphs = overwritten by kept buffer.old.glyphs } }
+{
+    for i in (0..buffer.len() - by).rev() {
+        let glyph = buffer.get(i);
+        buffer.set(i + by, glyph);
+    }
+}
+
+// Moves the glyphs from `start` to `end` down to place `to`. Answers where they end.
+fn move_down(buffer: &mut hb_buffer_t, start: usize, end: usize, to: usize) -> usize
+    requires in_order { start ≤ end }
+    requires inside { end ≤ length buffer.old.glyphs }
+    requires down { to ≤ start }
+    ensures end { result ≡ to + (end - start) }
+    ensures same_length { length buffer.new.glyphs ≡ length buffer.old.glyphs }
+    ensures moved { buffer.new ≡ record buffer.old { glyphs = overwritten to (stretch_of start end buffer.old.glyphs) buffer.old.glyphs } }
+{
+    for i in start..end {
+        let glyph = buffer.get(i);
+        buffer.set(to + (i - start), glyph);
+    }
+    to + (end - start)
 }
