@@ -2,6 +2,7 @@
 use Rattle.std.specs.Prelude.{◌≡◌, ◌==◌, ℕ, suc, ◌+◌, ◌-◌, ◌<◌, ◌≤◌, Bool, true, false, cond, List, [], ◌∷◌, ◌++◌, take, drop, length, map, replicate, Option, Some, None, count_by, filter, refl, if◌then◌else◌}
 use Rattle.std.specs.List.{flat_map, prefix_len}
 use Rattle.std.proofs.Common.{ap, sym, ◌∙◌, arith, length-append, length-drop, length-take-le, append_assoc}
+use Rattle.std.proofs.lemmas.List.{length-map, take-append-drop}
 use Rattle.std.proofs.lemmas.List.Sums.{prefix_len-le-length, sum_by-cons}
 use Rattle.std.proofs.lemmas.Bool.Decides.{nat_tests}
 use Rattle.shapers_base.specs.declared.buffer.glyph.hb_glyph_info_t.{hb_glyph_info_t}
@@ -80,3 +81,108 @@ circled_from-none rule last gs none = none_opened rule (openings rule.broken_kin
 -- and only such a text
 pub no_circles : (rule : DottedCircles) (last : ℕ) (gs : List hb_glyph_info_t) → circled_from rule last gs ≡ gs → circles_from rule last gs ≡ 0
 no_circles rule last gs same = omega (arith, length-circled_from rule last gs, ap length same)
+
+-- the elements of a list that aren't marked, and those that are
+abbrev pub unmarked : {X : Type 0} → List Bool → List X → List X
+unmarked [] xs = xs
+unmarked (mark ∷ marks) [] = []
+unmarked (mark ∷ marks) (x ∷ xs) = if mark then unmarked marks xs else x ∷ unmarked marks xs
+
+abbrev pub marked : {X : Type 0} → List Bool → List X → List X
+marked [] xs = []
+marked (mark ∷ marks) [] = []
+marked (mark ∷ marks) (x ∷ xs) = if mark then x ∷ marked marks xs else marked marks xs
+
+-- no mark for any of these glyphs
+abbrev pub no_marks : List hb_glyph_info_t → List Bool
+no_marks gs = map (λ g. false) gs
+
+-- for each glyph of what a syllable becomes, whether it is the circle
+abbrev pub marks_in : DottedCircles → Bool → List hb_glyph_info_t → List Bool
+marks_in rule opens gs = if opens then no_marks (take (rephas_len rule.repha gs) gs) ++ true ∷ no_marks (drop (rephas_len rule.repha gs) gs) else no_marks gs
+
+-- for each place of the text with its circles, whether a circle stands there
+abbrev pub circle_marks : DottedCircles → List hb_glyph_info_t → List Bool
+circle_marks rule gs = flat_map (λ (opens, piece). marks_in rule opens piece) (openings rule.broken_kind 0 (syllables gs))
+
+-- the circles of the syllables that open one, in order
+abbrev pub circles_of : DottedCircles → List hb_glyph_info_t → List hb_glyph_info_t
+circles_of rule gs = map (λ (opens, piece). circle_in piece rule.circle) (filter (λ (opens, piece). opens) (openings rule.broken_kind 0 (syllables gs)))
+
+-- the unmarked places of the text with its circles are the text, and the marked ones its circles
+abbrev pub CirclesCanBeErased : Type 0
+CirclesCanBeErased = (rule : DottedCircles) (gs : List hb_glyph_info_t) → (unmarked (circle_marks rule gs) (circled_from rule 0 gs) ≡ gs) × (marked (circle_marks rule gs) (circled_from rule 0 gs) ≡ circles_of rule gs)
+
+unmarked-append : {X : Type 0} (ms ns : List Bool) (xs ys : List X) → length ms ≡ length xs → unmarked (ms ++ ns) (xs ++ ys) ≡ unmarked ms xs ++ unmarked ns ys
+unmarked-append [] ns [] ys same = refl
+unmarked-append [] ns (x ∷ xs) ys same = absurd (omega arith)
+unmarked-append (m ∷ ms) ns [] ys same = absurd (omega arith)
+unmarked-append (true ∷ ms) ns (x ∷ xs) ys same = unmarked-append ms ns xs ys (omega arith)
+unmarked-append (false ∷ ms) ns (x ∷ xs) ys same = ap (λ zs. x ∷ zs) (unmarked-append ms ns xs ys (omega arith))
+
+marked-append : {X : Type 0} (ms ns : List Bool) (xs ys : List X) → length ms ≡ length xs → marked (ms ++ ns) (xs ++ ys) ≡ marked ms xs ++ marked ns ys
+marked-append [] ns [] ys same = refl
+marked-append [] ns (x ∷ xs) ys same = absurd (omega arith)
+marked-append (m ∷ ms) ns [] ys same = absurd (omega arith)
+marked-append (true ∷ ms) ns (x ∷ xs) ys same = ap (λ zs. x ∷ zs) (marked-append ms ns xs ys (omega arith))
+marked-append (false ∷ ms) ns (x ∷ xs) ys same = marked-append ms ns xs ys (omega arith)
+
+unmarked-none : (gs : List hb_glyph_info_t) → unmarked (no_marks gs) gs ≡ gs
+unmarked-none [] = refl
+unmarked-none (g ∷ gs) = ap (λ xs. g ∷ xs) (unmarked-none gs)
+
+marked-none : (gs : List hb_glyph_info_t) → marked (no_marks gs) gs ≡ []
+marked-none [] = refl
+marked-none (g ∷ gs) = marked-none gs
+
+length-no_marks : (gs : List hb_glyph_info_t) → length (no_marks gs) ≡ length gs
+length-no_marks gs = length-map gs (λ g. false)
+
+-- one mark between two lists
+unmarked-between : (front back : List hb_glyph_info_t) (g : hb_glyph_info_t) → unmarked (no_marks front ++ true ∷ no_marks back) (front ++ g ∷ back) ≡ front ++ back
+unmarked-between front back g = unmarked-append (no_marks front) (true ∷ no_marks back) front (g ∷ back) (length-no_marks front) ∙ cc (unmarked-none front, unmarked-none back)
+
+marked-between : (front back : List hb_glyph_info_t) (g : hb_glyph_info_t) → marked (no_marks front ++ true ∷ no_marks back) (front ++ g ∷ back) ≡ g ∷ []
+marked-between front back g = marked-append (no_marks front) (true ∷ no_marks back) front (g ∷ back) (length-no_marks front) ∙ cc (marked-none front, marked-none back)
+
+-- a syllable without its circle, and its circle
+unmarked-syllable : (rule : DottedCircles) (opens : Bool) (gs : List hb_glyph_info_t) → unmarked (marks_in rule opens gs) (circled_syllable rule opens gs) ≡ gs
+unmarked-syllable rule false gs = unmarked-none gs
+unmarked-syllable rule true gs =
+    let n = rephas_len rule.repha gs in
+    unmarked-between (take n gs) (drop n gs) (circle_in gs rule.circle) ∙ take-append-drop n gs
+
+marked-syllable : (rule : DottedCircles) (opens : Bool) (gs : List hb_glyph_info_t) → marked (marks_in rule opens gs) (circled_syllable rule opens gs) ≡ (if opens then circle_in gs rule.circle ∷ [] else [])
+marked-syllable rule false gs = marked-none gs
+marked-syllable rule true gs =
+    let n = rephas_len rule.repha gs in
+    marked-between (take n gs) (drop n gs) (circle_in gs rule.circle)
+
+length-marks_in : (rule : DottedCircles) (opens : Bool) (gs : List hb_glyph_info_t) → length (marks_in rule opens gs) ≡ length (circled_syllable rule opens gs)
+length-marks_in rule false gs = length-no_marks gs
+length-marks_in rule true gs =
+    let n = rephas_len rule.repha gs in
+    omega (arith, length-append (no_marks (take n gs)) (true ∷ no_marks (drop n gs)), length-append (take n gs) (circle_in gs rule.circle ∷ drop n gs), length-no_marks (take n gs), length-no_marks (drop n gs))
+
+abbrev marks_all : DottedCircles → Openings → List Bool
+marks_all rule os = flat_map (λ (opens, piece). marks_in rule opens piece) os
+
+unmarked-all : (rule : DottedCircles) (os : Openings) → unmarked (marks_all rule os) (circled_all rule os) ≡ joined_syllables os
+unmarked-all rule [] = refl
+unmarked-all rule ((opens, piece) ∷ os) = unmarked-append (marks_in rule opens piece) (marks_all rule os) (circled_syllable rule opens piece) (circled_all rule os) (length-marks_in rule opens piece) ∙ cc (unmarked-syllable rule opens piece, unmarked-all rule os)
+
+abbrev circles_all : DottedCircles → Openings → List hb_glyph_info_t
+circles_all rule os = map (λ (opens, piece). circle_in piece rule.circle) (filter (λ (opens, piece). opens) os)
+
+circles_more : (rule : DottedCircles) (opens : Bool) (piece : List hb_glyph_info_t) (os : Openings) → circles_all rule ((opens, piece) ∷ os) ≡ (if opens then circle_in piece rule.circle ∷ [] else []) ++ circles_all rule os
+circles_more rule false piece os = refl
+circles_more rule true piece os = refl
+
+marked-all : (rule : DottedCircles) (os : Openings) → marked (marks_all rule os) (circled_all rule os) ≡ circles_all rule os
+marked-all rule [] = refl
+marked-all rule ((opens, piece) ∷ os) = marked-append (marks_in rule opens piece) (marks_all rule os) (circled_syllable rule opens piece) (circled_all rule os) (length-marks_in rule opens piece) ∙ cc (marked-syllable rule opens piece, marked-all rule os, circles_more rule opens piece os)
+
+pub circles_can_be_erased : CirclesCanBeErased
+circles_can_be_erased rule gs =
+    let os = openings rule.broken_kind 0 (syllables gs) in
+    (unmarked-all rule os ∙ joined-openings-syllables rule.broken_kind 0 gs, marked-all rule os)

@@ -1,6 +1,7 @@
 //! What the shapers of syllabic scripts share: syllables by spans, dotted circles, clearing.
 ghost use Rattle.std.specs.Prelude.{◌≡◌, ◌==◌, ◌+◌, ◌-◌, ◌%◌, ◌<◌, ◌≤◌, [], ◌∷◌, All, IfErr, IfOk, IsOk, OnErr, OnOk, drop, take, is_ok, is_some, length, map, if◌then◌else◌};
 ghost use Rattle.std.specs.List.{prefix_len};
+ghost use Rattle.shapers_base.specs.CircleLaws.{CirclesCanBeErased};
 ghost use Rattle.shapers_base.specs.Circles.{circle_in, circled, circled_from, circled_syllable, circles_for, circles_from, last_broken, opens_as_broken, opens_circle, overwritten, rephas_len};
 ghost use Rattle.shapers_base.specs.Clusters.{stretch_of};
 ghost use Rattle.shapers_base.specs.Refusals.{RefusesLength};
@@ -170,8 +171,7 @@ pub fn insert_dotted_circles<F: hb_font_t>(
     ensures free { let circles = circles_for (F.nominal_glyph face.now 0x25CC) broken_syllable_type dottedcircle_category repha_category dottedcircle_position buffer.old in
         circled circles buffer.old.glyphs ≡ buffer.old.glyphs → IsOk result }
 {
-    let fits = buffer.len() <= buffer.max_len();
-    prove!(fits);
+    prove!(buffer.len() <= buffer.max_len());
     let circles = circles_for(
         face,
         buffer,
@@ -188,6 +188,12 @@ pub fn insert_dotted_circles<F: hb_font_t>(
         }
     }
 }
+
+/// Without its circles a text with circles is the text that they came into, and what was added are
+/// the circles of the syllables that open one, in order.
+pub fn circles_can_be_erased()
+    ensures { CirclesCanBeErased }
+{}
 
 // The circles that a buffer gets.
 fn circles_for<F: hb_font_t>(
