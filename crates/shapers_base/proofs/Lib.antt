@@ -1,6 +1,8 @@
 pub mod CircleLemmas
 pub mod ClusterLemmas
 pub mod Overwriting
+pub mod MapLemmas
+mod MapRows
 mod Rows
 pub mod SyllabicLemmas
 pub mod SyllableLemmas

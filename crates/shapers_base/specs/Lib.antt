@@ -5,7 +5,10 @@ pub mod Circles
 pub mod Clusters
 pub mod Glyph
 pub mod GlyphFlags
+pub mod ListLaws
+pub mod Lists
 pub mod Map
+pub mod Planner
 pub mod Refusals
 pub mod Syllabic
 pub mod SyllableLaws

@@ -1,0 +1,2 @@
+pub mod SaraAm
+pub mod Stretches

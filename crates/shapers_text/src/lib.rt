@@ -1,0 +1,4 @@
+//! The shapers that rewrite a text by rules of single scripts.
+#![tactic(auto)]
+
+pub mod ot_shaper_thai;
