@@ -5,7 +5,8 @@ use Rattle.std.proofs.lemmas.List.{append-nil, drop-drop, drop_more, drop-take, 
 use Rattle.std.proofs.lemmas.Bool.Decides.{nat_tests}
 use Rattle.shapers_base.specs.declared.buffer.glyph.hb_glyph_info_t.{hb_glyph_info_t}
 use Rattle.shapers_base.specs.declared.ot_shaper_syllabic.DottedCircles.{DottedCircles}
-use Rattle.shapers_base.specs.Circles.{openings, opens_as_broken, last_broken, byte_of, circled_syllable, circled_from, circles_from, overwritten, rephas_len, circle_in, with_circle}
+use Rattle.shapers_base.specs.Circles.{byte_of, circled_syllable, rephas_len, circle_in, with_circle}
+use Rattle.shapers_base.specs.CircleWalk.{openings_from, opens_as_broken, last_broken, circled_from, circles_from, overwritten}
 use Rattle.shapers_base.specs.CircleLaws.{opened_more, length-circled_syllable, circled_from-none, rephas_within}
 use Rattle.shapers_base.specs.Buffer.{Buffer}
 use Rattle.shapers_base.specs.Clusters.{stretch_of}
@@ -32,10 +33,10 @@ abbrev rest_of : List hb_glyph_info_t → List hb_glyph_info_t
 rest_of gs = drop (first_syllable_len gs) gs
 
 abbrev openings_of : DottedCircles → ℕ → List hb_glyph_info_t → List (Bool × List hb_glyph_info_t)
-openings_of rule last gs = openings rule.broken_kind last (syllables gs)
+openings_of rule last gs = openings_from rule.broken_kind last (syllables gs)
 
 openings_next : (rule : DottedCircles) (last : ℕ) (g : hb_glyph_info_t) (gs : List hb_glyph_info_t) → openings_of rule last (g ∷ gs) ≡ (opens_as_broken rule.broken_kind last g.syllable, first_of (g ∷ gs)) ∷ openings_of rule (last_broken rule.broken_kind last g.syllable) (rest_of (g ∷ gs))
-openings_next rule last g gs = ap (openings rule.broken_kind last) (syllables_are_runs g gs)
+openings_next rule last g gs = ap (openings_from rule.broken_kind last) (syllables_are_runs g gs)
 
 -- one syllable of a walk: whether it opens a circle, and the byte of the last broken one behind it
 pub record IsStep (rule : DottedCircles) (last : ℕ) (gs : List hb_glyph_info_t) (start end : ℕ) (opens : Bool) (next : ℕ) : Type 0 where

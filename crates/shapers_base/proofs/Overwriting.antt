@@ -2,7 +2,7 @@
 use Rattle.std.proofs.Common.{◌≡◌, ℕ, suc, ◌+◌, ◌-◌, ◌<◌, ◌≤◌, List, [], ◌∷◌, ◌++◌, length, take, drop, get_or, set, refl, ap, sym, ◌∙◌, arith, length-append, length-take-le, length-drop, append_assoc}
 use Rattle.std.proofs.lemmas.List.{take_at, drop_at, drop-drop, set_at, take_more, drop_more, get_or-append_right, get_or_append_left, get_or-drop, get_or-take, take-append-le}
 use Rattle.std.proofs.Math.Seq.{take-suc}
-use Rattle.shapers_base.specs.Circles.{overwritten}
+use Rattle.shapers_base.specs.CircleWalk.{overwritten}
 use Rattle.shapers_base.specs.Clusters.{stretch_of}
 
 -- how long the written front is

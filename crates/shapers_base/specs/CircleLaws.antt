@@ -1,14 +1,17 @@
 -- What dotted circles add to a text, and that nothing else changes.
 use Rattle.std.specs.Prelude.{◌≡◌, ◌==◌, ℕ, suc, ◌+◌, ◌-◌, ◌<◌, ◌≤◌, Bool, true, false, cond, List, [], ◌∷◌, ◌++◌, take, drop, length, map, replicate, Option, Some, None, count_by, filter, refl, if◌then◌else◌}
-use Rattle.std.specs.List.{flat_map, prefix_len}
+use Rattle.std.specs.List.{flat_map, last_or, prefix_len}
 use Rattle.std.proofs.Common.{ap, sym, ◌∙◌, arith, length-append, length-drop, length-take-le, append_assoc}
-use Rattle.std.proofs.lemmas.List.{length-map, take-append-drop}
+use Rattle.std.proofs.lemmas.List.{append-nil, length-map, map-append, take-append-drop}
+use Rattle.std.proofs.lemmas.List.Elements.{filter-append}
 use Rattle.std.proofs.lemmas.List.Sums.{prefix_len-le-length, sum_by-cons}
 use Rattle.std.proofs.lemmas.Bool.Decides.{nat_tests}
 use Rattle.shapers_base.specs.declared.buffer.glyph.hb_glyph_info_t.{hb_glyph_info_t}
 use Rattle.shapers_base.specs.declared.ot_shaper_syllabic.DottedCircles.{DottedCircles}
 use Rattle.shapers_base.specs.Syllables.{syllables, with_opening}
-use Rattle.shapers_base.specs.Circles.{openings, opens_as_broken, last_broken, byte_of, rephas_len, circle_in, with_circle, circled_syllable, circled_from, circles_from}
+use Rattle.shapers_base.specs.Circles.{openings, opens_after, last_byte, is_of_kind, byte_of, rephas_len, circle_in, with_circle, with_circles, circled_syllable}
+use Rattle.shapers_base.specs.CircleWalk.{openings_from, opens_as_broken, last_broken, circled_from, circles_from}
+use Rattle.shapers_base.specs.Lists.{each_after}
 
 -- a syllable and whether it opens a circle
 abbrev Opening : Type 0
@@ -52,7 +55,7 @@ none_opened rule ((false, piece) ∷ os) none = ap (λ xs. piece ++ xs) (none_op
 none_opened rule ((true, piece) ∷ os) none = absurd (omega (arith, opened_more true piece os))
 
 -- cutting into openings, and cutting into syllables, loses nothing
-joined-openings : (k last : ℕ) (pieces : List (List hb_glyph_info_t)) → joined_syllables (openings k last pieces) ≡ flat_map (λ piece. piece) pieces
+joined-openings : (k last : ℕ) (pieces : List (List hb_glyph_info_t)) → joined_syllables (openings_from k last pieces) ≡ flat_map (λ piece. piece) pieces
 joined-openings k last [] = refl
 joined-openings k last (piece ∷ pieces) = ap (λ xs. piece ++ xs) (joined-openings k (last_broken k last (byte_of piece)) pieces)
 
@@ -65,22 +68,49 @@ pub joined-syllables : (gs : List hb_glyph_info_t) → flat_map (λ piece. piece
 joined-syllables [] = refl
 joined-syllables (g ∷ gs) = joined-with_opening g (syllables gs) ∙ ap (λ xs. g ∷ xs) (joined-syllables gs)
 
-pub joined-openings-syllables : (k last : ℕ) (gs : List hb_glyph_info_t) → joined_syllables (openings k last (syllables gs)) ≡ gs
+pub joined-openings-syllables : (k last : ℕ) (gs : List hb_glyph_info_t) → joined_syllables (openings_from k last (syllables gs)) ≡ gs
 joined-openings-syllables k last gs = joined-openings k last (syllables gs) ∙ joined-syllables gs
 
 -- each circle makes the text one glyph longer
 pub length-circled_from : (rule : DottedCircles) (last : ℕ) (gs : List hb_glyph_info_t) → length (circled_from rule last gs) ≡ length gs + circles_from rule last gs
 length-circled_from rule last gs =
-    let os = openings rule.broken_kind last (syllables gs) in
+    let os = openings_from rule.broken_kind last (syllables gs) in
     omega (arith, length-circled_all rule os, ap length (joined-openings-syllables rule.broken_kind last gs))
 
 -- a text with no circle is the text
 pub circled_from-none : (rule : DottedCircles) (last : ℕ) (gs : List hb_glyph_info_t) → circles_from rule last gs ≡ 0 → circled_from rule last gs ≡ gs
-circled_from-none rule last gs none = none_opened rule (openings rule.broken_kind last (syllables gs)) none ∙ joined-openings-syllables rule.broken_kind last gs
+circled_from-none rule last gs none = none_opened rule (openings_from rule.broken_kind last (syllables gs)) none ∙ joined-openings-syllables rule.broken_kind last gs
 
 -- and only such a text
 pub no_circles : (rule : DottedCircles) (last : ℕ) (gs : List hb_glyph_info_t) → circled_from rule last gs ≡ gs → circles_from rule last gs ≡ 0
 no_circles rule last gs same = omega (arith, length-circled_from rule last gs, ap length same)
+
+last_or_push : {X : Type 0} (o : Option X) (xs : List X) (y : X) → last_or o (xs ++ y ∷ []) ≡ Some y
+last_or_push o [] y = refl
+last_or_push o (x ∷ xs) y = last_or_push (Some x) xs y
+
+-- the byte of the last broken syllable, with one syllable more
+last_byte_push_if : (k : ℕ) (pieces : List (List hb_glyph_info_t)) (gs : List hb_glyph_info_t) (broken : Bool) → is_of_kind k gs ≡ broken → last_byte k (pieces ++ gs ∷ []) ≡ (if broken then byte_of gs else last_byte k pieces)
+last_byte_push_if k pieces gs true test =
+    let kept : filter (is_of_kind k) (gs ∷ []) ≡ gs ∷ [] = rw test refl in
+    rw (filter-append (is_of_kind k) pieces (gs ∷ []), kept, map-append byte_of (filter (is_of_kind k) pieces) (gs ∷ []), last_or_push None (map byte_of (filter (is_of_kind k) pieces)) (byte_of gs)) refl
+last_byte_push_if k pieces gs false test =
+    let kept : filter (is_of_kind k) (gs ∷ []) ≡ [] = rw test refl in
+    rw (filter-append (is_of_kind k) pieces (gs ∷ []), kept, append-nil (filter (is_of_kind k) pieces)) refl
+
+last_byte_push : (k : ℕ) (pieces : List (List hb_glyph_info_t)) (gs : List hb_glyph_info_t) → last_byte k (pieces ++ gs ∷ []) ≡ last_broken k (last_byte k pieces) (byte_of gs)
+last_byte_push k pieces gs = last_byte_push_if k pieces gs (is_of_kind k gs) refl
+
+-- a walk meets the same openings
+openings-walk : (k : ℕ) (before pieces : List (List hb_glyph_info_t)) → map (λ ((b, piece) : List (List hb_glyph_info_t) × List hb_glyph_info_t). (opens_after k b piece, piece)) (each_after before pieces) ≡ openings_from k (last_byte k before) pieces
+openings-walk k before [] = refl
+openings-walk k before (gs ∷ pieces) = ap (λ os. (opens_after k before gs, gs) ∷ os) (openings-walk k (before ++ gs ∷ []) pieces ∙ ap (λ last. openings_from k last pieces) (last_byte_push k before gs))
+
+pub openings_is_walk : (k : ℕ) (gs : List hb_glyph_info_t) → openings k gs ≡ openings_from k 0 (syllables gs)
+openings_is_walk k gs = openings-walk k [] (syllables gs)
+
+pub with_circles_is_walk : (rule : DottedCircles) (gs : List hb_glyph_info_t) → with_circles rule gs ≡ circled_from rule 0 gs
+with_circles_is_walk rule gs = ap (circled_all rule) (openings_is_walk rule.broken_kind gs)
 
 -- the elements of a list that aren't marked, and those that are
 abbrev pub unmarked : {X : Type 0} → List Bool → List X → List X
@@ -103,15 +133,15 @@ marks_in rule opens gs = if opens then no_marks (take (rephas_len rule.repha gs)
 
 -- for each place of the text with its circles, whether a circle stands there
 abbrev pub circle_marks : DottedCircles → List hb_glyph_info_t → List Bool
-circle_marks rule gs = flat_map (λ (opens, piece). marks_in rule opens piece) (openings rule.broken_kind 0 (syllables gs))
+circle_marks rule gs = flat_map (λ (opens, piece). marks_in rule opens piece) (openings rule.broken_kind gs)
 
 -- the circles of the syllables that open one, in order
 abbrev pub circles_of : DottedCircles → List hb_glyph_info_t → List hb_glyph_info_t
-circles_of rule gs = map (λ (opens, piece). circle_in piece rule.circle) (filter (λ (opens, piece). opens) (openings rule.broken_kind 0 (syllables gs)))
+circles_of rule gs = map (λ (opens, piece). circle_in piece rule.circle) (filter (λ (opens, piece). opens) (openings rule.broken_kind gs))
 
 -- the unmarked places of the text with its circles are the text, and the marked ones its circles
 abbrev pub CirclesCanBeErased : Type 0
-CirclesCanBeErased = (rule : DottedCircles) (gs : List hb_glyph_info_t) → (unmarked (circle_marks rule gs) (circled_from rule 0 gs) ≡ gs) × (marked (circle_marks rule gs) (circled_from rule 0 gs) ≡ circles_of rule gs)
+CirclesCanBeErased = (rule : DottedCircles) (gs : List hb_glyph_info_t) → (unmarked (circle_marks rule gs) (with_circles rule gs) ≡ gs) × (marked (circle_marks rule gs) (with_circles rule gs) ≡ circles_of rule gs)
 
 unmarked-append : {X : Type 0} (ms ns : List Bool) (xs ys : List X) → length ms ≡ length xs → unmarked (ms ++ ns) (xs ++ ys) ≡ unmarked ms xs ++ unmarked ns ys
 unmarked-append [] ns [] ys same = refl
@@ -184,5 +214,5 @@ marked-all rule ((opens, piece) ∷ os) = marked-append (marks_in rule opens pie
 
 pub circles_can_be_erased : CirclesCanBeErased
 circles_can_be_erased rule gs =
-    let os = openings rule.broken_kind 0 (syllables gs) in
-    (unmarked-all rule os ∙ joined-openings-syllables rule.broken_kind 0 gs, marked-all rule os)
+    let os = openings rule.broken_kind gs in
+    (unmarked-all rule os ∙ ap joined_syllables (openings_is_walk rule.broken_kind gs) ∙ joined-openings-syllables rule.broken_kind 0 gs, marked-all rule os)

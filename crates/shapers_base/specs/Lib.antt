@@ -1,6 +1,7 @@
 pub mod Buffer
 pub mod Category
 pub mod CircleLaws
+pub mod CircleWalk
 pub mod Circles
 pub mod Clusters
 pub mod Glyph

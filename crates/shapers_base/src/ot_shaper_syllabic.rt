@@ -2,7 +2,8 @@
 ghost use Rattle.std.specs.Prelude.{◌≡◌, ◌==◌, ◌+◌, ◌-◌, ◌%◌, ◌<◌, ◌≤◌, [], ◌∷◌, All, IfErr, IfOk, IsOk, OnErr, OnOk, drop, take, is_ok, is_some, length, map, if◌then◌else◌};
 ghost use Rattle.std.specs.List.{prefix_len};
 ghost use Rattle.shapers_base.specs.CircleLaws.{CirclesCanBeErased};
-ghost use Rattle.shapers_base.specs.Circles.{circle_in, circled, circled_from, circled_syllable, circles_for, circles_from, last_broken, opens_as_broken, opens_circle, overwritten, rephas_len};
+ghost use Rattle.shapers_base.specs.CircleWalk.{circled_from, circles_from, last_broken, opens_as_broken, overwritten};
+ghost use Rattle.shapers_base.specs.Circles.{circle_in, circled, circled_syllable, circles_for, opens_circle, rephas_len, with_circles};
 ghost use Rattle.shapers_base.specs.Clusters.{stretch_of};
 ghost use Rattle.shapers_base.specs.Refusals.{RefusesLength};
 ghost use Rattle.shapers_base.specs.Syllabic.{unsubstituted, with_unsafe_syllables};
@@ -263,10 +264,10 @@ impl DottedCircles {
     // Puts the circles into the text.
     fn insert(&self, buffer: &mut hb_buffer_t) -> Result<(), ShaperError>
         requires { buffer.old.positions ≡ [] }
-        ensures ok { OnOk result (buffer.new ≡ record buffer.old { glyphs = circled_from self.now 0 buffer.old.glyphs }) }
-        ensures length { RefusesLength buffer.old.max_len (length (circled_from self.now 0 buffer.old.glyphs)) result }
+        ensures ok { OnOk result (buffer.new ≡ record buffer.old { glyphs = with_circles self.now buffer.old.glyphs }) }
+        ensures length { RefusesLength buffer.old.max_len (length (with_circles self.now buffer.old.glyphs)) result }
         ensures err { OnErr result (buffer.new ≡ buffer.old) }
-        ensures free { circled_from self.now 0 buffer.old.glyphs ≡ buffer.old.glyphs → IsOk result }
+        ensures free { with_circles self.now buffer.old.glyphs ≡ buffer.old.glyphs → IsOk result }
     {
         let count = self.count(buffer);
         if count == 0 {

@@ -1,5 +1,5 @@
 use Rattle.std.proofs.Common.{◌≡◌, ◌+◌, ◌-◌, ◌≤◌, ◌++◌, [], length, take, drop}
-use Rattle.shapers_base.specs.Circles.{circled_from, circles_from}
+use Rattle.shapers_base.specs.CircleWalk.{circled_from, circles_from}
 use Rattle.shapers_base.proofs.ot_shaper_syllabic.DottedCircles.close_gap.Given as goal
 
 abbrev pub invariant-loop-write : goal.invariant-loop-write

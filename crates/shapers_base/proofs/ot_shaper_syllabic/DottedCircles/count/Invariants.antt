@@ -1,5 +1,5 @@
 use Rattle.std.proofs.Common.{◌≡◌, ◌+◌, ◌-◌, ◌≤◌, length, drop}
-use Rattle.shapers_base.specs.Circles.{circles_from}
+use Rattle.shapers_base.specs.CircleWalk.{circles_from}
 use Rattle.shapers_base.proofs.ot_shaper_syllabic.DottedCircles.count.Given as goal
 
 abbrev pub invariant-loop-start : goal.invariant-loop-start
