@@ -162,16 +162,21 @@ pub fn insert_dotted_circles<F: hb_font_t>(
     dottedcircle_position: Option<u8>,
 ) -> Result<bool, ShaperError>
     requires { buffer.old.positions ≡ [] }
-    ensures answer { let circles = circles_for (F.nominal_glyph face.now 0x25CC) broken_syllable_type dottedcircle_category repha_category dottedcircle_position buffer.old in
+    ensures answer { let circles = circles_for (F.nominal_glyph face.now 0x25CC) broken_syllable_type
+        dottedcircle_category repha_category dottedcircle_position buffer.old in
         IfOk result (λ answer. answer ≡ is_some circles) }
-    ensures ok { let circles = circles_for (F.nominal_glyph face.now 0x25CC) broken_syllable_type dottedcircle_category repha_category dottedcircle_position buffer.old in
+    ensures ok { let circles = circles_for (F.nominal_glyph face.now 0x25CC) broken_syllable_type
+        dottedcircle_category repha_category dottedcircle_position buffer.old in
         OnOk result (buffer.new ≡ record buffer.old { glyphs = circled circles buffer.old.glyphs }) }
-    ensures length { let circles = circles_for (F.nominal_glyph face.now 0x25CC) broken_syllable_type dottedcircle_category repha_category dottedcircle_position buffer.old in
+    ensures length { let circles = circles_for (F.nominal_glyph face.now 0x25CC) broken_syllable_type
+        dottedcircle_category repha_category dottedcircle_position buffer.old in
         RefusesLength buffer.old.max_len (length (circled circles buffer.old.glyphs)) result }
     ensures err { OnErr result (buffer.new ≡ buffer.old) }
-    ensures free { let circles = circles_for (F.nominal_glyph face.now 0x25CC) broken_syllable_type dottedcircle_category repha_category dottedcircle_position buffer.old in
+    ensures without_memory { let circles = circles_for (F.nominal_glyph face.now 0x25CC) broken_syllable_type
+        dottedcircle_category repha_category dottedcircle_position buffer.old in
         circled circles buffer.old.glyphs ≡ buffer.old.glyphs → IsOk result }
 {
+    // so that an answer with nothing changed keeps the promise on lengths, too
     prove!(buffer.len() <= buffer.max_len());
     let circles = circles_for(
         face,
