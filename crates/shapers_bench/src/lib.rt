@@ -4,3 +4,5 @@
 
 #[cfg(test)]
 mod buffer;
+#[cfg(test)]
+mod syllabic;
