@@ -3,6 +3,8 @@ pub mod Category
 pub mod Clusters
 pub mod Glyph
 pub mod GlyphFlags
+pub mod ListLaws
+pub mod Lists
 pub mod Map
 pub mod Planner
 pub mod Refusals

@@ -15,6 +15,7 @@ mod glyph;
 mod glyph_flags;
 mod level;
 mod merging;
+pub mod modified_combining_class;
 mod refusal;
 mod reversing;
 mod syllables;

@@ -1,1 +1,3 @@
 mod RequestRows
+pub mod SaraAm
+pub mod Stretches

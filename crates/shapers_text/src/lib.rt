@@ -3,3 +3,4 @@
 
 pub mod ot_shaper_arabic;
 pub mod ot_shaper_hangul;
+pub mod ot_shaper_thai;

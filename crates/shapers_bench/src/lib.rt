@@ -1,0 +1,6 @@
+//! The vectors: worked rows of every rule, and each call that may want memory run once with plenty.
+//! Their values come from the rules, and nothing here is called by a program.
+#![tactic(auto)]
+
+#[cfg(test)]
+mod buffer;

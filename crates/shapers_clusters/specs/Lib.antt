@@ -1,0 +1,11 @@
+pub mod Appended
+pub mod Cuts
+pub mod Falls
+pub mod Joined
+pub mod Labels
+pub mod Merging
+pub mod Moves
+pub mod Neighbours
+pub mod Picks
+pub mod Spread
+pub mod Steps

@@ -1,0 +1,68 @@
+-- Lengths, order views and single places through the merge rule.
+use Rattle.std.proofs.Common.{ℕ, ◌+◌, ◌-◌, ◌<◌, ◌≤◌, ◌≡◌, ◌==◌, Bool, true, false, if◌then◌else◌, nat_lt, not, ◌&&◌, List, [], ◌∷◌, ◌++◌, map, length, take, drop, refl, sym, ◌∙◌, ap, subst, arith, length-append, length-take, length-drop}
+use Rattle.std.proofs.lemmas.List.{length-reverse, length-map, map-append, reverse-reverse, take-append-drop, drop-drop}
+use Rattle.std.proofs.lemmas.Bool.Decides.{nat_tests}
+use Rattle.std.specs.List.{AllByRecursion}
+use Rattle.shapers_base.specs.declared.buffer.glyph.hb_glyph_info_t.{hb_glyph_info_t}
+use Rattle.shapers_base.specs.declared.buffer.level.BufferClusterLevel.{BufferClusterLevel}
+use Rattle.shapers_base.specs.Glyph.{plain, without_flags, order_view}
+use Rattle.shapers_clusters.specs.Joined.{map-reverse}
+use Rattle.shapers_base.specs.Clusters.{in_cluster, flooded, merged, merge, merge_all, merges, stretch_of}
+
+-- a stretch of at least two places merges, or nothing changes
+two_cases : (n : ℕ) (a : Bool) {X : Type 0} (P : X → Type 0) (x y : X) → P y → (1 < n → P x) → P (if a && not (nat_lt n 2) then x else y)
+two_cases n true P x y here there = grind (arith, nat_tests)
+two_cases n false P x y here there = here
+
+pub merge_cases : (P : List hb_glyph_info_t → Type 0) (level : BufferClusterLevel) (s e : ℕ) (gs : List hb_glyph_info_t) → P gs → (1 < e - s → P (merged s e gs)) → P (merge level s e gs)
+merge_cases P level s e gs here there = two_cases (e - s) (merges level) P (merged s e gs) gs here there
+
+pub length-flooded : (c m : ℕ) (gs : List hb_glyph_info_t) → length (flooded c m gs) ≡ length gs
+length-flooded c m [] = refl
+length-flooded c m (g ∷ gs) = grind (arith, nat_tests, length-flooded c m gs)
+
+length-merged : (s e : ℕ) (gs : List hb_glyph_info_t) → s ≤ e → e ≤ length gs → length (merged s e gs) ≡ length gs
+length-merged s e gs h l = simp (length-append, length-reverse, length-map, length-flooded, length-take, length-drop) (omega arith)
+
+pub length-merge : (level : BufferClusterLevel) (s e : ℕ) (gs : List hb_glyph_info_t) → e ≤ length gs → length (merge level s e gs) ≡ length gs
+length-merge level s e gs l = merge_cases (λ ms. length ms ≡ length gs) level s e gs refl (λ h. length-merged s e gs (omega arith) l)
+
+pub length-merge_all : (level : BufferClusterLevel) (sts : List (ℕ × ℕ)) (gs : List hb_glyph_info_t) → AllByRecursion (λ st. st.1 ≤ length gs) sts → length (merge_all level sts gs) ≡ length gs
+length-merge_all level [] gs h = refl
+length-merge_all level (st ∷ sts) gs h =
+    let e = length-merge level st.0 st.1 gs h.0 in
+    length-merge_all level sts (merge level st.0 st.1 gs) (let P : ℕ → Type 0 = λ n. AllByRecursion (λ st. st.1 ≤ n) sts in subst P (sym e) h.1) ∙ e
+
+pub without_flags-twice : (n : ℕ) → without_flags (without_flags n) ≡ without_flags n
+without_flags-twice n = omega arith
+
+plain-in_cluster : (m : ℕ) (g : hb_glyph_info_t) → plain (in_cluster m g) ≡ plain g
+plain-in_cluster m g =
+    elim (g.cluster == m) as (λ b. plain (if b then g else record g { cluster = m; mask = without_flags g.mask }) ≡ plain g) [ true ↦ refl | false ↦ ap (λ (x : ℕ). record g { cluster = 0; mask = x }) (without_flags-twice g.mask) ]
+
+order_view-flooded : (c m : ℕ) (gs : List hb_glyph_info_t) → order_view (flooded c m gs) ≡ order_view gs
+order_view-flooded c m [] = refl
+order_view-flooded c m (g ∷ gs) = grind (arith, nat_tests, plain-in_cluster m g, order_view-flooded c m gs)
+
+order_view-put : (m : ℕ) (gs : List hb_glyph_info_t) → order_view (map (in_cluster m) gs) ≡ order_view gs
+order_view-put m [] = refl
+order_view-put m (g ∷ gs) = let h = plain-in_cluster m g in let i = order_view-put m gs in cc
+
+-- a list is its front, a stretch and what is behind it
+pub three_parts : {X : Type 0} (s e : ℕ) (xs : List X) → s ≤ e → take s xs ++ (stretch_of s e xs ++ drop e xs) ≡ xs
+three_parts s e xs h =
+    let n : s + (e - s) ≡ e = omega arith in
+    let behind : drop e xs ≡ drop (e - s) (drop s xs) = ap (λ k. drop k xs) (sym n) ∙ sym (drop-drop (e - s) s xs) in
+    ap (λ l. take s xs ++ (stretch_of s e xs ++ l)) behind ∙ ap (λ l. take s xs ++ l) (take-append-drop (e - s) (drop s xs)) ∙ take-append-drop s xs
+
+order_view-merged : (s e : ℕ) (gs : List hb_glyph_info_t) → s ≤ e → order_view (merged s e gs) ≡ order_view gs
+order_view-merged s e gs h =
+    simp (map-append, map-reverse, order_view-flooded, order_view-put, reverse-reverse)
+    (sym (map-append plain (take s gs) (stretch_of s e gs ++ drop e gs) ∙ ap (λ l. order_view (take s gs) ++ l) (map-append plain (stretch_of s e gs) (drop e gs))) ∙ ap order_view (three_parts s e gs h))
+
+pub order_view-merge : (level : BufferClusterLevel) (s e : ℕ) (gs : List hb_glyph_info_t) → order_view (merge level s e gs) ≡ order_view gs
+order_view-merge level s e gs = merge_cases (λ ms. order_view ms ≡ order_view gs) level s e gs refl (λ h. order_view-merged s e gs (omega arith))
+
+pub order_view-merge_all : (level : BufferClusterLevel) (sts : List (ℕ × ℕ)) (gs : List hb_glyph_info_t) → order_view (merge_all level sts gs) ≡ order_view gs
+order_view-merge_all level [] gs = refl
+order_view-merge_all level (st ∷ sts) gs = order_view-merge_all level sts (merge level st.0 st.1 gs) ∙ order_view-merge level st.0 st.1 gs

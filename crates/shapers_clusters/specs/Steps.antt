@@ -1,0 +1,69 @@
+-- Steps: what a reordering does to a list of glyphs.
+use Rattle.std.proofs.Common.{ℕ, ◌+◌, ◌-◌, ◌<◌, ◌≤◌, ◌≡◌, ◌++◌, min, max, true, List, [], ◌∷◌, map, length, slice_index}
+use Rattle.std.specs.List.{AllByRecursion, filter_map, flat_map, slice_get, range_with_len}
+use Rattle.shapers_base.specs.declared.buffer.glyph.hb_glyph_info_t.{hb_glyph_info_t}
+use Rattle.shapers_base.specs.declared.buffer.level.BufferClusterLevel.{BufferClusterLevel}
+use Rattle.shapers_base.specs.Clusters.{merge_all}
+use Rattle.shapers_clusters.specs.Neighbours.{EndWithin, held}
+
+-- the elements at these places, in the order of the places
+abbrev pub pick : {X : Type 0} → List ℕ → List X → List X
+pick places xs = filter_map (slice_get xs) places
+
+-- One step: some stretches merge, then the glyph of the listed old place comes to each place, then some stretches merge.
+pub record Step : Type 0 where
+  pub merged_first : List (ℕ × ℕ)
+  pub places : List ℕ
+  pub merged_then : List (ℕ × ℕ)
+
+-- the glyphs after one step, and after several, one after another
+abbrev pub run_step : BufferClusterLevel → Step → List hb_glyph_info_t → List hb_glyph_info_t
+run_step level step gs = merge_all level step.merged_then (pick step.places (merge_all level step.merged_first gs))
+abbrev pub run_steps : BufferClusterLevel → List Step → List hb_glyph_info_t → List hb_glyph_info_t
+run_steps level [] gs = gs
+run_steps level (step ∷ steps) gs = run_steps level steps (run_step level step gs)
+
+-- for each place after the steps the old place of what stands there, where these are the old places so far
+abbrev pub moved_on : List Step → List ℕ → List ℕ
+moved_on [] places = places
+moved_on (step ∷ steps) places = moved_on steps (pick step.places places)
+
+-- for each of n places after the steps the place before them
+abbrev pub old_places : ℕ → List Step → List ℕ
+old_places n steps = moved_on steps (range_with_len 0 n)
+
+-- a step of n places: it takes as many of them, and merges no others
+pub record FitsStep (n : ℕ) (step : Step) : Type 0 where
+  pub as_many : length step.places ≡ n
+  pub within : AllByRecursion (λ p. p < n) step.places
+  pub first_within : EndWithin n step.merged_first
+  pub then_within : EndWithin n step.merged_then
+abbrev pub FitSteps : ℕ → List Step → Type 0
+FitSteps n steps = AllByRecursion (FitsStep n) steps
+
+-- the stretches merge with neighbours, without a gap, from p to q
+abbrev pub HeldBetween : List (ℕ × ℕ) → ℕ → ℕ → Type 0
+HeldBetween sts p q = (r : ℕ) → min p q < r → r ≤ max p q → held sts r ≡ true
+
+-- each place takes what stood within the same merged stretches
+abbrev pub MovesInside : List (ℕ × ℕ) → List ℕ → Type 0
+MovesInside sts places = (p : ℕ) → p < length places → HeldBetween sts p (slice_index places p)
+
+-- a step of n places that moves only inside what it merged first, and merges nothing then
+pub record MovesMerged (n : ℕ) (step : Step) : Type 0 where
+  pub fits : FitsStep n step
+  pub inside : MovesInside step.merged_first step.places
+  pub nothing_then : step.merged_then ≡ []
+
+-- all stretches that the steps merge first, one after another
+abbrev pub all_first : List Step → List (ℕ × ℕ)
+all_first steps = flat_map (λ step. step.merged_first) steps
+
+-- stretches and steps over the places s..e of n places, of which they number the first by 0
+abbrev pub shifted : ℕ → List (ℕ × ℕ) → List (ℕ × ℕ)
+shifted s sts = map (λ st. (s + st.0, s + st.1)) sts
+abbrev pub widened : ℕ → ℕ → ℕ → Step → Step
+widened s e n step = record {
+    merged_first = shifted s step.merged_first;
+    places = range_with_len 0 s ++ (map (λ p. s + p) step.places ++ range_with_len e (n - e));
+    merged_then = shifted s step.merged_then }

@@ -1,0 +1,2 @@
+//! The laws of clusters and glyph flags.
+#![tactic(auto)]
