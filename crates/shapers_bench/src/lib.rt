@@ -4,3 +4,7 @@
 
 #[cfg(test)]
 mod buffer;
+#[cfg(test)]
+mod feature_lists;
+#[cfg(test)]
+mod planner;
