@@ -211,6 +211,7 @@ const UNIVERSAL: [&str; 30] = [
 ];
 
 // A font without glyphs, which has `rclt` or no feature at all.
+#[derive(Drop)]
 struct Font {
     rclt: bool,
 }

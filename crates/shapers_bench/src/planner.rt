@@ -27,7 +27,7 @@ fn plans_in_order(rt: HostRuntime) -> Result<(), Fail> {
         Request::Pause(None),
         Request::Feature(tag, 0, 3),
     ];
-    assert_eq!(rt; planner.requests(), &requests);
+    assert_eq!(rt; planner.requests(), requests.as_slice());
     Ok(())
 }
 
