@@ -1,12 +1,10 @@
 -- The records of the shapers: their constants, and which hooks they have.
-use Rattle.std.specs.Prelude.{Bool, true, false, List, ◌≡◌, length, Option, None, Some, Result, IsOk, codes}
+use Rattle.std.specs.Prelude.{ℕ, Bool, true, false, List, ◌≡◌, length, Option, None, Some, Result, IsOk, codes}
 use Rattle.std.specs.List.{list_any}
 use Rattle.std.specs.Option.{option_map}
 use Rattle.shapers_base.specs.Buffer.{Buffer}
-use Rattle.shapers_base.specs.Clusters.{merge_all}
 use Rattle.shapers_base.specs.Planner.{Planner, with_requests}
 use Rattle.shapers_base.specs.Refusals.{RefusesLength}
-use Rattle.shapers_base.specs.declared.buffer.glyph.hb_glyph_info_t.{hb_glyph_info_t}
 use Rattle.shapers_base.specs.declared.buffer.refusal.ShaperError.{ShaperError}
 use Rattle.shapers_base.specs.declared.buffer.tag.hb_tag_t.{hb_tag_t}
 use Rattle.shapers_base.specs.declared.buffer.tag.Script.{Script}
@@ -18,7 +16,8 @@ use Rattle.shapers_base.specs.declared.plan.record.NormalizationMode.TheVariants
 use Rattle.shapers_base.specs.declared.plan.record.ZeroWidthMarks.{ZeroWidthMarks}
 use Rattle.shapers_base.specs.declared.plan.record.ZeroWidthMarks.TheVariants as zeroing
 use Rattle.shapers_text.specs.Requests.{arabic_list, is_arabic, hangul_list, hangul_overrides}
-use Rattle.shapers_text.specs.Thai.{is_sara_am, rewritten, sara_am_stretches}
+use Rattle.shapers_text.specs.Thai.{is_sara_am, rewritten, wants_forms}
+use Rattle.shapers_text.specs.ThaiForms.{preprocessed}
 use Rattle.shapers_regroup.specs.Requests.{khmer_list, khmer_overrides, myanmar_list, universal_list}
 use Rattle.shapers_indic.specs.Requests.{indic_list, indic_overrides}
 use Rattle.rustybuzz_shapers.specs.declared.shaper.hb_ot_shaper_t.{hb_ot_shaper_t}
@@ -140,10 +139,10 @@ abbrev pub preprocess_stands : hb_ot_shaper_t → Bool
 preprocess_stands Hangul = false
 preprocess_stands _ = true
 
--- the buffer after preprocessing
-abbrev pub preprocessed : hb_ot_shaper_t → Buffer → Buffer
-preprocessed Thai b = record b { glyphs = rewritten (merge_all b.level (sara_am_stretches b.level b.glyphs) b.glyphs) }
-preprocessed _ b = b
+-- the buffer after preprocessing, with a plan for a script that GSUB has or not, and a font that has some characters
+abbrev pub after_preprocess : hb_ot_shaper_t → Option Script → Bool → (ℕ → Bool) → Buffer → Buffer
+after_preprocess Thai s found has b = record b { glyphs = preprocessed (wants_forms s found) has b.level b.glyphs }
+after_preprocess _ s found has b = b
 
 -- when preprocessing refuses: never, but for Thai, as a growth does where there is a SARA AM
 abbrev pub RefusesPreprocess : {T : Type 0} → hb_ot_shaper_t → Buffer → Result T ShaperError → Type 0

@@ -1,10 +1,9 @@
 //! The shapers behind one enum, a method a hook. Where a shaper lacks a hook, its method answers None
 //! and changes nothing.
-ghost use Rattle.std.specs.Prelude.{◌≡◌, ◌≤◌, [], length, false, true, None, Ok, IfOk, IsOk, IsNone, IsOkUnless, OnOk, OnErr};
+ghost use Rattle.std.specs.Prelude.{◌≡◌, ◌≤◌, [], length, false, true, None, Ok, IfOk, IsOk, IsNone, is_some, IsOkUnless, OnOk, OnErr};
 ghost use Rattle.shapers_base.specs.declared.buffer.refusal.ShaperError.TheVariants.{Memory};
 ghost use Rattle.shapers_text.specs.Requests.{rclt};
-ghost use Rattle.shapers_text.specs.Thai.{wants_forms};
-ghost use Rattle.rustybuzz_shapers.specs.Shapers.{normalizes, wants_gpos_script, zeroes_marks, places_marks, collected, overridden, asked, if_there, keeps_data, postprocesses, composes, decomposes, masks_glyphs, moves_marks, preprocess_answer, preprocess_stands, preprocessed, RefusesPreprocess};
+ghost use Rattle.rustybuzz_shapers.specs.Shapers.{normalizes, wants_gpos_script, zeroes_marks, places_marks, collected, overridden, asked, if_there, keeps_data, postprocesses, composes, decomposes, masks_glyphs, moves_marks, preprocess_answer, preprocess_stands, after_preprocess, RefusesPreprocess};
 
 use shapers_base::buffer::{ShaperError, hb_buffer_t, hb_tag_t};
 use shapers_base::font::{Tables, hb_font_t};
@@ -156,10 +155,10 @@ impl hb_ot_shaper_t {
         None
     }
 
-    /// Rewrites a text before its characters become glyphs. Thai puts each SARA AM in two and refuses
-    /// as a growth does; for Indic and the universal shaper the caller runs the vowel constraints.
-    /// Left out until they are built: Hangul, and the private use forms of a plan for Thai without its
-    /// script in GSUB.
+    /// Rewrites a text before its characters become glyphs. Thai puts each SARA AM in two, and then,
+    /// where GSUB doesn't have the script Thai, gives marks and bases their private use forms; it
+    /// refuses as a growth does. For Indic and the universal shaper the caller runs the vowel
+    /// constraints. For Hangul it isn't built yet.
     pub fn preprocess_text<F: hb_font_t>(
         self,
         plan: &hb_ot_shape_plan_t,
@@ -168,9 +167,8 @@ impl hb_ot_shaper_t {
     ) -> Result<Option<Preprocess>, ShaperError>
         requires without_positions { buffer.old.positions ≡ [] }
         requires unbuilt { preprocess_stands self ≡ true }
-        requires without_forms { wants_forms plan.now.script plan.now.ot_map.found ≡ false }
         ensures answer { IfOk result (λ answer. answer ≡ preprocess_answer self) }
-        ensures ok { OnOk result (buffer.new ≡ preprocessed self buffer.old) }
+        ensures ok { OnOk result (buffer.new ≡ after_preprocess self plan.now.script plan.now.ot_map.found (λ c. is_some (F.nominal_glyph face.now c)) buffer.old) }
         ensures refusal { RefusesPreprocess self buffer.old result }
         ensures err { OnErr result (buffer.new ≡ buffer.old) }
     {

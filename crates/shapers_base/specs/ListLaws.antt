@@ -2,7 +2,7 @@
 use Rattle.std.proofs.Common.{◌≡◌, ◌⊎◌, inl, inr, ℕ, suc, ◌-◌, ◌+◌, ◌<◌, ◌≤◌, Bool, true, false, cond, ◌||◌, List, [], ◌∷◌, ◌++◌, length, take, drop, reverse, refl, sym, ap, subst, ◌∙◌, arith, length-append, zero-add}
 use Rattle.std.specs.List.{suffix_len, prefix_len, onto_first, list_any, count_by, flat_map}
 use Rattle.std.proofs.lemmas.List.{append_assoc, append-nil, reverse-append, take-append-le, drop-append-le, take_all, drop_all, take-append-drop, reverse-reverse, length_push, length-reverse}
-use Rattle.std.proofs.lemmas.List.Sums.{sum_by-cons, suffix_len-le-length}
+use Rattle.std.proofs.lemmas.List.Sums.{sum_by-cons, sum_by_push, suffix_len-le-length}
 use Rattle.std.proofs.Math.Seq.{drop-append-add, take-append-add}
 use Rattle.std.proofs.lemmas.Bool.{or_parts, or_from}
 use Rattle.std.proofs.lemmas.List.Folds.{list_any-append}
@@ -151,6 +151,10 @@ back P start next (x ∷ xs) = subst P (sym (reverse_onto xs x [])) (next (rever
 
 pub from_end : {X : Type 0} (P : List X → Type 0) → P [] → ((xs : List X) (x : X) → P xs → P (xs ++ x ∷ [])) → (xs : List X) → P xs
 from_end P start next xs = subst P (reverse-reverse xs) (back P start next (reverse xs))
+
+-- one more element counted
+pub count_push : {X : Type 0} (test : X → Bool) (xs : List X) (x : X) (b : Bool) → test x ≡ b → count_by test (xs ++ x ∷ []) ≡ count_by test xs + cond b 1 0
+count_push test xs x b h = sum_by_push (λ y. cond (test y) 1 0) xs x ∙ ap (λ c. count_by test xs + cond c 1 0) h
 
 no_one : (b : Bool) (n : ℕ) → cond b 1 0 + n ≡ 0 → b ≡ false
 no_one true n h = absurd (omega arith)

@@ -1,3 +1,5 @@
 mod RequestRows
-pub mod SaraAm
-pub mod Stretches
+pub mod ThaiFormLaws
+pub mod ThaiFormWalks
+pub mod ThaiSaraAm
+pub mod ThaiStretches

@@ -1,3 +1,4 @@
 pub mod Requests
-pub mod Rewriting
 pub mod Thai
+pub mod ThaiForms
+pub mod ThaiRewriting

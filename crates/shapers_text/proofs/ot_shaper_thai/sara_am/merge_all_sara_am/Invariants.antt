@@ -1,6 +1,6 @@
 -- The merges done, and those to come.
 use Rattle.std.proofs.Common.{◌≡◌, ◌≤◌, length}
-use Rattle.shapers_text.proofs.Stretches.{Merging}
+use Rattle.shapers_text.proofs.ThaiStretches.{Merging}
 use Rattle.shapers_text.proofs.ot_shaper_thai.sara_am.merge_all_sara_am.Given as goal
 
 abbrev pub invariant-loop-i : goal.invariant-loop-i

@@ -4,7 +4,7 @@ use Rattle.shapers_base.specs.Buffer.{Buffer}
 use Rattle.shapers_base.specs.Refusals.{RefusesLength}
 use Rattle.shapers_base.specs.ListLaws.{count_from_none}
 use Rattle.shapers_text.specs.Thai.{is_sara_am, rewritten}
-use Rattle.shapers_text.proofs.Stretches.{unchanged, length-rewritten, room_made, all_written}
+use Rattle.shapers_text.proofs.ThaiStretches.{unchanged, length-rewritten, room_made, all_written}
 use Rattle.shapers_text.proofs.ot_shaper_thai.sara_am.rewrite_sara_am.Goals as goal
 
 pub returns-then-count-eq0-clause-ok : goal.returns-then-count-eq0-clause-ok

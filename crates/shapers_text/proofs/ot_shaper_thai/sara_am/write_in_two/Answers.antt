@@ -4,8 +4,8 @@ use Rattle.std.proofs.lemmas.List.{length-set}
 use Rattle.shapers_base.specs.Buffer.{Buffer}
 use Rattle.shapers_base.specs.declared.buffer.glyph.hb_glyph_info_t.{hb_glyph_info_t}
 use Rattle.shapers_text.specs.Thai.{rewritten}
-use Rattle.shapers_text.proofs.SaraAm.{Written, written_none, written_next, written_all}
-use Rattle.shapers_text.proofs.Stretches.{same_fields}
+use Rattle.shapers_text.proofs.ThaiSaraAm.{Written, written_none, written_next, written_all}
+use Rattle.shapers_text.proofs.ThaiStretches.{same_fields}
 use Rattle.shapers_text.proofs.ot_shaper_thai.sara_am.write_in_two.Goals as goal
 
 pub loop-unwritten-init : goal.loop-unwritten-init

@@ -7,7 +7,7 @@ use Rattle.std.proofs.lemmas.List.{append_assoc, append-nil, take_more, take-app
 use Rattle.shapers_base.specs.declared.buffer.glyph.hb_glyph_info_t.{hb_glyph_info_t}
 use Rattle.shapers_base.specs.ListLaws.{none_from_count}
 use Rattle.shapers_text.specs.Thai.{is_sara_am, is_above_base, nikhahit, sara_aa, glyphs_in_two, rewritten, in_two}
-use Rattle.shapers_text.specs.Rewriting.{becomes, held, in_two_plain, in_two_push, in_two_push_am, held_push_mark, held_push_other, Lengths, lengths, no_am}
+use Rattle.shapers_text.specs.ThaiRewriting.{becomes, held, in_two_plain, in_two_push, in_two_push_am, held_push_mark, held_push_other, Lengths, lengths, no_am}
 
 eqb_eq : (a b : ℕ) → eqb a b ≡ true → a ≡ b
 eqb_eq a b h = grind (arith, nat_tests)

@@ -17,8 +17,8 @@ use Rattle.shapers_base.specs.ListLaws.{none_from_count, count_from_none, suffix
 use Rattle.shapers_clusters.specs.Merging.{length-merge_all, order_view-merge_all}
 use Rattle.shapers_clusters.specs.Appended.{merge_all-appended}
 use Rattle.shapers_text.specs.Thai.{is_sara_am, is_above_base, glyphs_in_two, rewritten, stretch_of_sara_am, stretches_at, stretches_of_each, sara_am_stretches, joins_before}
-use Rattle.shapers_text.specs.Rewriting.{in_two_plain, Lengths, lengths}
-use Rattle.shapers_text.proofs.SaraAm.{apart}
+use Rattle.shapers_text.specs.ThaiRewriting.{in_two_plain, Lengths, lengths}
+use Rattle.shapers_text.proofs.ThaiSaraAm.{apart}
 
 -- the characters of glyphs
 abbrev pub text : List hb_glyph_info_t → List ℕ

@@ -2,12 +2,11 @@
 use Rattle.std.proofs.Common.{◌≡◌, ◌⊎◌, inl, inr, ℕ, suc, ◌-◌, ◌+◌, ◌<◌, ◌≤◌, Bool, true, false, cond, ◌||◌, List, [], ◌∷◌, ◌++◌, length, take, drop, reverse, refl, sym, ap, ◌∙◌, subst, arith, length-append, Option, None, Some}
 use Rattle.std.specs.List.{list_any, flat_map, count_by, suffix_len}
 use Rattle.std.proofs.lemmas.List.{append_assoc, append-nil, reverse-append, reverse-reverse, length_push}
-use Rattle.std.proofs.lemmas.List.Sums.{sum_by_push}
 use Rattle.std.proofs.lemmas.List.Concat.{flat_map-append}
 use Rattle.std.proofs.lemmas.Grind.{common_steps, reverse_onto}
 use Rattle.shapers_base.specs.declared.buffer.glyph.hb_glyph_info_t.{hb_glyph_info_t}
 use Rattle.shapers_base.specs.Lists.{cut_after, last_run, before_last_run}
-use Rattle.shapers_base.specs.ListLaws.{from_end, LastPass, last_pass, LastOf, last_of, cut_after-append, cut_after_none, none_in_front, none_pushed, none_before_push, last_run_yes, before_last_run_yes, last_run_no, before_last_run_no, last_run_stop, before_last_run_stop}
+use Rattle.shapers_base.specs.ListLaws.{from_end, count_push, LastPass, last_pass, LastOf, last_of, cut_after-append, cut_after_none, none_in_front, none_pushed, none_before_push, last_run_yes, before_last_run_yes, last_run_no, before_last_run_no, last_run_stop, before_last_run_stop}
 use Rattle.shapers_text.specs.Thai.{glyphs_in_two, InTwo, opened, opened_back, in_two}
 
 -- a piece, by its last
@@ -120,9 +119,6 @@ becomes text (Some nikhahit) = held glyphs_in_two text nikhahit
 pub record Lengths {X : Type 0} (two : InTwo X) (xs : List X) : Type 0 where
   pub whole : length (in_two two xs) ≡ length xs + count_by two.sara_am xs
   pub pending : (nikhahit : X) → length (held two xs nikhahit) ≡ length xs + count_by two.sara_am xs + 1
-
-count_push : {X : Type 0} (test : X → Bool) (xs : List X) (x : X) (b : Bool) → test x ≡ b → count_by test (xs ++ x ∷ []) ≡ count_by test xs + cond b 1 0
-count_push test xs x b h = sum_by_push (λ y. cond (test y) 1 0) xs x ∙ ap (λ c. count_by test xs + cond c 1 0) h
 
 longer : {X : Type 0} (xs ys : List X) (y : X) → xs ≡ ys ++ y ∷ [] → length xs ≡ length ys + 1
 longer xs ys y e = ap length e ∙ length_push ys y
