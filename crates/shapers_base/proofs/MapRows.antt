@@ -49,13 +49,13 @@ other_stage = refl
 no_stage : lookups_of pstf small ≡ []
 no_stage = refl
 
-joiner_flags : added (F_MANUAL_JOINERS) (codes "blwf") ≡ Feature blwf 12 1
+joiner_flags : added (F_MANUAL_JOINERS) "blwf" ≡ Feature blwf 12 1
 joiner_flags = refl
 
-rlig_flags : enabled 10 (codes "blwf") ≡ Feature blwf 11 1
+rlig_flags : enabled 10 "blwf" ≡ Feature blwf 11 1
 rlig_flags = refl
 
-off : disabled (codes "blwf") ≡ Feature blwf 1 0
+off : disabled "blwf" ≡ Feature blwf 1 0
 off = refl
 
 paused : each_paused (bare_pause ∷ []) ≡ bare_pause ∷ bare_pause ∷ []

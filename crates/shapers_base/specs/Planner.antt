@@ -1,5 +1,6 @@
 -- What a planner is to its callers, and the words for what it is asked.
-use Rattle.std.specs.Prelude.{ℕ, List, [], ◌∷◌, ◌++◌, Option, None, Some, bit_or}
+use Prim.Native.String.{String}
+use Rattle.std.specs.Prelude.{ℕ, List, [], ◌∷◌, ◌++◌, Option, None, Some, bit_or, codes}
 use Rattle.std.specs.List.{flat_map}
 use Rattle.shapers_base.specs.declared.buffer.tag.Script.{Script}
 use Rattle.shapers_base.specs.declared.map.TheConstants.{F_GLOBAL}
@@ -17,16 +18,16 @@ abbrev pub with_requests : List Request → Planner → Planner
 with_requests rs p = record p { requests = p.requests ++ rs }
 
 -- the request for a feature that masks turn on
-abbrev pub added : ℕ → List ℕ → Request
-added flags tag = Feature (record { 0 = tag }) flags 1
+abbrev pub added : ℕ → String → Request
+added flags tag = Feature (record { 0 = codes tag }) flags 1
 
 -- the request for a feature that holds for the whole text
-abbrev pub enabled : ℕ → List ℕ → Request
+abbrev pub enabled : ℕ → String → Request
 enabled flags tag = added (bit_or flags F_GLOBAL) tag
 
 -- the request that a feature be off
-abbrev pub disabled : List ℕ → Request
-disabled tag = Feature (record { 0 = tag }) F_GLOBAL 0
+abbrev pub disabled : String → Request
+disabled tag = Feature (record { 0 = codes tag }) F_GLOBAL 0
 
 -- a pause without a function, and one with
 abbrev pub bare_pause : Request

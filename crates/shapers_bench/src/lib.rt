@@ -5,4 +5,8 @@
 #[cfg(test)]
 mod buffer;
 #[cfg(test)]
+mod feature_lists;
+#[cfg(test)]
+mod planner;
+#[cfg(test)]
 mod syllabic;

@@ -1,3 +1,4 @@
+mod RequestRows
 pub mod ThaiFormLaws
 pub mod ThaiFormWalks
 pub mod ThaiSaraAm

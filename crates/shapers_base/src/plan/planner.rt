@@ -19,6 +19,18 @@ pub enum Request {
     Pause(Option<Pause>),
 }
 
+impl Default for Request {
+    ghost use Rattle.std.specs.Prelude.{◌≡◌};
+    ghost use Rattle.shapers_base.specs.Planner.{bare_pause};
+
+    ghost is_default = { λ r. r ≡ bare_pause };
+
+    /// A pause without a function.
+    fn default() -> Self {
+        Request::Pause(None)
+    }
+}
+
 /// Collects what a shaper asks of the map for one script.
 #[derive(Drop)]
 pub struct hb_ot_shape_planner_t {
