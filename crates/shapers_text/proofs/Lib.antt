@@ -1,4 +1,5 @@
 pub mod ThaiFormLaws
 pub mod ThaiFormWalks
+pub mod ThaiRows
 pub mod ThaiSaraAm
 pub mod ThaiStretches
