@@ -1,4 +1,7 @@
 //! Carries out the lines.
+ghost use Rattle.std.specs.Prelude.{◌≡◌};
+ghost use Rattle.shapers_text.specs.Thai.{wants_forms};
+
 use crate::command::{Command, GlyphField, HookCall, Setting, ShaperName, Side};
 use crate::fault::LineFault;
 use crate::printing::print_buffer;
@@ -6,7 +9,8 @@ use crate::settings::Settings;
 use rustybuzz_shapers::shaper::{THAI_SHAPER, hb_ot_shaper_t};
 use shapers_base::buffer::{GlyphPosition, hb_buffer_t, hb_glyph_info_t};
 use shapers_base::font::{GlyphId, Tables, hb_font_t};
-use shapers_base::plan::Preprocess;
+use shapers_base::map::TableIndex;
+use shapers_base::plan::{Preprocess, hb_ot_shape_plan_t};
 use std::alloc::{AllocError, Global};
 
 /// The greatest length of a buffer before a line sets it.
@@ -176,6 +180,9 @@ impl Session {
             return Err(LineFault::Unreadable);
         }
         let plan = self.settings.plan()?;
+        if wants_forms(&plan) {
+            return Err(LineFault::Unreadable);
+        }
         let answer = shaper.preprocess_text(&plan, &self.settings.font, &mut self.buffer)?;
         match answer {
             Some(Preprocess::Done) => {}
@@ -183,6 +190,16 @@ impl Session {
             None => self.answers.push_str("absent\n")?,
         }
         Ok(())
+    }
+}
+
+// Whether a Thai plan asks for private use forms, which aren't built yet.
+fn wants_forms(plan: &hb_ot_shape_plan_t) -> bool
+    ensures { result ≡ wants_forms plan.now.script plan.now.ot_map.found }
+{
+    match plan.script {
+        Some(script) => script.0 == *b"Thai" && !plan.ot_map.found_script(TableIndex::GSUB),
+        None => false,
     }
 }
 

@@ -1,10 +1,10 @@
 //! The shapers behind one enum, a method a hook.
-ghost use Rattle.std.specs.Prelude.{◌≡◌, [], length, false, Some, IfOk, IsOk, OnOk, OnErr};
+ghost use Rattle.std.specs.Prelude.{◌≡◌, [], length, false, is_some, Some, IfOk, IsOk, OnOk, OnErr};
 ghost use Rattle.std.specs.List.{list_any};
-ghost use Rattle.shapers_base.specs.Clusters.{merge_all};
 ghost use Rattle.shapers_base.specs.Refusals.{RefusesLength};
 ghost use Rattle.shapers_base.specs.declared.plan.Preprocess.TheVariants.{Done};
-ghost use Rattle.shapers_text.specs.Thai.{is_sara_am, rewritten, sara_am_stretches, wants_forms};
+ghost use Rattle.shapers_text.specs.Thai.{is_sara_am, rewritten, wants_forms};
+ghost use Rattle.shapers_text.specs.ThaiForms.{preprocessed};
 
 use shapers_base::buffer::{ShaperError, hb_buffer_t};
 use shapers_base::font::hb_font_t;
@@ -22,19 +22,18 @@ pub enum hb_ot_shaper_t {
 pub const THAI_SHAPER: hb_ot_shaper_t = hb_ot_shaper_t::Thai;
 
 impl hb_ot_shaper_t {
-    /// Rewrites a text before its characters become glyphs. Thai puts each SARA AM in two; a plan for
-    /// Thai without its script in GSUB, which asks for private use forms, is left out until they are
-    /// built. Refuses as a growth does.
+    /// Rewrites a text before its characters become glyphs. Thai puts each SARA AM in two, and then,
+    /// where GSUB doesn't have the script Thai, gives marks and bases their private use forms.
+    /// Refuses as a growth does.
     pub fn preprocess_text<F: hb_font_t>(
         self,
         plan: &hb_ot_shape_plan_t,
         face: &F,
         buffer: &mut hb_buffer_t,
     ) -> Result<Option<Preprocess>, ShaperError>
-        requires without_positions { buffer.old.positions ≡ [] }
-        requires without_forms { wants_forms plan.now.script plan.now.ot_map.found ≡ false }
+        requires { buffer.old.positions ≡ [] }
         ensures answer { IfOk result (λ answer. answer ≡ Some Done) }
-        ensures ok { OnOk result (buffer.new ≡ record buffer.old { glyphs = rewritten (merge_all buffer.old.level (sara_am_stretches buffer.old.level buffer.old.glyphs) buffer.old.glyphs) }) }
+        ensures ok { OnOk result (buffer.new ≡ record buffer.old { glyphs = preprocessed (wants_forms plan.now.script plan.now.ot_map.found) (λ c. is_some (F.nominal_glyph face.now c)) buffer.old.level buffer.old.glyphs }) }
         ensures length { RefusesLength buffer.old.max_len (length (rewritten buffer.old.glyphs)) result }
         ensures err { OnErr result (buffer.new ≡ buffer.old) }
         ensures without { list_any (λ g. is_sara_am g.glyph_id) buffer.old.glyphs ≡ false → IsOk result }
