@@ -23,9 +23,10 @@ flooded-away c m n (g ∷ gs) ne = grind (arith, nat_tests, flooded-away c m n g
 -- a flood with what is least leaves default glyphs, of cluster 0, alone
 flooded-defaults : (c m n : ℕ) (gs : List hb_glyph_info_t) → m ≤ c → flooded c m (gs ++ replicate n default_glyph) ≡ flooded c m gs ++ replicate n default_glyph
 flooded-defaults c m n gs h = elim (cases_eq c m) [
-      inl e ↦ let P : ℕ → Type 0 = λ m. flooded c m (gs ++ replicate n default_glyph) ≡ flooded c m gs ++ replicate n default_glyph in
-        subst P e (flooded-same c (gs ++ replicate n default_glyph) ∙ ap (λ l. l ++ replicate n default_glyph) (sym (flooded-same c gs)))
-    | inr d ↦ flooded-away c m n gs (λ z. d (omega arith)) ]
+  | inl e ↦ let P : ℕ → Type 0 = λ m. flooded c m (gs ++ replicate n default_glyph) ≡ flooded c m gs ++ replicate n default_glyph in
+      subst P e (flooded-same c (gs ++ replicate n default_glyph) ∙ ap (λ l. l ++ replicate n default_glyph) (sym (flooded-same c gs)))
+  | inr d ↦ flooded-away c m n gs (λ z. d (omega arith))
+]
 
 least-opening : (cs : List ℕ) → 0 < length cs → least cs ≤ opening cs
 least-opening [] h = omega arith

@@ -19,6 +19,7 @@ pub record Step : Type 0 where
 -- the glyphs after one step, and after several, one after another
 abbrev pub run_step : BufferClusterLevel → Step → List hb_glyph_info_t → List hb_glyph_info_t
 run_step level step gs = merge_all level step.merged_then (pick step.places (merge_all level step.merged_first gs))
+
 abbrev pub run_steps : BufferClusterLevel → List Step → List hb_glyph_info_t → List hb_glyph_info_t
 run_steps level [] gs = gs
 run_steps level (step ∷ steps) gs = run_steps level steps (run_step level step gs)
@@ -38,6 +39,7 @@ pub record FitsStep (n : ℕ) (step : Step) : Type 0 where
   pub within : AllByRecursion (λ p. p < n) step.places
   pub first_within : EndWithin n step.merged_first
   pub then_within : EndWithin n step.merged_then
+
 abbrev pub FitSteps : ℕ → List Step → Type 0
 FitSteps n steps = AllByRecursion (FitsStep n) steps
 
@@ -62,8 +64,10 @@ all_first steps = flat_map (λ step. step.merged_first) steps
 -- stretches and steps over the places s..e of n places, of which they number the first by 0
 abbrev pub shifted : ℕ → List (ℕ × ℕ) → List (ℕ × ℕ)
 shifted s sts = map (λ st. (s + st.0, s + st.1)) sts
+
 abbrev pub widened : ℕ → ℕ → ℕ → Step → Step
 widened s e n step = record {
-    merged_first = shifted s step.merged_first;
-    places = range_with_len 0 s ++ (map (λ p. s + p) step.places ++ range_with_len e (n - e));
-    merged_then = shifted s step.merged_then }
+  merged_first = shifted s step.merged_first;
+  places = range_with_len 0 s ++ (map (λ p. s + p) step.places ++ range_with_len e (n - e));
+  merged_then = shifted s step.merged_then;
+}
