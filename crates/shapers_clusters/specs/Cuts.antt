@@ -1,7 +1,7 @@
 -- Exact cuts: where clusters never decrease, or never increase, merges leave exactly the cuts that no stretch holds.
 use Rattle.std.proofs.Common.{ℕ, suc, ◌+◌, ◌-◌, ◌<◌, ◌≤◌, ◌≡◌, ◌≢◌, ◌==◌, ◌↔◌, min, max, Bool, true, false, ◌||◌, nat_lt, ◌&&◌, ◌⊎◌, inl, inr, List, [], ◌∷◌, length, get_or, slice_index, refl, sym, ◌∙◌, ap, subst, arith}
 use Rattle.std.specs.List.{AllPairs}
-use Rattle.std.proofs.lemmas.List.{get_or_default}
+use Rattle.std.proofs.lemmas.List.{ext_get_or, get_or_default}
 use Rattle.std.proofs.lemmas.Bool.{cases_lt}
 use Rattle.std.proofs.lemmas.Bool.Decides.{nat_tests}
 use Rattle.shapers_base.specs.declared.buffer.level.BufferClusterLevel.{BufferClusterLevel}
@@ -210,3 +210,13 @@ between_equal level m sts cs w h p q pl ql e = elim h [
   | inl up ↦ equal_between (λ a b. a ≤ b) upwards level sts cs w (in_order (λ a b. a ≤ b) upwards cs up) p q pl ql e
   | inr down ↦ equal_between (λ a b. b ≤ a) downwards level sts cs w (in_order (λ a b. b ≤ a) downwards cs down) p q pl ql e
 ]
+
+-- exact cuts pin the clusters
+pub one_exact : (cs : List ℕ) (sts : List (ℕ × ℕ)) (a b : List ℕ) → ExactCuts cs sts a → ExactCuts cs sts b → a ≡ b
+one_exact cs sts a b x y = ext_get_or 0 a b (x.same_length ∙ sym y.same_length) (λ p l.
+    let xn = x.same_length in
+    let (q, ql, qb, qe) = x.reached p (omega arith) in
+    let (t, tl, tb, te) = y.reached p (omega arith) in
+    let u = x.least p t (omega arith) tl tb in
+    let v = y.least p q (omega arith) ql qb in
+    omega arith)

@@ -1,7 +1,8 @@
 -- What merges and moves do to each glyph: no cluster rises, and a glyph keeps its flags unless its cluster fell.
-use Rattle.std.proofs.Common.{ℕ, suc, ◌-◌, ◌%◌, ◌<◌, ◌≤◌, ◌≡◌, inl, inr, List, [], ◌∷◌, ◌++◌, map, length, get_or, reverse, take, drop, sym, ◌∙◌, ap, subst, arith, length-take, length-drop}
+use Rattle.std.proofs.Common.{ℕ, suc, ◌-◌, ◌%◌, ◌<◌, ◌≤◌, ◌≡◌, inl, inr, length, get_or, List, [], ◌∷◌, ◌++◌, map, reverse, take, drop, sym, ◌∙◌, ap, subst, arith, length-take, length-drop}
 use Rattle.std.specs.List.{AllByRecursion, AllZip}
 use Rattle.std.proofs.lemmas.List.{reverse-append, reverse-reverse}
+use Rattle.std.proofs.lemmas.List.Elements.{AllZip-get_or}
 use Rattle.std.proofs.lemmas.Bool.{cases_eq, cases_lt}
 use Rattle.std.proofs.lemmas.Bool.Decides.{nat_tests}
 use Rattle.shapers_base.specs.declared.buffer.glyph.hb_glyph_info_t.{hb_glyph_info_t}
@@ -66,13 +67,22 @@ pub all_same : (gs : List hb_glyph_info_t) → AllZip FallsTo gs gs
 all_same [] = tt
 all_same (g ∷ gs) = (falls-same g, all_same gs)
 
+all_over : {X Y Z : Type 0} (R : X → Y → Type 0) (S : Y → Z → Type 0) (T : X → Z → Type 0) → ((x : X) (y : Y) (z : Z) → R x y → S y z → T x z) → (xs : List X) (ys : List Y) (zs : List Z) → AllZip R xs ys → AllZip S ys zs → AllZip T xs zs
+all_over R S T f [] [] [] h i = tt
+all_over R S T f [] [] (z ∷ zs) h i = absurd i
+all_over R S T f [] (y ∷ ys) zs h i = absurd h
+all_over R S T f (x ∷ xs) [] zs h i = absurd h
+all_over R S T f (x ∷ xs) (y ∷ ys) [] h i = absurd i
+all_over R S T f (x ∷ xs) (y ∷ ys) (z ∷ zs) h i = (f x y z h.0 i.0, all_over R S T f xs ys zs h.1 i.1)
+
+all_weaker : {X Y : Type 0} (R S : X → Y → Type 0) → ((x : X) (y : Y) → R x y → S x y) → (xs : List X) (ys : List Y) → AllZip R xs ys → AllZip S xs ys
+all_weaker R S f [] [] h = tt
+all_weaker R S f [] (y ∷ ys) h = absurd h
+all_weaker R S f (x ∷ xs) [] h = absurd h
+all_weaker R S f (x ∷ xs) (y ∷ ys) h = (f x y h.0, all_weaker R S f xs ys h.1)
+
 pub all_on : (xs ys zs : List hb_glyph_info_t) → AllZip FallsTo xs ys → AllZip FallsTo ys zs → AllZip FallsTo xs zs
-all_on [] [] [] h i = tt
-all_on [] [] (z ∷ zs) h i = absurd i
-all_on [] (y ∷ ys) zs h i = absurd h
-all_on (x ∷ xs) [] zs h i = absurd h
-all_on (x ∷ xs) (y ∷ ys) [] h i = absurd i
-all_on (x ∷ xs) (y ∷ ys) (z ∷ zs) h i = (falls_on x y z h.0 i.0, all_on xs ys zs h.1 i.1)
+all_on xs ys zs h i = all_over FallsTo FallsTo FallsTo falls_on xs ys zs h i
 
 all_append : {X : Type 0} (R : X → X → Type 0) (xs ys zs ws : List X) → AllZip R xs ys → AllZip R zs ws → AllZip R (xs ++ zs) (ys ++ ws)
 all_append R [] [] zs ws h i = i
@@ -132,3 +142,24 @@ merge_all-falls level [] gs h = all_same gs
 merge_all-falls level (st ∷ sts) gs h =
     let ms = merge level st.0 st.1 gs in
     all_on gs ms (merge_all level sts ms) (merge-falls level st.0 st.1 gs h.0) (merge_all-falls level sts ms (let P : ℕ → Type 0 = λ n. AllByRecursion (λ st. st.1 ≤ n) sts in subst P (sym (length-merge level st.0 st.1 gs h.0)) h.1))
+
+-- one after another, place by place
+pub flags_on : (x y z : hb_glyph_info_t) → FlagsFall x y → FlagsFall y z → FlagsFall x z
+flags_on x y z f g = record {
+    at_most = omega (arith, f.at_most, g.at_most);
+    fell = λ l. elim (cases_lt z.cluster y.cluster) [ inl k ↦ g.fell k | inr k ↦ g.kept (omega (arith, g.at_most)) ∙ f.fell (omega arith) ];
+    kept = λ e. g.kept (omega (arith, f.at_most, g.at_most)) ∙ f.kept (omega (arith, f.at_most, g.at_most)) }
+
+pub all_flags_on : (xs ys zs : List hb_glyph_info_t) → AllZip FlagsFall xs ys → AllZip FlagsFall ys zs → AllZip FlagsFall xs zs
+all_flags_on xs ys zs h i = all_over FlagsFall FlagsFall FlagsFall flags_on xs ys zs h i
+
+-- a glyph that falls, and one that keeps cluster and glyph flags
+pub all_flags_fall : (xs ys : List hb_glyph_info_t) → AllZip FallsTo xs ys → AllZip FlagsFall xs ys
+all_flags_fall xs ys h = all_weaker FallsTo FlagsFall flags_fall xs ys h
+
+pub flags_kept : (x y : hb_glyph_info_t) → y.cluster ≡ x.cluster → y.mask % 8 ≡ x.mask % 8 → FlagsFall x y
+flags_kept x y c m = record { at_most = omega arith; fell = λ l. absurd (omega arith); kept = λ e. m }
+
+-- the glyph at a place after merges falls from the one that stood there
+pub merge_all-at : (level : BufferClusterLevel) (sts : List (ℕ × ℕ)) (gs : List hb_glyph_info_t) → AllByRecursion (λ st. st.1 ≤ length gs) sts → (k : ℕ) (d : hb_glyph_info_t) → k < length gs → FallsTo (get_or gs k d) (get_or (merge_all level sts gs) k d)
+merge_all-at level sts gs w k d l = AllZip-get_or FallsTo gs (merge_all level sts gs) k d d (merge_all-falls level sts gs w) l

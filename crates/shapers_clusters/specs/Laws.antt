@@ -8,7 +8,7 @@ use Rattle.shapers_base.specs.Clusters.{merge, merge_all, merges, stretch_of}
 use Rattle.shapers_clusters.specs.Joined.{joined_all}
 use Rattle.shapers_clusters.specs.Neighbours.{EndWithin, ShareCluster}
 use Rattle.shapers_clusters.specs.Cuts.{IsMonotone, ExactCuts}
-use Rattle.shapers_clusters.specs.Steps.{pick, Step, run_steps, old_places, FitSteps, MovesMerged, all_first, widened}
+use Rattle.shapers_clusters.specs.Steps.{pick, Step, run_steps, joined_steps, old_places, FitSteps, MovesMerged, all_first, widened}
 use Rattle.shapers_clusters.specs.Falls.{FallsTo}
 use Rattle.shapers_clusters.specs.Labels.{IsLabelled, OneLabel, OneLabelEach}
 use Rattle.shapers_clusters.specs.Sources.{ExactCutsBy, MovesInsideOf}
@@ -34,28 +34,34 @@ abbrev pub ExactCutsLaw : Type 0
 ExactCutsLaw = (level : BufferClusterLevel) (sts : List (ℕ × ℕ)) (gs : List hb_glyph_info_t) → merges level ≡ true → EndWithin (length gs) sts → IsMonotone (clusters gs) → ExactCuts (clusters gs) sts (clusters (merge_all level sts gs)) × IsMonotone (clusters (merge_all level sts gs))
 
 -- What any steps make of the glyphs gs: ms. Each glyph, followed from its old place, keeps all but cluster and glyph flags;
--- its cluster doesn't rise, and it keeps its flags unless the cluster fell. Every cluster is one that was there. Labels that
--- each stretch respects as it merges are respected in the end. Where the level merges nothing, glyphs only move.
+-- its cluster doesn't rise, and it keeps its flags unless the cluster fell. The clusters are what the steps make of the old ones.
+-- Where the level merges nothing, glyphs only move.
 pub record StepsHold (level : BufferClusterLevel) (steps : List Step) (gs ms : List hb_glyph_info_t) : Type 0 where
   pub same_length : length ms ≡ length gs
   pub moved_view : order_view ms ≡ pick (old_places (length gs) steps) (order_view gs)
   pub falls : AllZip FallsTo (pick (old_places (length gs) steps) gs) ms
-  pub old_clusters : All (Contains (clusters gs)) (clusters ms)
-  pub labels : (ls : List ℕ) → IsLabelled (clusters gs) ls → OneLabelEach steps ls → IsLabelled (clusters ms) (pick (old_places (length gs) steps) ls)
+  pub clusters_are : clusters ms ≡ joined_steps level steps (clusters gs)
   pub unmerged : merges level ≡ false → ms ≡ pick (old_places (length gs) steps) gs
-
 abbrev pub StepsLaw : Type 0
 StepsLaw = (level : BufferClusterLevel) (steps : List Step) (gs : List hb_glyph_info_t) → FitSteps (length gs) steps → StepsHold level steps gs (run_steps level steps gs)
 
--- What steps that move only inside what they merged first make of the glyphs, at the levels that merge: the clusters are the
--- old ones, merged. All places between a glyph's new and old place share one cluster. Exact cuts.
-pub record MergedStepsHold (level : BufferClusterLevel) (steps : List Step) (gs ms : List hb_glyph_info_t) : Type 0 where
-  pub clusters_are : clusters ms ≡ joined_all level (all_first steps) (clusters gs)
-  pub cluster_law : (p : ℕ) → p < length gs → ShareCluster (clusters ms) p (slice_index (old_places (length gs) steps) p)
-  pub exact : IsMonotone (clusters gs) → ExactCuts (clusters gs) (all_first steps) (clusters ms)
+-- What any steps make of the clusters cs: js. Every cluster is one that was there. Labels that each stretch respects as it merges
+-- are respected in the end.
+pub record ClustersHold (level : BufferClusterLevel) (steps : List Step) (cs js : List ℕ) : Type 0 where
+  pub same_length : length js ≡ length cs
+  pub old_clusters : All (Contains cs) js
+  pub labels : (ls : List ℕ) → IsLabelled cs ls → OneLabelEach steps ls → IsLabelled js (pick (old_places (length cs) steps) ls)
+abbrev pub ClustersLaw : Type 0
+ClustersLaw = (level : BufferClusterLevel) (steps : List Step) (cs : List ℕ) → FitSteps (length cs) steps → ClustersHold level steps cs (joined_steps level steps cs)
 
+-- What steps that move only inside what they merged first make of the clusters, at the levels that merge: the old ones, merged.
+-- All places between a place and the old place of what stands there share one cluster. Exact cuts.
+pub record MergedStepsHold (level : BufferClusterLevel) (steps : List Step) (cs js : List ℕ) : Type 0 where
+  pub only_merged : js ≡ joined_all level (all_first steps) cs
+  pub cluster_law : (p : ℕ) → p < length cs → ShareCluster js p (slice_index (old_places (length cs) steps) p)
+  pub exact : IsMonotone cs → ExactCuts cs (all_first steps) js
 abbrev pub MergedStepsLaw : Type 0
-MergedStepsLaw = (level : BufferClusterLevel) (steps : List Step) (gs : List hb_glyph_info_t) → merges level ≡ true → AllByRecursion (MovesMerged (length gs)) steps → MergedStepsHold level steps gs (run_steps level steps gs)
+MergedStepsLaw = (level : BufferClusterLevel) (steps : List Step) (cs : List ℕ) → merges level ≡ true → AllByRecursion (MovesMerged (length cs)) steps → MergedStepsHold level steps cs (joined_steps level steps cs)
 
 -- Steps over the stretch s..e are steps over all places: they fit, they move only inside what they merged first if they did,
 -- and their order view is that of the stretch, reordered, between what stood before and behind it.
@@ -68,12 +74,13 @@ abbrev pub WidenedLaw : Type 0
 WidenedLaw = (level : BufferClusterLevel) (s e : ℕ) (steps : List Step) (gs : List hb_glyph_info_t) → s ≤ e → e ≤ length gs → FitSteps (e - s) steps → WidenedHolds level s e steps gs
 
 -- Made and dropped glyphs: ms has, place by place, what listed old places, the sources, have after the merges. No cluster rises,
--- glyph flags stay unless it fell, every cluster is one that was there; at the levels that merge, exact cuts seen through the sources.
+-- glyph flags stay unless it fell, every cluster is one that was there. Where the level merges nothing, nothing changes; at the levels that merge, exact cuts seen through the sources.
 pub record SourcesHold (level : BufferClusterLevel) (sts : List (ℕ × ℕ)) (sources : List ℕ) (gs ms : List hb_glyph_info_t) : Type 0 where
   pub as_many : length ms ≡ length sources
   pub falls : AllZip FallsTo (pick sources gs) ms
   pub clusters_are : clusters ms ≡ pick sources (joined_all level sts (clusters gs))
   pub old_clusters : All (Contains (clusters gs)) (clusters ms)
+  pub unmerged : merges level ≡ false → ms ≡ pick sources gs
   pub exact : merges level ≡ true → IsMonotone (clusters gs) → ExactCutsBy (clusters gs) sts sources (clusters ms)
 
 abbrev pub SourcesLaw : Type 0

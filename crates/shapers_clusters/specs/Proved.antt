@@ -1,5 +1,5 @@
 -- The laws, proved; other crates cite these with arguments.
-use Rattle.std.proofs.Common.{ℕ, ◌<◌, ◌≤◌, ◌≡◌, inl, inr, List, [], ◌∷◌, length, get_or, slice_index, sym, ◌∙◌, subst, arith}
+use Rattle.std.proofs.Common.{ℕ, ◌+◌, ◌-◌, ◌<◌, ◌≤◌, ◌≡◌, inl, inr, true, false, List, [], ◌∷◌, ◌++◌, length, get_or, slice_index, refl, sym, ◌∙◌, ap, subst, arith}
 use Rattle.std.specs.List.{All, AllByRecursion, Contains}
 use Rattle.std.proofs.lemmas.List.{length-map}
 use Rattle.std.proofs.lemmas.List.Elements.{All-contains_itself}
@@ -10,14 +10,14 @@ use Rattle.shapers_clusters.specs.Joined.{joined, joined_all, clusters-merge}
 use Rattle.shapers_clusters.specs.Merging.{length-merge, length-merge_all, order_view-merge}
 use Rattle.shapers_clusters.specs.Neighbours.{EndWithin, ShareCluster, joined-shares, joined_all-share, length-joined_all}
 use Rattle.shapers_clusters.specs.Cuts.{IsMonotone, ExactCuts, exact_cuts, stays_rising, stays_falling}
-use Rattle.shapers_clusters.specs.Steps.{pick, all_first}
+use Rattle.shapers_clusters.specs.Steps.{pick, Step, run_steps, joined_steps, old_places, FitSteps, MovesMerged, all_first, widened}
 use Rattle.shapers_clusters.specs.Picks.{length-pick}
 use Rattle.shapers_clusters.specs.Falls.{merge-falls}
-use Rattle.shapers_clusters.specs.Moves.{clusters-merge_all, length-run_steps, order_view-run_steps, falls-run_steps, clusters-merged_steps, share-moved, merge-unmerged, run_steps-unmerged, end_within-all_first}
-use Rattle.shapers_clusters.specs.Labels.{IsLabelled, joined-labelled, run_steps-labelled}
-use Rattle.shapers_clusters.specs.Sources.{ExactCutsBy, exact_cuts_by, clusters_stand, clusters-moved_sources, clusters-picked, falls-picked, all-joined, all-picked, all-run_steps}
+use Rattle.shapers_clusters.specs.Moves.{clusters-merge_all, clusters-run_steps, order_view-run_steps, falls-run_steps, joined-merged_steps, share-moved, merge-unmerged, merge_all-unmerged, run_steps-unmerged, end_within-all_first, all-joined, all-picked, all-joined_steps}
+use Rattle.shapers_clusters.specs.Labels.{IsLabelled, OneLabel, OneLabelEach, joined-labelled, joined_steps-labelled}
+use Rattle.shapers_clusters.specs.Sources.{ExactCutsBy, MovesInsideOf, exact_cuts_by, clusters_stand, clusters-moved_sources, clusters-picked, falls-picked}
 use Rattle.shapers_clusters.specs.Widened.{all_fit-widened, all_moves-widened, order_view-widened}
-use Rattle.shapers_clusters.specs.Laws.{MergeLaw, ExactCutsLaw, StepsLaw, MergedStepsLaw, WidenedLaw, SourcesLaw, MovedSourcesLaw}
+use Rattle.shapers_clusters.specs.Laws.{MergeHolds, MergeLaw, ExactCutsLaw, StepsHold, StepsLaw, ClustersHold, ClustersLaw, MergedStepsHold, MergedStepsLaw, WidenedHolds, WidenedLaw, SourcesHold, SourcesLaw, MovedSourcesLaw}
 
 -- stretches end within the clusters if they do within the glyphs
 ends : (sts : List (ℕ × ℕ)) (gs : List hb_glyph_info_t) → EndWithin (length gs) sts → EndWithin (length (clusters gs)) sts
@@ -55,24 +55,23 @@ exact_cuts_hold level sts gs m w mono =
     )
 
 pub steps_hold : StepsLaw
-steps_hold level steps gs f = record {
-  same_length = length-run_steps level steps gs f;
-  moved_view = order_view-run_steps level steps gs;
-  falls = falls-run_steps level steps gs f;
-  old_clusters = all-run_steps (Contains (clusters gs)) level steps gs f (All-contains_itself (clusters gs));
-  labels = λ ls i o. run_steps-labelled level steps gs ls f i o;
-  unmerged = λ m. run_steps-unmerged level m steps gs;
-}
+steps_hold level steps gs f =
+    let falls = falls-run_steps level steps gs f in
+    record { same_length = falls.0; moved_view = order_view-run_steps level steps gs; falls = falls.1; clusters_are = clusters-run_steps level steps gs; unmerged = λ m. run_steps-unmerged level m steps gs }
+
+pub clusters_hold : ClustersLaw
+clusters_hold level steps cs f =
+    let all = all-joined_steps (Contains cs) level (length cs) steps cs refl f (All-contains_itself cs) in
+    record { same_length = all.0; old_clusters = all.1; labels = λ ls i o. joined_steps-labelled level steps cs ls f i o }
 
 pub merged_steps_hold : MergedStepsLaw
-merged_steps_hold level steps gs m f =
-    let is = clusters-merged_steps level m steps gs f in
+merged_steps_hold level steps cs m f =
+    let is = joined-merged_steps level m steps cs f in
+    let P : List ℕ → Type 0 = λ js. ExactCuts cs (all_first steps) js in
     record {
-      clusters_are = is;
-      cluster_law = λ p l. share-moved level m steps gs f p l;
-      exact = λ mono. let P : List ℕ → Type 0 = λ js. ExactCuts (clusters gs) (all_first steps) js in
-          subst P (sym is) (exact_cuts level m (all_first steps) (clusters gs) (ends (all_first steps) gs (end_within-all_first (length gs) steps f)) mono);
-    }
+      only_merged = is;
+      cluster_law = λ p l. share-moved level m steps cs f p l;
+      exact = λ mono. subst P (sym is) (exact_cuts level m (all_first steps) cs (end_within-all_first (length cs) steps f) mono) }
 
 pub widened_holds : WidenedLaw
 widened_holds level s e steps gs h l f = record {
@@ -94,6 +93,7 @@ sources_hold level sts sources gs w v =
       as_many = length-pick sources (merge_all level sts gs) x;
       falls = falls-picked level sts sources gs w;
       clusters_are = is;
+      unmerged = λ m. ap (pick sources) (merge_all-unmerged level m sts gs);
       old_clusters = all (All (Contains cs)) (all-picked (Contains cs) sources (joined_all level sts cs) (subst P (sym (length-joined_all level sts cs (ends sts gs w) ∙ n)) v) (all-joined (Contains cs) level sts cs (ends sts gs w) (All-contains_itself cs)));
       exact = λ m mono. all (λ js. ExactCutsBy cs sts sources js) (exact_cuts_by level m sts cs sources (ends sts gs w) mono u);
     }

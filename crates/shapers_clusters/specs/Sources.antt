@@ -13,7 +13,7 @@ use Rattle.shapers_clusters.specs.Cuts.{IsMonotone, SameBlock, exact_cuts, block
 use Rattle.shapers_clusters.specs.Steps.{pick, Step, run_step, run_steps, FitsStep, FitSteps, HeldBetween}
 use Rattle.shapers_clusters.specs.Picks.{length-pick, get_or-pick, pick-map, pick-pick, AllZip-pick, within_at}
 use Rattle.shapers_clusters.specs.Falls.{FallsTo, merge_all-falls}
-use Rattle.shapers_clusters.specs.Moves.{clusters-merge_all, clusters_stay, held_share, length-run_step}
+use Rattle.shapers_clusters.specs.Moves.{clusters-merge_all, clusters_stay, held_share}
 
 -- Exact cuts seen through sources: the clusters change exactly where the sources change from one block to another,
 -- and each place has the least old cluster of its source's block.
@@ -76,37 +76,3 @@ clusters-picked level sts sources gs = sym (pick-map (λ g. g.cluster) sources (
 
 pub falls-picked : (level : BufferClusterLevel) (sts : List (ℕ × ℕ)) (sources : List ℕ) (gs : List hb_glyph_info_t) → EndWithin (length gs) sts → AllZip FallsTo (pick sources gs) (pick sources (merge_all level sts gs))
 falls-picked level sts sources gs w = AllZip-pick FallsTo sources gs (merge_all level sts gs) (merge_all-falls level sts gs w)
-
--- what holds of all clusters still does
-pub all-joined : (P : ℕ → Type 0) (level : BufferClusterLevel) (sts : List (ℕ × ℕ)) (cs : List ℕ) → EndWithin (length cs) sts → All P cs → All P (joined_all level sts cs)
-all-joined P level sts cs w h = All-from_get_or P (joined_all level sts cs) 0 (λ i l.
-    let n = length-joined_all level sts cs w in
-    let (q, ql, e, s) = joined_all-reached level sts cs w i (omega arith) in
-    subst P (sym e) (h q 0 ql))
-
-pub all-picked : (P : ℕ → Type 0) (ps cs : List ℕ) → AllByRecursion (λ p. p < length cs) ps → All P cs → All P (pick ps cs)
-all-picked P ps cs w h = All-from_get_or P (pick ps cs) 0 (λ i l.
-    let n = length-pick ps cs w in
-    subst P (sym (get_or-pick 0 ps cs w i (omega arith))) (h (get_or ps i 0) 0 (within_at (length cs) ps w i (omega arith))))
-
-all-run_step : (P : ℕ → Type 0) (level : BufferClusterLevel) (step : Step) (gs : List hb_glyph_info_t) → FitsStep (length gs) step → All P (clusters gs) → All P (clusters (run_step level step gs))
-all-run_step P level step gs f h =
-    let cs = clusters gs in
-    let n : length cs ≡ length gs = length-map gs (λ g. g.cluster) in
-    let js = joined_all level step.merged_first cs in
-    let E : ℕ → Type 0 = λ n. EndWithin n step.merged_first in
-    let Q : ℕ → Type 0 = λ n. AllByRecursion (λ p. p < n) step.places in
-    let T : ℕ → Type 0 = λ n. EndWithin n step.merged_then in
-    let ew = subst E (sym n) f.first_within in
-    let jn : length js ≡ length cs = length-joined_all level step.merged_first cs ew in
-    let within = subst Q (sym (jn ∙ n)) f.within in
-    let k : length (pick step.places js) ≡ length gs = length-pick step.places js within ∙ f.as_many in
-    let is : clusters (run_step level step gs) ≡ joined_all level step.merged_then (pick step.places js) = clusters-merge_all level step.merged_then _ ∙ ap (joined_all level step.merged_then) (clusters-picked level step.merged_first step.places gs) in
-    let R : List ℕ → Type 0 = All P in
-    subst R (sym is) (all-joined P level step.merged_then (pick step.places js) (subst T (sym k) f.then_within) (all-picked P step.places js within (all-joined P level step.merged_first cs ew h)))
-
-pub all-run_steps : (P : ℕ → Type 0) (level : BufferClusterLevel) (steps : List Step) (gs : List hb_glyph_info_t) → FitSteps (length gs) steps → All P (clusters gs) → All P (clusters (run_steps level steps gs))
-all-run_steps P level [] gs f h = h
-all-run_steps P level (step ∷ steps) gs f h =
-    let N : ℕ → Type 0 = λ n. FitSteps n steps in
-    all-run_steps P level steps (run_step level step gs) (subst N (sym (length-run_step level step gs f.0)) f.1) (all-run_step P level step gs f.0 h)

@@ -1,7 +1,8 @@
 -- Steps over a stretch of places, as steps over all places.
 use Rattle.std.proofs.Common.{ℕ, zero, suc, ◌+◌, ◌-◌, ◌<◌, ◌≤◌, ◌≡◌, inl, inr, nat_lt, List, [], ◌∷◌, ◌++◌, map, length, get_or, take, drop, refl, sym, ◌∙◌, ap, subst, arith, append_assoc, length-append, length-take, length-drop}
-use Rattle.std.specs.List.{AllByRecursion, range_with_len}
-use Rattle.std.proofs.lemmas.List.{length-map, get_or-map, get_or_append_left, get_or-append_right, get_or-take, get_or-drop, take_at, drop_at, take_rest}
+use Rattle.std.specs.List.{fold, sum_by, AllByRecursion, range_with_len}
+use Rattle.std.proofs.lemmas.List.{length-map, get_or-map, get_or_append_left, get_or-append_right, get_or-take, get_or-drop, take_at, drop_at, take_rest, take-append-drop}
+use Rattle.std.proofs.lemmas.List.Sums.{sum_by-cons}
 use Rattle.std.proofs.lemmas.List.FromFn.{length-range_with_len, get_or-range_with_len}
 use Rattle.std.proofs.lemmas.Bool.{cases_lt}
 use Rattle.std.proofs.lemmas.Bool.Decides.{nat_tests}
@@ -13,10 +14,6 @@ use Rattle.shapers_clusters.specs.Neighbours.{EndWithin, held}
 use Rattle.shapers_clusters.specs.Steps.{pick, Step, run_step, run_steps, moved_on, old_places, FitsStep, FitSteps, MovesInside, MovesMerged, shifted, widened}
 use Rattle.shapers_clusters.specs.Picks.{length-pick, pick-map, pick-append, pick-range, pick-within, some_element}
 use Rattle.shapers_clusters.specs.Moves.{order_view-run_steps, within-old_places}
-
-pub run_steps-append : (level : BufferClusterLevel) (xs ys : List Step) (gs : List hb_glyph_info_t) → run_steps level (xs ++ ys) gs ≡ run_steps level ys (run_steps level xs gs)
-run_steps-append level [] ys gs = refl
-run_steps-append level (x ∷ xs) ys gs = run_steps-append level xs ys (run_step level x gs)
 
 pub all-append : {X : Type 0} (P : X → Type 0) (xs ys : List X) → AllByRecursion P xs → AllByRecursion P ys → AllByRecursion P (xs ++ ys)
 all-append P [] ys h i = i
@@ -173,3 +170,29 @@ order_view-widened level s e steps gs h l f =
     ∙ ap (λ ps. pick ps xs) (old_places-widened s e (length gs) steps h l f)
     ∙ ap (λ n. pick (range_with_len 0 s ++ (map (λ p. s + p) olds ++ range_with_len e (n - e))) xs) (sym n)
     ∙ pick-widened s e (record { merged_first = []; places = olds; merged_then = [] }) xs h (omega arith) (within-old_places (e - s) steps)
+
+-- The steps of neighbouring stretches, each given by its length and its steps over it, from place s on, as steps over n places.
+abbrev pub steps_along : ℕ → ℕ → List (ℕ × List Step) → List Step
+steps_along n s [] = []
+steps_along n s (piece ∷ rest) = map (widened s (s + piece.0) n) piece.1 ++ steps_along n (s + piece.0) rest
+
+-- a list whose neighbouring stretches are reordered by their steps, each for itself
+abbrev pub reordered_along : {X : Type 0} → List (ℕ × List Step) → List X → List X
+reordered_along [] xs = xs
+reordered_along (piece ∷ rest) xs = pick (old_places piece.0 piece.1) (take piece.0 xs) ++ reordered_along rest (drop piece.0 xs)
+
+-- what they all are, if each piece's steps are so over the piece
+pub all_along : (P : ℕ → Step → Type 0) → ((s e n : ℕ) (step : Step) → s ≤ e → e ≤ n → P (e - s) step → P n (widened s e n step)) → (n s : ℕ) (pieces : List (ℕ × List Step)) → s + sum_by (λ piece. piece.0) pieces ≤ n → AllByRecursion (λ piece. AllByRecursion (P piece.0) piece.1) pieces → AllByRecursion (P n) (steps_along n s pieces)
+all_along P widens n s [] l h = tt
+all_along P widens n s (piece ∷ rest) l h =
+    let k = sum_by-cons (λ piece. piece.0) piece rest in
+    let i : piece.0 ≡ s + piece.0 - s = omega arith in
+    let Q : ℕ → Type 0 = λ k. AllByRecursion (P k) piece.1 in
+    all-append (P n) (map (widened s (s + piece.0) n) piece.1) (steps_along n (s + piece.0) rest)
+    (all-mapped (P (s + piece.0 - s)) (P n) (widened s (s + piece.0) n) piece.1 (λ step g. widens s (s + piece.0) n step (omega arith) (omega arith) g) (subst Q i h.0))
+    (all_along P widens n (s + piece.0) rest (omega arith) h.1)
+
+-- the order view after the steps of neighbouring stretches: each is reordered for itself
+pub order_view-along : (level : BufferClusterLevel) (s : ℕ) (pieces : List (ℕ × List Step)) (gs : List hb_glyph_info_t) → s + sum_by (λ piece. piece.0) pieces ≤ length gs → AllByRecursion (λ piece. FitSteps piece.0 piece.1) pieces → order_view (run_steps level (steps_along (length gs) s pieces) gs) ≡ take s (order_view gs) ++ reordered_along pieces (drop s (order_view gs))
+order_view-along level s [] gs l f = sym (take-append-drop s (order_view gs))
+order_view-along level s (piece ∷ rest) gs l f = ?

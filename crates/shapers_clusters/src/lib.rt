@@ -2,7 +2,7 @@
 //! contract of a function without a body.
 #![tactic(auto)]
 
-ghost use Rattle.shapers_clusters.specs.Laws.{MergeLaw, ExactCutsLaw, StepsLaw, MergedStepsLaw, WidenedLaw, SourcesLaw, MovedSourcesLaw};
+ghost use Rattle.shapers_clusters.specs.Laws.{MergeLaw, ExactCutsLaw, StepsLaw, ClustersLaw, MergedStepsLaw, WidenedLaw, SourcesLaw, MovedSourcesLaw};
 
 /// What one merge of clusters does to any glyphs.
 pub fn merge_law()
@@ -15,10 +15,16 @@ pub fn exact_cuts_law()
     ensures { ExactCutsLaw }
 {}
 
-/// What merges and moves, in any order, do to any glyphs: flags, old clusters, labels.
+/// What merges and moves, in any order, do to any glyphs: order view, clusters and flags.
 pub fn steps_law()
     ensures { StepsLaw }
 {}
+
+/// What merges and moves, in any order, do to any clusters: none is new, and labels are respected.
+pub fn clusters_law()
+    ensures { ClustersLaw }
+{
+}
 
 /// Moves inside merged stretches leave the merged clusters in place: the cluster law and exact cuts.
 pub fn merged_steps_law()
