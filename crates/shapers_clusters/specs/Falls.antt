@@ -146,9 +146,10 @@ merge_all-falls level (st ∷ sts) gs h =
 -- one after another, place by place
 pub flags_on : (x y z : hb_glyph_info_t) → FlagsFall x y → FlagsFall y z → FlagsFall x z
 flags_on x y z f g = record {
-    at_most = omega (arith, f.at_most, g.at_most);
-    fell = λ l. elim (cases_lt z.cluster y.cluster) [ inl k ↦ g.fell k | inr k ↦ g.kept (omega (arith, g.at_most)) ∙ f.fell (omega arith) ];
-    kept = λ e. g.kept (omega (arith, f.at_most, g.at_most)) ∙ f.kept (omega (arith, f.at_most, g.at_most)) }
+  at_most = omega (arith, f.at_most, g.at_most);
+  fell = λ l. elim (cases_lt z.cluster y.cluster) [ inl k ↦ g.fell k | inr k ↦ g.kept (omega (arith, g.at_most)) ∙ f.fell (omega arith) ];
+  kept = λ e. g.kept (omega (arith, f.at_most, g.at_most)) ∙ f.kept (omega (arith, f.at_most, g.at_most));
+}
 
 pub all_flags_on : (xs ys zs : List hb_glyph_info_t) → AllZip FlagsFall xs ys → AllZip FlagsFall ys zs → AllZip FlagsFall xs zs
 all_flags_on xs ys zs h i = all_over FlagsFall FlagsFall FlagsFall flags_on xs ys zs h i

@@ -1,18 +1,14 @@
 -- The label law: glyphs come to share a cluster only through stretches that merge.
-use Rattle.std.proofs.Common.{ℕ, ◌+◌, ◌-◌, ◌<◌, ◌≤◌, ◌≡◌, ◌⊎◌, inl, inr, List, [], ◌∷◌, length, get_or, slice_index, refl, sym, ◌∙◌, ap, subst, arith}
+use Rattle.std.proofs.Common.{ℕ, ◌+◌, ◌-◌, ◌<◌, ◌≤◌, ◌≡◌, ◌⊎◌, inl, inr, List, [], ◌∷◌, length, get_or, slice_index, refl, sym, ◌∙◌, subst, arith}
 use Rattle.std.specs.List.{AllByRecursion, range_with_len}
-use Rattle.std.proofs.lemmas.List.{length-map}
 use Rattle.std.proofs.lemmas.Bool.{cases_lt}
-use Rattle.shapers_base.specs.declared.buffer.glyph.hb_glyph_info_t.{hb_glyph_info_t}
 use Rattle.shapers_base.specs.declared.buffer.level.BufferClusterLevel.{BufferClusterLevel}
-use Rattle.shapers_base.specs.Glyph.{clusters}
-use Rattle.shapers_base.specs.Clusters.{merge_all}
 use Rattle.shapers_clusters.specs.Joined.{joined, joined_all}
 use Rattle.shapers_clusters.specs.Spread.{Spread, joined_cases}
-use Rattle.shapers_clusters.specs.Neighbours.{EndWithin, length-joined_all, end_within_joined}
+use Rattle.shapers_clusters.specs.Neighbours.{EndWithin, end_within_joined}
 use Rattle.shapers_clusters.specs.Steps.{pick, Step, joined_step, joined_steps, moved_on, old_places, FitsStep, FitSteps}
-use Rattle.shapers_clusters.specs.Picks.{length-pick, get_or-pick, pick-map, pick-all, pick-pick, within_picked, within_range, within_at}
-use Rattle.shapers_clusters.specs.Moves.{Stepped, stepped}
+use Rattle.shapers_clusters.specs.Picks.{length-pick, get_or-pick, pick-all, pick-pick, within_picked, within_range, within_at}
+use Rattle.shapers_clusters.specs.Moves.{stepped}
 
 -- labels, one a place, where places of equal cluster have equal labels
 pub record IsLabelled (cs ls : List ℕ) : Type 0 where

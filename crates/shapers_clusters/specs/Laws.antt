@@ -1,6 +1,6 @@
 -- The laws of clusters and glyph flags, as statements.
 use Rattle.std.proofs.Common.{ℕ, ◌-◌, ◌<◌, ◌≤◌, ◌≡◌, true, false, List, ◌++◌, map, length, slice_index, take, drop}
-use Rattle.std.specs.List.{All, AllByRecursion, AllZip, Contains}
+use Rattle.std.specs.List.{sum_by, All, AllByRecursion, AllZip, Contains}
 use Rattle.shapers_base.specs.declared.buffer.glyph.hb_glyph_info_t.{hb_glyph_info_t}
 use Rattle.shapers_base.specs.declared.buffer.level.BufferClusterLevel.{BufferClusterLevel}
 use Rattle.shapers_base.specs.Glyph.{clusters, order_view}
@@ -9,6 +9,7 @@ use Rattle.shapers_clusters.specs.Joined.{joined_all}
 use Rattle.shapers_clusters.specs.Neighbours.{EndWithin, ShareCluster}
 use Rattle.shapers_clusters.specs.Cuts.{IsMonotone, ExactCuts}
 use Rattle.shapers_clusters.specs.Steps.{pick, Step, run_steps, joined_steps, old_places, FitSteps, MovesMerged, all_first, widened}
+use Rattle.shapers_clusters.specs.Widened.{steps_along, reordered_along}
 use Rattle.shapers_clusters.specs.Falls.{FallsTo}
 use Rattle.shapers_clusters.specs.Labels.{IsLabelled, OneLabel, OneLabelEach}
 use Rattle.shapers_clusters.specs.Sources.{ExactCutsBy, MovesInsideOf}
@@ -42,6 +43,7 @@ pub record StepsHold (level : BufferClusterLevel) (steps : List Step) (gs ms : L
   pub falls : AllZip FallsTo (pick (old_places (length gs) steps) gs) ms
   pub clusters_are : clusters ms ≡ joined_steps level steps (clusters gs)
   pub unmerged : merges level ≡ false → ms ≡ pick (old_places (length gs) steps) gs
+
 abbrev pub StepsLaw : Type 0
 StepsLaw = (level : BufferClusterLevel) (steps : List Step) (gs : List hb_glyph_info_t) → FitSteps (length gs) steps → StepsHold level steps gs (run_steps level steps gs)
 
@@ -51,6 +53,7 @@ pub record ClustersHold (level : BufferClusterLevel) (steps : List Step) (cs js 
   pub same_length : length js ≡ length cs
   pub old_clusters : All (Contains cs) js
   pub labels : (ls : List ℕ) → IsLabelled cs ls → OneLabelEach steps ls → IsLabelled js (pick (old_places (length cs) steps) ls)
+
 abbrev pub ClustersLaw : Type 0
 ClustersLaw = (level : BufferClusterLevel) (steps : List Step) (cs : List ℕ) → FitSteps (length cs) steps → ClustersHold level steps cs (joined_steps level steps cs)
 
@@ -60,6 +63,7 @@ pub record MergedStepsHold (level : BufferClusterLevel) (steps : List Step) (cs 
   pub only_merged : js ≡ joined_all level (all_first steps) cs
   pub cluster_law : (p : ℕ) → p < length cs → ShareCluster js p (slice_index (old_places (length cs) steps) p)
   pub exact : IsMonotone cs → ExactCuts cs (all_first steps) js
+
 abbrev pub MergedStepsLaw : Type 0
 MergedStepsLaw = (level : BufferClusterLevel) (steps : List Step) (cs : List ℕ) → merges level ≡ true → AllByRecursion (MovesMerged (length cs)) steps → MergedStepsHold level steps cs (joined_steps level steps cs)
 
@@ -72,6 +76,16 @@ pub record WidenedHolds (level : BufferClusterLevel) (s e : ℕ) (steps : List S
 
 abbrev pub WidenedLaw : Type 0
 WidenedLaw = (level : BufferClusterLevel) (s e : ℕ) (steps : List Step) (gs : List hb_glyph_info_t) → s ≤ e → e ≤ length gs → FitSteps (e - s) steps → WidenedHolds level s e steps gs
+
+-- Steps of neighbouring stretches, one after another from place 0, are steps over all places: they fit, they move only inside what
+-- they merged first if they did, and each stretch of the order view is reordered for itself.
+pub record AlongHolds (level : BufferClusterLevel) (pieces : List (ℕ × List Step)) (gs : List hb_glyph_info_t) : Type 0 where
+  pub fit : FitSteps (length gs) (steps_along (length gs) 0 pieces)
+  pub merged : AllByRecursion (λ piece. AllByRecursion (MovesMerged piece.0) piece.1) pieces → AllByRecursion (MovesMerged (length gs)) (steps_along (length gs) 0 pieces)
+  pub view : order_view (run_steps level (steps_along (length gs) 0 pieces) gs) ≡ reordered_along pieces (order_view gs)
+
+abbrev pub AlongLaw : Type 0
+AlongLaw = (level : BufferClusterLevel) (pieces : List (ℕ × List Step)) (gs : List hb_glyph_info_t) → sum_by (λ piece. piece.0) pieces ≤ length gs → AllByRecursion (λ piece. FitSteps piece.0 piece.1) pieces → AlongHolds level pieces gs
 
 -- Made and dropped glyphs: ms has, place by place, what listed old places, the sources, have after the merges. No cluster rises,
 -- glyph flags stay unless it fell, every cluster is one that was there. Where the level merges nothing, nothing changes; at the levels that merge, exact cuts seen through the sources.

@@ -1,6 +1,6 @@
 -- What steps do: to the order view, to each glyph's cluster and flags, and to the list of clusters.
-use Rattle.std.proofs.Common.{ℕ, ◌+◌, ◌-◌, ◌<◌, ◌≤◌, ◌≡◌, inl, inr, ◌||◌, Bool, true, false, min, max, List, [], ◌∷◌, ◌++◌, length, get_or, refl, sym, ◌∙◌, ap, subst, arith, append_assoc, if◌then◌else◌, ◌&&◌, not, nat_lt}
-use Rattle.std.specs.List.{All, AllByRecursion, AllZip, Contains, fold, list_any, range_with_len}
+use Rattle.std.proofs.Common.{ℕ, ◌-◌, ◌<◌, ◌≤◌, ◌≡◌, inl, inr, ◌||◌, Bool, true, false, min, max, List, [], ◌∷◌, ◌++◌, length, get_or, refl, sym, ◌∙◌, ap, subst, arith, append_assoc, if◌then◌else◌, ◌&&◌, not, nat_lt}
+use Rattle.std.specs.List.{All, AllByRecursion, AllZip, fold, range_with_len}
 use Rattle.std.proofs.lemmas.List.{length-map, ext_get_or}
 use Rattle.std.proofs.lemmas.List.Elements.{All-from_get_or, length_all_zip}
 use Rattle.std.proofs.lemmas.List.Folds.{list_any-append, list_any_at}
@@ -13,8 +13,8 @@ use Rattle.shapers_base.specs.Glyph.{clusters, order_view, plain}
 use Rattle.shapers_base.specs.Clusters.{merge, merged, merge_all, merges}
 use Rattle.shapers_clusters.specs.Joined.{joined, joined_all, clusters-merge}
 use Rattle.shapers_clusters.specs.Merging.{order_view-merge_all, length-merge_all}
-use Rattle.shapers_clusters.specs.Neighbours.{EndWithin, held, linked, ShareCluster, length-joined_all, joined_all-linked, joined_all-reached, share_all}
-use Rattle.shapers_clusters.specs.Steps.{pick, Step, run_step, run_steps, joined_step, joined_steps, moved_on, old_places, FitsStep, FitSteps, HeldBetween, MovesInside, MovesMerged, all_first}
+use Rattle.shapers_clusters.specs.Neighbours.{EndWithin, held, ShareCluster, length-joined_all, joined_all-linked, joined_all-reached, share_all}
+use Rattle.shapers_clusters.specs.Steps.{pick, Step, run_step, run_steps, joined_step, joined_steps, moved_on, old_places, FitsStep, FitSteps, HeldBetween, MovesMerged, all_first}
 use Rattle.shapers_clusters.specs.Picks.{length-pick, get_or-pick, pick-map, AllZip-pick, pick-all, pick-pick, within_picked, within_range, within_at}
 use Rattle.shapers_clusters.specs.Falls.{FallsTo, all_on, all_same, merge_all-falls}
 
@@ -83,10 +83,11 @@ falls-run_steps level steps gs f =
     let P : Step → ℕ → Type 0 = λ step n. FitsStep n step in
     followed_all (FallenFrom (length gs)) (λ gs step. run_step level step gs) (FitsStep (length gs))
     (λ step xs ys g h.
-      let one = falls-run_step level step ys (subst (P step) (sym h.0) g) in
-      let Q : ℕ → Type 0 = λ n. AllByRecursion (λ p. p < n) step.places in
-      (sym (length_all_zip FallsTo (pick step.places ys) (run_step level step ys) one) ∙ length-pick step.places ys (subst Q (sym h.0) g.within) ∙ g.as_many,
-       all_on (pick step.places xs) (pick step.places ys) (run_step level step ys) (AllZip-pick FallsTo step.places xs ys h.1) one))
+    let one = falls-run_step level step ys (subst (P step) (sym h.0) g) in
+    let Q : ℕ → Type 0 = λ n. AllByRecursion (λ p. p < n) step.places in (
+      sym (length_all_zip FallsTo (pick step.places ys) (run_step level step ys) one) ∙ length-pick step.places ys (subst Q (sym h.0) g.within) ∙ g.as_many,
+      all_on (pick step.places xs) (pick step.places ys) (run_step level step ys) (AllZip-pick FallsTo step.places xs ys h.1) one,
+    ))
     (length gs) gs steps gs refl f (refl, all_same gs)
 
 -- where nothing merges, glyphs only move
@@ -129,7 +130,7 @@ joined-merged_step level m step cs f =
     let P : ℕ → Type 0 = λ n. AllByRecursion (λ p. p < n) step.places in
     ap (λ sts. joined_all level sts (pick step.places js)) f.nothing_then
     ∙ clusters_stay js step.places (omega arith) (subst P (sym k) f.fits.within)
-      (λ p l. held_share level m step.merged_first cs e p (get_or step.places p 0) (omega arith) (within_at (length cs) step.places f.fits.within p (omega arith)) (f.inside p (omega arith)) (get_or step.places p 0) (omega arith) (omega arith))
+    (λ p l. held_share level m step.merged_first cs e p (get_or step.places p 0) (omega arith) (within_at (length cs) step.places f.fits.within p (omega arith)) (f.inside p (omega arith)) (get_or step.places p 0) (omega arith) (omega arith))
 
 joined_all-append : (level : BufferClusterLevel) (xs ys : List (ℕ × ℕ)) (cs : List ℕ) → joined_all level (xs ++ ys) cs ≡ joined_all level ys (joined_all level xs cs)
 joined_all-append level [] ys cs = refl
@@ -147,8 +148,9 @@ joined-merged_steps level m (step ∷ steps) cs f =
 
 held_over : (sts : List (ℕ × ℕ)) (p q t : ℕ) → HeldBetween sts p q → HeldBetween sts q t → HeldBetween sts p t
 held_over sts p q t a b r x y = elim (cases_lt (min p q) r) [
-      inl h ↦ elim (cases_lt (max p q) r) [ inl g ↦ b r (omega arith) (omega arith) | inr g ↦ a r h g ]
-    | inr h ↦ b r (omega arith) (omega arith) ]
+  | inl h ↦ elim (cases_lt (max p q) r) [ inl g ↦ b r (omega arith) (omega arith) | inr g ↦ a r h g ]
+  | inr h ↦ b r (omega arith) (omega arith)
+]
 
 pub held-front : (xs ys : List (ℕ × ℕ)) (p q : ℕ) → HeldBetween xs p q → HeldBetween (xs ++ ys) p q
 held-front xs ys p q h r x y = list_any-append _ xs ys ∙ or_left (held xs r) (held ys r) (h r x y)
@@ -166,9 +168,10 @@ held_by sts k d l p q a b c e r x y = list_any_at (λ st. nat_lt st.0 r && nat_l
 -- a step that merges all its places first may move as it likes
 pub moves_anywhere : (n : ℕ) (places : List ℕ) → length places ≡ n → AllByRecursion (λ p. p < n) places → MovesMerged n (record { merged_first = (0, n) ∷ []; places = places; merged_then = [] })
 moves_anywhere n places e w = record {
-    fits = record { as_many = e; within = w; first_within = (omega arith, tt); then_within = tt };
-    inside = λ p l. held_by ((0, n) ∷ []) 0 (0, n) (omega arith) p (get_or places p 0) (omega arith) (omega arith) (omega arith) (within_at n places w p l);
-    nothing_then = refl }
+  fits = record { as_many = e; within = w; first_within = (omega arith, tt); then_within = tt };
+  inside = λ p l. held_by ((0, n) ∷ []) 0 (0, n) (omega arith) p (get_or places p 0) (omega arith) (omega arith) (omega arith) (within_at n places w p l);
+  nothing_then = refl;
+}
 
 -- the merged stretches lead from each place to the old place of what stands there
 held_moved : (n : ℕ) (steps : List Step) (before : List (ℕ × ℕ)) (olds : List ℕ) → length olds ≡ n → AllByRecursion (MovesMerged n) steps → ((p : ℕ) → p < n → HeldBetween before p (get_or olds p 0)) → (p : ℕ) → p < n → HeldBetween (before ++ all_first steps) p (get_or (moved_on steps olds) p 0)
@@ -181,13 +184,13 @@ held_moved n (step ∷ steps) before olds e f h p l =
     let Q : List (ℕ × ℕ) → Type 0 = λ sts. HeldBetween sts p (get_or (moved_on steps (pick step.places olds)) p 0) in
     subst Q (append_assoc before step.merged_first (all_first steps))
     (held_moved n steps (before ++ step.merged_first) (pick step.places olds) k f.1
-      (λ p l.
-        let R : ℕ → Type 0 = λ t. HeldBetween (before ++ step.merged_first) p t in
-        subst R (sym (get_or-pick 0 step.places olds within p (omega arith)))
-        (held_over (before ++ step.merged_first) p (get_or step.places p 0) (get_or olds (get_or step.places p 0) 0)
-          (held-rest before step.merged_first p (get_or step.places p 0) (f.0.inside p (omega arith)))
-          (held-front before step.merged_first (get_or step.places p 0) (get_or olds (get_or step.places p 0) 0) (h (get_or step.places p 0) (within_at n step.places f.0.fits.within p (omega arith))))))
-      p l)
+    (λ p l.
+    let R : ℕ → Type 0 = λ t. HeldBetween (before ++ step.merged_first) p t in
+    subst R (sym (get_or-pick 0 step.places olds within p (omega arith)))
+    (held_over (before ++ step.merged_first) p (get_or step.places p 0) (get_or olds (get_or step.places p 0) 0)
+    (held-rest before step.merged_first p (get_or step.places p 0) (f.0.inside p (omega arith)))
+    (held-front before step.merged_first (get_or step.places p 0) (get_or olds (get_or step.places p 0) 0) (h (get_or step.places p 0) (within_at n step.places f.0.fits.within p (omega arith))))))
+    p l)
 
 held-old_places : (n : ℕ) (steps : List Step) → AllByRecursion (MovesMerged n) steps → (p : ℕ) → p < n → HeldBetween (all_first steps) p (get_or (old_places n steps) p 0)
 held-old_places n steps f p l = held_moved n steps [] (range_with_len 0 n) (length-range_with_len 0 n) f
@@ -221,7 +224,7 @@ share-moved level m steps cs f p l =
     let k = length-old_places (length cs) steps (merged_fits (length cs) steps f) in
     subst P (sym (joined-merged_steps level m steps cs f))
     (held_share level m (all_first steps) cs (end_within-all_first (length cs) steps f) p (get_or (old_places (length cs) steps) p 0) l
-      (within_at (length cs) (old_places (length cs) steps) (within-old_places (length cs) steps) p (omega arith)) (held-old_places (length cs) steps f p l))
+    (within_at (length cs) (old_places (length cs) steps) (within-old_places (length cs) steps) p (omega arith)) (held-old_places (length cs) steps f p l))
 
 -- what holds of all clusters still does
 pub all-joined : (P : ℕ → Type 0) (level : BufferClusterLevel) (sts : List (ℕ × ℕ)) (cs : List ℕ) → EndWithin (length cs) sts → All P cs → All P (joined_all level sts cs)
@@ -258,7 +261,7 @@ stepped n level step cs e f =
 pub all-joined_steps : (P : ℕ → Type 0) (level : BufferClusterLevel) (n : ℕ) (steps : List Step) (cs : List ℕ) → length cs ≡ n → FitSteps n steps → All P cs → (length (joined_steps level steps cs) ≡ n) × All P (joined_steps level steps cs)
 all-joined_steps P level n steps cs e f h = kept (λ cs. (length cs ≡ n) × All P cs) (λ cs step. joined_step level step cs) (FitsStep n)
     (λ step cs g h.
-      let s = stepped n level step cs h.0 g in
-      let js = joined_all level step.merged_first cs in
-      (s.as_many, all-joined P level step.merged_then (pick step.places js) s.then_within (all-picked P step.places js s.within (all-joined P level step.merged_first cs s.first_within h.1))))
+    let s = stepped n level step cs h.0 g in
+    let js = joined_all level step.merged_first cs in
+    (s.as_many, all-joined P level step.merged_then (pick step.places js) s.then_within (all-picked P step.places js s.within (all-joined P level step.merged_first cs s.first_within h.1))))
     steps cs f (e, h)

@@ -1,5 +1,5 @@
 -- The laws, proved; other crates cite these with arguments.
-use Rattle.std.proofs.Common.{ℕ, ◌+◌, ◌-◌, ◌<◌, ◌≤◌, ◌≡◌, inl, inr, true, false, List, [], ◌∷◌, ◌++◌, length, get_or, slice_index, refl, sym, ◌∙◌, ap, subst, arith}
+use Rattle.std.proofs.Common.{ℕ, ◌<◌, ◌≤◌, ◌≡◌, inl, inr, List, [], ◌∷◌, length, get_or, slice_index, refl, sym, ◌∙◌, ap, subst, arith}
 use Rattle.std.specs.List.{All, AllByRecursion, Contains}
 use Rattle.std.proofs.lemmas.List.{length-map}
 use Rattle.std.proofs.lemmas.List.Elements.{All-contains_itself}
@@ -10,14 +10,14 @@ use Rattle.shapers_clusters.specs.Joined.{joined, joined_all, clusters-merge}
 use Rattle.shapers_clusters.specs.Merging.{length-merge, length-merge_all, order_view-merge}
 use Rattle.shapers_clusters.specs.Neighbours.{EndWithin, ShareCluster, joined-shares, joined_all-share, length-joined_all}
 use Rattle.shapers_clusters.specs.Cuts.{IsMonotone, ExactCuts, exact_cuts, stays_rising, stays_falling}
-use Rattle.shapers_clusters.specs.Steps.{pick, Step, run_steps, joined_steps, old_places, FitSteps, MovesMerged, all_first, widened}
+use Rattle.shapers_clusters.specs.Steps.{pick, FitsStep, MovesMerged, all_first}
 use Rattle.shapers_clusters.specs.Picks.{length-pick}
 use Rattle.shapers_clusters.specs.Falls.{merge-falls}
 use Rattle.shapers_clusters.specs.Moves.{clusters-merge_all, clusters-run_steps, order_view-run_steps, falls-run_steps, joined-merged_steps, share-moved, merge-unmerged, merge_all-unmerged, run_steps-unmerged, end_within-all_first, all-joined, all-picked, all-joined_steps}
-use Rattle.shapers_clusters.specs.Labels.{IsLabelled, OneLabel, OneLabelEach, joined-labelled, joined_steps-labelled}
-use Rattle.shapers_clusters.specs.Sources.{ExactCutsBy, MovesInsideOf, exact_cuts_by, clusters_stand, clusters-moved_sources, clusters-picked, falls-picked}
-use Rattle.shapers_clusters.specs.Widened.{all_fit-widened, all_moves-widened, order_view-widened}
-use Rattle.shapers_clusters.specs.Laws.{MergeHolds, MergeLaw, ExactCutsLaw, StepsHold, StepsLaw, ClustersHold, ClustersLaw, MergedStepsHold, MergedStepsLaw, WidenedHolds, WidenedLaw, SourcesHold, SourcesLaw, MovedSourcesLaw}
+use Rattle.shapers_clusters.specs.Labels.{IsLabelled, joined-labelled, joined_steps-labelled}
+use Rattle.shapers_clusters.specs.Sources.{ExactCutsBy, exact_cuts_by, clusters_stand, clusters-moved_sources, clusters-picked, falls-picked}
+use Rattle.shapers_clusters.specs.Widened.{fits-widened, moves-widened, all_fit-widened, all_moves-widened, order_view-widened, all_along, order_view-along}
+use Rattle.shapers_clusters.specs.Laws.{MergeLaw, ExactCutsLaw, StepsLaw, ClustersLaw, MergedStepsLaw, WidenedLaw, AlongLaw, SourcesLaw, MovedSourcesLaw}
 
 -- stretches end within the clusters if they do within the glyphs
 ends : (sts : List (ℕ × ℕ)) (gs : List hb_glyph_info_t) → EndWithin (length gs) sts → EndWithin (length (clusters gs)) sts
@@ -71,13 +71,21 @@ merged_steps_hold level steps cs m f =
     record {
       only_merged = is;
       cluster_law = λ p l. share-moved level m steps cs f p l;
-      exact = λ mono. subst P (sym is) (exact_cuts level m (all_first steps) cs (end_within-all_first (length cs) steps f) mono) }
+      exact = λ mono. subst P (sym is) (exact_cuts level m (all_first steps) cs (end_within-all_first (length cs) steps f) mono);
+    }
 
 pub widened_holds : WidenedLaw
 widened_holds level s e steps gs h l f = record {
   fit = all_fit-widened s e (length gs) steps h l f;
   merged = λ m. all_moves-widened s e (length gs) steps h l m;
   view = order_view-widened level s e steps gs h l f;
+}
+
+pub along_holds : AlongLaw
+along_holds level pieces gs l f = record {
+  fit = all_along FitsStep fits-widened (length gs) 0 pieces (omega arith) f;
+  merged = λ m. all_along MovesMerged moves-widened (length gs) 0 pieces (omega arith) m;
+  view = order_view-along level 0 pieces gs (omega arith) f;
 }
 
 pub sources_hold : SourcesLaw

@@ -1,16 +1,14 @@
 -- Made and dropped glyphs: a result that has, place by place, the clusters of listed old places, its sources.
-use Rattle.std.proofs.Common.{ℕ, ◌-◌, ◌<◌, ◌≤◌, ◌≡◌, ◌≢◌, ◌↔◌, true, min, max, List, [], ◌∷◌, length, get_or, slice_index, sym, ◌∙◌, ap, subst, arith}
-use Rattle.std.specs.List.{AllByRecursion, AllZip, All}
-use Rattle.std.proofs.lemmas.List.{length-map}
-use Rattle.std.proofs.lemmas.List.Elements.{All-from_get_or}
+use Rattle.std.proofs.Common.{ℕ, ◌-◌, ◌<◌, ◌≤◌, ◌≡◌, ◌≢◌, ◌↔◌, true, min, max, List, length, get_or, slice_index, sym, ◌∙◌, ap, subst, arith}
+use Rattle.std.specs.List.{AllByRecursion, AllZip}
 use Rattle.shapers_base.specs.declared.buffer.glyph.hb_glyph_info_t.{hb_glyph_info_t}
 use Rattle.shapers_base.specs.declared.buffer.level.BufferClusterLevel.{BufferClusterLevel}
 use Rattle.shapers_base.specs.Glyph.{clusters}
 use Rattle.shapers_base.specs.Clusters.{merge_all, merges}
 use Rattle.shapers_clusters.specs.Joined.{joined_all}
-use Rattle.shapers_clusters.specs.Neighbours.{EndWithin, ShareCluster, length-joined_all, joined_all-reached, share_all}
+use Rattle.shapers_clusters.specs.Neighbours.{EndWithin, ShareCluster, length-joined_all, share_all}
 use Rattle.shapers_clusters.specs.Cuts.{IsMonotone, SameBlock, exact_cuts, block_shares, between_equal}
-use Rattle.shapers_clusters.specs.Steps.{pick, Step, run_step, run_steps, FitsStep, FitSteps, HeldBetween}
+use Rattle.shapers_clusters.specs.Steps.{pick, HeldBetween}
 use Rattle.shapers_clusters.specs.Picks.{length-pick, get_or-pick, pick-map, pick-pick, AllZip-pick, within_at}
 use Rattle.shapers_clusters.specs.Falls.{FallsTo, merge_all-falls}
 use Rattle.shapers_clusters.specs.Moves.{clusters-merge_all, clusters_stay, held_share}

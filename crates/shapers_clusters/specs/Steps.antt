@@ -1,5 +1,5 @@
 -- Steps: what a reordering does to a list of glyphs.
-use Rattle.std.proofs.Common.{ℕ, ◌+◌, ◌-◌, ◌<◌, ◌≤◌, ◌≡◌, ◌++◌, min, max, true, List, [], ◌∷◌, map, length, slice_index}
+use Rattle.std.proofs.Common.{ℕ, ◌+◌, ◌-◌, ◌<◌, ◌≤◌, ◌≡◌, ◌++◌, min, max, true, List, [], map, length, slice_index}
 use Rattle.std.specs.List.{fold, AllByRecursion, filter_map, flat_map, slice_get, range_with_len}
 use Rattle.shapers_base.specs.declared.buffer.glyph.hb_glyph_info_t.{hb_glyph_info_t}
 use Rattle.shapers_base.specs.declared.buffer.level.BufferClusterLevel.{BufferClusterLevel}
@@ -20,12 +20,14 @@ pub record Step : Type 0 where
 -- the glyphs after one step, and after several, one after another
 abbrev pub run_step : BufferClusterLevel → Step → List hb_glyph_info_t → List hb_glyph_info_t
 run_step level step gs = merge_all level step.merged_then (pick step.places (merge_all level step.merged_first gs))
+
 abbrev pub run_steps : BufferClusterLevel → List Step → List hb_glyph_info_t → List hb_glyph_info_t
 run_steps level steps gs = fold (λ gs step. run_step level step gs) gs steps
 
 -- the same of clusters alone
 abbrev pub joined_step : BufferClusterLevel → Step → List ℕ → List ℕ
 joined_step level step cs = joined_all level step.merged_then (pick step.places (joined_all level step.merged_first cs))
+
 abbrev pub joined_steps : BufferClusterLevel → List Step → List ℕ → List ℕ
 joined_steps level steps cs = fold (λ cs step. joined_step level step cs) cs steps
 

@@ -1,8 +1,8 @@
 -- Steps over a stretch of places, as steps over all places.
 use Rattle.std.proofs.Common.{ℕ, zero, suc, ◌+◌, ◌-◌, ◌<◌, ◌≤◌, ◌≡◌, inl, inr, nat_lt, List, [], ◌∷◌, ◌++◌, map, length, get_or, take, drop, refl, sym, ◌∙◌, ap, subst, arith, append_assoc, length-append, length-take, length-drop}
-use Rattle.std.specs.List.{fold, sum_by, AllByRecursion, range_with_len}
-use Rattle.std.proofs.lemmas.List.{length-map, get_or-map, get_or_append_left, get_or-append_right, get_or-take, get_or-drop, take_at, drop_at, take_rest, take-append-drop}
-use Rattle.std.proofs.lemmas.List.Sums.{sum_by-cons}
+use Rattle.std.specs.List.{sum_by, AllByRecursion, range_with_len}
+use Rattle.std.proofs.lemmas.List.{length-map, get_or-map, get_or_append_left, get_or-append_right, get_or-take, get_or-drop, take_at, drop_at, take_rest, take-append-drop, drop-drop}
+use Rattle.std.proofs.lemmas.List.Sums.{sum_by-cons, fold-append}
 use Rattle.std.proofs.lemmas.List.FromFn.{length-range_with_len, get_or-range_with_len}
 use Rattle.std.proofs.lemmas.Bool.{cases_lt}
 use Rattle.std.proofs.lemmas.Bool.Decides.{nat_tests}
@@ -13,7 +13,7 @@ use Rattle.shapers_base.specs.Clusters.{stretch_of}
 use Rattle.shapers_clusters.specs.Neighbours.{EndWithin, held}
 use Rattle.shapers_clusters.specs.Steps.{pick, Step, run_step, run_steps, moved_on, old_places, FitsStep, FitSteps, MovesInside, MovesMerged, shifted, widened}
 use Rattle.shapers_clusters.specs.Picks.{length-pick, pick-map, pick-append, pick-range, pick-within, some_element}
-use Rattle.shapers_clusters.specs.Moves.{order_view-run_steps, within-old_places}
+use Rattle.shapers_clusters.specs.Moves.{order_view-run_steps, falls-run_steps, length-old_places, within-old_places}
 
 pub all-append : {X : Type 0} (P : X → Type 0) (xs ys : List X) → AllByRecursion P xs → AllByRecursion P ys → AllByRecursion P (xs ++ ys)
 all-append P [] ys h i = i
@@ -192,7 +192,43 @@ all_along P widens n s (piece ∷ rest) l h =
     (all-mapped (P (s + piece.0 - s)) (P n) (widened s (s + piece.0) n) piece.1 (λ step g. widens s (s + piece.0) n step (omega arith) (omega arith) g) (subst Q i h.0))
     (all_along P widens n (s + piece.0) rest (omega arith) h.1)
 
+order_view-stretch : (level : BufferClusterLevel) (s k : ℕ) (steps : List Step) (gs : List hb_glyph_info_t) → s + k ≤ length gs → FitSteps k steps → order_view (run_steps level (map (widened s (s + k) (length gs)) steps) gs) ≡ take s (order_view gs) ++ (pick (old_places k steps) (take k (drop s (order_view gs))) ++ drop k (drop s (order_view gs)))
+order_view-stretch level s k steps gs l f =
+    let xs = order_view gs in
+    let i : k ≡ s + k - s = omega arith in
+    let F : ℕ → Type 0 = λ k. FitSteps k steps in
+    order_view-widened level s (s + k) steps gs (omega arith) l (subst F i f)
+    ∙ ap (λ j. take s (order_view gs) ++ (pick (old_places j steps) (take j (drop s (order_view gs))) ++ drop (s + k) (order_view gs))) (sym i)
+    ∙ ap (λ ys. take s (order_view gs) ++ (pick (old_places k steps) (take k (drop s (order_view gs))) ++ ys)) (sym (drop-drop k s (order_view gs)))
+
 -- the order view after the steps of neighbouring stretches: each is reordered for itself
 pub order_view-along : (level : BufferClusterLevel) (s : ℕ) (pieces : List (ℕ × List Step)) (gs : List hb_glyph_info_t) → s + sum_by (λ piece. piece.0) pieces ≤ length gs → AllByRecursion (λ piece. FitSteps piece.0 piece.1) pieces → order_view (run_steps level (steps_along (length gs) s pieces) gs) ≡ take s (order_view gs) ++ reordered_along pieces (drop s (order_view gs))
 order_view-along level s [] gs l f = sym (take-append-drop s (order_view gs))
-order_view-along level s (piece ∷ rest) gs l f = ?
+order_view-along level s (piece ∷ rest) gs l f =
+    let k = piece.0 in
+    let e = s + piece.0 in
+    let n = length gs in
+    let xs = order_view gs in
+    let sum = sum_by-cons (λ piece. piece.0) piece rest in
+    let ws = map (widened s (s + piece.0) (length gs)) piece.1 in
+    let ms = run_steps level ws gs in
+    let i : piece.0 ≡ s + piece.0 - s = omega arith in
+    let F : ℕ → Type 0 = λ k. FitSteps k piece.1 in
+    let kn : length ms ≡ length gs = (falls-run_steps level ws gs (all_fit-widened s (s + piece.0) (length gs) piece.1 (omega arith) (omega arith) (subst F i f.0))).0 in
+    let a = take s (order_view gs) in
+    let b = pick (old_places piece.0 piece.1) (take piece.0 (drop s (order_view gs))) in
+    let c = drop piece.0 (drop s (order_view gs)) in
+    let view : order_view ms ≡ (a ++ b) ++ c = order_view-stretch level s piece.0 piece.1 gs (omega arith) f.0 ∙ sym (append_assoc a b c) in
+    let xn : length (order_view gs) ≡ length gs = length-map gs plain in
+    let bn : length b ≡ piece.0 =
+    length-pick (old_places piece.0 piece.1) (take piece.0 (drop s (order_view gs))) (let W : ℕ → Type 0 = λ n. AllByRecursion (λ p. p < n) (old_places piece.0 piece.1) in
+    let m : piece.0 ≡ length (take piece.0 (drop s (order_view gs))) = omega (arith, length-take piece.0 (drop s (order_view gs)), length-drop s (order_view gs)) in subst W m (within-old_places piece.0 piece.1))
+    ∙ length-old_places piece.0 piece.1 f.0 in
+    let abn : length (a ++ b) ≡ s + piece.0 = length-append a b ∙ omega (arith, length-take s (order_view gs)) in
+    ap order_view (fold-append (λ gs step. run_step level step gs) gs ws (steps_along (length gs) (s + piece.0) rest))
+    ∙ ap (λ n. order_view (run_steps level (steps_along n (s + piece.0) rest) ms)) (sym kn)
+    ∙ order_view-along level (s + piece.0) rest ms (omega arith) f.1
+    ∙ ap (λ ys. take (s + piece.0) ys ++ reordered_along rest (drop (s + piece.0) ys)) view
+    ∙ ap (λ ys. ys ++ reordered_along rest (drop (s + piece.0) ((a ++ b) ++ c))) (take_at (a ++ b) c (s + piece.0) abn)
+    ∙ ap (λ ys. (a ++ b) ++ reordered_along rest ys) (drop_at (a ++ b) c (s + piece.0) abn)
+    ∙ append_assoc a b (reordered_along rest c)

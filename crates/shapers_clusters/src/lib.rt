@@ -2,7 +2,7 @@
 //! contract of a function without a body.
 #![tactic(auto)]
 
-ghost use Rattle.shapers_clusters.specs.Laws.{MergeLaw, ExactCutsLaw, StepsLaw, ClustersLaw, MergedStepsLaw, WidenedLaw, SourcesLaw, MovedSourcesLaw};
+ghost use Rattle.shapers_clusters.specs.Laws.{MergeLaw, ExactCutsLaw, StepsLaw, ClustersLaw, MergedStepsLaw, WidenedLaw, AlongLaw, SourcesLaw, MovedSourcesLaw};
 
 /// What one merge of clusters does to any glyphs.
 pub fn merge_law()
@@ -23,8 +23,7 @@ pub fn steps_law()
 /// What merges and moves, in any order, do to any clusters: none is new, and labels are respected.
 pub fn clusters_law()
     ensures { ClustersLaw }
-{
-}
+{}
 
 /// Moves inside merged stretches leave the merged clusters in place: the cluster law and exact cuts.
 pub fn merged_steps_law()
@@ -34,6 +33,11 @@ pub fn merged_steps_law()
 /// Steps over a stretch of places are steps over all places.
 pub fn widened_law()
     ensures { WidenedLaw }
+{}
+
+/// Steps of neighbouring stretches, one after another, are steps over all places.
+pub fn along_law()
+    ensures { AlongLaw }
 {}
 
 /// Made and dropped glyphs: exact cuts, flags and old clusters seen through each glyph's source.
