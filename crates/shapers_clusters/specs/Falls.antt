@@ -103,10 +103,10 @@ all_put : (m : ℕ) (gs : List hb_glyph_info_t) → ((k : ℕ) → k < length (c
 all_put m [] h = tt
 all_put m (g ∷ gs) h = (falls_into m g (h 0 (omega arith)), all_put m gs (λ k l. h (suc k) (omega arith)))
 
-flooded-hit : (c m : ℕ) (g : hb_glyph_info_t) (gs : List hb_glyph_info_t) → g.cluster ≡ c → flooded c m (g ∷ gs) ≡ in_cluster m g ∷ flooded c m gs
+pub flooded-hit : (c m : ℕ) (g : hb_glyph_info_t) (gs : List hb_glyph_info_t) → g.cluster ≡ c → flooded c m (g ∷ gs) ≡ in_cluster m g ∷ flooded c m gs
 flooded-hit c m g gs e = grind (arith, nat_tests)
 
-flooded-miss : (c m : ℕ) (g : hb_glyph_info_t) (gs : List hb_glyph_info_t) → (g.cluster ≡ c → ⊥) → flooded c m (g ∷ gs) ≡ g ∷ gs
+pub flooded-miss : (c m : ℕ) (g : hb_glyph_info_t) (gs : List hb_glyph_info_t) → (g.cluster ≡ c → ⊥) → flooded c m (g ∷ gs) ≡ g ∷ gs
 flooded-miss c m g gs e = grind (arith, nat_tests)
 
 all_flooded : (c m : ℕ) (gs : List hb_glyph_info_t) → m ≤ c → AllZip FallsTo gs (flooded c m gs)

@@ -12,7 +12,7 @@ use Rattle.shapers_clusters.specs.Steps.{pick, Step, run_steps, joined_steps, ol
 use Rattle.shapers_clusters.specs.Widened.{steps_along, reordered_along}
 use Rattle.shapers_clusters.specs.Falls.{FallsTo}
 use Rattle.shapers_clusters.specs.Labels.{IsLabelled, OneLabel, OneLabelEach}
-use Rattle.shapers_clusters.specs.Sources.{ExactCutsBy, MovesInsideOf}
+use Rattle.shapers_clusters.specs.Sources.{ExactCutsBy, HeldAlong, MovesInsideOf}
 
 -- What one merge of s..e makes of the glyphs gs: ms. Nothing but clusters and glyph flags changes. No cluster rises, and a
 -- glyph keeps its flags unless its cluster fell. Every cluster is one that was there. The places of the stretch share one
@@ -88,13 +88,15 @@ abbrev pub AlongLaw : Type 0
 AlongLaw = (level : BufferClusterLevel) (pieces : List (ℕ × List Step)) (gs : List hb_glyph_info_t) → sum_by (λ piece. piece.0) pieces ≤ length gs → AllByRecursion (λ piece. FitSteps piece.0 piece.1) pieces → AlongHolds level pieces gs
 
 -- Made and dropped glyphs: ms has, place by place, what listed old places, the sources, have after the merges. No cluster rises,
--- glyph flags stay unless it fell, every cluster is one that was there. Where the level merges nothing, nothing changes; at the levels that merge, exact cuts seen through the sources.
+-- glyph flags stay unless it fell, every cluster is one that was there. Where the level merges nothing, nothing changes. At the levels that
+-- merge, places whose sources the merged stretches hold together share one cluster; exact cuts seen through the sources.
 pub record SourcesHold (level : BufferClusterLevel) (sts : List (ℕ × ℕ)) (sources : List ℕ) (gs ms : List hb_glyph_info_t) : Type 0 where
   pub as_many : length ms ≡ length sources
   pub falls : AllZip FallsTo (pick sources gs) ms
   pub clusters_are : clusters ms ≡ pick sources (joined_all level sts (clusters gs))
   pub old_clusters : All (Contains (clusters gs)) (clusters ms)
   pub unmerged : merges level ≡ false → ms ≡ pick sources gs
+  pub share : merges level ≡ true → (i j : ℕ) → i < length sources → j < length sources → HeldAlong sts sources i j → ShareCluster (clusters ms) i j
   pub exact : merges level ≡ true → IsMonotone (clusters gs) → ExactCutsBy (clusters gs) sts sources (clusters ms)
 
 abbrev pub SourcesLaw : Type 0

@@ -11,11 +11,11 @@ use Rattle.shapers_clusters.specs.Merging.{length-merge, length-merge_all, order
 use Rattle.shapers_clusters.specs.Neighbours.{EndWithin, ShareCluster, joined-shares, joined_all-share, length-joined_all}
 use Rattle.shapers_clusters.specs.Cuts.{IsMonotone, ExactCuts, exact_cuts, stays_rising, stays_falling}
 use Rattle.shapers_clusters.specs.Steps.{pick, FitsStep, MovesMerged, all_first}
-use Rattle.shapers_clusters.specs.Picks.{length-pick}
+use Rattle.shapers_clusters.specs.Picks.{length-pick, within_at}
 use Rattle.shapers_clusters.specs.Falls.{merge-falls}
 use Rattle.shapers_clusters.specs.Moves.{clusters-merge_all, clusters-run_steps, order_view-run_steps, falls-run_steps, joined-merged_steps, share-moved, merge-unmerged, merge_all-unmerged, run_steps-unmerged, end_within-all_first, all-joined, all-picked, all-joined_steps}
 use Rattle.shapers_clusters.specs.Labels.{IsLabelled, joined-labelled, joined_steps-labelled}
-use Rattle.shapers_clusters.specs.Sources.{ExactCutsBy, exact_cuts_by, clusters_stand, clusters-moved_sources, clusters-picked, falls-picked}
+use Rattle.shapers_clusters.specs.Sources.{ExactCutsBy, exact_cuts_by, sources_share, clusters-moved_sources, clusters-picked, falls-picked}
 use Rattle.shapers_clusters.specs.Widened.{fits-widened, moves-widened, all_fit-widened, all_moves-widened, order_view-widened, all_along, order_view-along}
 use Rattle.shapers_clusters.specs.Laws.{MergeLaw, ExactCutsLaw, StepsLaw, ClustersLaw, MergedStepsLaw, WidenedLaw, AlongLaw, SourcesLaw, MovedSourcesLaw}
 
@@ -103,6 +103,7 @@ sources_hold level sts sources gs w v =
       clusters_are = is;
       unmerged = λ m. ap (pick sources) (merge_all-unmerged level m sts gs);
       old_clusters = all (All (Contains cs)) (all-picked (Contains cs) sources (joined_all level sts cs) (subst P (sym (length-joined_all level sts cs (ends sts gs w) ∙ n)) v) (all-joined (Contains cs) level sts cs (ends sts gs w) (All-contains_itself cs)));
+      share = λ m i j il jl h. all (λ js. ShareCluster js i j) (sources_share level m sts cs sources (ends sts gs w) u i j il jl h);
       exact = λ m mono. all (λ js. ExactCutsBy cs sts sources js) (exact_cuts_by level m sts cs sources (ends sts gs w) mono u);
     }
 
@@ -116,5 +117,5 @@ moved_sources_hold level sts standing places gs m w s n v h =
     let is = clusters-picked level sts (pick places standing) gs ∙ stays in
     let Q : (i : ℕ) → List ℕ → Type 0 = λ i js. ShareCluster js i (slice_index places i) in (
       is ∙ sym (clusters-picked level sts standing gs),
-      λ i l. subst (Q i) (sym is) (clusters_stand level m sts cs standing places (ends sts gs w) t n v h i l),
+      λ i l. subst (Q i) (sym is) (sources_share level m sts cs standing (ends sts gs w) t i (get_or places i 0) l (within_at (length standing) places v i (omega arith)) (h i (omega arith))),
     )

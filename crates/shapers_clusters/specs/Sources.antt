@@ -21,9 +21,13 @@ pub record ExactCutsBy (cs : List ℕ) (sts : List (ℕ × ℕ)) (sources after 
   pub reached : (i : ℕ) → i < length sources → (q : ℕ) × (q < length cs) × SameBlock cs sts (slice_index sources i) q × (slice_index after i ≡ slice_index cs q)
   pub least : (i q : ℕ) → i < length sources → q < length cs → SameBlock cs sts (slice_index sources i) q → slice_index after i ≤ slice_index cs q
 
+-- the stretches hold together, neighbour by neighbour, the sources of all places from i to j
+abbrev pub HeldAlong : List (ℕ × ℕ) → List ℕ → ℕ → ℕ → Type 0
+HeldAlong sts sources i j = (k : ℕ) → min i j < k → k ≤ max i j → HeldBetween sts (slice_index sources (k - 1)) (slice_index sources k)
+
 -- each place takes what stood within the same merged stretches, seen through the sources that stand there
 abbrev pub MovesInsideOf : List (ℕ × ℕ) → List ℕ → List ℕ → Type 0
-MovesInsideOf sts standing places = (i k : ℕ) → i < length places → min i (slice_index places i) < k → k ≤ max i (slice_index places i) → HeldBetween sts (slice_index standing (k - 1)) (slice_index standing k)
+MovesInsideOf sts standing places = (i : ℕ) → i < length places → HeldAlong sts standing i (slice_index places i)
 
 pub exact_cuts_by : (level : BufferClusterLevel) → merges level ≡ true → (sts : List (ℕ × ℕ)) (cs sources : List ℕ) → EndWithin (length cs) sts → IsMonotone cs → AllByRecursion (λ p. p < length cs) sources → ExactCutsBy cs sts sources (pick sources (joined_all level sts cs))
 exact_cuts_by level m sts cs sources w mono s =
@@ -44,19 +48,19 @@ exact_cuts_by level m sts cs sources w mono s =
       least = λ i q l ql b. omega (arith, at i l, x.least (get_or sources i 0) q (old i l) ql b);
     }
 
--- moves inside the merged stretches leave the clusters as they stood, and all places on the way share one
-pub clusters_stand : (level : BufferClusterLevel) → merges level ≡ true → (sts : List (ℕ × ℕ)) (cs standing places : List ℕ) → EndWithin (length cs) sts → AllByRecursion (λ p. p < length cs) standing → length places ≡ length standing → AllByRecursion (λ p. p < length standing) places → MovesInsideOf sts standing places → (i : ℕ) → i < length standing → ShareCluster (pick standing (joined_all level sts cs)) i (get_or places i 0)
-clusters_stand level m sts cs standing places w s n v h i l =
+-- places whose sources the merged stretches hold together share one cluster
+pub sources_share : (level : BufferClusterLevel) → merges level ≡ true → (sts : List (ℕ × ℕ)) (cs sources : List ℕ) → EndWithin (length cs) sts → AllByRecursion (λ p. p < length cs) sources → (i j : ℕ) → i < length sources → j < length sources → HeldAlong sts sources i j → ShareCluster (pick sources (joined_all level sts cs)) i j
+sources_share level m sts cs sources w s i j il jl h =
     let js = joined_all level sts cs in
     let jn = length-joined_all level sts cs w in
-    let P : ℕ → Type 0 = λ n. AllByRecursion (λ p. p < n) standing in
+    let P : ℕ → Type 0 = λ n. AllByRecursion (λ p. p < n) sources in
     let sj = subst P (sym jn) s in
-    let q = within_at (length standing) places v i (omega arith) in
-    share_all (pick standing js) i (get_or places i 0) (λ r x y.
-    get_or-pick 0 standing js sj (r - 1) (omega arith)
-    ∙ sym (held_share level m sts cs w (get_or standing (r - 1) 0) (get_or standing r 0) (within_at (length cs) standing s (r - 1) (omega arith)) (within_at (length cs) standing s r (omega arith)) (h i r (omega arith) x y) (get_or standing r 0) (omega arith) (omega arith))
-    ∙ sym (get_or-pick 0 standing js sj r (omega arith)))
+    share_all (pick sources js) i j (λ r x y.
+    get_or-pick 0 sources js sj (r - 1) (omega arith)
+    ∙ sym (held_share level m sts cs w (get_or sources (r - 1) 0) (get_or sources r 0) (within_at (length cs) sources s (r - 1) (omega arith)) (within_at (length cs) sources s r (omega arith)) (h r x y) (get_or sources r 0) (omega arith) (omega arith))
+    ∙ sym (get_or-pick 0 sources js sj r (omega arith)))
 
+-- moves inside the merged stretches leave the clusters as they stood
 pub clusters-moved_sources : (level : BufferClusterLevel) → merges level ≡ true → (sts : List (ℕ × ℕ)) (cs standing places : List ℕ) → EndWithin (length cs) sts → AllByRecursion (λ p. p < length cs) standing → length places ≡ length standing → AllByRecursion (λ p. p < length standing) places → MovesInsideOf sts standing places → pick (pick places standing) (joined_all level sts cs) ≡ pick standing (joined_all level sts cs)
 clusters-moved_sources level m sts cs standing places w s n v h =
     let js = joined_all level sts cs in
@@ -66,7 +70,7 @@ clusters-moved_sources level m sts cs standing places w s n v h =
     let Q : ℕ → Type 0 = λ n. AllByRecursion (λ p. p < n) places in
     let k = length-pick standing js sj in
     sym (pick-pick places standing js sj) ∙ clusters_stay (pick standing js) places (n ∙ sym k) (subst Q (sym k) v)
-    (λ p l. clusters_stand level m sts cs standing places w s n v h p (omega arith) (get_or places p 0) (omega arith) (omega arith))
+    (λ p l. sources_share level m sts cs standing w s p (get_or places p 0) (omega arith) (within_at (length standing) places v p (omega arith)) (h p (omega arith)) (get_or places p 0) (omega arith) (omega arith))
 
 -- the clusters and the falls of what is picked from merged glyphs
 pub clusters-picked : (level : BufferClusterLevel) (sts : List (ℕ × ℕ)) (sources : List ℕ) (gs : List hb_glyph_info_t) → clusters (pick sources (merge_all level sts gs)) ≡ pick sources (joined_all level sts (clusters gs))

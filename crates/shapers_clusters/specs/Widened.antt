@@ -112,7 +112,7 @@ pub all_moves-widened : (s e n : ℕ) (steps : List Step) → s ≤ e → e ≤ 
 all_moves-widened s e n steps h l f = all-mapped (MovesMerged (e - s)) (MovesMerged n) (widened s e n) steps (λ step g. moves-widened s e n step h l g) f
 
 -- a widened step on a list that is given by its three parts
-pick-parts : {X : Type 0} (s e n : ℕ) (step : Step) (front middle rest : List X) → s ≤ e → length front ≡ s → length middle ≡ e - s → e + length rest ≡ n → FitsStep (e - s) step → pick (widened s e n step).places (front ++ (middle ++ rest)) ≡ front ++ (pick step.places middle ++ rest)
+pub pick-parts : {X : Type 0} (s e n : ℕ) (step : Step) (front middle rest : List X) → s ≤ e → length front ≡ s → length middle ≡ e - s → e + length rest ≡ n → FitsStep (e - s) step → pick (widened s e n step).places (front ++ (middle ++ rest)) ≡ front ++ (pick step.places middle ++ rest)
 pick-parts s e n step front middle rest h a b c f =
     let xs = front ++ (middle ++ rest) in
     let len : length xs ≡ n = length-append front (middle ++ rest) ∙ omega (arith, length-append middle rest) in
