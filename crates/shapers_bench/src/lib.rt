@@ -8,3 +8,5 @@ mod buffer;
 mod feature_lists;
 #[cfg(test)]
 mod planner;
+#[cfg(test)]
+mod shapers;
