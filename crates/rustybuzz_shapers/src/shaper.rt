@@ -152,7 +152,10 @@ impl hb_ot_shaper_t {
         requires unbuilt { keeps_data self ≡ false }
         ensures { result ≡ None }
     {
-        None
+        match self {
+            Self::Hebrew | Self::Myanmar | Self::MyanmarZawgyi | Self::Thai => None,
+            _ => unreachable!(),
+        }
     }
 
     /// Rewrites a text before its characters become glyphs. Thai puts each SARA AM in two, and then,
@@ -197,7 +200,10 @@ impl hb_ot_shaper_t {
         ensures answer { result ≡ Ok None }
         ensures unchanged { _buffer.new ≡ _buffer.old }
     {
-        Ok(None)
+        match self {
+            Self::Arabic => unreachable!(),
+            _ => Ok(None),
+        }
     }
 
     /// The character that two characters compose to for this shaper. It isn't built yet for the
@@ -212,7 +218,10 @@ impl hb_ot_shaper_t {
         requires unbuilt { composes self ≡ false }
         ensures { result ≡ None }
     {
-        None
+        match self {
+            Self::Hebrew | Self::Indic | Self::Khmer | Self::Universal => unreachable!(),
+            _ => None,
+        }
     }
 
     /// The two characters that a character decomposes to for this shaper. It isn't built yet for the
@@ -226,7 +235,10 @@ impl hb_ot_shaper_t {
         requires unbuilt { decomposes self ≡ false }
         ensures { result ≡ None }
     {
-        None
+        match self {
+            Self::Indic | Self::Khmer => unreachable!(),
+            _ => None,
+        }
     }
 
     /// Sets the masks of the glyphs. It isn't built yet for the shapers that have it.
@@ -242,7 +254,10 @@ impl hb_ot_shaper_t {
         ensures answer { result ≡ None }
         ensures unchanged { _buffer.new ≡ _buffer.old }
     {
-        None
+        match self {
+            Self::Hebrew | Self::MyanmarZawgyi | Self::Thai => None,
+            _ => unreachable!(),
+        }
     }
 
     /// Reorders the marks from `start` to `end`. It isn't built yet for the shapers that have it.
@@ -260,6 +275,9 @@ impl hb_ot_shaper_t {
         ensures answer { result ≡ None }
         ensures unchanged { _buffer.new ≡ _buffer.old }
     {
-        None
+        match self {
+            Self::Arabic | Self::Hebrew => unreachable!(),
+            _ => None,
+        }
     }
 }

@@ -9,4 +9,6 @@ mod feature_lists;
 #[cfg(test)]
 mod planner;
 #[cfg(test)]
+mod shaper;
+#[cfg(test)]
 mod syllabic;
