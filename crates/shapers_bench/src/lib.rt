@@ -9,6 +9,6 @@ mod feature_lists;
 #[cfg(test)]
 mod planner;
 #[cfg(test)]
-mod shaper;
+mod shapers;
 #[cfg(test)]
 mod syllabic;
