@@ -12,4 +12,5 @@ pub mod Proved
 pub mod Sources
 pub mod Spread
 pub mod Steps
+pub mod Swaps
 pub mod Widened

@@ -1,3 +1,5 @@
+pub mod HebrewLemmas
+mod HebrewRows
 mod RequestRows
 pub mod ThaiFormLaws
 pub mod ThaiFormWalks

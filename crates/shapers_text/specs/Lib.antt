@@ -1,3 +1,4 @@
+pub mod Hebrew
 pub mod Requests
 pub mod Thai
 pub mod ThaiForms
