@@ -1,10 +1,10 @@
 -- Glyphs whose clusters occur nowhere else in the text merge and move as they would alone.
-use Rattle.std.proofs.Common.{ℕ, zero, suc, ◌+◌, ◌-◌, ◌<◌, ◌≤◌, ◌≡◌, ◌≢◌, ◌==◌, ◌&&◌, Bool, true, false, not, nat_lt, if◌then◌else◌, ◌⊎◌, inl, inr, List, [], ◌∷◌, ◌++◌, map, length, get_or, slice_index, reverse, take, drop, refl, sym, ◌∙◌, ap, subst, arith, append_assoc, length-append, length-take, length-drop}
-use Rattle.std.specs.List.{All, AllByRecursion, Contains, fold}
-use Rattle.std.proofs.lemmas.List.{length-map, length-reverse, reverse-append, reverse-reverse, take_at, drop_at, drop-drop, take-take, drop-take, take-append-drop, get_or_default, take-append-le, drop-append-le}
+use Rattle.std.proofs.Common.{ℕ, zero, suc, ◌+◌, ◌-◌, ◌<◌, ◌≤◌, ◌≡◌, ◌≢◌, ◌&&◌, not, nat_lt, if◌then◌else◌, inl, inr, List, [], ◌∷◌, ◌++◌, map, length, get_or, slice_index, reverse, take, drop, refl, sym, ◌∙◌, ap, subst, arith, append_assoc, length-take, length-drop}
+use Rattle.std.specs.List.{All, AllByRecursion, Contains, sum_by, range_with_len}
+use Rattle.std.proofs.lemmas.List.{append-nil, map-append, length-map, length-reverse, reverse-append, reverse-reverse, take_at, drop_at, drop-drop, take-take, drop-take, take-append-drop, get_or_default, take-append-le, drop-append-le}
+use Rattle.std.proofs.lemmas.List.Sums.{sum_by-cons, fold-append}
 use Rattle.std.proofs.lemmas.List.Elements.{All-head, All-tail, All-nil, All-cons, All-from_get_or, All-contains_itself}
 use Rattle.std.proofs.lemmas.Bool.{cases_eq}
-use Rattle.std.proofs.lemmas.Bool.Decides.{nat_tests}
 use Rattle.shapers_base.specs.declared.buffer.glyph.hb_glyph_info_t.{hb_glyph_info_t}
 use Rattle.shapers_base.specs.declared.buffer.level.BufferClusterLevel.{BufferClusterLevel}
 use Rattle.shapers_base.specs.Glyph.{clusters}
@@ -13,8 +13,8 @@ use Rattle.shapers_clusters.specs.Merging.{length-merge, length-merge_all}
 use Rattle.shapers_clusters.specs.Neighbours.{EndWithin}
 use Rattle.shapers_clusters.specs.Steps.{pick, Step, run_step, run_steps, FitsStep, FitSteps, shifted, widened}
 use Rattle.shapers_clusters.specs.Picks.{length-pick, pick-map}
-use Rattle.shapers_clusters.specs.Moves.{clusters-merge_all, all-joined, all-picked}
-use Rattle.shapers_clusters.specs.Widened.{pick-parts}
+use Rattle.shapers_clusters.specs.Moves.{clusters-merge_all, clusters-run_steps, all-joined, all-joined_steps, all-picked}
+use Rattle.shapers_clusters.specs.Widened.{pick-parts, fits-widened, range-append, map-range, steps_along, all_along}
 use Rattle.shapers_clusters.specs.Falls.{flooded-hit, flooded-miss}
 use Rattle.shapers_clusters.specs.Appended.{assembled, two_sides}
 
@@ -30,8 +30,9 @@ flooded-stops c m (g ∷ gs) h = flooded-miss c m g gs h.0
 flooded-front : (c m : ℕ) (gs hs : List hb_glyph_info_t) → Each (λ k. k ≡ c → ⊥) hs → flooded c m (gs ++ hs) ≡ flooded c m gs ++ hs
 flooded-front c m [] hs h = flooded-stops c m hs h
 flooded-front c m (g ∷ gs) hs h = elim (cases_eq g.cluster c) [
-      inl e ↦ flooded-hit c m g (gs ++ hs) e ∙ ap (λ l. in_cluster m g ∷ l) (flooded-front c m gs hs h) ∙ sym (ap (λ l. l ++ hs) (flooded-hit c m g gs e))
-    | inr n ↦ flooded-miss c m g (gs ++ hs) n ∙ sym (ap (λ l. l ++ hs) (flooded-miss c m g gs n)) ]
+  | inl e ↦ flooded-hit c m g (gs ++ hs) e ∙ ap (λ l. in_cluster m g ∷ l) (flooded-front c m gs hs h) ∙ sym (ap (λ l. l ++ hs) (flooded-hit c m g gs e))
+  | inr n ↦ flooded-miss c m g (gs ++ hs) n ∙ sym (ap (λ l. l ++ hs) (flooded-miss c m g gs n))
+]
 
 each-append : (P : ℕ → Type 0) (gs hs : List hb_glyph_info_t) → Each P gs → Each P hs → Each P (gs ++ hs)
 each-append P [] hs h i = i
@@ -108,15 +109,15 @@ merge-before P level a s e hs gs rest n l p h =
     let ws = hs ++ (gs ++ rest) in
     ap (λ k. if merges level && not (nat_lt k 2) then merged (a + s) (a + e) ws else ws) i
     ∙ two_sides (e - s) (merges level) (λ x y. x ≡ hs ++ y) _ _ _ _ refl (λ two.
-      let front : take (a + s) ws ≡ hs ++ take s ts = take-past a s hs ts n in
-      let middle : stretch_of (a + s) (a + e) ws ≡ stretch_of s e ts = ap (λ k. take k (drop (a + s) ws)) i ∙ ap (take (e - s)) (drop-past a s hs ts n) in
-      let behind : drop (a + e) ws ≡ drop e ts = drop-past a e hs ts n in
-      let inside : stretch_of s e ts ≡ stretch_of s e gs = ap (take (e - s)) (drop-append-le s gs rest (omega arith)) ∙ take-append-le (e - s) (drop s gs) rest (omega (arith, length-drop s gs)) in
-      let Q : List hb_glyph_info_t → Type 0 = Each P in
-      ap (λ x. assembled x (stretch_of (a + s) (a + e) ws) (drop (a + e) ws)) front
-      ∙ ap (λ x. assembled (hs ++ take s ts) x (drop (a + e) ws)) middle
-      ∙ ap (λ x. assembled (hs ++ take s ts) (stretch_of s e ts) x) behind
-      ∙ assembled-before P hs (take s ts) (stretch_of s e ts) (drop e ts) (omega (arith, ap length inside, length-take (e - s) (drop s gs), length-drop s gs)) (subst Q (sym inside) (each-take P (e - s) (drop s gs) (each-drop P s gs p))) h)
+    let front : take (a + s) ws ≡ hs ++ take s ts = take-past a s hs ts n in
+    let middle : stretch_of (a + s) (a + e) ws ≡ stretch_of s e ts = ap (λ k. take k (drop (a + s) ws)) i ∙ ap (take (e - s)) (drop-past a s hs ts n) in
+    let behind : drop (a + e) ws ≡ drop e ts = drop-past a e hs ts n in
+    let inside : stretch_of s e ts ≡ stretch_of s e gs = ap (take (e - s)) (drop-append-le s gs rest (omega arith)) ∙ take-append-le (e - s) (drop s gs) rest (omega (arith, length-drop s gs)) in
+    let Q : List hb_glyph_info_t → Type 0 = Each P in
+    ap (λ x. assembled x (stretch_of (a + s) (a + e) ws) (drop (a + e) ws)) front
+    ∙ ap (λ x. assembled (hs ++ take s ts) x (drop (a + e) ws)) middle
+    ∙ ap (λ x. assembled (hs ++ take s ts) (stretch_of s e ts) x) behind
+    ∙ assembled-before P hs (take s ts) (stretch_of s e ts) (drop e ts) (omega (arith, ap length inside, length-take (e - s) (drop s gs), length-drop s gs)) (subst Q (sym inside) (each-take P (e - s) (drop s gs) (each-drop P s gs p))) h)
 
 each_of : (P : ℕ → Type 0) (gs : List hb_glyph_info_t) → All P (clusters gs) → Each P gs
 each_of P [] h = tt
@@ -162,12 +163,13 @@ run_step-alone P level s e n step before gs behind le a b c f p h i =
     let ps = pick step.places ms in
     let pn : length ps ≡ e - s = length-pick step.places ms within ∙ f.as_many in
     let pp : Each P ps = each-pick P step.places ms within mp in
-    let last : EndWithin (length ps) step.merged_then = subst T (sym pn) f.then_within in
-    (ap (λ l. merge_all level (shifted s step.merged_then) (pick (widened s e n step).places l)) (merge_all-alone P level s step.merged_first before gs behind a first p h i)
-     ∙ ap (merge_all level (shifted s step.merged_then)) (pick-parts s e n step before ms behind le a mn c f)
-     ∙ merge_all-alone P level s step.merged_then before ps behind a last pp h i,
-     length-merge_all level step.merged_then ps last ∙ pn,
-     each-merge_all P level step.merged_then ps last pp)
+    let last : EndWithin (length ps) step.merged_then = subst T (sym pn) f.then_within in (
+      ap (λ l. merge_all level (shifted s step.merged_then) (pick (widened s e n step).places l)) (merge_all-alone P level s step.merged_first before gs behind a first p h i)
+          ∙ ap (merge_all level (shifted s step.merged_then)) (pick-parts s e n step before ms behind le a mn c f)
+          ∙ merge_all-alone P level s step.merged_then before ps behind a last pp h i,
+      length-merge_all level step.merged_then ps last ∙ pn,
+      each-merge_all P level step.merged_then ps last pp,
+    )
 
 run_steps-alone : (P : ℕ → Type 0) (level : BufferClusterLevel) (s e n : ℕ) (steps : List Step) (before gs behind : List hb_glyph_info_t) → s ≤ e → length before ≡ s → length gs ≡ e - s → e + length behind ≡ n → FitSteps (e - s) steps → Each P gs → Each (λ k. P k → ⊥) before → Each (λ k. P k → ⊥) behind → run_steps level (map (widened s e n) steps) (before ++ (gs ++ behind)) ≡ before ++ (run_steps level steps gs ++ behind)
 run_steps-alone P level s e n [] before gs behind le a b c f p h i = refl
@@ -184,9 +186,121 @@ apart gs hs h =
     let gn = length-map gs (λ g. g.cluster) in
     let hn = length-map hs (λ g. g.cluster) in
     each_of (λ k. Contains (clusters gs) k → ⊥) hs (All-from_get_or (λ k. Contains (clusters gs) k → ⊥) (clusters hs) 0 (λ j l c.
-      h c.0 j (omega (arith, c.1)) (omega arith) (get_or_default (clusters gs) c.0 0 (get_or (clusters hs) j 0) c.1 ∙ c.2)))
+    h c.0 j (omega (arith, c.1)) (omega arith) (get_or_default (clusters gs) c.0 0 (get_or (clusters hs) j 0) c.1 ∙ c.2)))
 
 -- steps over glyphs that share no cluster with those before and behind: as over these glyphs alone
 pub steps_alone : (level : BufferClusterLevel) (s e n : ℕ) (steps : List Step) (before gs behind : List hb_glyph_info_t) → s ≤ e → length before ≡ s → length gs ≡ e - s → e + length behind ≡ n → FitSteps (e - s) steps → ShareNone gs before → ShareNone gs behind → run_steps level (map (widened s e n) steps) (before ++ (gs ++ behind)) ≡ before ++ (run_steps level steps gs ++ behind)
 steps_alone level s e n steps before gs behind le a b c f h i =
     run_steps-alone (Contains (clusters gs)) level s e n steps before gs behind le a b c f (each_of (Contains (clusters gs)) gs (All-contains_itself (clusters gs))) (apart gs before h) (apart gs behind i)
+
+-- two halves that share no cluster: steps over each, one after another, give the halves' results joined
+pub halves : (level : BufferClusterLevel) (a n : ℕ) (xs ys : List Step) (gs hs : List hb_glyph_info_t) → length gs ≡ a → a + length hs ≡ n → FitSteps a xs → FitSteps (n - a) ys → ShareNone gs hs → run_steps level (map (widened 0 a n) xs ++ map (widened a n n) ys) (gs ++ hs) ≡ run_steps level xs gs ++ run_steps level ys hs
+halves level a n xs ys gs hs ga hn f g h =
+    let F : ℕ → Type 0 = λ k. FitSteps k xs in
+    let first : FitSteps (a - 0) xs = (let i : a ≡ a - 0 = omega arith in subst F i f) in
+    let later : (i j : ℕ) → i < length hs → j < length gs → slice_index (clusters hs) i ≢ slice_index (clusters gs) j = λ i j il jl e. h j i jl il (sym e) in
+    let before = run_steps level xs gs in
+    let cn : length (clusters gs) ≡ a = length-map gs (λ g. g.cluster) ∙ ga in
+    let P : ℕ → Type 0 = λ k. Contains (clusters hs) k → ⊥ in
+    let still = all-joined_steps P level a xs (clusters gs) cn f (all_of P gs (apart hs gs later)) in
+    let is = clusters-run_steps level xs gs in
+    let A : List ℕ → Type 0 = All P in
+    let many : length before ≡ a = sym (length-map before (λ g. g.cluster)) ∙ ap length is ∙ still.0 in
+    ap (λ ts. run_steps level (map (widened 0 a n) xs ++ map (widened a n n) ys) (gs ++ ts)) (sym (append-nil hs))
+    ∙ fold-append (λ gs step. run_step level step gs) (gs ++ (hs ++ [])) (map (widened 0 a n) xs) (map (widened a n n) ys)
+    ∙ ap (run_steps level (map (widened a n n) ys)) (steps_alone level 0 a n xs [] gs (hs ++ []) (omega arith) refl (omega arith) (omega (arith, ap length (append-nil hs))) first (λ i j il jl. absurd (omega arith))
+    (λ i j il jl. let Q : List hb_glyph_info_t → Type 0 = λ ts. (j : ℕ) → j < length ts → slice_index (clusters gs) i ≢ slice_index (clusters ts) j in subst Q (sym (append-nil hs)) (λ j jl. h i j il jl) j jl))
+    ∙ run_steps-alone (Contains (clusters hs)) level a n n ys before hs [] (omega arith) many (omega arith) (omega arith) g (each_of (Contains (clusters hs)) hs (All-contains_itself (clusters hs))) (each_of P before (subst A (sym is) still.1)) tt
+    ∙ ap (λ ts. before ++ ts) (append-nil (run_steps level ys hs))
+
+-- a step over a stretch of a stretch
+shifted-twice : (a s : ℕ) (sts : List (ℕ × ℕ)) → shifted a (shifted s sts) ≡ shifted (a + s) sts
+shifted-twice a s [] = refl
+shifted-twice a s (st ∷ sts) =
+    let i : a + (s + st.0) ≡ a + s + st.0 = omega arith in
+    let j : a + (s + st.1) ≡ a + s + st.1 = omega arith in
+    let r = shifted-twice a s sts in
+    ap (λ x. (x, a + (s + st.1)) ∷ shifted a (shifted s sts)) i ∙ ap (λ y. (a + s + st.0, y) ∷ shifted a (shifted s sts)) j ∙ ap (λ l. (a + s + st.0, a + s + st.1) ∷ l) r
+
+added-twice : (a s : ℕ) (ps : List ℕ) → map (λ p. a + p) (map (λ p. s + p) ps) ≡ map (λ p. a + s + p) ps
+added-twice a s [] = refl
+added-twice a s (p ∷ ps) = let i : a + (s + p) ≡ a + s + p = omega arith in ap (λ x. x ∷ map (λ p. a + p) (map (λ p. s + p) ps)) i ∙ ap (λ l. (a + s + p) ∷ l) (added-twice a s ps)
+
+ranges-join : (a b j k l : ℕ) → a + j ≡ b → j + k ≡ l → range_with_len a j ++ range_with_len b k ≡ range_with_len a l
+ranges-join a b j k l e f = ap (λ x. range_with_len a j ++ range_with_len x k) (sym e) ∙ sym (range-append a j k) ∙ ap (range_with_len a) f
+
+widened-places : (a b n s e : ℕ) (ps : List ℕ) → s ≤ e → e ≤ b - a → a ≤ b → b ≤ n → range_with_len 0 a ++ (map (λ p. a + p) (range_with_len 0 s ++ (map (λ p. s + p) ps ++ range_with_len e (b - a - e))) ++ range_with_len b (n - b)) ≡ range_with_len 0 (a + s) ++ (map (λ p. a + s + p) ps ++ range_with_len (a + e) (n - (a + e)))
+widened-places a b n s e ps h i j k =
+    let front = range_with_len 0 a in
+    let rest = range_with_len b (n - b) in
+    let inner : map (λ p. a + p) (range_with_len 0 s ++ (map (λ p. s + p) ps ++ range_with_len e (b - a - e))) ≡ range_with_len (a + 0) s ++ (map (λ p. a + s + p) ps ++ range_with_len (a + e) (b - a - e)) =
+    map-append (λ p. a + p) (range_with_len 0 s) (map (λ p. s + p) ps ++ range_with_len e (b - a - e))
+    ∙ ap (λ l. l ++ map (λ p. a + p) (map (λ p. s + p) ps ++ range_with_len e (b - a - e))) (map-range a 0 s)
+    ∙ ap (λ l. range_with_len (a + 0) s ++ l) (map-append (λ p. a + p) (map (λ p. s + p) ps) (range_with_len e (b - a - e))
+    ∙ ap (λ l. l ++ map (λ p. a + p) (range_with_len e (b - a - e))) (added-twice a s ps)
+    ∙ ap (λ l. map (λ p. a + s + p) ps ++ l) (map-range a e (b - a - e))) in
+    let x = range_with_len (a + 0) s in
+    let y = map (λ p. a + s + p) ps in
+    let z = range_with_len (a + e) (b - a - e) in
+    ap (λ l. front ++ (l ++ rest)) inner
+    ∙ ap (λ l. front ++ l) (append_assoc x (y ++ z) rest ∙ ap (λ l. x ++ l) (append_assoc y z rest))
+    ∙ sym (append_assoc front x (y ++ (z ++ rest)))
+    ∙ ap (λ l. l ++ (y ++ (z ++ rest))) (ranges-join 0 (a + 0) a s (a + s) (omega arith) refl)
+    ∙ ap (λ l. range_with_len 0 (a + s) ++ (y ++ l)) (ranges-join (a + e) b (b - a - e) (n - b) (n - (a + e)) (omega arith) (omega arith))
+
+widened-widened : (a b n s e : ℕ) (step : Step) → s ≤ e → e ≤ b - a → a ≤ b → b ≤ n → widened a b n (widened s e (b - a) step) ≡ widened (a + s) (a + e) n step
+widened-widened a b n s e step h i j k =
+    let first = shifted-twice a s step.merged_first in
+    let moved = widened-places a b n s e step.places h i j k in
+    let later = shifted-twice a s step.merged_then in
+    let make : List (ℕ × ℕ) → List ℕ → List (ℕ × ℕ) → Step = λ x y z. record { merged_first = x; places = y; merged_then = z } in
+    ap (λ x. make x (widened a b n (widened s e (b - a) step)).places (shifted a (shifted s step.merged_then))) first
+    ∙ ap (λ y. make (shifted (a + s) step.merged_first) y (shifted a (shifted s step.merged_then))) moved
+    ∙ ap (λ z. make (shifted (a + s) step.merged_first) (widened (a + s) (a + e) n step).places z) later
+
+map-widened : (a b n s k : ℕ) (steps : List Step) → s + k ≤ b - a → a ≤ b → b ≤ n → map (widened a b n) (map (widened s (s + k) (b - a)) steps) ≡ map (widened (a + s) (a + s + k) n) steps
+map-widened a b n s k [] h i j = refl
+map-widened a b n s k (step ∷ steps) h i j =
+    let e : a + (s + k) ≡ a + s + k = omega arith in
+    let one : widened a b n (widened s (s + k) (b - a) step) ≡ widened (a + s) (a + s + k) n step = widened-widened a b n s (s + k) step (omega arith) h i j ∙ ap (λ e. widened (a + s) e n step) e in
+    ap (λ x. x ∷ map (widened a b n) (map (widened s (s + k) (b - a)) steps)) one ∙ ap (λ l. widened (a + s) (a + s + k) n step ∷ l) (map-widened a b n s k steps h i j)
+
+-- the steps of neighbouring stretches within a half, as those within the whole
+along-widened : (a b n s : ℕ) (pieces : List (ℕ × List Step)) → s + sum_by (λ piece. piece.0) pieces ≤ b - a → a ≤ b → b ≤ n → map (widened a b n) (steps_along (b - a) s pieces) ≡ steps_along n (a + s) pieces
+along-widened a b n s [] l i j = refl
+along-widened a b n s (piece ∷ rest) l i j =
+    let k = sum_by-cons (λ piece. piece.0) piece rest in
+    let e : a + (s + piece.0) ≡ a + s + piece.0 = omega arith in
+    map-append (widened a b n) (map (widened s (s + piece.0) (b - a)) piece.1) (steps_along (b - a) (s + piece.0) rest)
+    ∙ ap (λ l. l ++ map (widened a b n) (steps_along (b - a) (s + piece.0) rest)) (map-widened a b n s piece.0 piece.1 (omega arith) i j)
+    ∙ ap (λ l. map (widened (a + s) (a + s + piece.0) n) piece.1 ++ l) (along-widened a b n (s + piece.0) rest (omega arith) i j ∙ ap (λ x. steps_along n x rest) e)
+
+along-append : (n s : ℕ) (ps qs : List (ℕ × List Step)) → steps_along n s (ps ++ qs) ≡ steps_along n s ps ++ steps_along n (s + sum_by (λ piece. piece.0) ps) qs
+along-append n s [] qs = let i : s ≡ s + 0 = omega arith in ap (λ x. steps_along n x qs) i
+along-append n s (p ∷ ps) qs =
+    let k = sum_by-cons (λ piece. piece.0) p ps in
+    let e : s + p.0 + sum_by (λ piece. piece.0) ps ≡ s + sum_by (λ piece. piece.0) (p ∷ ps) = omega arith in
+    ap (λ l. map (widened s (s + p.0) n) p.1 ++ l) (along-append n (s + p.0) ps qs ∙ ap (λ x. steps_along n (s + p.0) ps ++ steps_along n x qs) e)
+    ∙ sym (append_assoc (map (widened s (s + p.0) n) p.1) (steps_along n (s + p.0) ps) (steps_along n (s + sum_by (λ piece. piece.0) (p ∷ ps)) qs))
+
+-- a text cut between two stretches, into halves that share no cluster: its steps give the halves' results joined
+pub halves_along : (level : BufferClusterLevel) (ps qs : List (ℕ × List Step)) (gs hs : List hb_glyph_info_t) → sum_by (λ piece. piece.0) ps ≡ length gs → sum_by (λ piece. piece.0) qs ≡ length hs → AllByRecursion (λ piece. FitSteps piece.0 piece.1) ps → AllByRecursion (λ piece. FitSteps piece.0 piece.1) qs → ShareNone gs hs → run_steps level (steps_along (length gs + length hs) 0 (ps ++ qs)) (gs ++ hs) ≡ run_steps level (steps_along (length gs) 0 ps) gs ++ run_steps level (steps_along (length hs) 0 qs) hs
+halves_along level ps qs gs hs a b f g h =
+    let n = length gs + length hs in
+    let m : length gs ≡ length gs - 0 = omega arith in
+    let k : length hs ≡ length gs + length hs - length gs = omega arith in
+    let xs = steps_along (length gs) 0 ps in
+    let ys = steps_along (length gs + length hs - length gs) 0 qs in
+    let first : steps_along (length gs + length hs) 0 ps ≡ map (widened 0 (length gs) (length gs + length hs)) xs =
+    sym (ap (λ x. map (widened 0 (length gs) (length gs + length hs)) (steps_along x 0 ps)) m ∙ along-widened 0 (length gs) (length gs + length hs) 0 ps (omega arith) (omega arith) (omega arith)
+    ∙ (let i : 0 + 0 ≡ 0 = omega arith in ap (λ x. steps_along (length gs + length hs) x ps) i)) in
+    let second : steps_along (length gs + length hs) (0 + sum_by (λ piece. piece.0) ps) qs ≡ map (widened (length gs) (length gs + length hs) (length gs + length hs)) ys =
+    (let i : 0 + sum_by (λ piece. piece.0) ps ≡ length gs + 0 = omega arith in ap (λ x. steps_along (length gs + length hs) x qs) i)
+    ∙ sym (along-widened (length gs) (length gs + length hs) (length gs + length hs) 0 qs (omega arith) (omega arith) (omega arith)) in
+    let fit : FitSteps (length gs) xs = all_along FitsStep fits-widened (length gs) 0 ps (omega arith) f in
+    let fits : FitSteps (length gs + length hs - length gs) ys = all_along FitsStep fits-widened (length gs + length hs - length gs) 0 qs (omega arith) g in
+    ap (λ l. run_steps level l (gs ++ hs)) (along-append (length gs + length hs) 0 ps qs)
+    ∙ ap (λ l. run_steps level (l ++ steps_along (length gs + length hs) (0 + sum_by (λ piece. piece.0) ps) qs) (gs ++ hs)) first
+    ∙ ap (λ l. run_steps level (map (widened 0 (length gs) (length gs + length hs)) xs ++ l) (gs ++ hs)) second
+    ∙ halves level (length gs) (length gs + length hs) xs ys gs hs refl refl fit fits h
+    ∙ ap (λ x. run_steps level xs gs ++ run_steps level (steps_along x 0 qs) hs) (sym k)
