@@ -28,7 +28,3 @@ order_view gs = map plain gs
 -- the clusters of a list of glyphs
 abbrev pub clusters : List hb_glyph_info_t → List ℕ
 clusters gs = map (λ g. g.cluster) gs
-
--- the kind of a syllable byte: its low four bits
-abbrev pub kind_of : ℕ → ℕ
-kind_of byte = byte % 16

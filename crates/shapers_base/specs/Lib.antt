@@ -1,6 +1,16 @@
 pub mod Buffer
 pub mod Category
+pub mod CircleLaws
+pub mod CircleWalk
+pub mod Circles
 pub mod Clusters
 pub mod Glyph
+pub mod GlyphFlags
+pub mod ListLaws
+pub mod Lists
 pub mod Map
+pub mod Planner
 pub mod Refusals
+pub mod Syllabic
+pub mod SyllableLaws
+pub mod Syllables

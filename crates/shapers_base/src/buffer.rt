@@ -12,16 +12,22 @@ mod category;
 mod fields;
 mod flags;
 mod glyph;
+mod glyph_flags;
 mod level;
 mod merging;
+pub mod modified_combining_class;
 mod refusal;
+mod reversing;
+mod syllables;
 mod tag;
 
 pub use category::hb_unicode_general_category_t;
 pub use flags::BufferFlags;
 pub use glyph::{GlyphPosition, hb_glyph_info_t};
+pub use glyph_flags::glyph_flag;
 pub use level::{BufferClusterLevel, Direction};
 pub use refusal::ShaperError;
+pub use syllables::{Span, syllables_are_runs};
 pub use tag::{Script, hb_tag_t};
 
 /// How many characters of context a buffer keeps on each side.

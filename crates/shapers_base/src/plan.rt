@@ -1,7 +1,26 @@
-//! The plan: what the shapers decided for one script and font before they see a text.
+//! The planner and the plan: what the shapers ask of a font, and what they decided for one script
+//! and font before they see a text. With them what two shapers or more name.
 use crate::buffer::Script;
 pub use crate::buffer::ShaperError;
 use crate::map::hb_ot_map_t;
+
+mod joining;
+pub mod ot_category_t;
+pub mod ot_position_t;
+mod pause;
+mod planner;
+mod record;
+
+pub use joining::hb_arabic_joining_type_t;
+pub use pause::Pause;
+pub use planner::{Request, hb_ot_shape_planner_t};
+pub use record::{NormalizationMode, ZeroWidthMarks};
+
+/// The category of a character among those of `ot_category_t` or of the universal shaper.
+pub type Category = u8;
+
+/// The position of a glyph in its syllable, among those of `ot_position_t`.
+pub type Position = u8;
 
 /// What a shaper does to a text of one script.
 #[derive(Drop)]
@@ -10,6 +29,17 @@ pub struct hb_ot_shape_plan_t {
     pub script: Option<Script>,
     /// The features and lookups of the font.
     pub ot_map: hb_ot_map_t,
+    /// Whether GPOS places marks.
+    pub has_gpos_mark: bool,
+    /// What the shaper itself keeps.
+    pub plan_data: PlanData,
+}
+
+/// What a shaper keeps in the plan.
+#[derive(Debug, PartialEq, Eq, Drop)]
+pub enum PlanData {
+    /// Nothing.
+    None,
 }
 
 /// What `preprocess_text` left to its caller.

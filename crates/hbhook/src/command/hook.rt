@@ -1,0 +1,54 @@
+//! The lines `run NAME ..`.
+use super::fields::{character, decimal};
+use crate::fault::LineFault;
+use shapers_base::plan::Pause;
+
+/// A hook or a pause, and what it is asked.
+#[derive(Clone, Copy)]
+pub enum HookCall {
+    Preprocess,
+    Masks,
+    Postprocess,
+    /// `marks S E`: the stretch whose marks are ordered.
+    Marks(usize, usize),
+    Compose(char, char),
+    Decompose(char),
+    Pause(Pause),
+}
+
+impl HookCall {
+    /// The hook that the first field names, with the others as its arguments.
+    pub fn parse(fields: &[&str]) -> Result<HookCall, LineFault> {
+        match *fields {
+            ["preprocess"] => Ok(HookCall::Preprocess),
+            ["masks"] => Ok(HookCall::Masks),
+            ["postprocess"] => Ok(HookCall::Postprocess),
+            ["marks", start, end] => Ok(HookCall::Marks(decimal(start)?, decimal(end)?)),
+            ["compose", a, b] => Ok(HookCall::Compose(character(a)?, character(b)?)),
+            ["decompose", ab] => Ok(HookCall::Decompose(character(ab)?)),
+            ["pause", pause] => Ok(HookCall::Pause(pause_name(pause)?)),
+            _ => Err(LineFault::Unreadable),
+        }
+    }
+}
+
+fn pause_name(name: &str) -> Result<Pause, LineFault> {
+    match name {
+        "setup_syllables_indic" => Ok(Pause::SetupSyllablesIndic),
+        "setup_syllables_khmer" => Ok(Pause::SetupSyllablesKhmer),
+        "setup_syllables_myanmar" => Ok(Pause::SetupSyllablesMyanmar),
+        "setup_syllables_use" => Ok(Pause::SetupSyllablesUse),
+        "initial_reordering" => Ok(Pause::InitialReordering),
+        "final_reordering" => Ok(Pause::FinalReordering),
+        "reorder_khmer" => Ok(Pause::ReorderKhmer),
+        "reorder_myanmar" => Ok(Pause::ReorderMyanmar),
+        "reorder_use" => Ok(Pause::ReorderUse),
+        "record_rphf" => Ok(Pause::RecordRphf),
+        "record_pref" => Ok(Pause::RecordPref),
+        "record_stch" => Ok(Pause::RecordStch),
+        "arabic_fallback_shape" => Ok(Pause::ArabicFallbackShape),
+        "syllabic_clear_var" => Ok(Pause::SyllabicClearVar),
+        "clear_substitution_flags" => Ok(Pause::ClearSubstitutionFlags),
+        _ => Err(LineFault::Unreadable),
+    }
+}

@@ -1,0 +1,57 @@
+//! What a run writes: the glyphs of the buffer on standard output, a fault on standard error.
+ghost use Rattle.std.specs.Prelude.{◌<◌, length};
+
+use crate::fault::Fault;
+use shapers_base::buffer::hb_buffer_t;
+use std::alloc::AllocError;
+use std::io::{self, Write};
+
+/// Adds a line for each glyph: glyph, cluster, mask, syllable, category, auxiliary and class, and
+/// in a buffer with positions advance and offset.
+pub fn print_buffer(text: &mut String, buffer: &hb_buffer_t) -> Result<(), AllocError> {
+    for i in 0..buffer.len() {
+        print_glyph(text, buffer, i)?;
+    }
+    Ok(())
+}
+
+// Adds the line of the glyph at place `i`.
+fn print_glyph(text: &mut String, buffer: &hb_buffer_t, i: usize) -> Result<(), AllocError>
+    requires { i < length buffer.now.glyphs }
+{
+    let glyph = buffer.get(i);
+    write!(
+        text,
+        "{:04x} {} {:08x} {:02x} {} {} {}",
+        glyph.glyph_id,
+        glyph.cluster,
+        glyph.mask,
+        glyph.syllable,
+        glyph.category,
+        glyph.auxiliary,
+        glyph.modified_combining_class
+    )?;
+    if i < buffer.positions_len() {
+        let position = buffer.position(i);
+        write!(text, " {} {}", position.x_advance, position.x_offset)?;
+    }
+    text.push('\n')?;
+    Ok(())
+}
+
+/// Writes all of a text.
+pub fn write_text<W: Write + Drop>(mut output: W, text: &str) -> io::Result<()> {
+    output.write_all(text.as_bytes())?;
+    output.flush()
+}
+
+/// Tells of a fault and answers the status to end with.
+pub fn report<W: Write + Drop>(mut faults: W, fault: Fault) -> u8 {
+    if matches!(fault, Fault::Broken) {
+        return fault.status();
+    }
+    match writeln!(faults, "{fault}") {
+        Ok(()) => fault.status(),
+        Err(_) => Fault::Broken.status(),
+    }
+}

@@ -1,0 +1,202 @@
+//! Carries out the lines.
+use crate::command::{Command, GlyphField, HookCall, Setting, ShaperName, Side};
+use crate::fault::LineFault;
+use crate::printing::print_buffer;
+use crate::settings::Settings;
+use rustybuzz_shapers::shaper::{THAI_SHAPER, hb_ot_shaper_t};
+use shapers_base::buffer::{GlyphPosition, hb_buffer_t, hb_glyph_info_t};
+use shapers_base::font::{GlyphId, Tables, hb_font_t};
+use shapers_base::plan::Preprocess;
+use std::alloc::{AllocError, Global};
+
+/// The greatest length of a buffer before a line sets it.
+const MAX_LEN: usize = 1_000_000;
+
+/// What the lines so far have set, and the buffer that they made.
+#[derive(Drop)]
+pub struct Session {
+    settings: Settings,
+    buffer: hb_buffer_t,
+    answers: String,
+}
+
+impl Session {
+    /// Nothing set, and an empty buffer.
+    pub fn new(alloc: Global) -> Self {
+        Session {
+            settings: Settings::new(alloc),
+            buffer: hb_buffer_t::new(alloc, MAX_LEN),
+            answers: String::new(alloc),
+        }
+    }
+
+    /// Carries out a line.
+    pub fn carry_out(&mut self, command: Command) -> Result<(), LineFault> {
+        let settings = &mut self.settings;
+        match command {
+            Command::Font(character, glyph, advance) => {
+                settings.font.add_glyph(character, glyph, advance)?;
+            }
+            Command::Applies(lookup, glyphs) => settings.font.add_applied(lookup, glyphs)?,
+            Command::Table(character, entry) => settings.tables.set_entry(character, entry)?,
+            Command::Pair(pair) => settings.tables.add_pair(pair)?,
+            Command::Mask(tag, mask) => settings.set_mask(tag, mask)?,
+            Command::Stage(tag, lookups) => settings.set_lookups(tag, lookups)?,
+            Command::Set(setting) => self.set(setting)?,
+            Command::Text(characters) => self.set_text(&characters)?,
+            Command::Context(Side::Before, characters) => self.buffer.set_pre_context(&characters),
+            Command::Context(Side::After, characters) => self.buffer.set_post_context(&characters),
+            Command::At(place, field) => self.set_field(place, field)?,
+            Command::Span(span) => settings.spans.push(span)?,
+            Command::Run(call) => self.run(call)?,
+        }
+        Ok(())
+    }
+
+    /// What the run prints: the answers of its hooks, then the glyphs.
+    pub fn printed(self) -> Result<String, AllocError> {
+        let mut text = self.answers;
+        print_buffer(&mut text, &self.buffer)?;
+        Ok(text)
+    }
+
+    // Sets one thing.
+    fn set(&mut self, setting: Setting) -> Result<(), LineFault> {
+        match setting {
+            Setting::Shaper(shaper) => self.settings.shaper = Some(shaper),
+            Setting::Script(script) => {
+                self.settings.script = Some(script);
+                self.buffer.set_script(Some(script));
+            }
+            Setting::Chosen(script) => self.settings.chosen = Some(script),
+            Setting::Found(found) => self.settings.found = found,
+            Setting::GposMark(gpos_mark) => self.settings.gpos_mark = gpos_mark,
+            Setting::Direction(direction) => self.buffer.set_direction(direction),
+            Setting::Level(level) => self.buffer.set_cluster_level(level),
+            Setting::Flags(flags) => self.buffer.set_flags(flags),
+            Setting::MaxLen(max_len) => self.set_max_len(max_len)?,
+            Setting::Global(mask) => self.settings.global_mask = mask,
+            Setting::Positions(true) => self.add_positions()?,
+            Setting::Positions(false) => self.remove_positions(),
+        }
+        Ok(())
+    }
+
+    // Sets the greatest length, which is at least the length now.
+    fn set_max_len(&mut self, max_len: usize) -> Result<(), LineFault> {
+        if max_len < self.buffer.len() {
+            return Err(LineFault::Unreadable);
+        }
+        self.buffer.set_max_len(max_len);
+        Ok(())
+    }
+
+    // Gives each glyph a position with its advance in the font.
+    fn add_positions(&mut self) -> Result<(), LineFault> {
+        let mut positions = Vec::with_capacity(self.buffer.alloc(), self.buffer.len())?;
+        for i in 0..self.buffer.len() {
+            let x_advance = match u16::try_from(self.buffer.get(i).glyph_id) {
+                Ok(glyph) => self.settings.font.glyph_h_advance(GlyphId(glyph)),
+                Err(_) => 0,
+            };
+            positions.push(GlyphPosition {
+                x_advance,
+                ..GlyphPosition::ZERO
+            })?;
+        }
+        self.buffer.set_positions(positions);
+        Ok(())
+    }
+
+    // Takes the positions away.
+    fn remove_positions(&mut self) {
+        self.buffer.set_positions(Vec::new(self.buffer.alloc()));
+    }
+
+    // Puts a text into the buffer: a glyph for each character.
+    fn set_text(&mut self, characters: &[char]) -> Result<(), LineFault> {
+        self.settings.spans.clear();
+        self.buffer.truncate(0);
+        self.buffer.set_has_broken_syllable(false);
+        self.buffer.set_has_stch(false);
+        for (i, character) in characters.iter().enumerate() {
+            self.buffer.push(hb_glyph_info_t {
+                glyph_id: u32::from(*character),
+                cluster: u32::try_from(i).map_err(|_| LineFault::Unreadable)?,
+                general_category: self.settings.tables.general_category(*character),
+                ..hb_glyph_info_t::DEFAULT
+            })?;
+        }
+        Ok(())
+    }
+
+    // Sets a field of the glyph at a place, or its advance.
+    fn set_field(&mut self, place: usize, field: GlyphField) -> Result<(), LineFault> {
+        if place >= self.buffer.len() {
+            return Err(LineFault::Unreadable);
+        }
+        if let GlyphField::Advance(advance) = field {
+            return self.set_advance(place, advance);
+        }
+        let mut glyph = self.buffer.get(place);
+        field.write(&mut glyph);
+        self.buffer.set(place, glyph);
+        Ok(())
+    }
+
+    // Sets the advance at a place of a buffer with positions.
+    fn set_advance(&mut self, place: usize, advance: i32) -> Result<(), LineFault> {
+        if place >= self.buffer.positions_len() {
+            return Err(LineFault::Unreadable);
+        }
+        let mut position = self.buffer.position(place);
+        position.x_advance = advance;
+        self.buffer.set_position(place, position);
+        Ok(())
+    }
+
+    // Asks a hook of the shaper, whose conditions must hold.
+    fn run(&mut self, call: HookCall) -> Result<(), LineFault> {
+        let shaper = self.settings.shaper.and_then(built_shaper);
+        let shaper = shaper.ok_or(LineFault::Unreadable)?;
+        match call {
+            HookCall::Preprocess => self.preprocess(shaper),
+            HookCall::Masks
+            | HookCall::Postprocess
+            | HookCall::Marks(..)
+            | HookCall::Compose(..)
+            | HookCall::Decompose(_)
+            | HookCall::Pause(_) => Err(LineFault::Unreadable),
+        }
+    }
+
+    // The hook before normalization, of a buffer without positions.
+    fn preprocess(&mut self, shaper: hb_ot_shaper_t) -> Result<(), LineFault> {
+        if self.buffer.positions_len() > 0 {
+            return Err(LineFault::Unreadable);
+        }
+        let plan = self.settings.plan()?;
+        let answer = shaper.preprocess_text(&plan, &self.settings.font, &mut self.buffer)?;
+        match answer {
+            Some(Preprocess::Done) => {}
+            Some(Preprocess::CallerRunsVowelConstraints) => self.answers.push_str("caller\n")?,
+            None => self.answers.push_str("absent\n")?,
+        }
+        Ok(())
+    }
+}
+
+// The shaper of this name, among those that are built.
+fn built_shaper(name: ShaperName) -> Option<hb_ot_shaper_t> {
+    match name {
+        ShaperName::Thai => Some(THAI_SHAPER),
+        ShaperName::Arabic
+        | ShaperName::Hangul
+        | ShaperName::Hebrew
+        | ShaperName::Indic
+        | ShaperName::Khmer
+        | ShaperName::Myanmar
+        | ShaperName::Zawgyi
+        | ShaperName::Universal => None,
+    }
+}

@@ -1,0 +1,283 @@
+//! The shapers behind one enum, a method a hook. Where a shaper lacks a hook, its method answers None
+//! and changes nothing.
+ghost use Rattle.std.specs.Prelude.{◌≡◌, ◌≤◌, [], length, false, true, None, Ok, IfOk, IsOk, IsNone, is_some, IsOkUnless, OnOk, OnErr};
+ghost use Rattle.shapers_base.specs.declared.buffer.refusal.ShaperError.TheVariants.{Memory};
+ghost use Rattle.shapers_text.specs.Requests.{rclt};
+ghost use Rattle.rustybuzz_shapers.specs.Shapers.{normalizes, wants_gpos_script, zeroes_marks, places_marks, collected, overridden, asked, if_there, keeps_data, postprocesses, composes, decomposes, masks_glyphs, moves_marks, preprocess_answer, preprocess_stands, after_preprocess, RefusesPreprocess};
+
+use shapers_base::buffer::{ShaperError, hb_buffer_t, hb_tag_t};
+use shapers_base::font::{Tables, hb_font_t};
+use shapers_base::plan::{hb_ot_shape_plan_t, hb_ot_shape_planner_t};
+pub use shapers_base::plan::{NormalizationMode, Pause, PlanData, Preprocess, ZeroWidthMarks};
+use shapers_indic::ot_shaper_indic;
+use shapers_regroup::{ot_shaper_khmer, ot_shaper_myanmar, ot_shaper_use};
+use shapers_text::{ot_shaper_arabic, ot_shaper_hangul, ot_shaper_thai};
+
+/// A script shaper.
+#[derive(Clone, Copy, Debug, PartialEq, Eq)]
+pub enum hb_ot_shaper_t {
+    /// Arabic, Syriac and the scripts that join like them.
+    Arabic,
+    /// Korean.
+    Hangul,
+    /// Hebrew.
+    Hebrew,
+    /// The scripts of India that OpenType has specifications of their own for.
+    Indic,
+    /// Khmer.
+    Khmer,
+    /// Myanmar.
+    Myanmar,
+    /// Myanmar in the encoding of Zawgyi, which needs no shaping.
+    MyanmarZawgyi,
+    /// Thai and Lao.
+    Thai,
+    /// The scripts that the Universal Shaping Engine is for.
+    Universal,
+}
+
+/// The shaper of Arabic and the scripts that join like it.
+pub const ARABIC_SHAPER: hb_ot_shaper_t = hb_ot_shaper_t::Arabic;
+
+/// The shaper of Korean.
+pub const HANGUL_SHAPER: hb_ot_shaper_t = hb_ot_shaper_t::Hangul;
+
+/// The shaper of Hebrew.
+pub const HEBREW_SHAPER: hb_ot_shaper_t = hb_ot_shaper_t::Hebrew;
+
+/// The shaper of the Indic scripts.
+pub const INDIC_SHAPER: hb_ot_shaper_t = hb_ot_shaper_t::Indic;
+
+/// The shaper of Khmer.
+pub const KHMER_SHAPER: hb_ot_shaper_t = hb_ot_shaper_t::Khmer;
+
+/// The shaper of Myanmar.
+pub const MYANMAR_SHAPER: hb_ot_shaper_t = hb_ot_shaper_t::Myanmar;
+
+/// The shaper of Myanmar in the encoding of Zawgyi.
+pub const MYANMAR_ZAWGYI_SHAPER: hb_ot_shaper_t = hb_ot_shaper_t::MyanmarZawgyi;
+
+/// The shaper of Thai and Lao.
+pub const THAI_SHAPER: hb_ot_shaper_t = hb_ot_shaper_t::Thai;
+
+/// The universal shaper.
+pub const UNIVERSAL_SHAPER: hb_ot_shaper_t = hb_ot_shaper_t::Universal;
+
+impl hb_ot_shaper_t {
+    /// How the text is normalized before the font's mapping.
+    pub fn normalization_preference(self) -> NormalizationMode
+        ensures { result ≡ normalizes self }
+    {
+        match self {
+            Self::Hangul | Self::MyanmarZawgyi => NormalizationMode::NONE,
+            Self::Arabic | Self::Hebrew | Self::Thai => NormalizationMode::AUTO,
+            Self::Indic | Self::Khmer | Self::Myanmar | Self::Universal => NormalizationMode::CD,
+        }
+    }
+
+    /// The script that GPOS has to have chosen, so that the shaper trusts it to place marks.
+    pub fn gpos_tag(self) -> Option<hb_tag_t>
+        ensures { result ≡ wants_gpos_script self }
+    {
+        match self {
+            Self::Hebrew => Some(hb_tag_t(*b"hebr")),
+            _ => None,
+        }
+    }
+
+    /// When the advances of marks become zero.
+    pub fn zero_width_marks(self) -> ZeroWidthMarks
+        ensures { result ≡ zeroes_marks self }
+    {
+        match self {
+            Self::Hangul | Self::Indic | Self::Khmer | Self::MyanmarZawgyi => ZeroWidthMarks::NONE,
+            Self::Myanmar | Self::Universal => ZeroWidthMarks::GDEF_EARLY,
+            Self::Arabic | Self::Hebrew | Self::Thai => ZeroWidthMarks::GDEF_LATE,
+        }
+    }
+
+    /// Whether marks are placed by their classes where the font doesn't place them.
+    pub fn fallback_position(self) -> bool
+        ensures { result ≡ places_marks self }
+    {
+        matches!(self, Self::Arabic | Self::Hebrew)
+    }
+
+    /// Asks for the features of the shaper's scripts: all of the list, or nothing where memory is
+    /// refused. Arabic's list depends on the planner's script and on the font.
+    pub fn collect_features<F: hb_font_t>(
+        self,
+        face: &F,
+        planner: &mut hb_ot_shape_planner_t,
+    ) -> Result<Option<()>, ShaperError>
+        ensures answer { IfOk result (λ answer. answer ≡ if_there (collected self planner.old.script (F.offers face.now rclt))) }
+        ensures ok { OnOk result (planner.new ≡ asked (collected self planner.old.script (F.offers face.now rclt)) planner.old) }
+        ensures refusal { IsOkUnless result Memory }
+        ensures err { OnErr result (planner.new ≡ planner.old) }
+        ensures absent { IsNone (collected self planner.old.script (F.offers face.now rclt)) → IsOk result }
+    {
+        match self {
+            Self::Arabic => Ok(Some(ot_shaper_arabic::collect_features(face, planner)?)),
+            Self::Hangul => Ok(Some(ot_shaper_hangul::collect_features(planner)?)),
+            Self::Indic => Ok(Some(ot_shaper_indic::collect_features(planner)?)),
+            Self::Khmer => Ok(Some(ot_shaper_khmer::collect_features(planner)?)),
+            Self::Myanmar => Ok(Some(ot_shaper_myanmar::collect_features(planner)?)),
+            Self::Universal => Ok(Some(ot_shaper_use::collect_features(planner)?)),
+            Self::Hebrew | Self::MyanmarZawgyi | Self::Thai => Ok(None),
+        }
+    }
+
+    /// Asks for what stands after the features of all shapers: all of it, or nothing where memory is
+    /// refused.
+    pub fn override_features(
+        self,
+        planner: &mut hb_ot_shape_planner_t,
+    ) -> Result<Option<()>, ShaperError>
+        ensures answer { IfOk result (λ answer. answer ≡ if_there (overridden self)) }
+        ensures ok { OnOk result (planner.new ≡ asked (overridden self) planner.old) }
+        ensures refusal { IsOkUnless result Memory }
+        ensures err { OnErr result (planner.new ≡ planner.old) }
+        ensures absent { IsNone (overridden self) → IsOk result }
+    {
+        match self {
+            Self::Hangul => Ok(Some(ot_shaper_hangul::override_features(planner)?)),
+            Self::Indic => Ok(Some(ot_shaper_indic::override_features(planner)?)),
+            Self::Khmer => Ok(Some(ot_shaper_khmer::override_features(planner)?)),
+            _ => Ok(None),
+        }
+    }
+
+    /// What the shaper keeps in the plan. It isn't built yet for the shapers that keep something.
+    pub fn create_data(self, _plan: &hb_ot_shape_plan_t) -> Option<PlanData>
+        requires unbuilt { keeps_data self ≡ false }
+        ensures { result ≡ None }
+    {
+        match self {
+            Self::Hebrew | Self::Myanmar | Self::MyanmarZawgyi | Self::Thai => None,
+            _ => unreachable!(),
+        }
+    }
+
+    /// Rewrites a text before its characters become glyphs. Thai puts each SARA AM in two, and then,
+    /// where GSUB doesn't have the script Thai, gives marks and bases their private use forms; it
+    /// refuses as a growth does. For Indic and the universal shaper the caller runs the vowel
+    /// constraints. For Hangul it isn't built yet.
+    pub fn preprocess_text<F: hb_font_t>(
+        self,
+        plan: &hb_ot_shape_plan_t,
+        face: &F,
+        buffer: &mut hb_buffer_t,
+    ) -> Result<Option<Preprocess>, ShaperError>
+        requires without_positions { buffer.old.positions ≡ [] }
+        requires unbuilt { preprocess_stands self ≡ true }
+        ensures answer { IfOk result (λ answer. answer ≡ preprocess_answer self) }
+        ensures ok { OnOk result (buffer.new ≡ after_preprocess self plan.now.script plan.now.ot_map.found (λ c. is_some (F.nominal_glyph face.now c)) buffer.old) }
+        ensures refusal { RefusesPreprocess self buffer.old result }
+        ensures err { OnErr result (buffer.new ≡ buffer.old) }
+    {
+        match self {
+            Self::Thai => {
+                ot_shaper_thai::preprocess_text(plan, face, buffer)?;
+                Ok(Some(Preprocess::Done))
+            }
+            Self::Hangul => unreachable!(),
+            Self::Indic | Self::Universal => Ok(Some(Preprocess::CallerRunsVowelConstraints)),
+            Self::Arabic | Self::Hebrew | Self::Khmer | Self::Myanmar | Self::MyanmarZawgyi => {
+                Ok(None)
+            }
+        }
+    }
+
+    /// Rewrites the glyphs after positioning. Only Arabic has it, and there it isn't built yet.
+    pub fn postprocess_glyphs<F: hb_font_t>(
+        self,
+        _plan: &hb_ot_shape_plan_t,
+        _face: &F,
+        _buffer: &mut hb_buffer_t,
+    ) -> Result<Option<()>, ShaperError>
+        requires with_positions { length _buffer.old.positions ≡ length _buffer.old.glyphs }
+        requires unbuilt { postprocesses self ≡ false }
+        ensures answer { result ≡ Ok None }
+        ensures unchanged { _buffer.new ≡ _buffer.old }
+    {
+        match self {
+            Self::Arabic => unreachable!(),
+            _ => Ok(None),
+        }
+    }
+
+    /// The character that two characters compose to for this shaper. It isn't built yet for the
+    /// shapers that have it.
+    pub fn compose<T: Tables>(
+        self,
+        _plan: &hb_ot_shape_plan_t,
+        _tables: &T,
+        _a: char,
+        _b: char,
+    ) -> Option<Option<char>>
+        requires unbuilt { composes self ≡ false }
+        ensures { result ≡ None }
+    {
+        match self {
+            Self::Hebrew | Self::Indic | Self::Khmer | Self::Universal => unreachable!(),
+            _ => None,
+        }
+    }
+
+    /// The two characters that a character decomposes to for this shaper. It isn't built yet for the
+    /// shapers that have it.
+    pub fn decompose<T: Tables>(
+        self,
+        _plan: &hb_ot_shape_plan_t,
+        _tables: &T,
+        _ab: char,
+    ) -> Option<Option<(char, char)>>
+        requires unbuilt { decomposes self ≡ false }
+        ensures { result ≡ None }
+    {
+        match self {
+            Self::Indic | Self::Khmer => unreachable!(),
+            _ => None,
+        }
+    }
+
+    /// Sets the masks of the glyphs. It isn't built yet for the shapers that have it.
+    pub fn setup_masks<F: hb_font_t, T: Tables>(
+        self,
+        _plan: &hb_ot_shape_plan_t,
+        _face: &F,
+        _tables: &T,
+        _buffer: &mut hb_buffer_t,
+    ) -> Option<()>
+        requires without_positions { _buffer.old.positions ≡ [] }
+        requires unbuilt { masks_glyphs self ≡ false }
+        ensures answer { result ≡ None }
+        ensures unchanged { _buffer.new ≡ _buffer.old }
+    {
+        match self {
+            Self::Hebrew | Self::MyanmarZawgyi | Self::Thai => None,
+            _ => unreachable!(),
+        }
+    }
+
+    /// Reorders the marks from `start` to `end`. It isn't built yet for the shapers that have it.
+    pub fn reorder_marks(
+        self,
+        _plan: &hb_ot_shape_plan_t,
+        _buffer: &mut hb_buffer_t,
+        start: usize,
+        end: usize,
+    ) -> Option<()>
+        requires without_positions { _buffer.old.positions ≡ [] }
+        requires in_order { start ≤ end }
+        requires in_range { end ≤ length _buffer.old.glyphs }
+        requires unbuilt { moves_marks self ≡ false }
+        ensures answer { result ≡ None }
+        ensures unchanged { _buffer.new ≡ _buffer.old }
+    {
+        match self {
+            Self::Arabic | Self::Hebrew => unreachable!(),
+            _ => None,
+        }
+    }
+}

@@ -1,0 +1,33 @@
+-- The three glyph flags: who gets which.
+use Rattle.std.specs.Prelude.{ℕ, ◌==◌, bit_or, Bool, List, ◌++◌, map, take, drop, if◌then◌else◌}
+use Rattle.shapers_base.specs.declared.buffer.glyph.hb_glyph_info_t.{hb_glyph_info_t}
+use Rattle.shapers_base.specs.Glyph.{clusters}
+use Rattle.shapers_base.specs.Clusters.{least, stretch_of}
+
+-- the list with its stretch from s to e changed by f
+abbrev pub with_stretch : {X : Type 0} → ℕ → ℕ → (List X → List X) → List X → List X
+with_stretch s e f xs = take s xs ++ (f (stretch_of s e xs) ++ drop e xs)
+
+-- the glyph with these mask bits besides its own
+abbrev pub with_bits : ℕ → hb_glyph_info_t → hb_glyph_info_t
+with_bits bits g = record g { mask = bit_or g.mask bits }
+
+-- the glyph with these mask bits, unless its cluster is m
+abbrev pub with_bits_off : ℕ → ℕ → hb_glyph_info_t → hb_glyph_info_t
+with_bits_off bits m g = if g.cluster == m then g else with_bits bits g
+
+-- mask bits for every glyph whose cluster isn't the least one of the list; where there is one glyph, that is none
+abbrev pub flagged : ℕ → List hb_glyph_info_t → List hb_glyph_info_t
+flagged bits gs = map (with_bits_off bits (least (clusters gs))) gs
+
+-- no break and no concatenation inside the stretch from s to e: bits 1 and 2
+abbrev pub unsafe_inside : ℕ → ℕ → List hb_glyph_info_t → List hb_glyph_info_t
+unsafe_inside s e gs = with_stretch s e (flagged 3) gs
+
+-- no concatenation at any place of the stretch: bit 2, where the buffer asks for it
+abbrev pub unsafe_to_concat_in : Bool → ℕ → ℕ → List hb_glyph_info_t → List hb_glyph_info_t
+unsafe_to_concat_in asked s e gs = if asked then with_stretch s e (map (with_bits 2)) gs else gs
+
+-- a join inside the stretch: bit 4 where the buffer asks for it, else no break
+abbrev pub tatweel_inside : Bool → ℕ → ℕ → List hb_glyph_info_t → List hb_glyph_info_t
+tatweel_inside asked s e gs = with_stretch s e (flagged (if asked then 4 else 3)) gs

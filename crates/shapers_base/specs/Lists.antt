@@ -1,0 +1,19 @@
+-- Words on lists: cuts, the longest end that passes a test, each element with what stands before it.
+use Rattle.std.specs.Prelude.{ℕ, ◌-◌, ◌+◌, Bool, true, false, List, [], ◌∷◌, ◌++◌, length, take, drop, if◌then◌else◌}
+use Rattle.std.specs.List.{suffix_len, onto_first}
+
+-- the list cut after each element that passes the test
+abbrev pub cut_after : {X : Type 0} → (X → Bool) → List X → List (List X)
+cut_after test [] = []
+cut_after test (x ∷ xs) = if test x then (x ∷ []) ∷ cut_after test xs else onto_first x (cut_after test xs)
+
+-- the longest end all of which passes the test, and what stands before it
+abbrev pub last_run : {X : Type 0} → (X → Bool) → List X → List X
+last_run test xs = drop (length xs - suffix_len test xs) xs
+abbrev pub before_last_run : {X : Type 0} → (X → Bool) → List X → List X
+before_last_run test xs = take (length xs - suffix_len test xs) xs
+
+-- each element with what stands before it, where `before` stands before all
+abbrev pub each_after : {X : Type 0} → List X → List X → List (List X × X)
+each_after before [] = []
+each_after before (x ∷ xs) = (before, x) ∷ each_after (before ++ x ∷ []) xs

@@ -1,0 +1,57 @@
+-- Syllables: longest runs of equal syllable bytes, and the spans that set them.
+use Rattle.std.specs.Prelude.{ℕ, suc, ◌+◌, ◌*◌, ◌%◌, ◌==◌, nat_lt, Bool, ◌&&◌, ◌||◌, List, [], ◌∷◌, ◌++◌, drop, replicate, sum_by, if◌then◌else◌}
+use Rattle.std.specs.List.{list_all, list_any, prefix_len}
+use Rattle.shapers_base.specs.declared.buffer.glyph.hb_glyph_info_t.{hb_glyph_info_t}
+use Rattle.shapers_base.specs.declared.buffer.syllables.Span.{Span}
+use Rattle.shapers_base.specs.Buffer.{Buffer}
+
+-- whether the glyph has this syllable byte
+abbrev pub has_byte : ℕ → hb_glyph_info_t → Bool
+has_byte byte g = g.syllable == byte
+
+-- how long the syllable is that opens the list: the longest run of its first byte
+abbrev pub first_syllable_len : List hb_glyph_info_t → ℕ
+first_syllable_len [] = 0
+first_syllable_len (g ∷ gs) = suc (prefix_len (has_byte g.syllable) gs)
+
+-- these pieces with g in front: in the first piece, if that has g's byte, else as a piece of its own
+abbrev pub with_opening : hb_glyph_info_t → List (List hb_glyph_info_t) → List (List hb_glyph_info_t)
+with_opening g [] = (g ∷ []) ∷ []
+with_opening g ([] ∷ pieces) = (g ∷ []) ∷ pieces
+with_opening g ((h ∷ piece) ∷ pieces) = if h.syllable == g.syllable then (g ∷ (h ∷ piece)) ∷ pieces else (g ∷ []) ∷ ((h ∷ piece) ∷ pieces)
+
+-- the syllables: the list cut between neighbours of different bytes
+abbrev pub syllables : List hb_glyph_info_t → List (List hb_glyph_info_t)
+syllables [] = []
+syllables (g ∷ gs) = with_opening g (syllables gs)
+
+-- the kind of a syllable byte: its low four bits
+abbrev pub kind_of : ℕ → ℕ
+kind_of byte = byte % 16
+
+-- the byte of the span at place i of the list: serial 1 to 15 and then 1 again, times 16, and the kind
+abbrev pub span_byte : ℕ → Span → ℕ
+span_byte i span = (i % 15 + 1) * 16 + span.kind
+
+-- the byte of each place that these spans cover, the first of them at place i of the list
+abbrev pub span_bytes : ℕ → List Span → List ℕ
+span_bytes i [] = []
+span_bytes i (span ∷ spans) = replicate span.len (span_byte i span) ++ span_bytes (suc i) spans
+
+-- the glyph with this syllable byte
+abbrev pub in_syllable : ℕ → hb_glyph_info_t → hb_glyph_info_t
+in_syllable byte g = record g { syllable = byte }
+
+-- the glyphs with these syllable bytes, one after another
+abbrev pub with_bytes : List hb_glyph_info_t → List ℕ → List hb_glyph_info_t
+with_bytes [] bytes = []
+with_bytes (g ∷ gs) [] = g ∷ gs
+with_bytes (g ∷ gs) (byte ∷ bytes) = in_syllable byte g ∷ with_bytes gs bytes
+
+-- whether no span is empty and the lengths add up to n
+abbrev pub spans_cover : ℕ → List Span → Bool
+spans_cover n spans = list_all (λ span. nat_lt 0 span.len) spans && (sum_by (λ span. span.len) spans == n)
+
+-- the buffer with the spans' bytes; where a span has the broken kind, with its mark
+abbrev pub with_spans : List Span → ℕ → Buffer → Buffer
+with_spans spans broken_kind b = record b { glyphs = with_bytes b.glyphs (span_bytes 0 spans); broken = list_any (λ span. span.kind == broken_kind) spans || b.broken }

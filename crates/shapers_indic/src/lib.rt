@@ -1,0 +1,4 @@
+//! The shaper of the Indic scripts.
+#![tactic(auto)]
+
+pub mod ot_shaper_indic;

@@ -1,0 +1,59 @@
+//! The universal shaper.
+ghost use Rattle.std.specs.Prelude.{◌≡◌, OnOk, OnErr, IsOkUnless};
+ghost use Rattle.shapers_base.specs.declared.buffer.refusal.ShaperError.TheVariants.{Memory};
+ghost use Rattle.shapers_base.specs.Planner.{with_requests};
+ghost use Rattle.shapers_regroup.specs.Requests.{universal_list};
+
+use shapers_base::buffer::hb_tag_t;
+use shapers_base::map::{F_GLOBAL, F_MANUAL_ZWJ, F_NONE, F_PER_SYLLABLE};
+pub use shapers_base::plan::Category;
+use shapers_base::plan::{Pause, Request, ShaperError, hb_ot_shape_planner_t};
+
+pub mod category;
+
+// A basic feature: in the whole text, within syllables, and it sees joiners.
+const BASIC: u32 = F_GLOBAL | F_MANUAL_ZWJ | F_PER_SYLLABLE;
+
+// The basic features run in groups: the reph and the forms before the base are recorded apart.
+const REQUESTS: [Request; 30] = [
+    Request::Pause(Some(Pause::SetupSyllablesUse)),
+    Request::Feature(hb_tag_t(*b"locl"), F_GLOBAL | F_PER_SYLLABLE, 1),
+    Request::Feature(hb_tag_t(*b"ccmp"), F_GLOBAL | F_PER_SYLLABLE, 1),
+    Request::Feature(hb_tag_t(*b"nukt"), F_GLOBAL | F_PER_SYLLABLE, 1),
+    Request::Feature(hb_tag_t(*b"akhn"), BASIC, 1),
+    Request::Pause(Some(Pause::ClearSubstitutionFlags)),
+    Request::Feature(hb_tag_t(*b"rphf"), F_MANUAL_ZWJ | F_PER_SYLLABLE, 1),
+    Request::Pause(Some(Pause::RecordRphf)),
+    Request::Pause(Some(Pause::ClearSubstitutionFlags)),
+    Request::Feature(hb_tag_t(*b"pref"), BASIC, 1),
+    Request::Pause(Some(Pause::RecordPref)),
+    Request::Feature(hb_tag_t(*b"rkrf"), BASIC, 1),
+    Request::Feature(hb_tag_t(*b"abvf"), BASIC, 1),
+    Request::Feature(hb_tag_t(*b"blwf"), BASIC, 1),
+    Request::Feature(hb_tag_t(*b"half"), BASIC, 1),
+    Request::Feature(hb_tag_t(*b"pstf"), BASIC, 1),
+    Request::Feature(hb_tag_t(*b"vatu"), BASIC, 1),
+    Request::Feature(hb_tag_t(*b"cjct"), BASIC, 1),
+    Request::Pause(Some(Pause::ReorderUse)),
+    Request::Pause(Some(Pause::SyllabicClearVar)),
+    Request::Feature(hb_tag_t(*b"isol"), F_NONE, 1),
+    Request::Feature(hb_tag_t(*b"init"), F_NONE, 1),
+    Request::Feature(hb_tag_t(*b"medi"), F_NONE, 1),
+    Request::Feature(hb_tag_t(*b"fina"), F_NONE, 1),
+    Request::Pause(None),
+    Request::Feature(hb_tag_t(*b"abvs"), F_GLOBAL | F_MANUAL_ZWJ, 1),
+    Request::Feature(hb_tag_t(*b"blws"), F_GLOBAL | F_MANUAL_ZWJ, 1),
+    Request::Feature(hb_tag_t(*b"haln"), F_GLOBAL | F_MANUAL_ZWJ, 1),
+    Request::Feature(hb_tag_t(*b"pres"), F_GLOBAL | F_MANUAL_ZWJ, 1),
+    Request::Feature(hb_tag_t(*b"psts"), F_GLOBAL | F_MANUAL_ZWJ, 1),
+];
+
+/// Asks for the features of the universal shaper, in the order of its OpenType specification.
+/// The only refusal is `Memory`, which leaves the planner as it was.
+pub fn collect_features(planner: &mut hb_ot_shape_planner_t) -> Result<(), ShaperError>
+    ensures ok { OnOk result (planner.new ≡ with_requests universal_list planner.old) }
+    ensures refusal { IsOkUnless result Memory }
+    ensures err { OnErr result (planner.new ≡ planner.old) }
+{
+    planner.add_requests(&REQUESTS)
+}

@@ -1,0 +1,4 @@
+pub mod Requests
+pub mod Thai
+pub mod ThaiForms
+pub mod ThaiRewriting

@@ -1,0 +1,224 @@
+-- The private use forms of Thai.
+use Rattle.std.specs.Prelude.{ℕ, ◌-◌, ◌+◌, Bool, ◌||◌, ◌&&◌, ◌==◌, nat_le, true, false, List, [], ◌∷◌, ◌++◌, length, reverse, map, flat_map, take_while, count_by, find, zip, slice_index_or, slice_set, Option, None, Some, if◌then◌else◌}
+use Rattle.std.specs.List.{list_any, suffix_len}
+use Rattle.shapers_base.specs.declared.buffer.glyph.hb_glyph_info_t.{hb_glyph_info_t}
+use Rattle.shapers_base.specs.declared.buffer.level.BufferClusterLevel.{BufferClusterLevel}
+use Rattle.shapers_base.specs.Glyph.{default_glyph}
+use Rattle.shapers_base.specs.Clusters.{merge_all}
+use Rattle.shapers_base.specs.GlyphFlags.{unsafe_inside}
+use Rattle.shapers_base.specs.Lists.{last_run, before_last_run, each_after}
+use Rattle.shapers_text.specs.Thai.{rewritten, sara_am_stretches}
+use Rattle.shapers_text.specs.declared.ot_shaper_thai.forms.Consonant.{Consonant}
+use Rattle.shapers_text.specs.declared.ot_shaper_thai.forms.Consonant.TheVariants.{NC, AC, RC, DC, NotConsonant}
+use Rattle.shapers_text.specs.declared.ot_shaper_thai.forms.Mark.{Mark}
+use Rattle.shapers_text.specs.declared.ot_shaper_thai.forms.Mark.TheVariants.{AV, BV, T, NotMark}
+use Rattle.shapers_text.specs.declared.ot_shaper_thai.forms.Action.{Action}
+use Rattle.shapers_text.specs.declared.ot_shaper_thai.forms.Base.{Base}
+use Rattle.shapers_text.specs.declared.ot_shaper_thai.forms.Action.TheVariants.{NOP, SD, SL, SDL, RD}
+use Rattle.shapers_text.specs.declared.ot_shaper_thai.forms.PuaMapping.{PuaMapping}
+
+-- the type of a character as a consonant: ascending, with a removable descender, with a strict descender, or another
+abbrev pub consonant_type : ℕ → Consonant
+consonant_type u =
+    if u == 0x0E1B || u == 0x0E1D || u == 0x0E1F then AC
+    else if u == 0x0E0D || u == 0x0E10 then RC
+    else if u == 0x0E0E || u == 0x0E0F then DC
+    else if nat_le 0x0E01 u && nat_le u 0x0E2E then NC
+    else NotConsonant
+
+-- its type as a mark: a vowel above, a vowel below, or a tone above
+abbrev pub mark_type : ℕ → Mark
+mark_type u =
+    if u == 0x0E31 || (nat_le 0x0E34 u && nat_le u 0x0E37) || u == 0x0E47 || (nat_le 0x0E4D u && nat_le u 0x0E4E) then AV
+    else if nat_le 0x0E38 u && nat_le u 0x0E3A then BV
+    else if nat_le 0x0E48 u && nat_le u 0x0E4C then T
+    else NotMark
+
+-- whether a mark stands above, below, or is one at all
+abbrev pub stands_above : Mark → Bool
+stands_above AV = true
+stands_above T = true
+stands_above BV = false
+stands_above NotMark = false
+
+abbrev pub stands_below : Mark → Bool
+stands_below BV = true
+stands_below AV = false
+stands_below T = false
+stands_below NotMark = false
+
+abbrev pub is_thai_mark : ℕ → Bool
+is_thai_mark u = stands_above (mark_type u) || stands_below (mark_type u)
+
+-- what a tone or a vowel above does on a base with a marks above it
+abbrev pub above_action : Consonant → Mark → ℕ → Action
+above_action AC AV a = if a == 0 then SL else NOP
+above_action AC T a = if a == 0 then SDL else if a == 1 then SL else NOP
+above_action NC T a = if a == 0 then SD else NOP
+above_action RC T a = if a == 0 then SD else NOP
+above_action DC T a = if a == 0 then SD else NOP
+above_action _ _ a = NOP
+
+-- what a vowel below does on a base with b vowels below it
+abbrev pub below_action : Consonant → ℕ → Action
+below_action RC b = if b == 0 then RD else SD
+below_action NC b = if b == 0 then NOP else SD
+below_action AC b = if b == 0 then NOP else SD
+below_action DC b = SD
+below_action NotConsonant b = SD
+
+-- what a mark does by the types of base and mark, with a marks above and b below since the base
+abbrev pub action_of : Consonant → Mark → ℕ → ℕ → Action
+action_of base BV a b = below_action base b
+action_of base mark a b = above_action base mark a
+
+-- a character and its forms, Windows' and Macintosh's
+abbrev pub pua : ℕ → ℕ → ℕ → PuaMapping
+pua u win mac = record { 0 = u; 1 = win; 2 = mac }
+
+-- the mark shifted down
+abbrev pub shifted_down : List PuaMapping
+shifted_down =
+    pua 0x0E48 0xF70A 0xF88B ∷ pua 0x0E49 0xF70B 0xF88E ∷ pua 0x0E4A 0xF70C 0xF891 ∷ pua 0x0E4B 0xF70D 0xF894 ∷ pua 0x0E4C 0xF70E 0xF897
+    ∷ pua 0x0E38 0xF718 0xF89B ∷ pua 0x0E39 0xF719 0xF89C ∷ pua 0x0E3A 0xF71A 0xF89D ∷ []
+
+-- the mark shifted down and left
+abbrev pub shifted_down_left : List PuaMapping
+shifted_down_left =
+    pua 0x0E48 0xF705 0xF88C ∷ pua 0x0E49 0xF706 0xF88F ∷ pua 0x0E4A 0xF707 0xF892 ∷ pua 0x0E4B 0xF708 0xF895 ∷ pua 0x0E4C 0xF709 0xF898 ∷ []
+
+-- the mark shifted left
+abbrev pub shifted_left : List PuaMapping
+shifted_left =
+    pua 0x0E48 0xF713 0xF88A ∷ pua 0x0E49 0xF714 0xF88D ∷ pua 0x0E4A 0xF715 0xF890 ∷ pua 0x0E4B 0xF716 0xF893 ∷ pua 0x0E4C 0xF717 0xF896
+    ∷ pua 0x0E31 0xF710 0xF884 ∷ pua 0x0E34 0xF701 0xF885 ∷ pua 0x0E35 0xF702 0xF886 ∷ pua 0x0E36 0xF703 0xF887 ∷ pua 0x0E37 0xF704 0xF888
+    ∷ pua 0x0E47 0xF712 0xF889 ∷ pua 0x0E4D 0xF711 0xF899 ∷ []
+
+-- the base without its descender
+abbrev pub without_descender : List PuaMapping
+without_descender = pua 0x0E0D 0xF70F 0xF89A ∷ pua 0x0E10 0xF700 0xF89E ∷ []
+
+abbrev pub mappings_of : Action → List PuaMapping
+mappings_of NOP = []
+mappings_of SD = shifted_down
+mappings_of SDL = shifted_down_left
+mappings_of SL = shifted_left
+mappings_of RD = without_descender
+
+-- the first form that the font has, else the character itself
+abbrev pub first_form : (ℕ → Bool) → ℕ → Option PuaMapping → ℕ
+first_form has u None = u
+first_form has u (Some m) = if has m.1 then m.1 else if has m.2 then m.2 else u
+
+abbrev pub shaped_by : (ℕ → Bool) → ℕ → Action → ℕ
+shaped_by has u action = first_form has u (find (λ m. m.0 == u) (mappings_of action))
+
+-- the base of what follows a text: its last character that isn't a mark
+abbrev pub last_type : List ℕ → Consonant
+last_type [] = NotConsonant
+last_type (u ∷ us) = consonant_type u
+
+abbrev pub base_type : List ℕ → Consonant
+base_type before = last_type (reverse (before_last_run is_thai_mark before))
+
+-- the marks above and below since that base
+abbrev pub marks_above : List ℕ → ℕ
+marks_above before = count_by (λ u. stands_above (mark_type u)) (last_run is_thai_mark before)
+
+abbrev pub marks_below : List ℕ → ℕ
+marks_below before = count_by (λ u. stands_below (mark_type u)) (last_run is_thai_mark before)
+
+-- what a mark does after this text
+abbrev pub action_after : List ℕ → ℕ → Action
+action_after before u = action_of (base_type before) (mark_type u) (marks_above before) (marks_below before)
+
+-- whether a vowel below follows among the marks of this base
+abbrev pub has_below : List ℕ → Bool
+has_below after = list_any (λ u. stands_below (mark_type u)) (take_while is_thai_mark after)
+
+-- whether a base loses its descender to the marks after it
+abbrev pub is_removable : Consonant → Bool
+is_removable RC = true
+is_removable NC = false
+is_removable AC = false
+is_removable DC = false
+is_removable NotConsonant = false
+
+-- the form of a character between two texts: a mark by its action, a base without its descender where a vowel below follows
+abbrev pub form_between : (ℕ → Bool) → List ℕ → ℕ → List ℕ → ℕ
+form_between has before u after =
+    if is_thai_mark u then shaped_by has u (action_after before u)
+    else if is_removable (consonant_type u) && has_below after then shaped_by has u RD
+    else u
+
+-- the forms of a text between two texts, each by what stands before and after it
+abbrev pub forms_between : (ℕ → Bool) → List ℕ → List ℕ → List ℕ → List ℕ
+forms_between has before [] after = []
+forms_between has before (u ∷ us) after = form_between has before u (us ++ after) ∷ forms_between has (before ++ u ∷ []) us after
+
+-- the characters of glyphs, and the glyphs with other characters
+abbrev pub characters : List hb_glyph_info_t → List ℕ
+characters gs = map (λ g. g.glyph_id) gs
+
+abbrev pub with_character : hb_glyph_info_t → ℕ → hb_glyph_info_t
+with_character g u = record g { glyph_id = u }
+
+abbrev pub with_characters : List ℕ → List hb_glyph_info_t → List hb_glyph_info_t
+with_characters us gs = map (λ p. with_character p.1 p.0) (zip us gs)
+
+-- the glyphs with their private use forms
+abbrev pub with_forms : (ℕ → Bool) → List hb_glyph_info_t → List hb_glyph_info_t
+with_forms has gs = with_characters (forms_between has [] (characters gs) []) gs
+
+-- where an action acts: on the base or on the mark itself
+abbrev pub target : Action → ℕ → ℕ → ℕ
+target RD base mark = base
+target SD base mark = mark
+target SL base mark = mark
+target SDL base mark = mark
+target NOP base mark = mark
+
+-- the glyphs with the glyph at this place shaped by an action
+abbrev pub form_set : (ℕ → Bool) → ℕ → Action → List hb_glyph_info_t → List hb_glyph_info_t
+form_set has place action gs =
+    let g = slice_index_or gs place default_glyph in
+    slice_set gs place (with_character g (shaped_by has g.glyph_id action))
+
+-- the base and the counts after one more character, at place i
+abbrev pub counted_base : Mark → Base → ℕ → ℕ → Base
+counted_base NotMark base i u = record { place = i; consonant = consonant_type u; above = 0; below = 0 }
+counted_base AV base i u = record base { above = base.above + 1 }
+counted_base T base i u = record base { above = base.above + 1 }
+counted_base BV base i u = record base { below = base.below + 1 }
+
+abbrev pub base_after : Base → ℕ → ℕ → Base
+base_after base i u = counted_base (mark_type u) base i u
+
+-- the place of the base of what follows a text, 0 where there is none
+abbrev pub base_place : List ℕ → ℕ
+base_place before = length before - suffix_len is_thai_mark before - 1
+
+-- from each mark's base to the mark, in turn, of a text given with what stands before each character
+abbrev pub stretch_of_mark : ℕ → ℕ → ℕ → List (ℕ × ℕ)
+stretch_of_mark base place u = if is_thai_mark u then (base, place) ∷ [] else []
+
+abbrev pub mark_stretches_of_each : List (List ℕ × ℕ) → List (ℕ × ℕ)
+mark_stretches_of_each each = flat_map (λ p. stretch_of_mark (base_place p.0) (length p.0) p.1) each
+
+abbrev pub mark_stretches : List ℕ → List (ℕ × ℕ)
+mark_stretches us = mark_stretches_of_each (each_after [] us)
+
+-- no break inside the stretches, one after another
+abbrev pub unsafe_all : List (ℕ × ℕ) → List hb_glyph_info_t → List hb_glyph_info_t
+unsafe_all [] gs = gs
+unsafe_all (st ∷ sts) gs = unsafe_all sts (unsafe_inside st.0 st.1 gs)
+
+-- forms and flags: a break between a base and its marks would change the forms
+abbrev pub pua_shaped : (ℕ → Bool) → List hb_glyph_info_t → List hb_glyph_info_t
+pua_shaped has gs = with_forms has (unsafe_all (mark_stretches (characters gs)) gs)
+
+-- the whole rewriting, with the private use forms or without
+abbrev pub preprocessed : Bool → (ℕ → Bool) → BufferClusterLevel → List hb_glyph_info_t → List hb_glyph_info_t
+preprocessed forms has level gs =
+    let text = rewritten (merge_all level (sara_am_stretches level gs) gs) in
+    if forms then pua_shaped has text else text

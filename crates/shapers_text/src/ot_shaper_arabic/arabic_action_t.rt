@@ -1,0 +1,29 @@
+//! The forms that a letter takes, and the two kinds of pieces of a mark that stretches.
+ghost use Rattle.std.specs.Prelude.{◌≡◌, ◌==◌, ◌||◌};
+
+pub const ISOL: u8 = 0;
+
+pub const FINA: u8 = 1;
+
+pub const FIN2: u8 = 2;
+
+pub const FIN3: u8 = 3;
+
+pub const MEDI: u8 = 4;
+
+pub const MED2: u8 = 5;
+
+pub const INIT: u8 = 6;
+
+pub const NONE: u8 = 7;
+
+pub const STRETCHING_FIXED: u8 = 8;
+
+pub const STRETCHING_REPEATING: u8 = 9;
+
+/// Whether the action is that of a piece of a mark that stretches.
+pub fn is_stch(n: u8) -> bool
+    ensures { result ≡ (n == STRETCHING_FIXED || n == STRETCHING_REPEATING) }
+{
+    matches!(n, STRETCHING_FIXED | STRETCHING_REPEATING)
+}

@@ -1,0 +1,61 @@
+//! Thai and Lao: SARA AM in two, and for fonts whose GSUB table doesn't know Thai its private use
+//! forms.
+ghost use Rattle.std.specs.Prelude.{◌≡◌, ℕ, [], length, false, is_some, IsOk, OnOk, OnErr};
+ghost use Rattle.std.specs.List.{list_any};
+ghost use Rattle.shapers_base.specs.Refusals.{RefusesLength};
+ghost use Rattle.shapers_text.specs.Thai.{is_sara_am, rewritten, is_thai, wants_forms};
+ghost use Rattle.shapers_text.specs.ThaiForms.{preprocessed};
+
+use shapers_base::buffer::{Script, ShaperError, hb_buffer_t};
+use shapers_base::font::hb_font_t;
+use shapers_base::map::TableIndex;
+use shapers_base::plan::hb_ot_shape_plan_t;
+
+mod forms;
+mod sara_am;
+
+use forms::do_pua_shaping;
+use sara_am::rewrite_sara_am;
+
+// The script Thai.
+const THAI: Script = Script(*b"Thai");
+
+/// Rewrites a Thai or Lao text before its characters become glyphs: each SARA AM becomes NIKHAHIT,
+/// which goes before the above-base marks there, and SARA AA. Then, where the plan's script is Thai
+/// and GSUB doesn't have it, marks and bases get their private use forms, as far as the font has them.
+/// Refuses as a growth does, and takes no memory for a text without SARA AM. (OpenType's notes on
+/// Thai and Lao, and the note on Thai OpenType shaping.)
+pub fn preprocess_text<F: hb_font_t>(
+    plan: &hb_ot_shape_plan_t,
+    face: &F,
+    buffer: &mut hb_buffer_t,
+) -> Result<(), ShaperError>
+    requires { buffer.old.positions ≡ [] }
+    ensures ok { OnOk result (buffer.new ≡ record buffer.old { glyphs = preprocessed (wants_forms plan.now.script plan.now.ot_map.found) (λ c. is_some (F.nominal_glyph face.now c)) buffer.old.level buffer.old.glyphs }) }
+    ensures length { RefusesLength buffer.old.max_len (length (rewritten buffer.old.glyphs)) result }
+    ensures err { OnErr result (buffer.new ≡ buffer.old) }
+    ensures without { list_any (λ g. is_sara_am g.glyph_id) buffer.old.glyphs ≡ false → IsOk result }
+{
+    rewrite_sara_am(buffer)?;
+    if wants_forms(plan) {
+        do_pua_shaping(face, buffer);
+    }
+    Ok(())
+}
+
+// Whether the plan asks for private use forms.
+fn wants_forms(plan: &hb_ot_shape_plan_t) -> bool
+    ensures { result ≡ wants_forms plan.now.script plan.now.ot_map.found }
+{
+    is_thai(plan.script) && !plan.ot_map.found_script(TableIndex::GSUB)
+}
+
+// Whether the script is Thai.
+fn is_thai(script: Option<Script>) -> bool
+    ensures { result ≡ is_thai script }
+{
+    match script {
+        None => false,
+        Some(script) => script == THAI,
+    }
+}

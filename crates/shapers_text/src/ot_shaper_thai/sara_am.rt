@@ -1,0 +1,169 @@
+//! SARA AM in two: NIKHAHIT, which goes before the above-base marks, and SARA AA.
+ghost use Rattle.std.specs.Prelude.{◌≡◌, ℕ, ◌+◌, ◌^◌, ◌<◌, ◌≤◌, [], ◌∷◌, ◌++◌, true, false, length, take, count_by, is_some, IsOk, OnOk, OnErr};
+ghost use Rattle.std.specs.List.{list_any};
+ghost use Rattle.shapers_base.specs.Clusters.{merge_all};
+ghost use Rattle.shapers_base.specs.Refusals.{RefusesLength};
+ghost use Rattle.shapers_text.specs.Thai.{is_sara_am, is_above_base, nikhahit, sara_aa, rewritten, stretches_at, sara_am_stretches};
+ghost use Rattle.shapers_text.specs.ThaiRewriting.{becomes};
+
+use shapers_base::buffer::{
+    BufferClusterLevel, ShaperError, hb_buffer_t, hb_glyph_info_t, hb_unicode_general_category_t,
+};
+
+// SARA AM, of Thai and of Lao.
+fn is_sara_am(u: u32) -> bool
+    ensures { result ≡ is_sara_am u }
+{
+    matches!(u, 0x0E33 | 0x0EB3)
+}
+
+// An above-base mark of Thai, or of Lao, which stands 0x80 higher.
+fn is_above_base_mark(u: u32) -> bool
+    ensures { result ≡ is_above_base u }
+{
+    matches!(u & !0x80, 0x0E31 | 0x0E34..=0x0E37 | 0x0E3B | 0x0E47..=0x0E4E)
+}
+
+// The NIKHAHIT of a SARA AM: a mark that its cluster's first glyph carries on.
+fn nikhahit_from_sara_am(am: hb_glyph_info_t) -> hb_glyph_info_t
+    requires { is_sara_am am.glyph_id ≡ true }
+    ensures { result ≡ nikhahit am }
+{
+    hb_glyph_info_t {
+        glyph_id: am.glyph_id + (0x0E4D - 0x0E33),
+        general_category: hb_unicode_general_category_t::Mn,
+        continuation: true,
+        ..am
+    }
+}
+
+// The SARA AA of a SARA AM.
+fn sara_aa_from_sara_am(am: hb_glyph_info_t) -> hb_glyph_info_t
+    requires { is_sara_am am.glyph_id ≡ true }
+    ensures { result ≡ sara_aa am }
+{
+    hb_glyph_info_t {
+        glyph_id: am.glyph_id - 1,
+        ..am
+    }
+}
+
+// How many SARA AM the text has.
+fn count_sara_am(buffer: &hb_buffer_t) -> usize
+    ensures { result ≡ count_by (λ g. is_sara_am g.glyph_id) buffer.now.glyphs }
+{
+    let mut count = 0;
+    for i in 0..buffer.len() {
+        if is_sara_am(buffer.get(i).glyph_id) {
+            count += 1;
+        }
+    }
+    count
+}
+
+// Merges what a character at `place` merges, with `marks` above-base marks before it.
+fn merge_at(buffer: &mut hb_buffer_t, place: usize, u: u32, marks: usize)
+    requires in_range { place < length buffer.old.glyphs }
+    requires fits { place + 1 < 2 ^ 64 }
+    requires before { marks ≤ place }
+    ensures { buffer.new ≡ record buffer.old { glyphs = merge_all buffer.old.level (stretches_at buffer.old.level place u marks) buffer.old.glyphs } }
+{
+    if !is_sara_am(u) {
+        return;
+    }
+    if marks > 0 {
+        buffer.merge_clusters(place - marks, place + 1);
+        return;
+    }
+    match buffer.cluster_level() {
+        BufferClusterLevel::MonotoneGraphemes => {
+            if place > 0 {
+                buffer.merge_clusters(place - 1, place + 1);
+            }
+        }
+        BufferClusterLevel::MonotoneCharacters | BufferClusterLevel::Characters => {}
+    }
+}
+
+// Merges what each SARA AM of the first `len` glyphs merges, from the left.
+fn merge_all_sara_am(buffer: &mut hb_buffer_t, len: usize)
+    requires { len ≤ length buffer.old.glyphs }
+    ensures { buffer.new ≡ record buffer.old { glyphs = merge_all buffer.old.level (sara_am_stretches buffer.old.level (take len buffer.old.glyphs)) buffer.old.glyphs } }
+{
+    let mut marks = 0;
+    for i in 0..len {
+        let u = buffer.get(i).glyph_id;
+        merge_at(buffer, i, u, marks);
+        marks = if is_above_base_mark(u) { marks + 1 } else { 0 };
+    }
+}
+
+// What is still to be written: the text before `end`, and a NIKHAHIT that goes before its last marks.
+#[derive(Drop)]
+struct Unwritten {
+    end: usize,
+    nikhahit: Option<hb_glyph_info_t>,
+}
+
+impl Unwritten {
+    // Takes the last glyph of what this text becomes.
+    fn take_last(&mut self, buffer: &hb_buffer_t) -> hb_glyph_info_t
+        requires in_range { self.old.end ≤ length buffer.now.glyphs }
+        requires some { self.old.end ≡ 0 → is_some self.old.nikhahit ≡ true }
+        ensures last { becomes (take self.old.end buffer.now.glyphs) self.old.nikhahit ≡ becomes (take self.new.end buffer.now.glyphs) self.new.nikhahit ++ result ∷ [] }
+        ensures shorter { self.new.end ≤ self.old.end }
+    {
+        if let Some(nikhahit) = self.nikhahit {
+            if self.end == 0 || !is_above_base_mark(buffer.get(self.end - 1).glyph_id) {
+                self.nikhahit = None;
+                return nikhahit;
+            }
+        }
+        self.end -= 1;
+        let glyph = buffer.get(self.end);
+        if !is_sara_am(glyph.glyph_id) {
+            return glyph;
+        }
+        self.nikhahit = Some(nikhahit_from_sara_am(glyph));
+        sara_aa_from_sara_am(glyph)
+    }
+}
+
+// Writes the first `len` glyphs with each SARA AM in two over a buffer that has just the room for it.
+fn write_in_two(buffer: &mut hb_buffer_t, len: usize)
+    requires in_range { len ≤ length buffer.old.glyphs }
+    requires room { length buffer.old.glyphs ≡ length (rewritten (take len buffer.old.glyphs)) }
+    ensures { buffer.new ≡ record buffer.old { glyphs = rewritten (take len buffer.old.glyphs) } }
+{
+    let mut unwritten = Unwritten {
+        end: len,
+        nikhahit: None,
+    };
+    let mut place = buffer.len();
+    while unwritten.end < place {
+        let glyph = unwritten.take_last(buffer);
+        place -= 1;
+        buffer.set(place, glyph);
+    }
+}
+
+/// Puts each SARA AM in two: NIKHAHIT, before the above-base marks that stand before it, and SARA AA.
+/// A SARA AM merges with its marks or, at level MonotoneGraphemes, with the glyph before it.
+/// Refuses as a growth does. (OpenType's Thai and Lao notes; rustybuzz's comment on the rule.)
+pub fn rewrite_sara_am(buffer: &mut hb_buffer_t) -> Result<(), ShaperError>
+    requires { buffer.old.positions ≡ [] }
+    ensures ok { OnOk result (buffer.new ≡ record buffer.old { glyphs = rewritten (merge_all buffer.old.level (sara_am_stretches buffer.old.level buffer.old.glyphs) buffer.old.glyphs) }) }
+    ensures length { RefusesLength buffer.old.max_len (length (rewritten buffer.old.glyphs)) result }
+    ensures err { OnErr result (buffer.new ≡ buffer.old) }
+    ensures without { list_any (λ g. is_sara_am g.glyph_id) buffer.old.glyphs ≡ false → IsOk result }
+{
+    let len = buffer.len();
+    let count = count_sara_am(buffer);
+    if count == 0 {
+        return Ok(());
+    }
+    buffer.grow(count)?;
+    merge_all_sara_am(buffer, len);
+    write_in_two(buffer, len);
+    Ok(())
+}
