@@ -1,3 +1,4 @@
 pub mod Thai
 pub mod ThaiForms
+pub mod ThaiLaws
 pub mod ThaiRewriting
