@@ -5,4 +5,5 @@ pub mod ThaiFormLaws
 pub mod ThaiFormWalks
 pub mod ThaiRows
 pub mod ThaiSaraAm
+pub mod ThaiSources
 pub mod ThaiStretches

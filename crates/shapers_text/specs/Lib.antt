@@ -2,4 +2,5 @@ pub mod Hebrew
 pub mod Requests
 pub mod Thai
 pub mod ThaiForms
+pub mod ThaiLaws
 pub mod ThaiRewriting
