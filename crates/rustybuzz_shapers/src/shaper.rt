@@ -8,6 +8,9 @@ ghost use Rattle.rustybuzz_shapers.specs.Shapers.{normalizes, wants_gpos_script,
 use shapers_base::buffer::{ShaperError, hb_buffer_t, hb_tag_t};
 use shapers_base::font::{Tables, hb_font_t};
 use shapers_base::plan::{hb_ot_shape_plan_t, hb_ot_shape_planner_t};
+mod pauses;
+
+pub use pauses::run_pause;
 pub use shapers_base::plan::{NormalizationMode, Pause, PlanData, Preprocess, ZeroWidthMarks};
 use shapers_indic::ot_shaper_indic;
 use shapers_regroup::{ot_shaper_khmer, ot_shaper_myanmar, ot_shaper_use};
