@@ -457,3 +457,87 @@ fn leaves_forms_to_the_font(rt: HostRuntime) -> Result<(), Fail> {
         &lao,
     )
 }
+
+// Hebrew marks, and the compositions of Hebrew.
+#[test]
+fn reorders_hebrew(rt: HostRuntime) -> Result<(), Fail> {
+    let alloc = rt.alloc();
+    let mut input = String::from_str(alloc, "set shaper hebrew\ntext 1 2 3 4 5 6\n")?;
+    for (place, class) in [20, 22, 25, 20, 22, 25].iter().enumerate() {
+        writeln!(input, "at {place} class {class}")?;
+    }
+    let rows = [
+        (
+            "",
+            ["0001 0", "0003 1", "0002 1", "0004 3", "0005 4", "0006 5"],
+        ),
+        (
+            "set level 1\n",
+            ["0001 0", "0003 1", "0002 1", "0004 3", "0005 4", "0006 5"],
+        ),
+        (
+            "set level 2\n",
+            ["0001 0", "0003 2", "0002 1", "0004 3", "0005 4", "0006 5"],
+        ),
+        // clusters that fall
+        (
+            "at 0 cluster 9\nat 1 cluster 8\nat 2 cluster 7\n",
+            ["0001 9", "0003 7", "0002 7", "0004 3", "0005 4", "0006 5"],
+        ),
+    ];
+    let classes = [20, 25, 22, 20, 22, 25];
+    for (lines, glyphs) in rows {
+        let lines = format!(in alloc; "{input}{lines}run marks 0 6\n")?;
+        let mut output = String::new(alloc);
+        for (glyph, class) in glyphs.iter().zip(&classes) {
+            writeln!(output, "{glyph} 00000000 00 0 0 {class}")?;
+        }
+        expect_run(&rt, alloc, &lines, &output, "", 0)?;
+    }
+    Ok(())
+}
+
+#[test]
+fn composes_hebrew(rt: HostRuntime) -> Result<(), Fail> {
+    let alloc = rt.alloc();
+    let rows = [
+        ("05F2 05B7", "fb1f"),
+        ("05D9 05B4", "fb1d"),
+        ("05D9 05B7", "none"),
+        ("05D7 05BC", "none"),
+        ("05D0 05BC", "fb30"),
+        ("05DD 05BC", "none"),
+    ];
+    for (pair, form) in rows {
+        let input = format!(in alloc; "set shaper hebrew\nrun compose {pair}\n")?;
+        let output = format!(in alloc; "{form}\n")?;
+        expect_run(&rt, alloc, &input, &output, "", 0)?;
+    }
+    let marks = "set shaper hebrew\nset gposmark yes\nrun compose 05D0 05B7\n";
+    expect_run(&rt, alloc, marks, "none\n", "", 0)?;
+    let table = "pair 41 300 C0\nset shaper hebrew\nset gposmark yes\nrun compose 41 300\n";
+    expect_run(&rt, alloc, table, "00c0\n", "", 0)
+}
+
+// Spans set syllables, and pauses clear them.
+#[test]
+fn runs_pauses(rt: HostRuntime) -> Result<(), Fail> {
+    let alloc = rt.alloc();
+    let spans =
+        "set shaper indic\ntext 1 2 3\nspan 2 0\nspan 1 4\nrun pause setup_syllables_indic\n";
+    let bytes = "0001 0 00000000 10 0 0 0\n0002 1 00000003 10 0 0 0\n0003 2 00000000 24 0 0 0\n";
+    expect_run(&rt, alloc, spans, bytes, "", 0)?;
+    let cleared = format!(in alloc; "{spans}run pause syllabic_clear_var\n")?;
+    let none = "0001 0 00000000 00 0 0 0\n0002 1 00000003 00 0 0 0\n0003 2 00000000 00 0 0 0\n";
+    expect_run(&rt, alloc, &cleared, none, "", 0)?;
+    let short =
+        "set shaper khmer\ntext 1 2 3 4\nspan 1 0\nspan 2 0\nrun pause setup_syllables_khmer\n";
+    expect_run(&rt, alloc, short, "", "refused: SpansDontCover\n", 1)?;
+    let thai = "set shaper thai\ntext 0E14 0E4B 0E33\nrun pause arabic_fallback_shape\n";
+    let read = "0e14 0 00000000 00 0 0 0\n0e4b 1 00000000 00 0 0 0\n0e33 2 00000000 00 0 0 0\n";
+    expect_run(&rt, alloc, thai, read, "", 0)?;
+    let kinds = "set shaper indic\ntext 1\nspan 1 16\nrun pause setup_syllables_indic\n";
+    expect_run(&rt, alloc, kinds, "", "line 3: unreadable\n", 2)?;
+    let unbuilt = "set shaper indic\ntext 1\nrun pause final_reordering\n";
+    expect_run(&rt, alloc, unbuilt, "", "line 3: unreadable\n", 2)
+}

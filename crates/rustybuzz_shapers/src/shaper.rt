@@ -8,6 +8,7 @@ ghost use Rattle.rustybuzz_shapers.specs.Shapers.{normalizes, wants_gpos_script,
 use shapers_base::buffer::{ShaperError, hb_buffer_t, hb_tag_t};
 use shapers_base::font::{Tables, hb_font_t};
 use shapers_base::plan::{hb_ot_shape_plan_t, hb_ot_shape_planner_t};
+
 mod pauses;
 
 pub use pauses::run_pause;
@@ -146,7 +147,12 @@ impl hb_ot_shaper_t {
             Self::Hangul => Ok(Some(ot_shaper_hangul::override_features(planner)?)),
             Self::Indic => Ok(Some(ot_shaper_indic::override_features(planner)?)),
             Self::Khmer => Ok(Some(ot_shaper_khmer::override_features(planner)?)),
-            _ => Ok(None),
+            Self::Arabic
+            | Self::Hebrew
+            | Self::Myanmar
+            | Self::MyanmarZawgyi
+            | Self::Thai
+            | Self::Universal => Ok(None),
         }
     }
 

@@ -1,11 +1,13 @@
 //! The lines `run NAME ..`: the conditions of a call are asked before the call is made.
-ghost use Rattle.std.specs.Prelude.{◌≡◌, [], is_ok, OnOk};
-ghost use Rattle.rustybuzz_shapers.specs.Shapers.{preprocess_stands, postprocesses, composes, decomposes, masks_glyphs, moves_marks};
+ghost use Rattle.std.specs.Prelude.{◌≡◌, ◌≤◌, ◌↔◌, [], is_ok, All, IsTrue, OnOk};
+ghost use Rattle.rustybuzz_shapers.specs.Shapers.{preprocess_stands, postprocesses, compose_stands, decomposes, masks_glyphs, marks_stand};
+ghost use Rattle.rustybuzz_shapers.specs.Pauses.{pause_stands};
 
 use super::Session;
 use crate::command::HookCall;
 use crate::fault::LineFault;
-use rustybuzz_shapers::shaper::{Preprocess, hb_ot_shaper_t};
+use rustybuzz_shapers::shaper::{Pause, Preprocess, hb_ot_shaper_t, run_pause};
+use shapers_base::buffer::Span;
 
 impl Session {
     /// Asks a hook of the shaper. Without a shaper, where the call's conditions fail and where the
@@ -19,7 +21,7 @@ impl Session {
             HookCall::Marks(start, end) => self.reorder_marks(shaper, start, end),
             HookCall::Compose(a, b) => self.compose(shaper, a, b),
             HookCall::Decompose(ab) => self.decompose(shaper, ab),
-            HookCall::Pause(_) => Err(LineFault::Unreadable),
+            HookCall::Pause(pause) => self.pause(pause),
         }
     }
 
@@ -64,7 +66,7 @@ impl Session {
     ) -> Result<(), LineFault> {
         self.check_no_positions()?;
         check(start <= end && end <= self.buffer.len())?;
-        check(!needs_marks(shaper))?;
+        check(has_marks(shaper))?;
         let plan = self.settings.plan()?;
         let answer = shaper.reorder_marks(&plan, &mut self.buffer, start, end);
         self.answer_if_absent(answer)
@@ -72,7 +74,7 @@ impl Session {
 
     // The hook that composes two characters.
     fn compose(&mut self, shaper: hb_ot_shaper_t, a: char, b: char) -> Result<(), LineFault> {
-        check(!needs_compose(shaper))?;
+        check(has_compose(shaper))?;
         let plan = self.settings.plan()?;
         match shaper.compose(&plan, &self.settings.tables, a, b) {
             Some(Some(ab)) => Ok(writeln!(self.answers, "{:04x}", u32::from(ab))?),
@@ -93,6 +95,16 @@ impl Session {
             Some(None) => self.answer("none"),
             None => self.answer("absent"),
         }
+    }
+
+    // A pause, which reads the spans so far.
+    fn pause(&mut self, pause: Pause) -> Result<(), LineFault> {
+        self.check_no_positions()?;
+        let spans = self.settings.spans.as_slice();
+        check(kinds_fit(spans) && has_pause(pause))?;
+        let plan = self.settings.plan()?;
+        run_pause(pause, &plan, &self.settings.font, spans, &mut self.buffer)?;
+        Ok(())
     }
 
     // The condition of the calls before positioning: no positions.
@@ -150,19 +162,19 @@ fn needs_postprocess(shaper: hb_ot_shaper_t) -> bool
     matches!(shaper, hb_ot_shaper_t::Arabic)
 }
 
-// Whether the shaper reorders marks, which isn't built yet.
-fn needs_marks(shaper: hb_ot_shaper_t) -> bool
-    ensures { result ≡ moves_marks shaper }
+// Whether the shaper's reordering of marks is built, or there is none to build.
+fn has_marks(shaper: hb_ot_shaper_t) -> bool
+    ensures { result ≡ marks_stand shaper }
 {
-    matches!(shaper, hb_ot_shaper_t::Arabic | hb_ot_shaper_t::Hebrew)
+    !matches!(shaper, hb_ot_shaper_t::Arabic)
 }
 
-// Whether the shaper composes, which isn't built yet.
-fn needs_compose(shaper: hb_ot_shaper_t) -> bool
-    ensures { result ≡ composes shaper }
+// Whether the shaper's composing is built, or there is none to build.
+fn has_compose(shaper: hb_ot_shaper_t) -> bool
+    ensures { result ≡ compose_stands shaper }
 {
-    use hb_ot_shaper_t::{Hebrew, Indic, Khmer, Universal};
-    matches!(shaper, Hebrew | Indic | Khmer | Universal)
+    use hb_ot_shaper_t::{Indic, Khmer, Universal};
+    !matches!(shaper, Indic | Khmer | Universal)
 }
 
 // Whether the shaper decomposes, which isn't built yet.
@@ -170,4 +182,30 @@ fn needs_decompose(shaper: hb_ot_shaper_t) -> bool
     ensures { result ≡ decomposes shaper }
 {
     matches!(shaper, hb_ot_shaper_t::Indic | hb_ot_shaper_t::Khmer)
+}
+
+// Whether the pause is built.
+fn has_pause(pause: Pause) -> bool
+    ensures { result ≡ pause_stands pause }
+{
+    use Pause::{
+        ArabicFallbackShape, ClearSubstitutionFlags, SetupSyllablesIndic, SetupSyllablesKhmer,
+        SetupSyllablesMyanmar, SyllabicClearVar,
+    };
+    matches!(
+        pause,
+        SetupSyllablesIndic
+            | SetupSyllablesKhmer
+            | SetupSyllablesMyanmar
+            | SyllabicClearVar
+            | ClearSubstitutionFlags
+            | ArabicFallbackShape
+    )
+}
+
+// Whether the kind of each span fits the four bits that it has.
+fn kinds_fit(spans: &[Span]) -> bool
+    ensures { IsTrue result ↔ All (λ span. span.kind ≤ 15) spans.now }
+{
+    spans.iter().all(|span| span.kind <= 15)
 }

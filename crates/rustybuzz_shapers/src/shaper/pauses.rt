@@ -6,8 +6,8 @@ ghost use Rattle.rustybuzz_shapers.specs.Pauses.{pause_stands, pause_fits, after
 use shapers_base::buffer::{ShaperError, Span, hb_buffer_t};
 use shapers_base::font::hb_font_t;
 use shapers_base::ot_shaper_syllabic::{
-    clear_substitution_flags, clear_syllables, indic_syllable, khmer_syllable,
-    myanmar_syllable, set_up_syllables,
+    clear_substitution_flags, clear_syllables, indic_syllable, khmer_syllable, myanmar_syllable,
+    set_up_syllables,
 };
 use shapers_base::plan::{Pause, hb_ot_shape_plan_t};
 
