@@ -1,5 +1,8 @@
 pub mod Buffer
 pub mod Category
+pub mod CircleLaws
+pub mod CircleWalk
+pub mod Circles
 pub mod Clusters
 pub mod Glyph
 pub mod GlyphFlags
@@ -8,5 +11,6 @@ pub mod Lists
 pub mod Map
 pub mod Planner
 pub mod Refusals
+pub mod Syllabic
 pub mod SyllableLaws
 pub mod Syllables

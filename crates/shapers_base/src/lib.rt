@@ -3,4 +3,5 @@
 pub mod buffer;
 pub mod font;
 pub mod map;
+pub mod ot_shaper_syllabic;
 pub mod plan;

@@ -10,3 +10,5 @@ mod feature_lists;
 mod planner;
 #[cfg(test)]
 mod shapers;
+#[cfg(test)]
+mod syllabic;

@@ -23,9 +23,10 @@ flooded-away c m n (g ∷ gs) ne = grind (arith, nat_tests, flooded-away c m n g
 -- a flood with what is least leaves default glyphs, of cluster 0, alone
 flooded-defaults : (c m n : ℕ) (gs : List hb_glyph_info_t) → m ≤ c → flooded c m (gs ++ replicate n default_glyph) ≡ flooded c m gs ++ replicate n default_glyph
 flooded-defaults c m n gs h = elim (cases_eq c m) [
-      inl e ↦ let P : ℕ → Type 0 = λ m. flooded c m (gs ++ replicate n default_glyph) ≡ flooded c m gs ++ replicate n default_glyph in
-        subst P e (flooded-same c (gs ++ replicate n default_glyph) ∙ ap (λ l. l ++ replicate n default_glyph) (sym (flooded-same c gs)))
-    | inr d ↦ flooded-away c m n gs (λ z. d (omega arith)) ]
+  | inl e ↦ let P : ℕ → Type 0 = λ m. flooded c m (gs ++ replicate n default_glyph) ≡ flooded c m gs ++ replicate n default_glyph in
+      subst P e (flooded-same c (gs ++ replicate n default_glyph) ∙ ap (λ l. l ++ replicate n default_glyph) (sym (flooded-same c gs)))
+  | inr d ↦ flooded-away c m n gs (λ z. d (omega arith))
+]
 
 least-opening : (cs : List ℕ) → 0 < length cs → least cs ≤ opening cs
 least-opening [] h = omega arith
@@ -41,7 +42,7 @@ least-last gs h =
     omega arith
 
 -- a merged list, of its three parts
-abbrev assembled : List hb_glyph_info_t → List hb_glyph_info_t → List hb_glyph_info_t → List hb_glyph_info_t
+abbrev pub assembled : List hb_glyph_info_t → List hb_glyph_info_t → List hb_glyph_info_t → List hb_glyph_info_t
 assembled front middle rest = let m = least (clusters middle) in reverse (flooded (first_cluster middle) m (reverse front)) ++ (map (in_cluster m) middle ++ flooded (last_cluster middle) m rest)
 
 assembled-appended : (front middle rest : List hb_glyph_info_t) (n : ℕ) → 0 < length middle → assembled front middle (rest ++ replicate n default_glyph) ≡ assembled front middle rest ++ replicate n default_glyph
@@ -65,7 +66,7 @@ merged-appended s e n gs h l =
     ∙ ap (λ x. assembled (take s gs) (stretch_of s e gs) x) rest
     ∙ assembled-appended (take s gs) (stretch_of s e gs) (drop e gs) n (omega (arith, length-take (e - s) (drop s gs), length-drop s gs))
 
-two_sides : (n : ℕ) (a : Bool) {X : Type 0} (R : X → X → Type 0) (x y v w : X) → R y w → (1 < n → R x v) → R (if a && not (nat_lt n 2) then x else y) (if a && not (nat_lt n 2) then v else w)
+pub two_sides : (n : ℕ) (a : Bool) {X : Type 0} (R : X → X → Type 0) (x y v w : X) → R y w → (1 < n → R x v) → R (if a && not (nat_lt n 2) then x else y) (if a && not (nat_lt n 2) then v else w)
 two_sides n true R x y v w here there = grind (arith, nat_tests)
 two_sides n false R x y v w here there = here
 

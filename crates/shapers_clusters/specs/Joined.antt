@@ -101,13 +101,14 @@ pub record Flood (c m : ℕ) (xs ys : List ℕ) : Type 0 where
 
 flood-more : (c m : ℕ) (xs ys : List ℕ) → Flood c m xs ys → Flood c m (c ∷ xs) (m ∷ ys)
 flood-more c m xs ys f = record {
-    end = suc f.end;
-    within = omega arith;
-    same_length = omega arith;
-    old = λ j h. elim j as (λ j. j < suc f.end → get_or (c ∷ xs) j 0 ≡ c) [ zero ↦ λ h. refl | suc j ↦ λ h. f.old j (omega arith) ] h;
-    new = λ j h. elim j as (λ j. j < suc f.end → get_or (m ∷ ys) j 0 ≡ m) [ zero ↦ λ h. refl | suc j ↦ λ h. f.new j (omega arith) ] h;
-    edge = λ h. f.edge (omega arith);
-    rest = λ j h. elim j as (λ j. suc f.end ≤ j → get_or (m ∷ ys) j 0 ≡ get_or (c ∷ xs) j 0) [ zero ↦ λ h. omega arith | suc j ↦ λ h. f.rest j (omega arith) ] h }
+  end = suc f.end;
+  within = omega arith;
+  same_length = omega arith;
+  old = λ j h. elim j as (λ j. j < suc f.end → get_or (c ∷ xs) j 0 ≡ c) [ zero ↦ λ h. refl | suc j ↦ λ h. f.old j (omega arith) ] h;
+  new = λ j h. elim j as (λ j. j < suc f.end → get_or (m ∷ ys) j 0 ≡ m) [ zero ↦ λ h. refl | suc j ↦ λ h. f.new j (omega arith) ] h;
+  edge = λ h. f.edge (omega arith);
+  rest = λ j h. elim j as (λ j. suc f.end ≤ j → get_or (m ∷ ys) j 0 ≡ get_or (c ∷ xs) j 0) [ zero ↦ λ h. omega arith | suc j ↦ λ h. f.rest j (omega arith) ] h;
+}
 
 flood-hit : (c m : ℕ) (xs : List ℕ) (x : ℕ) → x ≡ c → flood c m (x ∷ xs) ≡ m ∷ flood c m xs
 flood-hit c m xs x e = grind (arith, nat_tests)
@@ -123,5 +124,6 @@ flood-is c m [] = record { end = 0; within = omega arith; same_length = refl; ol
 flood-is c m (x ∷ xs) =
     let P : List ℕ → Type 0 = λ ys. Flood c m (x ∷ xs) ys in
     elim (cases_eq x c) [
-      inl e ↦ subst P (sym (flood-hit c m xs x e)) (let Q : ℕ → Type 0 = λ x. Flood c m (x ∷ xs) (m ∷ flood c m xs) in subst Q (sym e) (flood-more c m xs (flood c m xs) (flood-is c m xs)))
-    | inr n ↦ subst P (sym (flood-miss c m xs x n)) (flood-stops c m x xs n) ]
+      | inl e ↦ subst P (sym (flood-hit c m xs x e)) (let Q : ℕ → Type 0 = λ x. Flood c m (x ∷ xs) (m ∷ flood c m xs) in subst Q (sym e) (flood-more c m xs (flood c m xs) (flood-is c m xs)))
+      | inr n ↦ subst P (sym (flood-miss c m xs x n)) (flood-stops c m x xs n)
+    ]

@@ -3,9 +3,13 @@ pub mod Cuts
 pub mod Falls
 pub mod Joined
 pub mod Labels
+pub mod Laws
 pub mod Merging
 pub mod Moves
 pub mod Neighbours
 pub mod Picks
+pub mod Proved
+pub mod Sources
 pub mod Spread
 pub mod Steps
+pub mod Widened

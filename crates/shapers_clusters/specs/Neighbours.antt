@@ -1,5 +1,5 @@
 -- What merges do to any clusters: none rises, neighbours that share one still do, and so do the places of a stretch.
-use Rattle.std.proofs.Common.{ℕ, zero, suc, ◌+◌, ◌-◌, ◌<◌, ◌≤◌, ◌≡◌, ◌≢◌, ◌==◌, min, max, Bool, true, false, ◌||◌, nat_lt, ◌&&◌, ◌⊎◌, inl, inr, List, [], ◌∷◌, length, get_or, slice_index, refl, sym, ◌∙◌, ap, subst, arith}
+use Rattle.std.proofs.Common.{ℕ, zero, suc, ◌+◌, ◌-◌, ◌<◌, ◌≤◌, ◌≡◌, ◌==◌, min, max, Bool, true, false, ◌||◌, nat_lt, ◌&&◌, ◌⊎◌, inl, inr, List, [], ◌∷◌, length, get_or, slice_index, refl, sym, ◌∙◌, ap, subst, arith}
 use Rattle.std.specs.List.{AllByRecursion, list_any}
 use Rattle.std.proofs.lemmas.Bool.{cases_lt}
 use Rattle.std.proofs.lemmas.Bool.Decides.{nat_tests}
@@ -29,14 +29,18 @@ length-joined level s e cs w = joined_cases (λ js. length js ≡ length cs) lev
 
 spread-falls : (s e : ℕ) (cs js : List ℕ) → Spread s e cs js → s + 1 < e → (p : ℕ) → get_or js p 0 ≤ get_or cs p 0
 spread-falls s e cs js f h p = elim (cases_lt p f.low) [
-      inl a ↦ omega (arith, f.before p a)
-    | inr a ↦ elim (cases_lt p f.high) [
-        inl b ↦ elim (cases_lt p s) [
-            inl c ↦ omega (arith, f.inside p a b, f.left p a c, f.least_is s (omega arith) (omega arith))
-          | inr c ↦ elim (cases_lt p e) [
-              inl d ↦ omega (arith, f.inside p a b, f.least_is p c d)
-            | inr d ↦ omega (arith, f.inside p a b, f.right p d b, f.least_is (e - 1) (omega arith) (omega arith)) ] ]
-      | inr b ↦ omega (arith, f.behind p b) ] ]
+  | inl a ↦ omega (arith, f.before p a)
+  | inr a ↦ elim (cases_lt p f.high) [
+    | inl b ↦ elim (cases_lt p s) [
+      | inl c ↦ omega (arith, f.inside p a b, f.left p a c, f.least_is s (omega arith) (omega arith))
+      | inr c ↦ elim (cases_lt p e) [
+        | inl d ↦ omega (arith, f.inside p a b, f.least_is p c d)
+        | inr d ↦ omega (arith, f.inside p a b, f.right p d b, f.least_is (e - 1) (omega arith) (omega arith))
+      ]
+    ]
+    | inr b ↦ omega (arith, f.behind p b)
+  ]
+]
 
 -- no cluster rises
 pub joined-falls : (level : BufferClusterLevel) (s e : ℕ) (cs : List ℕ) → e ≤ length cs → (p : ℕ) → get_or (joined level s e cs) p 0 ≤ get_or cs p 0
@@ -56,14 +60,18 @@ right_from s e cs js f p a b = elim (cases_lt p e) [ inl c ↦ let i : p ≡ e -
 
 spread-neighbours : (s e : ℕ) (cs js : List ℕ) → Spread s e cs js → s + 1 < e → (p : ℕ) → suc p < length cs → get_or cs p 0 ≡ get_or cs (suc p) 0 → get_or js p 0 ≡ get_or js (suc p) 0
 spread-neighbours s e cs js f h p l q = elim (cases_lt (suc p) f.low) [
-      inl a ↦ f.before p (omega arith) ∙ q ∙ sym (f.before (suc p) a)
-    | inr a ↦ elim (cases_lt p f.low) [
-        inl b ↦ let i : p ≡ f.low - 1 = omega arith in absurd (f.left_edge (omega arith) (ap (λ k. get_or cs k 0) (sym i) ∙ q ∙ left_to s e cs js f (suc p) a (omega (arith, f.low_within))))
-      | inr b ↦ elim (cases_lt (suc p) f.high) [
-          inl c ↦ f.inside p b (omega arith) ∙ sym (f.inside (suc p) a c)
-        | inr c ↦ elim (cases_lt p f.high) [
-            inl d ↦ let i : suc p ≡ f.high = omega arith in absurd (f.right_edge (omega arith) (ap (λ k. get_or cs k 0) (sym i) ∙ sym q ∙ right_from s e cs js f p (omega (arith, f.high_within)) d))
-          | inr d ↦ f.behind p d ∙ q ∙ sym (f.behind (suc p) c) ] ] ] ]
+  | inl a ↦ f.before p (omega arith) ∙ q ∙ sym (f.before (suc p) a)
+  | inr a ↦ elim (cases_lt p f.low) [
+    | inl b ↦ let i : p ≡ f.low - 1 = omega arith in absurd (f.left_edge (omega arith) (ap (λ k. get_or cs k 0) (sym i) ∙ q ∙ left_to s e cs js f (suc p) a (omega (arith, f.low_within))))
+    | inr b ↦ elim (cases_lt (suc p) f.high) [
+      | inl c ↦ f.inside p b (omega arith) ∙ sym (f.inside (suc p) a c)
+      | inr c ↦ elim (cases_lt p f.high) [
+        | inl d ↦ let i : suc p ≡ f.high = omega arith in absurd (f.right_edge (omega arith) (ap (λ k. get_or cs k 0) (sym i) ∙ sym q ∙ right_from s e cs js f p (omega (arith, f.high_within)) d))
+        | inr d ↦ f.behind p d ∙ q ∙ sym (f.behind (suc p) c)
+      ]
+    ]
+  ]
+]
 
 -- neighbours that share a cluster still do
 pub joined-neighbours : (level : BufferClusterLevel) (s e : ℕ) (cs : List ℕ) → e ≤ length cs → (p : ℕ) → suc p < length cs → get_or cs p 0 ≡ get_or cs (suc p) 0 → get_or (joined level s e cs) p 0 ≡ get_or (joined level s e cs) (suc p) 0
@@ -71,11 +79,17 @@ joined-neighbours level s e cs w p l q = joined_cases (λ js. get_or js p 0 ≡ 
 
 spread-reached : (s e : ℕ) (cs js : List ℕ) → Spread s e cs js → (p : ℕ) → p < length cs → (q : ℕ) × (q < length cs) × (get_or js p 0 ≡ get_or cs q 0) × ShareCluster js p q
 spread-reached s e cs js f p l = elim (cases_lt p f.low) [
-      inl a ↦ (p, l, f.before p a, λ r x y. let i : r ≡ p = omega arith in ap (λ k. get_or js k 0) i)
-    | inr a ↦ elim (cases_lt p f.high) [
-        inl b ↦ (f.at, omega (arith, f.at_to, f.high_within, f.high_end), f.inside p a b ∙ sym f.at_is,
-          λ r x y. f.inside r (omega (arith, f.low_within, f.at_from)) (omega (arith, f.high_within, f.at_to)) ∙ sym (f.inside p a b))
-      | inr b ↦ (p, l, f.behind p b, λ r x y. let i : r ≡ p = omega arith in ap (λ k. get_or js k 0) i) ] ]
+  | inl a ↦ (p, l, f.before p a, λ r x y. let i : r ≡ p = omega arith in ap (λ k. get_or js k 0) i)
+  | inr a ↦ elim (cases_lt p f.high) [
+    | inl b ↦ (
+      f.at,
+      omega (arith, f.at_to, f.high_within, f.high_end),
+      f.inside p a b ∙ sym f.at_is,
+      λ r x y. f.inside r (omega (arith, f.low_within, f.at_from)) (omega (arith, f.high_within, f.at_to)) ∙ sym (f.inside p a b),
+    )
+    | inr b ↦ (p, l, f.behind p b, λ r x y. let i : r ≡ p = omega arith in ap (λ k. get_or js k 0) i)
+  ]
+]
 
 -- each cluster is the old one of some place, and all places in between share it
 pub joined-reached : (level : BufferClusterLevel) (s e : ℕ) (cs : List ℕ) → e ≤ length cs → (p : ℕ) → p < length cs → (q : ℕ) × (q < length cs) × (get_or (joined level s e cs) p 0 ≡ get_or cs q 0) × ShareCluster (joined level s e cs) p q
@@ -118,8 +132,9 @@ eq_holds a b h = grind (arith, nat_tests)
 
 in_stretch : (s e p : ℕ) (rest : Bool) → (nat_lt s p && nat_lt p e || rest) ≡ true → ((s < p) × (p < e)) ⊎ (rest ≡ true)
 in_stretch s e p rest h = elim (or_cases (nat_lt s p && nat_lt p e) rest h) [
-      inl i ↦ let b = and_both (nat_lt s p) (nat_lt p e) i in inl (lt_holds s p b.0, lt_holds p e b.1)
-    | inr r ↦ inr r ]
+  | inl i ↦ let b = and_both (nat_lt s p) (nat_lt p e) i in inl (lt_holds s p b.0, lt_holds p e b.1)
+  | inr r ↦ inr r
+]
 
 -- neighbours that some merged stretch holds share a cluster
 joined_all-held : (level : BufferClusterLevel) → merges level ≡ true → (sts : List (ℕ × ℕ)) (cs : List ℕ) → EndWithin (length cs) sts → (p : ℕ) → suc p < length cs → held sts (suc p) ≡ true → get_or (joined_all level sts cs) p 0 ≡ get_or (joined_all level sts cs) (suc p) 0
@@ -129,8 +144,9 @@ joined_all-held level m (st ∷ sts) cs h p l q =
     let w = end_within_joined level st.0 st.1 cs sts h.0 h.1 in
     let n : suc p < length js = omega (arith, length-joined level st.0 st.1 cs h.0) in
     elim (in_stretch st.0 st.1 (suc p) (held sts (suc p)) q) [
-      inl i ↦ joined_all-neighbours level sts js w p n (joined-shares level st.0 st.1 cs h.0 m p (suc p) (omega arith) (omega arith) (omega arith) (omega arith))
-    | inr r ↦ joined_all-held level m sts js w p n r ]
+      | inl i ↦ joined_all-neighbours level sts js w p n (joined-shares level st.0 st.1 cs h.0 m p (suc p) (omega arith) (omega arith) (omega arith) (omega arith))
+      | inr r ↦ joined_all-held level m sts js w p n r
+    ]
 
 -- linked places share a cluster
 pub joined_all-linked : (level : BufferClusterLevel) → merges level ≡ true → (sts : List (ℕ × ℕ)) (cs : List ℕ) → EndWithin (length cs) sts → (p : ℕ) → 0 < p → p < length cs → linked cs sts p ≡ true → get_or (joined_all level sts cs) (p - 1) 0 ≡ get_or (joined_all level sts cs) p 0
@@ -138,8 +154,9 @@ joined_all-linked level m sts cs h p z l q =
     let i : suc (p - 1) ≡ p = omega arith in
     let js = joined_all level sts cs in
     let up : get_or js (p - 1) 0 ≡ get_or js (suc (p - 1)) 0 = elim (or_cases (slice_index cs (p - 1) == slice_index cs p) (held sts p) q) [
-        inl e ↦ joined_all-neighbours level sts cs h (p - 1) (omega arith) (eq_holds (get_or cs (p - 1) 0) (get_or cs p 0) e ∙ ap (λ k. get_or cs k 0) (sym i))
-      | inr e ↦ joined_all-held level m sts cs h (p - 1) (omega arith) (ap (held sts) i ∙ e) ] in
+      | inl e ↦ joined_all-neighbours level sts cs h (p - 1) (omega arith) (eq_holds (get_or cs (p - 1) 0) (get_or cs p 0) e ∙ ap (λ k. get_or cs k 0) (sym i))
+      | inr e ↦ joined_all-held level m sts cs h (p - 1) (omega arith) (ap (held sts) i ∙ e)
+    ] in
     up ∙ ap (λ k. get_or js k 0) i
 
 share_upto : (cs : List ℕ) (p n : ℕ) → ((r : ℕ) → p < r → r ≤ p + n → get_or cs (r - 1) 0 ≡ get_or cs r 0) → (k : ℕ) → k ≤ n → get_or cs (p + k) 0 ≡ get_or cs p 0
@@ -154,15 +171,16 @@ share_all cs p q h r a b =
     let low = min p q in
     let n = max p q - min p q in
     let up : (k : ℕ) → min p q ≤ k → k ≤ max p q → get_or cs k 0 ≡ get_or cs (min p q) 0 =
-        λ k x y. let i : min p q + (k - min p q) ≡ k = omega arith in ap (λ k. get_or cs k 0) (sym i) ∙ share_upto cs (min p q) (max p q - min p q) (λ r x y. h r x (omega arith)) (k - min p q) (omega arith) in
+    λ k x y. let i : min p q + (k - min p q) ≡ k = omega arith in ap (λ k. get_or cs k 0) (sym i) ∙ share_upto cs (min p q) (max p q - min p q) (λ r x y. h r x (omega arith)) (k - min p q) (omega arith) in
     up r a b ∙ sym (up p (omega arith) (omega arith))
 
 share_over : (cs : List ℕ) (p q t : ℕ) → ShareCluster cs p q → ShareCluster cs q t → ShareCluster cs p t
 share_over cs p q t a b r x y =
     let e : get_or cs q 0 ≡ get_or cs p 0 = a q (omega arith) (omega arith) in
     elim (cases_lt r (min p q)) [
-      inl h ↦ b r (omega arith) (omega arith) ∙ e
-    | inr h ↦ elim (cases_lt (max p q) r) [ inl g ↦ b r (omega arith) (omega arith) ∙ e | inr g ↦ a r h g ] ]
+      | inl h ↦ b r (omega arith) (omega arith) ∙ e
+      | inr h ↦ elim (cases_lt (max p q) r) [ inl g ↦ b r (omega arith) (omega arith) ∙ e | inr g ↦ a r h g ]
+    ]
 
 -- places that shared a cluster with all in between still do
 pub joined_all-share : (level : BufferClusterLevel) (sts : List (ℕ × ℕ)) (cs : List ℕ) → EndWithin (length cs) sts → (p q : ℕ) → p < length cs → q < length cs → ShareCluster cs p q → ShareCluster (joined_all level sts cs) p q

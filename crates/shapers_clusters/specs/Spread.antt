@@ -1,11 +1,11 @@
 -- What one merge does to clusters, place by place.
-use Rattle.std.proofs.Common.{ℕ, zero, suc, ◌+◌, ◌-◌, ◌<◌, ◌≤◌, ◌≡◌, ◌≢◌, ◌==◌, Bool, true, false, cond, if◌then◌else◌, nat_lt, not, ◌&&◌, ◌⊎◌, inl, inr, List, [], ◌∷◌, ◌++◌, map, length, get_or, reverse, take, drop, refl, sym, ◌∙◌, ap, subst, arith, length-append, length-take, length-drop}
-use Rattle.std.proofs.lemmas.List.{length-reverse, length-map, get_or-map, get_or-reverse, get_or_append_left, get_or-append_right, get_or-take, get_or-drop, get_or_past}
+use Rattle.std.proofs.Common.{ℕ, zero, suc, ◌+◌, ◌-◌, ◌<◌, ◌≤◌, ◌≡◌, ◌≢◌, Bool, true, false, if◌then◌else◌, nat_lt, not, ◌&&◌, ◌⊎◌, inl, inr, List, [], ◌∷◌, ◌++◌, map, length, get_or, reverse, take, drop, refl, sym, ◌∙◌, ap, subst, arith, length-append, length-take, length-drop}
+use Rattle.std.proofs.lemmas.List.{length-reverse, length-map, get_or-reverse, get_or_append_left, get_or-append_right, get_or-take, get_or-drop}
 use Rattle.std.proofs.lemmas.Bool.{cases_lt}
 use Rattle.std.proofs.lemmas.Bool.Decides.{nat_tests}
 use Rattle.shapers_base.specs.declared.buffer.level.BufferClusterLevel.{BufferClusterLevel}
 use Rattle.shapers_base.specs.Clusters.{least, merges, stretch_of}
-use Rattle.shapers_clusters.specs.Joined.{opening, opening-at, flood, Flood, flood-is, joined, least-le, least-among}
+use Rattle.shapers_clusters.specs.Joined.{opening, opening-at, flood, flood-is, joined, least-le, least-among}
 
 -- A merge of s..e: all of low..high gets the least cluster m of s..e, of which `at` is a place, and the rest stays.
 -- low..high reaches as far as the clusters of the stretch's ends do.
@@ -75,7 +75,8 @@ left-is c m s cs l =
       new = λ p a b. reversed-at ys s p k b ∙ f.new (s - 1 - p) (omega (arith, f.within));
       old = λ p a b. sym (front_reversed-at s cs p l b) ∙ f.old (s - 1 - p) (omega (arith, f.within));
       rest = λ p a. reversed-at ys s p k (omega arith) ∙ f.rest (s - 1 - p) (omega (arith, f.within)) ∙ front_reversed-at s cs p l (omega arith);
-      edge = λ h e. f.edge (omega (arith, f.within)) (let i : s - 1 - (s - f.end - 1) ≡ f.end = omega (arith, f.within) in ap (λ k. get_or (reverse (take s cs)) k 0) (sym i) ∙ front_reversed-at s cs (s - f.end - 1) l (omega arith) ∙ e) }
+      edge = λ h e. f.edge (omega (arith, f.within)) (let i : s - 1 - (s - f.end - 1) ≡ f.end = omega (arith, f.within) in ap (λ k. get_or (reverse (take s cs)) k 0) (sym i) ∙ front_reversed-at s cs (s - f.end - 1) l (omega arith) ∙ e);
+    }
 
 -- the flood behind place e
 record Right (c m e : ℕ) (cs rs : List ℕ) : Type 0 where
@@ -103,7 +104,8 @@ right-is c m e cs l =
       new = λ p a b. f.new (p - e) (omega arith);
       old = λ p a b. sym (behind-at e cs p a) ∙ f.old (p - e) (omega arith);
       rest = λ p a. f.rest (p - e) (omega arith) ∙ behind-at e cs p (omega arith);
-      edge = λ h q. f.edge (omega arith) (let i : e + f.end - e ≡ f.end = omega arith in ap (λ k. get_or (drop e cs) k 0) (sym i) ∙ behind-at e cs (e + f.end) (omega arith) ∙ q) }
+      edge = λ h q. f.edge (omega arith) (let i : e + f.end - e ≡ f.end = omega arith in ap (λ k. get_or (drop e cs) k 0) (sym i) ∙ behind-at e cs (e + f.end) (omega arith) ∙ q);
+    }
 
 map-constant : (m : ℕ) (xs : List ℕ) (p : ℕ) → p < length xs → get_or (map (λ _. m) xs) p 0 ≡ m
 map-constant m [] p h = absurd (omega arith)
@@ -131,18 +133,32 @@ spread_from m s e cs middle ls rs at h w n at_from at_to at_is least_is l r =
     let ln = l.same_length in
     let rn = r.same_length in
     record {
-      low = l.low; high = r.high; m = m; at = at;
-      low_within = l.within; high_within = r.within; high_end = r.end;
+      low = l.low;
+      high = r.high;
+      m = m;
+      at = at;
+      low_within = l.within;
+      high_within = r.within;
+      high_end = r.end;
       same_length = length-append ls (b ++ rs) ∙ omega (arith, length-append b rs);
       inside = λ p a z. elim (cases_lt p s) [
-          inl k ↦ first_part ls b rs p (omega arith) ∙ l.new p a k
+        | inl k ↦ first_part ls b rs p (omega arith) ∙ l.new p a k
         | inr k ↦ elim (cases_lt p e) [
-            inl y ↦ second_part ls b rs p (omega arith) (omega arith) ∙ map-constant m middle (p - length ls) (omega arith)
-          | inr y ↦ third_part ls b rs p (omega arith) ∙ (let i : p - (length ls + length b) ≡ p - e = omega arith in ap (λ k. get_or rs k 0) i ∙ r.new p y z) ] ];
+          | inl y ↦ second_part ls b rs p (omega arith) (omega arith) ∙ map-constant m middle (p - length ls) (omega arith)
+          | inr y ↦ third_part ls b rs p (omega arith) ∙ (let i : p - (length ls + length b) ≡ p - e = omega arith in ap (λ k. get_or rs k 0) i ∙ r.new p y z)
+        ]
+      ];
       before = λ p a. first_part ls b rs p (omega (arith, l.within)) ∙ l.rest p a;
       behind = λ p a. third_part ls b rs p (omega (arith, r.within)) ∙ (let i : p - (length ls + length b) ≡ p - e = omega (arith, r.within) in ap (λ k. get_or rs k 0) i ∙ r.rest p a);
-      left = l.old; right = r.old; left_edge = l.edge; right_edge = r.edge;
-      at_from = at_from; at_to = at_to; at_is = at_is; least_is = least_is }
+      left = l.old;
+      right = r.old;
+      left_edge = l.edge;
+      right_edge = r.edge;
+      at_from = at_from;
+      at_to = at_to;
+      at_is = at_is;
+      least_is = least_is;
+    }
 
 -- what one merge of two places or more does
 pub spread : (s e : ℕ) (cs : List ℕ) → 1 < e - s → e ≤ length cs → Spread s e cs (spreading s e cs)
@@ -153,11 +169,11 @@ spread s e cs h w =
     let (k, kn, ke) = least-among middle (omega arith) in
     let first : opening middle ≡ get_or cs s 0 = opening-at middle ∙ stretch-at s e cs 0 (omega arith) ∙ (let i : s + 0 ≡ s = omega arith in ap (λ k. get_or cs k 0) i) in
     let last : opening (reverse middle) ≡ get_or cs (e - 1) 0 =
-        opening-at (reverse middle) ∙ reversed-at middle (e - s) 0 n (omega arith) ∙ stretch-at s e cs (e - s - 1 - 0) (omega arith) ∙ (let i : s + (e - s - 1 - 0) ≡ e - 1 = omega arith in ap (λ k. get_or cs k 0) i) in
+    opening-at (reverse middle) ∙ reversed-at middle (e - s) 0 n (omega arith) ∙ stretch-at s e cs (e - s - 1 - 0) (omega arith) ∙ (let i : s + (e - s - 1 - 0) ≡ e - 1 = omega arith in ap (λ k. get_or cs k 0) i) in
     spread_from m s e cs middle _ _ (s + k) (omega arith) w n (omega arith) (omega arith) (sym (stretch-at s e cs k (omega arith)) ∙ ke)
-      (λ p a b. let i : s + (p - s) ≡ p = omega arith in let q = stretch-at s e cs (p - s) (omega arith) ∙ ap (λ k. get_or cs k 0) i in let z = least-le middle (p - s) (omega arith) in omega arith)
-      (let P : ℕ → Type 0 = λ c. Left c m s cs (reverse (flood (opening middle) m (reverse (take s cs)))) in subst P first (left-is (opening middle) m s cs (omega arith)))
-      (let P : ℕ → Type 0 = λ c. Right c m e cs (flood (opening (reverse middle)) m (drop e cs)) in subst P last (right-is (opening (reverse middle)) m e cs w))
+    (λ p a b. let i : s + (p - s) ≡ p = omega arith in let q = stretch-at s e cs (p - s) (omega arith) ∙ ap (λ k. get_or cs k 0) i in let z = least-le middle (p - s) (omega arith) in omega arith)
+    (let P : ℕ → Type 0 = λ c. Left c m s cs (reverse (flood (opening middle) m (reverse (take s cs)))) in subst P first (left-is (opening middle) m s cs (omega arith)))
+    (let P : ℕ → Type 0 = λ c. Right c m e cs (flood (opening (reverse middle)) m (drop e cs)) in subst P last (right-is (opening (reverse middle)) m e cs w))
 
 two_cases : (n : ℕ) (a : Bool) {X : Type 0} (P : X → Type 0) (x y : X) → ((a ≡ false) ⊎ (n < 2) → P y) → (a ≡ true → 1 < n → P x) → P (if a && not (nat_lt n 2) then x else y)
 two_cases n true P x y here there = grind (arith, nat_tests)

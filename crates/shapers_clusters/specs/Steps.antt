@@ -1,9 +1,10 @@
 -- Steps: what a reordering does to a list of glyphs.
-use Rattle.std.proofs.Common.{ℕ, ◌+◌, ◌-◌, ◌<◌, ◌≤◌, ◌≡◌, ◌++◌, min, max, true, List, [], ◌∷◌, map, length, slice_index}
-use Rattle.std.specs.List.{AllByRecursion, filter_map, flat_map, slice_get, range_with_len}
+use Rattle.std.proofs.Common.{ℕ, ◌+◌, ◌-◌, ◌<◌, ◌≤◌, ◌≡◌, ◌++◌, min, max, true, List, [], map, length, slice_index}
+use Rattle.std.specs.List.{fold, AllByRecursion, filter_map, flat_map, slice_get, range_with_len}
 use Rattle.shapers_base.specs.declared.buffer.glyph.hb_glyph_info_t.{hb_glyph_info_t}
 use Rattle.shapers_base.specs.declared.buffer.level.BufferClusterLevel.{BufferClusterLevel}
 use Rattle.shapers_base.specs.Clusters.{merge_all}
+use Rattle.shapers_clusters.specs.Joined.{joined_all}
 use Rattle.shapers_clusters.specs.Neighbours.{EndWithin, held}
 
 -- the elements at these places, in the order of the places
@@ -19,14 +20,20 @@ pub record Step : Type 0 where
 -- the glyphs after one step, and after several, one after another
 abbrev pub run_step : BufferClusterLevel → Step → List hb_glyph_info_t → List hb_glyph_info_t
 run_step level step gs = merge_all level step.merged_then (pick step.places (merge_all level step.merged_first gs))
-abbrev pub run_steps : BufferClusterLevel → List Step → List hb_glyph_info_t → List hb_glyph_info_t
-run_steps level [] gs = gs
-run_steps level (step ∷ steps) gs = run_steps level steps (run_step level step gs)
 
--- for each place after the steps the old place of what stands there, where these are the old places so far
+abbrev pub run_steps : BufferClusterLevel → List Step → List hb_glyph_info_t → List hb_glyph_info_t
+run_steps level steps gs = fold (λ gs step. run_step level step gs) gs steps
+
+-- the same of clusters alone
+abbrev pub joined_step : BufferClusterLevel → Step → List ℕ → List ℕ
+joined_step level step cs = joined_all level step.merged_then (pick step.places (joined_all level step.merged_first cs))
+
+abbrev pub joined_steps : BufferClusterLevel → List Step → List ℕ → List ℕ
+joined_steps level steps cs = fold (λ cs step. joined_step level step cs) cs steps
+
+-- where these are the old places so far, for each place after the steps the old place of what stands there
 abbrev pub moved_on : List Step → List ℕ → List ℕ
-moved_on [] places = places
-moved_on (step ∷ steps) places = moved_on steps (pick step.places places)
+moved_on steps places = fold (λ places step. pick step.places places) places steps
 
 -- for each of n places after the steps the place before them
 abbrev pub old_places : ℕ → List Step → List ℕ
@@ -38,6 +45,7 @@ pub record FitsStep (n : ℕ) (step : Step) : Type 0 where
   pub within : AllByRecursion (λ p. p < n) step.places
   pub first_within : EndWithin n step.merged_first
   pub then_within : EndWithin n step.merged_then
+
 abbrev pub FitSteps : ℕ → List Step → Type 0
 FitSteps n steps = AllByRecursion (FitsStep n) steps
 
@@ -62,8 +70,10 @@ all_first steps = flat_map (λ step. step.merged_first) steps
 -- stretches and steps over the places s..e of n places, of which they number the first by 0
 abbrev pub shifted : ℕ → List (ℕ × ℕ) → List (ℕ × ℕ)
 shifted s sts = map (λ st. (s + st.0, s + st.1)) sts
+
 abbrev pub widened : ℕ → ℕ → ℕ → Step → Step
 widened s e n step = record {
-    merged_first = shifted s step.merged_first;
-    places = range_with_len 0 s ++ (map (λ p. s + p) step.places ++ range_with_len e (n - e));
-    merged_then = shifted s step.merged_then }
+  merged_first = shifted s step.merged_first;
+  places = range_with_len 0 s ++ (map (λ p. s + p) step.places ++ range_with_len e (n - e));
+  merged_then = shifted s step.merged_then;
+}

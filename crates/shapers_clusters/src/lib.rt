@@ -1,2 +1,51 @@
-//! The laws of clusters and glyph flags.
+//! The laws of clusters and glyph flags: what merges and moves do to any list of glyphs. Each law is the
+//! contract of a function without a body.
 #![tactic(auto)]
+
+ghost use Rattle.shapers_clusters.specs.Laws.{MergeLaw, ExactCutsLaw, StepsLaw, ClustersLaw, MergedStepsLaw, WidenedLaw, AlongLaw, SourcesLaw, MovedSourcesLaw};
+
+/// What one merge of clusters does to any glyphs.
+pub fn merge_law()
+    ensures { MergeLaw }
+{}
+
+/// Exact cuts: where clusters never decrease, or never increase, merges leave exactly the cuts that no
+/// merged stretch holds, and each place gets the least cluster of its block.
+pub fn exact_cuts_law()
+    ensures { ExactCutsLaw }
+{}
+
+/// What merges and moves, in any order, do to any glyphs: order view, clusters and flags.
+pub fn steps_law()
+    ensures { StepsLaw }
+{}
+
+/// What merges and moves, in any order, do to any clusters: none is new, and labels are respected.
+pub fn clusters_law()
+    ensures { ClustersLaw }
+{}
+
+/// Moves inside merged stretches leave the merged clusters in place: the cluster law and exact cuts.
+pub fn merged_steps_law()
+    ensures { MergedStepsLaw }
+{}
+
+/// Steps over a stretch of places are steps over all places.
+pub fn widened_law()
+    ensures { WidenedLaw }
+{}
+
+/// Steps of neighbouring stretches, one after another, are steps over all places.
+pub fn along_law()
+    ensures { AlongLaw }
+{}
+
+/// Made and dropped glyphs: exact cuts, flags and old clusters seen through each glyph's source.
+pub fn sources_law()
+    ensures { SourcesLaw }
+{}
+
+/// Made glyphs that move inside merged stretches: the cluster law.
+pub fn moved_sources_law()
+    ensures { MovedSourcesLaw }
+{}

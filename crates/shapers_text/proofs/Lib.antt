@@ -1,5 +1,6 @@
 mod RequestRows
 pub mod ThaiFormLaws
 pub mod ThaiFormWalks
+pub mod ThaiRows
 pub mod ThaiSaraAm
 pub mod ThaiStretches

@@ -1,13 +1,13 @@
 -- The forms, one more character at the end.
-use Rattle.std.proofs.Common.{◌≡◌, ◌⊎◌, inl, inr, ℕ, zero, suc, ◌-◌, ◌+◌, ◌<◌, ◌≤◌, ◌==◌, Bool, true, false, cond, not, ◌||◌, ◌&&◌, List, [], ◌∷◌, ◌++◌, length, take, drop, get_or, set, map, reverse, Option, None, Some, refl, sym, ap, ◌∙◌, subst, arith, length-append}
-use Rattle.std.specs.List.{list_any, count_by, take_while, suffix_len, find}
-use Rattle.std.proofs.lemmas.Bool.{or_parts, or_from}
+use Rattle.std.proofs.Common.{◌≡◌, ◌⊎◌, inl, inr, ℕ, suc, ◌-◌, ◌+◌, ◌==◌, Bool, true, false, cond, not, ◌||◌, ◌&&◌, List, [], ◌∷◌, ◌++◌, length, take, drop, get_or, set, reverse, refl, sym, ap, ◌∙◌, subst, arith, length-append}
+use Rattle.std.specs.List.{list_any, count_by, take_while, suffix_len}
+use Rattle.std.proofs.lemmas.Bool.{or_parts}
 use Rattle.std.proofs.lemmas.Bool.Decides.{nat_tests}
 use Rattle.std.proofs.lemmas.List.{append_assoc, append-nil, get_or_at, set_at, reverse-append, length_push}
 use Rattle.std.proofs.lemmas.List.Folds.{list_any-append}
 use Rattle.std.proofs.lemmas.List.Sums.{take_while-cons}
 use Rattle.shapers_base.specs.Lists.{last_run, before_last_run}
-use Rattle.shapers_base.specs.ListLaws.{LastPass, last_pass, none_from_count, count_from_none, none_pushed, none_before_push, from_end, suffix_len_yes, suffix_len_no, suffix_len_stop, before_last_run_yes, before_last_run_no, last_run_yes, last_run_no, count_push, last_run_stop, before_last_run_stop}
+use Rattle.shapers_base.specs.ListLaws.{last_pass, none_from_count, count_from_none, none_pushed, none_before_push, from_end, suffix_len_yes, suffix_len_no, suffix_len_stop, before_last_run_yes, before_last_run_no, last_run_yes, last_run_no, count_push, last_run_stop, before_last_run_stop}
 use Rattle.shapers_text.specs.declared.ot_shaper_thai.forms.Consonant.{Consonant}
 use Rattle.shapers_text.specs.declared.ot_shaper_thai.forms.Consonant.TheVariants.{NC, AC, RC, DC, NotConsonant}
 use Rattle.shapers_text.specs.declared.ot_shaper_thai.forms.Mark.{Mark}
@@ -15,7 +15,7 @@ use Rattle.shapers_text.specs.declared.ot_shaper_thai.forms.Mark.TheVariants.{AV
 use Rattle.shapers_text.specs.declared.ot_shaper_thai.forms.Action.{Action}
 use Rattle.shapers_text.specs.declared.ot_shaper_thai.forms.Action.TheVariants.{NOP, SD, SL, SDL, RD}
 use Rattle.shapers_text.specs.declared.ot_shaper_thai.forms.Base.{Base}
-use Rattle.shapers_text.specs.ThaiForms.{counted_base, base_after, consonant_type, mark_type, stands_above, stands_below, is_thai_mark, above_action, below_action, action_of, shaped_by, last_type, base_type, marks_above, marks_below, action_after, has_below, is_removable, form_between, forms_between, base_place, target}
+use Rattle.shapers_text.specs.ThaiForms.{counted_base, base_after, consonant_type, mark_type, stands_above, stands_below, is_thai_mark, action_of, shaped_by, last_type, base_type, marks_above, marks_below, action_after, has_below, is_removable, form_between, forms_between, base_place, target}
 
 -- as many forms as characters
 pub length-forms : (has : ℕ → Bool) (before us after : List ℕ) → length (forms_between has before us after) ≡ length us
@@ -28,7 +28,7 @@ forms-append has before [] ys after = ap (λ b. forms_between has b ys after) (s
 forms-append has before (x ∷ xs) ys after =
     ap (λ zs. form_between has before x zs ∷ forms_between has (before ++ x ∷ []) (xs ++ ys) after) (append_assoc xs ys after)
     ∙ ap (λ zs. form_between has before x (xs ++ (ys ++ after)) ∷ zs) (forms-append has (before ++ x ∷ []) xs ys after
-        ∙ ap (λ b. forms_between has (before ++ x ∷ []) xs (ys ++ after) ++ forms_between has b ys after) (append_assoc before (x ∷ []) xs))
+    ∙ ap (λ b. forms_between has (before ++ x ∷ []) xs (ys ++ after) ++ forms_between has b ys after) (append_assoc before (x ∷ []) xs))
 
 -- the marks that follow: one by one
 any_of_cond : (b : Bool) (u : ℕ) (us : List ℕ) → list_any (λ v. stands_below (mark_type v)) (cond b (u ∷ us) []) ≡ cond b (stands_below (mark_type u) || list_any (λ v. stands_below (mark_type v)) us) false
@@ -90,6 +90,7 @@ own_if false action other own own_other = own_other
 -- what a mark does to its base: it takes the descender, or leaves it as it is
 abbrev TakesDescender : Consonant → Mark → ℕ → ℕ → Bool → Type 0
 TakesDescender base mark a b h = (action_of base mark a b ≡ RD) × ((is_removable base ≡ true) × ((stands_below mark ≡ true) × (h ≡ false)))
+
 abbrev LeavesBase : Consonant → Mark → ℕ → ℕ → Bool → Type 0
 LeavesBase base mark a b h = Own (action_of base mark a b) × ((is_removable base && (h || stands_below mark)) ≡ (is_removable base && h))
 
@@ -144,8 +145,8 @@ eqb_eq a b h = grind (arith, nat_tests)
 not_this : (v u : ℕ) → stands_below (mark_type u) ≡ true → stands_below (mark_type v) ≡ false → (v == u) ≡ false
 not_this v u below other =
     elim (v == u) as (λ b. (v == u) ≡ b → b ≡ false) [
-      true ↦ λ e. sym below ∙ ap (λ w. stands_below (mark_type w)) (sym (eqb_eq v u e)) ∙ other
-    | false ↦ λ e. refl
+      | true ↦ λ e. sym below ∙ ap (λ w. stands_below (mark_type w)) (sym (eqb_eq v u e)) ∙ other
+      | false ↦ λ e. refl
     ] refl
 
 below_keeps : (has : ℕ → Bool) (u : ℕ) → stands_below (mark_type u) ≡ true → shaped_by has u RD ≡ u
@@ -176,21 +177,21 @@ below_pushed ms u marks is_one =
 passes_run : (test : ℕ → Bool) (ms : List ℕ) → list_any (λ u. not (test u)) ms ≡ false → suffix_len test ms ≡ length ms
 passes_run test ms marks =
     from_end (λ xs. list_any (λ u. not (test u)) xs ≡ false → suffix_len test xs ≡ length xs) (λ _. refl)
-      (λ xs x same none.
-        let parts = none_before_push (λ u. not (test u)) xs x none in
-        let whole = suffix_len_yes test xs x (not_false _ parts.1) in
-        let front = same parts.0 in
-        omega (arith, length_push xs x)) ms marks
+    (λ xs x same none.
+    let parts = none_before_push (λ u. not (test u)) xs x none in
+    let whole = suffix_len_yes test xs x (not_false _ parts.1) in
+    let front = same parts.0 in
+    omega (arith, length_push xs x)) ms marks
 
 -- a count is 0 exactly if none passes
 zero_count : (test : ℕ → Bool) (xs : List ℕ) → (count_by test xs == 0) ≡ not (list_any test xs)
 zero_count test xs =
     elim (list_any test xs) as (λ b. list_any test xs ≡ b → (count_by test xs == 0) ≡ not b) [
-      false ↦ λ none. ap (λ n. n == 0) (count_from_none test xs none)
-    | true ↦ λ some. elim (count_by test xs == 0) as (λ c. (count_by test xs == 0) ≡ c → c ≡ false) [
-          true ↦ λ zero. sym some ∙ none_from_count test xs (eqb_eq _ _ zero)
+      | false ↦ λ none. ap (λ n. n == 0) (count_from_none test xs none)
+      | true ↦ λ some. elim (count_by test xs == 0) as (λ c. (count_by test xs == 0) ≡ c → c ≡ false) [
+        | true ↦ λ zero. sym some ∙ none_from_count test xs (eqb_eq _ _ zero)
         | false ↦ λ _. refl
-        ] refl
+      ] refl
     ] refl
 
 -- the text at a base's marks
@@ -204,15 +205,15 @@ at_marks ys base ms none marks =
     let run = passes_run is_thai_mark ms marks in
     let zero_left : length ms - suffix_len is_thai_mark ms ≡ 0 = omega arith in
     let before : before_last_run is_thai_mark (ys ++ base ∷ ms) ≡ ys ++ base ∷ [] =
-      before_last_run_stop is_thai_mark ys base ms none ∙ ap (λ n. ys ++ base ∷ take n ms) zero_left in
+    before_last_run_stop is_thai_mark ys base ms none ∙ ap (λ n. ys ++ base ∷ take n ms) zero_left in
     let last : last_run is_thai_mark (ys ++ base ∷ ms) ≡ ms =
-      last_run_stop is_thai_mark ys base ms none ∙ ap (λ n. drop n ms) zero_left in
+    last_run_stop is_thai_mark ys base ms none ∙ ap (λ n. drop n ms) zero_left in
     record {
       type_is = ap (λ zs. last_type (reverse zs)) before ∙ ap last_type (reverse-append ys (base ∷ []));
       below_is =
-        ap (λ zs. count_by (λ u. stands_below (mark_type u)) zs == 0) last
-        ∙ zero_count (λ u. stands_below (mark_type u)) ms
-        ∙ ap not (sym (below_marks ms marks));
+          ap (λ zs. count_by (λ u. stands_below (mark_type u)) zs == 0) last
+          ∙ zero_count (λ u. stands_below (mark_type u)) ms
+          ∙ ap not (sym (below_marks ms marks));
       place_is = omega (arith, length-append ys (base ∷ ms), suffix_len_stop is_thai_mark ys base ms none);
     }
 
@@ -273,7 +274,7 @@ shapes_plain : (has : ℕ → Bool) (xs : List ℕ) (u : ℕ) (rest : List ℕ) 
 shapes_plain has xs u rest none =
     let nothing : action_after xs u ≡ NOP = no_action (base_type xs) (mark_type u) (marks_above xs) (marks_below xs) none in
     shapes_own has xs u rest (λ x y. ap (λ a. target a x y) nothing) (forms_stop has [] xs u [] none)
-      (plain_form has xs u none ∙ sym (ap (shaped_by has u) nothing))
+    (plain_form has xs u none ∙ sym (ap (shaped_by has u) nothing))
 
 -- a mark without a base
 shapes_alone : (has : ℕ → Bool) (xs : List ℕ) (u : ℕ) (rest : List ℕ) → list_any (λ v. not (is_thai_mark v)) xs ≡ false → is_thai_mark u ≡ true → Shapes has xs u rest
@@ -282,7 +283,7 @@ shapes_alone has xs u rest marks is_one =
     let zero_left : length xs - suffix_len is_thai_mark xs ≡ 0 = omega arith in
     let no_base : base_type xs ≡ NotConsonant = ap (λ n. last_type (reverse (take n xs))) zero_left in
     shapes_own has xs u rest (λ x y. ap (λ k. target (action_of k (mark_type u) (marks_above xs) (marks_below xs)) x y) no_base ∙ own_without (mark_type u) (marks_above xs) (marks_below xs) x y)
-      (forms_marks has [] xs (u ∷ []) marks) (mark_form has xs u is_one)
+    (forms_marks has [] xs (u ∷ []) marks) (mark_form has xs u is_one)
 
 -- a mark with a base
 shapes_with : (has : ℕ → Bool) (ys : List ℕ) (base : ℕ) (ms : List ℕ) (u : ℕ) (rest : List ℕ) → is_thai_mark base ≡ false → list_any (λ v. not (is_thai_mark v)) ms ≡ false → is_thai_mark u ≡ true → Shapes has (ys ++ base ∷ ms) u rest
@@ -294,44 +295,44 @@ shapes_with has ys base ms u rest none marks is_one =
     let ps = forms_between has [] ys [] in
     let behind = forms_between has (ys ++ base ∷ []) ms [] in
     let now : forms_between has [] xs [] ≡ ps ++ (cond (is_removable (base_type xs) && h) (shaped_by has base RD) base ∷ behind) =
-      split_forms has ys base ms [] none marks
-      ∙ ap (λ b. ps ++ (cond (is_removable (consonant_type base) && b) (shaped_by has base RD) base ∷ behind)) (ap has_below (append-nil ms))
-      ∙ ap (λ k. ps ++ (cond (is_removable k && h) (shaped_by has base RD) base ∷ behind)) (sym at.type_is) in
+    split_forms has ys base ms [] none marks
+    ∙ ap (λ b. ps ++ (cond (is_removable (consonant_type base) && b) (shaped_by has base RD) base ∷ behind)) (ap has_below (append-nil ms))
+    ∙ ap (λ k. ps ++ (cond (is_removable k && h) (shaped_by has base RD) base ∷ behind)) (sym at.type_is) in
     let next : forms_between has [] xs (u ∷ []) ≡ ps ++ (cond (is_removable (base_type xs) && (h || s)) (shaped_by has base RD) base ∷ behind) =
-      split_forms has ys base ms (u ∷ []) none marks
-      ∙ ap (λ b. ps ++ (cond (is_removable (consonant_type base) && b) (shaped_by has base RD) base ∷ behind)) (below_pushed ms u marks is_one)
-      ∙ ap (λ k. ps ++ (cond (is_removable k && (h || s)) (shaped_by has base RD) base ∷ behind)) (sym at.type_is) in
+    split_forms has ys base ms (u ∷ []) none marks
+    ∙ ap (λ b. ps ++ (cond (is_removable (consonant_type base) && b) (shaped_by has base RD) base ∷ behind)) (below_pushed ms u marks is_one)
+    ∙ ap (λ k. ps ++ (cond (is_removable k && (h || s)) (shaped_by has base RD) base ∷ behind)) (sym at.type_is) in
     elim (acts (base_type xs) (mark_type u) (marks_above xs) (marks_below xs) h at.below_is) [
-      inr leaves ↦
-        shapes_own has xs u rest leaves.0
+      | inr leaves ↦
+          shapes_own has xs u rest leaves.0
           (next ∙ ap (λ b. ps ++ (cond b (shaped_by has base RD) base ∷ behind)) leaves.1 ∙ sym now)
           (mark_form has xs u is_one)
-    | inl takes ↦
-        let unshaped : forms_between has [] xs [] ≡ ps ++ base ∷ behind =
+      | inl takes ↦
+          let unshaped : forms_between has [] xs [] ≡ ps ++ base ∷ behind =
           now ∙ ap (λ b. ps ++ (cond (is_removable (base_type xs) && b) (shaped_by has base RD) base ∷ behind)) takes.1.1.1
           ∙ ap (λ b. ps ++ (cond b (shaped_by has base RD) base ∷ behind)) (and_false (is_removable (base_type xs))) in
-        let shaped : forms_between has [] xs (u ∷ []) ≡ ps ++ shaped_by has base RD ∷ behind =
+          let shaped : forms_between has [] xs (u ∷ []) ≡ ps ++ shaped_by has base RD ∷ behind =
           next ∙ ap (λ b. ps ++ (cond (b && (h || s)) (shaped_by has base RD) base ∷ behind)) takes.1.0
           ∙ ap (λ b. ps ++ (cond (h || b) (shaped_by has base RD) base ∷ behind)) takes.1.1.0
           ∙ ap (λ b. ps ++ (cond (b || true) (shaped_by has base RD) base ∷ behind)) takes.1.1.1 in
-        let itself : form_between has xs u [] ≡ u = mark_form has xs u is_one ∙ ap (shaped_by has u) takes.0 ∙ below_keeps has u takes.1.1.0 in
-        ap (λ a. put has (target a (base_place xs) (length xs)) a (forms_between has [] xs [] ++ u ∷ rest)) takes.0
-        ∙ ap (λ n. put has n RD (forms_between has [] xs [] ++ u ∷ rest)) at.place_is
-        ∙ ap (λ zs. put has (length ys) RD (zs ++ u ∷ rest)) unshaped
-        ∙ set_base has ps base behind u rest (length ys) RD (length-forms has [] ys [])
-        ∙ ap (λ v. ((ps ++ shaped_by has base RD ∷ behind) ++ v ∷ []) ++ rest) (sym itself)
-        ∙ ap (λ zs. (zs ++ form_between has xs u [] ∷ []) ++ rest) (sym shaped)
-        ∙ ap (λ zs. zs ++ rest) (sym (last_form has xs u))
+          let itself : form_between has xs u [] ≡ u = mark_form has xs u is_one ∙ ap (shaped_by has u) takes.0 ∙ below_keeps has u takes.1.1.0 in
+          ap (λ a. put has (target a (base_place xs) (length xs)) a (forms_between has [] xs [] ++ u ∷ rest)) takes.0
+          ∙ ap (λ n. put has n RD (forms_between has [] xs [] ++ u ∷ rest)) at.place_is
+          ∙ ap (λ zs. put has (length ys) RD (zs ++ u ∷ rest)) unshaped
+          ∙ set_base has ps base behind u rest (length ys) RD (length-forms has [] ys [])
+          ∙ ap (λ v. ((ps ++ shaped_by has base RD ∷ behind) ++ v ∷ []) ++ rest) (sym itself)
+          ∙ ap (λ zs. (zs ++ form_between has xs u [] ∷ []) ++ rest) (sym shaped)
+          ∙ ap (λ zs. zs ++ rest) (sym (last_form has xs u))
     ]
 
 pub shapes : (has : ℕ → Bool) (xs : List ℕ) (u : ℕ) (rest : List ℕ) → Shapes has xs u rest
 shapes has xs u rest =
     elim (is_thai_mark u) as (λ b. is_thai_mark u ≡ b → Shapes has xs u rest) [
-      false ↦ λ none. shapes_plain has xs u rest none
-    | true ↦ λ is_one. elim (last_pass (λ v. not (is_thai_mark v)) xs) [
-          inl marks ↦ shapes_alone has xs u rest marks is_one
+      | false ↦ λ none. shapes_plain has xs u rest none
+      | true ↦ λ is_one. elim (last_pass (λ v. not (is_thai_mark v)) xs) [
+        | inl marks ↦ shapes_alone has xs u rest marks is_one
         | inr p ↦ subst (λ zs. Shapes has zs u rest) (sym p.parts) (shapes_with has p.before p.element p.after u rest (not_true _ p.passes) p.none_after is_one)
-        ]
+      ]
     ] refl
 
 -- the base and its counts, as the walk keeps them
@@ -344,17 +345,17 @@ pub record IsBase (xs : List ℕ) (base : Base) : Type 0 where
 pub base_place_push : (xs : List ℕ) (u : ℕ) → base_place (xs ++ u ∷ []) ≡ cond (is_thai_mark u) (base_place xs) (length xs)
 base_place_push xs u =
     elim (is_thai_mark u) as (λ b. is_thai_mark u ≡ b → base_place (xs ++ u ∷ []) ≡ cond b (base_place xs) (length xs)) [
-      true ↦ λ h. omega (arith, length_push xs u, suffix_len_yes is_thai_mark xs u h)
-    | false ↦ λ h. omega (arith, length_push xs u, suffix_len_no is_thai_mark xs u h)
+      | true ↦ λ h. omega (arith, length_push xs u, suffix_len_yes is_thai_mark xs u h)
+      | false ↦ λ h. omega (arith, length_push xs u, suffix_len_no is_thai_mark xs u h)
     ] refl
 
 base_at : (xs : List ℕ) (u : ℕ) → is_thai_mark u ≡ false → IsBase (xs ++ u ∷ []) (record { place = length xs; consonant = consonant_type u; above = 0; below = 0 })
 base_at xs u none = record {
-    place_is = sym (base_place_push xs u ∙ ap (λ b. cond b (base_place xs) (length xs)) none);
-    type_is = sym (ap (λ zs. last_type (reverse zs)) (before_last_run_no is_thai_mark xs u none) ∙ ap last_type (reverse-append xs (u ∷ [])));
-    above_is = sym (ap (count_by (λ v. stands_above (mark_type v))) (last_run_no is_thai_mark xs u none));
-    below_is = sym (ap (count_by (λ v. stands_below (mark_type v))) (last_run_no is_thai_mark xs u none));
-  }
+  place_is = sym (base_place_push xs u ∙ ap (λ b. cond b (base_place xs) (length xs)) none);
+  type_is = sym (ap (λ zs. last_type (reverse zs)) (before_last_run_no is_thai_mark xs u none) ∙ ap last_type (reverse-append xs (u ∷ [])));
+  above_is = sym (ap (count_by (λ v. stands_above (mark_type v))) (last_run_no is_thai_mark xs u none));
+  below_is = sym (ap (count_by (λ v. stands_below (mark_type v))) (last_run_no is_thai_mark xs u none));
+}
 
 -- a mark counted above or below
 abbrev counted : Base → Bool → Bool → Base
@@ -362,15 +363,15 @@ counted base above below = record base { above = base.above + cond above 1 0; be
 
 base_kept : (xs : List ℕ) (u : ℕ) (base : Base) → IsBase xs base → is_thai_mark u ≡ true → IsBase (xs ++ u ∷ []) (counted base (stands_above (mark_type u)) (stands_below (mark_type u)))
 base_kept xs u base is is_one = record {
-    place_is = is.place_is ∙ sym (base_place_push xs u ∙ ap (λ b. cond b (base_place xs) (length xs)) is_one);
-    type_is = is.type_is ∙ sym (ap (λ zs. last_type (reverse zs)) (before_last_run_yes is_thai_mark xs u is_one));
-    above_is =
+  place_is = is.place_is ∙ sym (base_place_push xs u ∙ ap (λ b. cond b (base_place xs) (length xs)) is_one);
+  type_is = is.type_is ∙ sym (ap (λ zs. last_type (reverse zs)) (before_last_run_yes is_thai_mark xs u is_one));
+  above_is =
       ap (λ n. n + cond (stands_above (mark_type u)) 1 0) is.above_is
       ∙ sym (ap (count_by (λ v. stands_above (mark_type v))) (last_run_yes is_thai_mark xs u is_one) ∙ count_push (λ v. stands_above (mark_type v)) (last_run is_thai_mark xs) u _ refl);
-    below_is =
+  below_is =
       ap (λ n. n + cond (stands_below (mark_type u)) 1 0) is.below_is
       ∙ sym (ap (count_by (λ v. stands_below (mark_type v))) (last_run_yes is_thai_mark xs u is_one) ∙ count_push (λ v. stands_below (mark_type v)) (last_run is_thai_mark xs) u _ refl);
-  }
+}
 
 counted_is : (mark : Mark) (base : Base) (i u : ℕ) → (stands_above mark || stands_below mark) ≡ true → counted_base mark base i u ≡ counted base (stands_above mark) (stands_below mark)
 counted_is AV base i u h = let e : base.below ≡ base.below + 0 = omega arith in ap (λ n. let b : Base = record base { above = base.above + 1; below = n } in b) e
@@ -387,9 +388,9 @@ uncounted_is NotMark base i u h = refl
 pub base_push : (xs : List ℕ) (u : ℕ) (base : Base) (i : ℕ) → i ≡ length xs → IsBase xs base → IsBase (xs ++ u ∷ []) (base_after base i u)
 base_push xs u base i place is =
     elim (is_thai_mark u) as (λ b. is_thai_mark u ≡ b → IsBase (xs ++ u ∷ []) (base_after base i u)) [
-      true ↦ λ is_one. subst (IsBase (xs ++ u ∷ [])) (sym (counted_is (mark_type u) base i u is_one)) (base_kept xs u base is is_one)
-    | false ↦ λ none. subst (IsBase (xs ++ u ∷ [])) (sym (uncounted_is (mark_type u) base i u none))
-        (subst (λ n. IsBase (xs ++ u ∷ []) (let b : Base = record { place = n; consonant = consonant_type u; above = 0; below = 0 } in b)) (sym place) (base_at xs u none))
+      | true ↦ λ is_one. subst (IsBase (xs ++ u ∷ [])) (sym (counted_is (mark_type u) base i u is_one)) (base_kept xs u base is is_one)
+      | false ↦ λ none. subst (IsBase (xs ++ u ∷ [])) (sym (uncounted_is (mark_type u) base i u none))
+          (subst (λ n. IsBase (xs ++ u ∷ []) (let b : Base = record { place = n; consonant = consonant_type u; above = 0; below = 0 } in b)) (sym place) (base_at xs u none))
     ] refl
 
 pub base_none : IsBase [] (record { place = 0; consonant = NotConsonant; above = 0; below = 0 })

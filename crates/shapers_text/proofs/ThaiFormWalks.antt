@@ -1,11 +1,11 @@
 -- The two walks: the flags, and the forms.
-use Rattle.std.proofs.Common.{◌≡◌, ◌⊎◌, inl, inr, ℕ, zero, suc, ◌-◌, ◌+◌, ◌<◌, ◌≤◌, ◌==◌, eqb, Bool, true, false, cond, List, [], ◌∷◌, ◌++◌, length, take, drop, get_or, set, map, refl, sym, ap, ◌∙◌, subst, arith}
-use Rattle.std.specs.List.{flat_map, zip, suffix_len}
+use Rattle.std.proofs.Common.{◌≡◌, ℕ, zero, suc, ◌-◌, ◌+◌, ◌<◌, ◌≤◌, eqb, Bool, true, false, cond, List, [], ◌∷◌, ◌++◌, length, take, drop, get_or, map, refl, sym, ap, ◌∙◌, subst, arith}
+use Rattle.std.specs.List.{suffix_len}
 use Rattle.std.proofs.lemmas.List.Sums.{count_by-le-length}
-use Rattle.std.proofs.lemmas.List.{append_assoc, append-nil, map-append, length-map, length-take-le, length-drop, length-append, take_more, drop_more, take_all, drop_all, get_or-map, get_or_at, take-append-drop}
+use Rattle.std.proofs.lemmas.List.{append-nil, map-append, length-map, length-take-le, length-drop, take_more, drop_more, take_all, drop_all, get_or-map, get_or_at}
 use Rattle.shapers_base.specs.declared.buffer.glyph.hb_glyph_info_t.{hb_glyph_info_t}
 use Rattle.shapers_base.specs.Buffer.{Buffer}
-use Rattle.shapers_base.specs.Glyph.{default_glyph, clusters}
+use Rattle.shapers_base.specs.Glyph.{clusters}
 use Rattle.shapers_base.specs.Clusters.{least, stretch_of}
 use Rattle.shapers_base.specs.GlyphFlags.{with_bits, with_bits_off, flagged, unsafe_inside}
 use Rattle.shapers_base.specs.Lists.{each_after, last_run}
@@ -14,7 +14,7 @@ use Rattle.shapers_text.specs.declared.ot_shaper_thai.forms.Action.{Action}
 use Rattle.shapers_text.specs.declared.ot_shaper_thai.forms.Base.{Base}
 use Rattle.shapers_text.specs.declared.ot_shaper_thai.forms.Consonant.TheVariants.{NotConsonant}
 use Rattle.shapers_text.proofs.ThaiStretches.{with_glyphs}
-use Rattle.shapers_text.specs.ThaiForms.{stands_above, stands_below, mark_type, is_thai_mark, base_type, marks_above, marks_below, action_of, action_after, shaped_by, forms_between, characters, with_character, with_characters, with_forms, target, form_set, base_after, base_place, stretch_of_mark, mark_stretches_of_each, mark_stretches, unsafe_all}
+use Rattle.shapers_text.specs.ThaiForms.{stands_above, stands_below, mark_type, is_thai_mark, base_type, marks_above, action_of, action_after, forms_between, characters, with_character, with_characters, with_forms, target, form_set, base_after, base_place, stretch_of_mark, mark_stretches_of_each, mark_stretches, unsafe_all}
 use Rattle.shapers_text.proofs.ThaiFormLaws.{IsBase, base_push, base_none, base_place_push, length-forms, put, shapes}
 
 -- flags leave the characters
@@ -57,10 +57,10 @@ pub record Splits (us : List ℕ) (i u : ℕ) : Type 0 where
 
 splits : (us : List ℕ) (i u : ℕ) → i < length us → u ≡ get_or us i 0 → Splits us i u
 splits us i u inside at = record {
-    rest_is = drop_more us i 0 inside ∙ ap (λ v. v ∷ drop (i + 1) us) (sym at);
-    front_is = take_more us i 0 inside ∙ ap (λ v. take i us ++ v ∷ []) (sym at);
-    length_is = length-take-le i us (omega arith);
-  }
+  rest_is = drop_more us i 0 inside ∙ ap (λ v. v ∷ drop (i + 1) us) (sym at);
+  front_is = take_more us i 0 inside ∙ ap (λ v. take i us ++ v ∷ []) (sym at);
+  length_is = length-take-le i us (omega arith);
+}
 
 pub flagging_base : (start now : List hb_glyph_info_t) (i base : ℕ) → i ≤ length start → Flagging start now i base → base ≤ i
 flagging_base start now i base within f =
@@ -72,8 +72,8 @@ flagging_length start now i base f = sym (length-map now (λ g. g.glyph_id)) ∙
 characters-stretch : (base i u : ℕ) (gs : List hb_glyph_info_t) → base ≤ i → characters (unsafe_all (stretch_of_mark base i u) gs) ≡ characters gs
 characters-stretch base i u gs h =
     elim (is_thai_mark u) as (λ b. characters (unsafe_all (cond b ((base, i) ∷ []) []) gs) ≡ characters gs) [
-      true ↦ characters-unsafe base i gs h
-    | false ↦ refl
+      | true ↦ characters-unsafe base i gs h
+      | false ↦ refl
     ]
 
 pub flagging_next : (start now after : List hb_glyph_info_t) (i base base' : ℕ) (g : hb_glyph_info_t) → i < length start → Flagging start now i base → g ≡ get_or now i g → after ≡ unsafe_all (stretch_of_mark base i g.glyph_id) now → base' ≡ cond (is_thai_mark g.glyph_id) base i → Flagging start after (i + 1) base'
@@ -83,28 +83,28 @@ flagging_next start now after i base base' g inside f at flagged counted =
     let long : length us ≡ length start = length-map start (λ x. x.glyph_id) in
     let inside_now : i < length now = omega (arith, flagging_length start now i base f) in
     let read : u ≡ get_or us i 0 =
-      ap (λ x. x.glyph_id) at ∙ sym (get_or-map (λ x. x.glyph_id) now i g 0 inside_now) ∙ ap (λ vs. get_or vs i 0) f.same_text in
+    ap (λ x. x.glyph_id) at ∙ sym (get_or-map (λ x. x.glyph_id) now i g 0 inside_now) ∙ ap (λ vs. get_or vs i 0) f.same_text in
     let s = splits us i u (omega arith) read in
     let before = take i us in
     let to_come = mark_stretches_of_each (each_after (take (i + 1) us) (drop (i + 1) us)) in
     let stretches : mark_stretches_of_each (each_after before (drop i us)) ≡ stretch_of_mark base i u ++ to_come =
-      ap (λ vs. mark_stretches_of_each (each_after before vs)) s.rest_is
-      ∙ ap (λ n. stretch_of_mark (base_place before) n u ++ mark_stretches_of_each (each_after (before ++ u ∷ []) (drop (i + 1) us))) s.length_is
-      ∙ ap (λ n. stretch_of_mark n i u ++ mark_stretches_of_each (each_after (before ++ u ∷ []) (drop (i + 1) us))) (sym f.base_is)
-      ∙ ap (λ vs. stretch_of_mark base i u ++ mark_stretches_of_each (each_after vs (drop (i + 1) us))) (sym s.front_is) in
+    ap (λ vs. mark_stretches_of_each (each_after before vs)) s.rest_is
+    ∙ ap (λ n. stretch_of_mark (base_place before) n u ++ mark_stretches_of_each (each_after (before ++ u ∷ []) (drop (i + 1) us))) s.length_is
+    ∙ ap (λ n. stretch_of_mark n i u ++ mark_stretches_of_each (each_after (before ++ u ∷ []) (drop (i + 1) us))) (sym f.base_is)
+    ∙ ap (λ vs. stretch_of_mark base i u ++ mark_stretches_of_each (each_after vs (drop (i + 1) us))) (sym s.front_is) in
     record {
       same_text = ap characters flagged ∙ characters-stretch base i u now (flagging_base start now i base (omega arith) f) ∙ f.same_text;
       base_is =
-        counted
-        ∙ ap (λ n. cond (is_thai_mark u) n i) f.base_is
-        ∙ ap (λ n. cond (is_thai_mark u) (base_place before) n) (sym s.length_is)
-        ∙ sym (base_place_push before u)
-        ∙ ap base_place (sym s.front_is);
+          counted
+          ∙ ap (λ n. cond (is_thai_mark u) n i) f.base_is
+          ∙ ap (λ n. cond (is_thai_mark u) (base_place before) n) (sym s.length_is)
+          ∙ sym (base_place_push before u)
+          ∙ ap base_place (sym s.front_is);
       rest =
-        ap (unsafe_all to_come) flagged
-        ∙ sym (unsafe_all-append (stretch_of_mark base i u) to_come now)
-        ∙ ap (λ sts. unsafe_all sts now) (sym stretches)
-        ∙ f.rest;
+          ap (unsafe_all to_come) flagged
+          ∙ sym (unsafe_all-append (stretch_of_mark base i u) to_come now)
+          ∙ ap (λ sts. unsafe_all sts now) (sym stretches)
+          ∙ f.rest;
     }
 
 pub flagging_all : (start now : List hb_glyph_info_t) (i base : ℕ) → length start ≤ i → Flagging start now i base → now ≡ unsafe_all (mark_stretches (characters start)) start
@@ -159,28 +159,28 @@ shaping_next has start now after i base g inside s at changed =
     let as_long : length fs ≡ i = length-forms has [] front [] ∙ length-take-le i us (omega arith) in
     let v = get_or us i 0 in
     let read : u ≡ v =
-      ap (λ x. x.glyph_id) at
-      ∙ sym (get_or-map (λ x. x.glyph_id) now i g 0 inside_now)
-      ∙ ap (λ vs. get_or vs i 0) s.text_is
-      ∙ ap (λ vs. get_or (fs ++ vs) i 0) (drop_more us i 0 (omega arith))
-      ∙ get_or_at fs v (drop (i + 1) us) 0 i as_long in
+    ap (λ x. x.glyph_id) at
+    ∙ sym (get_or-map (λ x. x.glyph_id) now i g 0 inside_now)
+    ∙ ap (λ vs. get_or vs i 0) s.text_is
+    ∙ ap (λ vs. get_or (fs ++ vs) i 0) (drop_more us i 0 (omega arith))
+    ∙ get_or_at fs v (drop (i + 1) us) 0 i as_long in
     let p = splits us i u (omega arith) read in
     let b = s.base_is in
     let action : action_of base.consonant (mark_type u) base.above base.below ≡ action_after front u =
-      ap (λ k. action_of k (mark_type u) base.above base.below) b.type_is
-      ∙ ap (λ n. action_of (base_type front) (mark_type u) n base.below) b.above_is
-      ∙ ap (λ n. action_of (base_type front) (mark_type u) (marks_above front) n) b.below_is in
+    ap (λ k. action_of k (mark_type u) base.above base.below) b.type_is
+    ∙ ap (λ n. action_of (base_type front) (mark_type u) n base.below) b.above_is
+    ∙ ap (λ n. action_of (base_type front) (mark_type u) (marks_above front) n) b.below_is in
     record {
       same_rest = ap blank changed ∙ blank-form_set has now _ _ ∙ s.same_rest;
       text_is =
-        ap characters changed
-        ∙ characters-form_set has now _ _
-        ∙ ap (λ a. put has (target a base.place i) a (characters now)) action
-        ∙ ap (λ n. put has (target (action_after front u) n i) (action_after front u) (characters now)) b.place_is
-        ∙ ap (λ n. put has (target (action_after front u) (base_place front) n) (action_after front u) (characters now)) (sym p.length_is)
-        ∙ ap (put has (target (action_after front u) (base_place front) (length front)) (action_after front u)) (s.text_is ∙ ap (λ vs. fs ++ vs) p.rest_is)
-        ∙ shapes has front u (drop (i + 1) us)
-        ∙ ap (λ vs. forms_between has [] vs [] ++ drop (i + 1) us) (sym p.front_is);
+          ap characters changed
+          ∙ characters-form_set has now _ _
+          ∙ ap (λ a. put has (target a base.place i) a (characters now)) action
+          ∙ ap (λ n. put has (target (action_after front u) n i) (action_after front u) (characters now)) b.place_is
+          ∙ ap (λ n. put has (target (action_after front u) (base_place front) n) (action_after front u) (characters now)) (sym p.length_is)
+          ∙ ap (put has (target (action_after front u) (base_place front) (length front)) (action_after front u)) (s.text_is ∙ ap (λ vs. fs ++ vs) p.rest_is)
+          ∙ shapes has front u (drop (i + 1) us)
+          ∙ ap (λ vs. forms_between has [] vs [] ++ drop (i + 1) us) (sym p.front_is);
       base_is = subst (λ vs. IsBase vs (base_after base i u)) (sym p.front_is) (base_push front u base i (sym p.length_is) b);
     }
 
@@ -189,10 +189,10 @@ shaping_all has start now i base end s =
     let us = characters start in
     let past : length us ≤ i = omega (arith, length-map start (λ g. g.glyph_id)) in
     let text : characters now ≡ forms_between has [] us [] =
-      s.text_is
-      ∙ ap (λ vs. forms_between has [] vs [] ++ drop i us) (take_all i us past)
-      ∙ ap (λ vs. forms_between has [] us [] ++ vs) (drop_all i us past)
-      ∙ append-nil _ in
+    s.text_is
+    ∙ ap (λ vs. forms_between has [] vs [] ++ drop i us) (take_all i us past)
+    ∙ ap (λ vs. forms_between has [] us [] ++ vs) (drop_all i us past)
+    ∙ append-nil _ in
     rebuilt now start s.same_rest ∙ ap (λ vs. with_characters vs start) text
 
 -- the walks over a buffer
@@ -203,7 +203,7 @@ flagging_step start mid now i base base' g inside f at changed counted =
 pub shaping_step : (has : ℕ → Bool) (start mid now : Buffer) (i : ℕ) (base base' : Base) (g : hb_glyph_info_t) → i < length start.glyphs → Shaping has start.glyphs mid.glyphs i base → g ≡ get_or mid.glyphs i g → now ≡ with_glyphs mid (form_set has (target (action_of base.consonant (mark_type g.glyph_id) base.above base.below) base.place i) (action_of base.consonant (mark_type g.glyph_id) base.above base.below) mid.glyphs) → base' ≡ base_after base i g.glyph_id → Shaping has start.glyphs now.glyphs (i + 1) base'
 shaping_step has start mid now i base base' g inside s at changed counted =
     subst (Shaping has start.glyphs now.glyphs (i + 1)) (sym counted)
-      (shaping_next has start.glyphs mid.glyphs now.glyphs i base g inside s at (ap (λ (b : Buffer). b.glyphs) changed))
+    (shaping_next has start.glyphs mid.glyphs now.glyphs i base g inside s at (ap (λ (b : Buffer). b.glyphs) changed))
 
 -- the base stands before the place, and the counts are no larger than it
 pub shaping_bounds : (has : ℕ → Bool) (start now : List hb_glyph_info_t) (i : ℕ) (base : Base) → i < length start → Shaping has start now i base → (base.place ≤ i) × ((base.above ≤ i) × (base.below ≤ i))

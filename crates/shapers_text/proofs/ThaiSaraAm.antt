@@ -1,13 +1,12 @@
 -- The steps of the rewriting, on glyphs.
-use Rattle.std.proofs.Common.{◌≡◌, ◌⊎◌, inl, inr, ℕ, zero, suc, ◌-◌, ◌+◌, ◌<◌, ◌≤◌, Bool, true, false, cond, eqb, List, [], ◌∷◌, ◌++◌, length, take, drop, get_or, set, Option, None, Some, IfSome, is_some, refl, sym, ap, ◌∙◌, subst, arith, length-append}
-use Rattle.std.specs.List.{list_any, count_by}
+use Rattle.std.proofs.Common.{◌≡◌, ◌⊎◌, inl, inr, ℕ, zero, suc, ◌-◌, ◌+◌, ◌<◌, ◌≤◌, true, false, eqb, List, [], ◌∷◌, ◌++◌, length, take, drop, get_or, set, Option, None, Some, IfSome, is_some, refl, sym, ap, ◌∙◌, subst, arith}
 use Rattle.std.proofs.lemmas.Bool.{or_cases}
 use Rattle.std.proofs.lemmas.Bool.Decides.{nat_tests}
-use Rattle.std.proofs.lemmas.List.{append_assoc, append-nil, take_more, take-append-drop, take-take, take-set-le, drop-set, length-set, length-take-le, length_push, get_or_read, drop_all}
+use Rattle.std.proofs.lemmas.List.{append_assoc, append-nil, take_more, take-append-drop, take-set-le, drop-set, length-set, length-take-le, length_push, get_or_read, drop_all}
 use Rattle.shapers_base.specs.declared.buffer.glyph.hb_glyph_info_t.{hb_glyph_info_t}
 use Rattle.shapers_base.specs.ListLaws.{none_from_count}
-use Rattle.shapers_text.specs.Thai.{is_sara_am, is_above_base, nikhahit, sara_aa, glyphs_in_two, rewritten, in_two}
-use Rattle.shapers_text.specs.ThaiRewriting.{becomes, held, in_two_plain, in_two_push, in_two_push_am, held_push_mark, held_push_other, Lengths, lengths, no_am}
+use Rattle.shapers_text.specs.Thai.{is_sara_am, is_above_base, nikhahit, sara_aa, glyphs_in_two, rewritten}
+use Rattle.shapers_text.specs.ThaiRewriting.{becomes, in_two_plain, in_two_push, in_two_push_am, held_push_mark, held_push_other, lengths}
 
 eqb_eq : (a b : ℕ) → eqb a b ≡ true → a ≡ b
 eqb_eq a b h = grind (arith, nat_tests)

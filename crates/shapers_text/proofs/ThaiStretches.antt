@@ -1,23 +1,21 @@
 -- The merged stretches, from the left.
-use Rattle.std.proofs.Common.{◌≡◌, ℕ, suc, ◌-◌, ◌+◌, ◌<◌, ◌≤◌, Bool, true, false, cond, ◌&&◌, nat_lt, List, [], ◌∷◌, ◌++◌, length, take, drop, get_or, map, replicate, Option, None, Some, refl, sym, ap, ◌∙◌, subst, arith, length-append}
-use Rattle.std.specs.List.{list_any, count_by, suffix_len, flat_map, AllByRecursion}
+use Rattle.std.proofs.Common.{◌≡◌, ℕ, ◌-◌, ◌+◌, ◌<◌, ◌≤◌, Bool, true, false, cond, ◌&&◌, nat_lt, List, [], ◌∷◌, ◌++◌, length, take, drop, get_or, map, replicate, refl, sym, ap, ◌∙◌, arith, length-append}
+use Rattle.std.specs.List.{list_any, count_by, suffix_len, AllByRecursion}
 use Rattle.std.proofs.lemmas.Bool.{or_parts}
-use Rattle.std.proofs.lemmas.Bool.Decides.{nat_tests}
-use Rattle.std.proofs.lemmas.List.{append_assoc, append-nil, take_more, drop_more, take-take, length-take-le, length_push, length-take, drop_all, length-map, get_or-map, get_or-take, take_at, get_or_read, length-replicate}
+use Rattle.std.proofs.lemmas.List.{take_more, drop_more, length-take-le, length_push, length-take, drop_all, length-map, get_or-map, get_or-take, take_at, length-replicate}
 use Rattle.std.proofs.lemmas.List.Sums.{sum_by-cons, suffix_len-le-length}
 use Rattle.shapers_base.specs.declared.buffer.glyph.hb_glyph_info_t.{hb_glyph_info_t}
 use Rattle.shapers_base.specs.declared.buffer.level.BufferClusterLevel.{BufferClusterLevel}
-use Rattle.shapers_base.specs.declared.buffer.level.BufferClusterLevel.TheVariants.{MonotoneGraphemes, MonotoneCharacters, Characters}
-use Rattle.shapers_base.specs.Glyph.{default_glyph, plain, order_view}
+use Rattle.shapers_base.specs.Glyph.{default_glyph, order_view}
 use Rattle.shapers_base.specs.declared.buffer.glyph.GlyphPosition.{GlyphPosition}
 use Rattle.shapers_base.specs.Buffer.{Buffer, grown, more_positions}
 use Rattle.shapers_base.specs.Clusters.{merge, merge_all}
 use Rattle.shapers_base.specs.Lists.{each_after}
-use Rattle.shapers_base.specs.ListLaws.{none_from_count, count_from_none, suffix_len_push}
+use Rattle.shapers_base.specs.ListLaws.{none_from_count, suffix_len_push}
 use Rattle.shapers_clusters.specs.Merging.{length-merge_all, order_view-merge_all}
 use Rattle.shapers_clusters.specs.Appended.{merge_all-appended}
 use Rattle.shapers_text.specs.Thai.{is_sara_am, is_above_base, glyphs_in_two, rewritten, stretch_of_sara_am, stretches_at, stretches_of_each, sara_am_stretches, joins_before}
-use Rattle.shapers_text.specs.ThaiRewriting.{in_two_plain, Lengths, lengths}
+use Rattle.shapers_text.specs.ThaiRewriting.{in_two_plain, lengths}
 use Rattle.shapers_text.proofs.ThaiSaraAm.{apart}
 
 -- the characters of glyphs

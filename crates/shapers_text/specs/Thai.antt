@@ -1,5 +1,5 @@
 -- SARA AM of Thai and Lao in two.
-use Rattle.std.specs.Prelude.{ℕ, suc, nat_eq, not, codes, Option, None, Some, ◌-◌, ◌+◌, Bool, ◌||◌, ◌&&◌, ◌==◌, nat_le, nat_lt, bit_and, true, false, List, [], ◌∷◌, ◌++◌, length, reverse, map, flat_map, if◌then◌else◌}
+use Rattle.std.specs.Prelude.{ℕ, nat_eq, not, codes, Option, None, Some, ◌-◌, ◌+◌, Bool, ◌||◌, ◌&&◌, ◌==◌, nat_le, nat_lt, bit_and, true, false, List, [], ◌∷◌, ◌++◌, length, reverse, map, flat_map, if◌then◌else◌}
 use Rattle.std.specs.List.{suffix_len, enumerate_from}
 use Rattle.shapers_base.specs.declared.buffer.category.hb_unicode_general_category_t.TheVariants.{Mn}
 use Rattle.shapers_base.specs.declared.buffer.glyph.hb_glyph_info_t.{hb_glyph_info_t}

@@ -1,5 +1,5 @@
 -- The private use forms of Thai.
-use Rattle.std.specs.Prelude.{ℕ, ◌-◌, ◌+◌, Bool, ◌||◌, ◌&&◌, not, ◌==◌, nat_le, true, false, List, [], ◌∷◌, ◌++◌, length, reverse, map, flat_map, take_while, count_by, find, zip, slice_index_or, slice_set, Option, None, Some, if◌then◌else◌}
+use Rattle.std.specs.Prelude.{ℕ, ◌-◌, ◌+◌, Bool, ◌||◌, ◌&&◌, ◌==◌, nat_le, true, false, List, [], ◌∷◌, ◌++◌, length, reverse, map, flat_map, take_while, count_by, find, zip, slice_index_or, slice_set, Option, None, Some, if◌then◌else◌}
 use Rattle.std.specs.List.{list_any, suffix_len}
 use Rattle.shapers_base.specs.declared.buffer.glyph.hb_glyph_info_t.{hb_glyph_info_t}
 use Rattle.shapers_base.specs.declared.buffer.level.BufferClusterLevel.{BufferClusterLevel}
@@ -40,11 +40,13 @@ stands_above AV = true
 stands_above T = true
 stands_above BV = false
 stands_above NotMark = false
+
 abbrev pub stands_below : Mark → Bool
 stands_below BV = true
 stands_below AV = false
 stands_below T = false
 stands_below NotMark = false
+
 abbrev pub is_thai_mark : ℕ → Bool
 is_thai_mark u = stands_above (mark_type u) || stands_below (mark_type u)
 
@@ -107,6 +109,7 @@ mappings_of RD = without_descender
 abbrev pub first_form : (ℕ → Bool) → ℕ → Option PuaMapping → ℕ
 first_form has u None = u
 first_form has u (Some m) = if has m.1 then m.1 else if has m.2 then m.2 else u
+
 abbrev pub shaped_by : (ℕ → Bool) → ℕ → Action → ℕ
 shaped_by has u action = first_form has u (find (λ m. m.0 == u) (mappings_of action))
 
@@ -114,12 +117,14 @@ shaped_by has u action = first_form has u (find (λ m. m.0 == u) (mappings_of ac
 abbrev pub last_type : List ℕ → Consonant
 last_type [] = NotConsonant
 last_type (u ∷ us) = consonant_type u
+
 abbrev pub base_type : List ℕ → Consonant
 base_type before = last_type (reverse (before_last_run is_thai_mark before))
 
 -- the marks above and below since that base
 abbrev pub marks_above : List ℕ → ℕ
 marks_above before = count_by (λ u. stands_above (mark_type u)) (last_run is_thai_mark before)
+
 abbrev pub marks_below : List ℕ → ℕ
 marks_below before = count_by (λ u. stands_below (mark_type u)) (last_run is_thai_mark before)
 
@@ -154,8 +159,10 @@ forms_between has before (u ∷ us) after = form_between has before u (us ++ aft
 -- the characters of glyphs, and the glyphs with other characters
 abbrev pub characters : List hb_glyph_info_t → List ℕ
 characters gs = map (λ g. g.glyph_id) gs
+
 abbrev pub with_character : hb_glyph_info_t → ℕ → hb_glyph_info_t
 with_character g u = record g { glyph_id = u }
+
 abbrev pub with_characters : List ℕ → List hb_glyph_info_t → List hb_glyph_info_t
 with_characters us gs = map (λ p. with_character p.1 p.0) (zip us gs)
 
@@ -183,6 +190,7 @@ counted_base NotMark base i u = record { place = i; consonant = consonant_type u
 counted_base AV base i u = record base { above = base.above + 1 }
 counted_base T base i u = record base { above = base.above + 1 }
 counted_base BV base i u = record base { below = base.below + 1 }
+
 abbrev pub base_after : Base → ℕ → ℕ → Base
 base_after base i u = counted_base (mark_type u) base i u
 
@@ -193,8 +201,10 @@ base_place before = length before - suffix_len is_thai_mark before - 1
 -- from each mark's base to the mark, in turn, of a text given with what stands before each character
 abbrev pub stretch_of_mark : ℕ → ℕ → ℕ → List (ℕ × ℕ)
 stretch_of_mark base place u = if is_thai_mark u then (base, place) ∷ [] else []
+
 abbrev pub mark_stretches_of_each : List (List ℕ × ℕ) → List (ℕ × ℕ)
 mark_stretches_of_each each = flat_map (λ p. stretch_of_mark (base_place p.0) (length p.0) p.1) each
+
 abbrev pub mark_stretches : List ℕ → List (ℕ × ℕ)
 mark_stretches us = mark_stretches_of_each (each_after [] us)
 

@@ -1,12 +1,12 @@
 -- The rewriting, read from its end.
-use Rattle.std.proofs.Common.{◌≡◌, ◌⊎◌, inl, inr, ℕ, suc, ◌-◌, ◌+◌, ◌<◌, ◌≤◌, Bool, true, false, cond, ◌||◌, List, [], ◌∷◌, ◌++◌, length, take, drop, reverse, refl, sym, ap, ◌∙◌, subst, arith, length-append, Option, None, Some}
+use Rattle.std.proofs.Common.{◌≡◌, inl, inr, ◌-◌, ◌+◌, true, false, cond, List, [], ◌∷◌, ◌++◌, length, reverse, refl, sym, ap, ◌∙◌, arith, Option, None, Some}
 use Rattle.std.specs.List.{list_any, flat_map, count_by, suffix_len}
 use Rattle.std.proofs.lemmas.List.{append_assoc, append-nil, reverse-append, reverse-reverse, length_push}
 use Rattle.std.proofs.lemmas.List.Concat.{flat_map-append}
-use Rattle.std.proofs.lemmas.Grind.{common_steps, reverse_onto}
+use Rattle.std.proofs.lemmas.Grind.{reverse_onto}
 use Rattle.shapers_base.specs.declared.buffer.glyph.hb_glyph_info_t.{hb_glyph_info_t}
 use Rattle.shapers_base.specs.Lists.{cut_after, last_run, before_last_run}
-use Rattle.shapers_base.specs.ListLaws.{from_end, count_push, LastPass, last_pass, LastOf, last_of, cut_after-append, cut_after_none, none_in_front, none_pushed, none_before_push, last_run_yes, before_last_run_yes, last_run_no, before_last_run_no, last_run_stop, before_last_run_stop}
+use Rattle.shapers_base.specs.ListLaws.{from_end, count_push, last_pass, last_of, cut_after-append, cut_after_none, none_in_front, none_pushed, none_before_push, last_run_yes, before_last_run_yes, last_run_no, before_last_run_no, last_run_stop, before_last_run_stop}
 use Rattle.shapers_text.specs.Thai.{glyphs_in_two, InTwo, opened, opened_back, in_two}
 
 -- a piece, by its last

@@ -84,7 +84,10 @@ const SL_MAPPINGS: [PuaMapping; 12] = [
     PuaMapping(0x0E4D, 0xF711, 0xF899),
 ];
 
-const RD_MAPPINGS: [PuaMapping; 2] = [PuaMapping(0x0E0D, 0xF70F, 0xF89A), PuaMapping(0x0E10, 0xF700, 0xF89E)];
+const RD_MAPPINGS: [PuaMapping; 2] = [
+    PuaMapping(0x0E0D, 0xF70F, 0xF89A),
+    PuaMapping(0x0E10, 0xF700, 0xF89E),
+];
 
 fn get_consonant_type(u: u32) -> Consonant
     ensures { result ≡ consonant_type u }

@@ -1,6 +1,5 @@
 -- One more place of the walk, and the end.
-use Rattle.std.proofs.Common.{◌≡◌, ◌∙◌, ap, arith}
-use Rattle.shapers_base.specs.Buffer.{Buffer}
+use Rattle.std.proofs.Common.{◌∙◌, ap, arith}
 use Rattle.shapers_text.proofs.ThaiStretches.{with_glyphs, same_fields}
 use Rattle.shapers_text.proofs.ThaiFormWalks.{shaping_step, shaping_all}
 use Rattle.shapers_text.proofs.ot_shaper_thai.forms.shape_marks.Goals as goal

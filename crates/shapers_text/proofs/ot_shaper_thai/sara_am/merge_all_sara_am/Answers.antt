@@ -1,7 +1,7 @@
 -- The marks before a place are no more than it, and one more step of the walk.
-use Rattle.std.proofs.Common.{◌≡◌, ◌∙◌, ◌≤◌, ◌+◌, ℕ, cond, sym, ap, arith}
+use Rattle.std.proofs.Common.{◌≡◌, ◌∙◌, ◌+◌, cond, sym, ap, arith}
 use Rattle.shapers_text.specs.Thai.{is_above_base}
-use Rattle.shapers_text.proofs.ThaiStretches.{Merging, merging_step, merging_marks, same_fields}
+use Rattle.shapers_text.proofs.ThaiStretches.{merging_step, merging_marks, same_fields}
 use Rattle.shapers_text.proofs.ot_shaper_thai.sara_am.merge_all_sara_am.Goals.{then-is_above_base_mark, else-is_above_base_mark}
 use Rattle.shapers_text.proofs.ot_shaper_thai.sara_am.merge_all_sara_am.Goals as goal
 

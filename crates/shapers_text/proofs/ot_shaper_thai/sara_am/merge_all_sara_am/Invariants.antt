@@ -1,5 +1,5 @@
 -- The merges done, and those to come.
-use Rattle.std.proofs.Common.{◌≡◌, ◌≤◌, length}
+use Rattle.std.proofs.Common.{◌≡◌}
 use Rattle.shapers_text.proofs.ThaiStretches.{Merging}
 use Rattle.shapers_text.proofs.ot_shaper_thai.sara_am.merge_all_sara_am.Given as goal
 

@@ -1,5 +1,5 @@
 -- A text without SARA AM stays; otherwise the growth, the merges and the writing.
-use Rattle.std.proofs.Common.{◌≡◌, ◌∙◌, ◌≤◌, ◌+◌, ℕ, sym, ap, subst, length, arith, rules}
+use Rattle.std.proofs.Common.{◌≡◌, ◌∙◌, ◌+◌, sym, ap, subst, length, arith, rules}
 use Rattle.shapers_base.specs.Buffer.{Buffer}
 use Rattle.shapers_base.specs.Refusals.{RefusesLength}
 use Rattle.shapers_base.specs.ListLaws.{count_from_none}

@@ -1,5 +1,5 @@
 -- The start, one more glyph, and the end.
-use Rattle.std.proofs.Common.{◌≡◌, ◌∙◌, ◌≤◌, ◌-◌, List, None, length, take, sym, ap, refl, subst, arith}
+use Rattle.std.proofs.Common.{◌∙◌, ◌-◌, List, None, length, take, sym, ap, refl, subst, arith}
 use Rattle.std.proofs.lemmas.List.{length-set}
 use Rattle.shapers_base.specs.Buffer.{Buffer}
 use Rattle.shapers_base.specs.declared.buffer.glyph.hb_glyph_info_t.{hb_glyph_info_t}

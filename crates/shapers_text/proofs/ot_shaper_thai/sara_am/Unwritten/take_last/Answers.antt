@@ -1,6 +1,5 @@
 -- The text before its last glyph, and what that glyph adds.
-use Rattle.std.proofs.Common.{◌≡◌, ◌∙◌, sym, true, false}
-use Rattle.shapers_text.specs.Thai.{is_sara_am}
+use Rattle.std.proofs.Common.{◌∙◌, sym}
 use Rattle.shapers_text.proofs.ThaiSaraAm.{Passed, passed_pending, passed_none, passed_push, passed_push_am}
 use Rattle.shapers_text.proofs.ot_shaper_thai.sara_am.Unwritten.take_last.Goals.{in-Some+else-self-eq0+else-not-is_above_base_mark, in_default}
 use Rattle.shapers_text.proofs.ot_shaper_thai.sara_am.Unwritten.take_last.Goals as goal

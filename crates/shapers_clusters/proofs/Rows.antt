@@ -1,0 +1,57 @@
+-- Rows computed: what the definitions give for small lists of clusters.
+use Rattle.std.proofs.Common.{ℕ, ◌+◌, ◌-◌, ◌≡◌, ◌≤◌, [], ◌∷◌, refl, arith, subst}
+use Rattle.std.specs.List.{AllByRecursion}
+use Rattle.shapers_base.specs.declared.buffer.level.BufferClusterLevel.TheVariants.{MonotoneGraphemes, Characters}
+use Rattle.shapers_clusters.specs.Joined.{joined, joined_all}
+use Rattle.shapers_clusters.specs.Steps.{Step, joined_steps, old_places, MovesMerged, widened}
+use Rattle.shapers_clusters.specs.Moves.{moves_anywhere}
+use Rattle.shapers_clusters.specs.Widened.{moves-widened}
+
+-- the last two of three places merge; the merged stretch reaches back over what shares the cluster of its first place
+row_one : joined MonotoneGraphemes 1 3 (0 ∷ 1 ∷ 2 ∷ []) ≡ 0 ∷ 1 ∷ 1 ∷ []
+row_one = refl
+
+row_reach : joined MonotoneGraphemes 1 3 (5 ∷ 5 ∷ 3 ∷ 3 ∷ 7 ∷ []) ≡ 3 ∷ 3 ∷ 3 ∷ 3 ∷ 7 ∷ []
+row_reach = refl
+
+-- a stretch of one place, or none, merges nothing, and level Characters nothing at all
+row_single : joined MonotoneGraphemes 3 3 (1 ∷ 3 ∷ 3 ∷ 3 ∷ []) ≡ 1 ∷ 3 ∷ 3 ∷ 3 ∷ []
+row_single = refl
+
+row_unmerged : joined Characters 0 3 (0 ∷ 1 ∷ 2 ∷ []) ≡ 0 ∷ 1 ∷ 2 ∷ []
+row_unmerged = refl
+
+-- two merges that overlap, on falling clusters
+row_falling : joined_all MonotoneGraphemes ((0, 2) ∷ (1, 3) ∷ []) (4 ∷ 3 ∷ 2 ∷ 1 ∷ []) ≡ 2 ∷ 2 ∷ 2 ∷ 1 ∷ []
+row_falling = refl
+
+-- of six marks the last two of the first three merge and swap
+swap_two : Step
+swap_two = record { merged_first = (0, 2) ∷ []; places = 1 ∷ 0 ∷ []; merged_then = [] }
+
+row_swapped : joined_steps MonotoneGraphemes (widened 1 3 6 swap_two ∷ []) (0 ∷ 1 ∷ 2 ∷ 3 ∷ 4 ∷ 5 ∷ []) ≡ 0 ∷ 1 ∷ 1 ∷ 3 ∷ 4 ∷ 5 ∷ []
+unfolding swap_two
+row_swapped = refl
+
+row_old_places : old_places 6 (widened 1 3 6 swap_two ∷ []) ≡ 0 ∷ 2 ∷ 1 ∷ 3 ∷ 4 ∷ 5 ∷ []
+unfolding swap_two
+row_old_places = refl
+
+row_unmerged_moves : joined_steps Characters (widened 1 3 6 swap_two ∷ []) (0 ∷ 1 ∷ 2 ∷ 3 ∷ 4 ∷ 5 ∷ []) ≡ 0 ∷ 2 ∷ 1 ∷ 3 ∷ 4 ∷ 5 ∷ []
+unfolding swap_two
+row_unmerged_moves = refl
+
+-- a move merged only afterwards can leave falling clusters that no old block had: here 3 comes before 2
+row_late : joined_steps MonotoneGraphemes (record { merged_first = []; places = 1 ∷ 0 ∷ 2 ∷ []; merged_then = (0, 1) ∷ [] } ∷ []) (5 ∷ 4 ∷ 3 ∷ []) ≡ 4 ∷ 5 ∷ 3 ∷ []
+row_late = refl
+
+-- a hook that merges and swaps the places i + 1 and i + 2 of n: all laws of merged steps hold of it
+swap_moves : MovesMerged 2 swap_two
+unfolding swap_two
+swap_moves = moves_anywhere 2 (1 ∷ 0 ∷ []) refl (omega arith, (omega arith, tt))
+
+swapped_moves : (i n : ℕ) → i + 3 ≤ n → AllByRecursion (MovesMerged n) (widened (i + 1) (i + 3) n swap_two ∷ [])
+swapped_moves i n l =
+    let two : 2 ≡ i + 3 - (i + 1) = omega arith in
+    let P : ℕ → Type 0 = λ k. MovesMerged k swap_two in
+    (moves-widened (i + 1) (i + 3) n swap_two (omega arith) l (subst P two swap_moves), tt)

@@ -1,0 +1,5 @@
+use Rattle.shapers_clusters.specs.Proved.{clusters_hold}
+use Rattle.shapers_clusters.proofs.clusters_law.Goals as goal
+
+pub returns : goal.returns
+returns c = clusters_hold

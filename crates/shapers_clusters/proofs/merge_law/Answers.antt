@@ -1,0 +1,5 @@
+use Rattle.shapers_clusters.specs.Proved.{merge_holds}
+use Rattle.shapers_clusters.proofs.merge_law.Goals as goal
+
+pub returns : goal.returns
+returns c = merge_holds

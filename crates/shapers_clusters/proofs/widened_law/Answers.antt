@@ -1,0 +1,5 @@
+use Rattle.shapers_clusters.specs.Proved.{widened_holds}
+use Rattle.shapers_clusters.proofs.widened_law.Goals as goal
+
+pub returns : goal.returns
+returns c = widened_holds

@@ -1,0 +1,110 @@
+-- The laws of clusters and glyph flags, as statements.
+use Rattle.std.proofs.Common.{ℕ, ◌-◌, ◌<◌, ◌≤◌, ◌≡◌, true, false, List, ◌++◌, map, length, slice_index, take, drop}
+use Rattle.std.specs.List.{sum_by, All, AllByRecursion, AllZip, Contains}
+use Rattle.shapers_base.specs.declared.buffer.glyph.hb_glyph_info_t.{hb_glyph_info_t}
+use Rattle.shapers_base.specs.declared.buffer.level.BufferClusterLevel.{BufferClusterLevel}
+use Rattle.shapers_base.specs.Glyph.{clusters, order_view}
+use Rattle.shapers_base.specs.Clusters.{merge, merge_all, merges, stretch_of}
+use Rattle.shapers_clusters.specs.Joined.{joined_all}
+use Rattle.shapers_clusters.specs.Neighbours.{EndWithin, ShareCluster}
+use Rattle.shapers_clusters.specs.Cuts.{IsMonotone, ExactCuts}
+use Rattle.shapers_clusters.specs.Steps.{pick, Step, run_steps, joined_steps, old_places, FitSteps, MovesMerged, all_first, widened}
+use Rattle.shapers_clusters.specs.Widened.{steps_along, reordered_along}
+use Rattle.shapers_clusters.specs.Falls.{FallsTo}
+use Rattle.shapers_clusters.specs.Labels.{IsLabelled, OneLabel, OneLabelEach}
+use Rattle.shapers_clusters.specs.Sources.{ExactCutsBy, HeldAlong, MovesInsideOf}
+
+-- What one merge of s..e makes of the glyphs gs: ms. Nothing but clusters and glyph flags changes. No cluster rises, and a
+-- glyph keeps its flags unless its cluster fell. Every cluster is one that was there. The places of the stretch share one
+-- cluster, and neighbours that shared one still do. Labels that the stretch and the clusters respect are still respected.
+pub record MergeHolds (level : BufferClusterLevel) (s e : ℕ) (gs ms : List hb_glyph_info_t) : Type 0 where
+  pub same_length : length ms ≡ length gs
+  pub same_view : order_view ms ≡ order_view gs
+  pub falls : AllZip FallsTo gs ms
+  pub old_clusters : All (Contains (clusters gs)) (clusters ms)
+  pub stretch : merges level ≡ true → (p q : ℕ) → s ≤ p → p < e → s ≤ q → q < e → slice_index (clusters ms) p ≡ slice_index (clusters ms) q
+  pub neighbours : (p q : ℕ) → p < length gs → q < length gs → ShareCluster (clusters gs) p q → ShareCluster (clusters ms) p q
+  pub labels : (ls : List ℕ) → IsLabelled (clusters gs) ls → OneLabel ls (s, e) → IsLabelled (clusters ms) ls
+  pub unmerged : merges level ≡ false → ms ≡ gs
+
+abbrev pub MergeLaw : Type 0
+MergeLaw = (level : BufferClusterLevel) (s e : ℕ) (gs : List hb_glyph_info_t) → e ≤ length gs → MergeHolds level s e gs (merge level s e gs)
+
+-- After merges of clusters that never decrease, or never increase, the cuts are exact, and the clusters still do so.
+abbrev pub ExactCutsLaw : Type 0
+ExactCutsLaw = (level : BufferClusterLevel) (sts : List (ℕ × ℕ)) (gs : List hb_glyph_info_t) → merges level ≡ true → EndWithin (length gs) sts → IsMonotone (clusters gs) → ExactCuts (clusters gs) sts (clusters (merge_all level sts gs)) × IsMonotone (clusters (merge_all level sts gs))
+
+-- What any steps make of the glyphs gs: ms. Each glyph, followed from its old place, keeps all but cluster and glyph flags;
+-- its cluster doesn't rise, and it keeps its flags unless the cluster fell. The clusters are what the steps make of the old ones.
+-- Where the level merges nothing, glyphs only move.
+pub record StepsHold (level : BufferClusterLevel) (steps : List Step) (gs ms : List hb_glyph_info_t) : Type 0 where
+  pub same_length : length ms ≡ length gs
+  pub moved_view : order_view ms ≡ pick (old_places (length gs) steps) (order_view gs)
+  pub falls : AllZip FallsTo (pick (old_places (length gs) steps) gs) ms
+  pub clusters_are : clusters ms ≡ joined_steps level steps (clusters gs)
+  pub unmerged : merges level ≡ false → ms ≡ pick (old_places (length gs) steps) gs
+
+abbrev pub StepsLaw : Type 0
+StepsLaw = (level : BufferClusterLevel) (steps : List Step) (gs : List hb_glyph_info_t) → FitSteps (length gs) steps → StepsHold level steps gs (run_steps level steps gs)
+
+-- What any steps make of the clusters cs: js. Every cluster is one that was there. Labels that each stretch respects as it merges
+-- are respected in the end.
+pub record ClustersHold (level : BufferClusterLevel) (steps : List Step) (cs js : List ℕ) : Type 0 where
+  pub same_length : length js ≡ length cs
+  pub old_clusters : All (Contains cs) js
+  pub labels : (ls : List ℕ) → IsLabelled cs ls → OneLabelEach steps ls → IsLabelled js (pick (old_places (length cs) steps) ls)
+
+abbrev pub ClustersLaw : Type 0
+ClustersLaw = (level : BufferClusterLevel) (steps : List Step) (cs : List ℕ) → FitSteps (length cs) steps → ClustersHold level steps cs (joined_steps level steps cs)
+
+-- What steps that move only inside what they merged first make of the clusters, at the levels that merge: the old ones, merged.
+-- All places between a place and the old place of what stands there share one cluster. Exact cuts.
+pub record MergedStepsHold (level : BufferClusterLevel) (steps : List Step) (cs js : List ℕ) : Type 0 where
+  pub only_merged : js ≡ joined_all level (all_first steps) cs
+  pub cluster_law : (p : ℕ) → p < length cs → ShareCluster js p (slice_index (old_places (length cs) steps) p)
+  pub exact : IsMonotone cs → ExactCuts cs (all_first steps) js
+
+abbrev pub MergedStepsLaw : Type 0
+MergedStepsLaw = (level : BufferClusterLevel) (steps : List Step) (cs : List ℕ) → merges level ≡ true → AllByRecursion (MovesMerged (length cs)) steps → MergedStepsHold level steps cs (joined_steps level steps cs)
+
+-- Steps over the stretch s..e are steps over all places: they fit, they move only inside what they merged first if they did,
+-- and their order view is that of the stretch, reordered, between what stood before and behind it.
+pub record WidenedHolds (level : BufferClusterLevel) (s e : ℕ) (steps : List Step) (gs : List hb_glyph_info_t) : Type 0 where
+  pub fit : FitSteps (length gs) (map (widened s e (length gs)) steps)
+  pub merged : AllByRecursion (MovesMerged (e - s)) steps → AllByRecursion (MovesMerged (length gs)) (map (widened s e (length gs)) steps)
+  pub view : order_view (run_steps level (map (widened s e (length gs)) steps) gs) ≡ take s (order_view gs) ++ (pick (old_places (e - s) steps) (stretch_of s e (order_view gs)) ++ drop e (order_view gs))
+
+abbrev pub WidenedLaw : Type 0
+WidenedLaw = (level : BufferClusterLevel) (s e : ℕ) (steps : List Step) (gs : List hb_glyph_info_t) → s ≤ e → e ≤ length gs → FitSteps (e - s) steps → WidenedHolds level s e steps gs
+
+-- Steps of neighbouring stretches, one after another from place 0, are steps over all places: they fit, they move only inside what
+-- they merged first if they did, and each stretch of the order view is reordered for itself.
+pub record AlongHolds (level : BufferClusterLevel) (pieces : List (ℕ × List Step)) (gs : List hb_glyph_info_t) : Type 0 where
+  pub fit : FitSteps (length gs) (steps_along (length gs) 0 pieces)
+  pub merged : AllByRecursion (λ piece. AllByRecursion (MovesMerged piece.0) piece.1) pieces → AllByRecursion (MovesMerged (length gs)) (steps_along (length gs) 0 pieces)
+  pub view : order_view (run_steps level (steps_along (length gs) 0 pieces) gs) ≡ reordered_along pieces (order_view gs)
+
+abbrev pub AlongLaw : Type 0
+AlongLaw = (level : BufferClusterLevel) (pieces : List (ℕ × List Step)) (gs : List hb_glyph_info_t) → sum_by (λ piece. piece.0) pieces ≤ length gs → AllByRecursion (λ piece. FitSteps piece.0 piece.1) pieces → AlongHolds level pieces gs
+
+-- Made and dropped glyphs: ms has, place by place, what listed old places, the sources, have after the merges. No cluster rises,
+-- glyph flags stay unless it fell, every cluster is one that was there. Where the level merges nothing, nothing changes. At the levels that
+-- merge, places whose sources the merged stretches hold together share one cluster; exact cuts seen through the sources.
+pub record SourcesHold (level : BufferClusterLevel) (sts : List (ℕ × ℕ)) (sources : List ℕ) (gs ms : List hb_glyph_info_t) : Type 0 where
+  pub as_many : length ms ≡ length sources
+  pub falls : AllZip FallsTo (pick sources gs) ms
+  pub clusters_are : clusters ms ≡ pick sources (joined_all level sts (clusters gs))
+  pub old_clusters : All (Contains (clusters gs)) (clusters ms)
+  pub unmerged : merges level ≡ false → ms ≡ pick sources gs
+  pub share : merges level ≡ true → (i j : ℕ) → i < length sources → j < length sources → HeldAlong sts sources i j → ShareCluster (clusters ms) i j
+  pub exact : merges level ≡ true → IsMonotone (clusters gs) → ExactCutsBy (clusters gs) sts sources (clusters ms)
+
+abbrev pub SourcesLaw : Type 0
+SourcesLaw = (level : BufferClusterLevel) (sts : List (ℕ × ℕ)) (sources : List ℕ) (gs : List hb_glyph_info_t) → EndWithin (length gs) sts → AllByRecursion (λ p. p < length gs) sources → SourcesHold level sts sources gs (pick sources (merge_all level sts gs))
+
+-- Made glyphs that move: where each stands at first in its source's place, and moves go only inside what merged, the clusters
+-- stay as they stood, and all places between a glyph's new place and the one where it stood share one cluster.
+abbrev pub MovedSourcesLaw : Type 0
+MovedSourcesLaw = (level : BufferClusterLevel) (sts : List (ℕ × ℕ)) (standing places : List ℕ) (gs : List hb_glyph_info_t) → merges level ≡ true → EndWithin (length gs) sts → AllByRecursion (λ p. p < length gs) standing → length places ≡ length standing → AllByRecursion (λ p. p < length standing) places → MovesInsideOf sts standing places →
+    (clusters (pick (pick places standing) (merge_all level sts gs)) ≡ clusters (pick standing (merge_all level sts gs)))
+    × ((i : ℕ) → i < length standing → ShareCluster (clusters (pick (pick places standing) (merge_all level sts gs))) i (slice_index places i))

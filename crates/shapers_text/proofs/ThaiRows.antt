@@ -1,0 +1,113 @@
+-- The definitions, computed on small texts.
+use Rattle.std.specs.Prelude.{◌≡◌, ◌==◌, ℕ, true, false, List, [], ◌∷◌, map, refl}
+use Rattle.std.specs.List.{list_any, enumerate_from}
+use Rattle.shapers_base.specs.declared.buffer.category.hb_unicode_general_category_t.TheVariants.{Cc, Mn}
+use Rattle.shapers_base.specs.declared.buffer.glyph.hb_glyph_info_t.{hb_glyph_info_t}
+use Rattle.shapers_base.specs.declared.buffer.level.BufferClusterLevel.{BufferClusterLevel}
+use Rattle.shapers_base.specs.declared.buffer.level.BufferClusterLevel.TheVariants.{MonotoneGraphemes, MonotoneCharacters}
+use Rattle.shapers_base.specs.Glyph.{default_glyph, clusters}
+use Rattle.shapers_text.specs.Thai.{sources, sara_am_stretches}
+use Rattle.shapers_text.specs.ThaiForms.{characters, preprocessed}
+
+-- a text whose clusters count from 0
+abbrev text : List ℕ → List hb_glyph_info_t
+text us = map (λ p. let g : hb_glyph_info_t = record default_glyph { glyph_id = p.1; cluster = p.0 } in g) (enumerate_from 0 us)
+
+-- the hook where GSUB has the script, and where it hasn't and the font has these characters
+abbrev found : BufferClusterLevel → List ℕ → List hb_glyph_info_t
+found level us = preprocessed false (λ c. false) level (text us)
+
+abbrev shaped : List ℕ → List ℕ → List hb_glyph_info_t
+shaped font us = preprocessed true (λ c. list_any (λ f. f == c) font) MonotoneGraphemes (text us)
+
+abbrev masks : List hb_glyph_info_t → List ℕ
+masks gs = map (λ g. g.mask) gs
+
+-- NIKHAHIT goes before the mark
+tone : characters (found MonotoneGraphemes (0x0E14 ∷ 0x0E4B ∷ 0x0E33 ∷ [])) ≡ 0x0E14 ∷ 0x0E4D ∷ 0x0E4B ∷ 0x0E32 ∷ []
+tone = refl
+
+tone-clusters : clusters (found MonotoneGraphemes (0x0E14 ∷ 0x0E4B ∷ 0x0E33 ∷ [])) ≡ 0 ∷ 1 ∷ 1 ∷ 1 ∷ []
+tone-clusters = refl
+
+tone-sources : sources (text (0x0E14 ∷ 0x0E4B ∷ 0x0E33 ∷ [])) ≡ 0 ∷ 2 ∷ 1 ∷ 2 ∷ []
+tone-sources = refl
+
+-- only NIKHAHIT is made a mark and a continuation
+made-marks : map (λ g. g.continuation) (found MonotoneGraphemes (0x0E14 ∷ 0x0E4B ∷ 0x0E33 ∷ [])) ≡ false ∷ true ∷ false ∷ false ∷ []
+made-marks = refl
+
+made-categories : map (λ g. g.general_category) (found MonotoneGraphemes (0x0E14 ∷ 0x0E4B ∷ 0x0E33 ∷ [])) ≡ Cc ∷ Mn ∷ Cc ∷ Cc ∷ []
+made-categories = refl
+
+-- before two marks
+two_marks : characters (found MonotoneGraphemes (0x0E14 ∷ 0x0E34 ∷ 0x0E48 ∷ 0x0E33 ∷ [])) ≡ 0x0E14 ∷ 0x0E4D ∷ 0x0E34 ∷ 0x0E48 ∷ 0x0E32 ∷ []
+two_marks = refl
+
+two_marks-clusters : clusters (found MonotoneGraphemes (0x0E14 ∷ 0x0E34 ∷ 0x0E48 ∷ 0x0E33 ∷ [])) ≡ 0 ∷ 1 ∷ 1 ∷ 1 ∷ 1 ∷ []
+two_marks-clusters = refl
+
+-- one after another; without marks a SARA AM joins the glyph before it at level MonotoneGraphemes alone
+twice : characters (found MonotoneGraphemes (0x0E33 ∷ 0x0E33 ∷ [])) ≡ 0x0E4D ∷ 0x0E32 ∷ 0x0E4D ∷ 0x0E32 ∷ []
+twice = refl
+
+twice-clusters : clusters (found MonotoneGraphemes (0x0E33 ∷ 0x0E33 ∷ [])) ≡ 0 ∷ 0 ∷ 0 ∷ 0 ∷ []
+twice-clusters = refl
+
+twice-apart : clusters (found MonotoneCharacters (0x0E33 ∷ 0x0E33 ∷ [])) ≡ 0 ∷ 0 ∷ 1 ∷ 1 ∷ []
+twice-apart = refl
+
+twice-stretches : sara_am_stretches MonotoneGraphemes (text (0x0E33 ∷ 0x0E33 ∷ [])) ≡ (0, 2) ∷ []
+twice-stretches = refl
+
+-- Lao
+lao : characters (found MonotoneGraphemes (0x0E81 ∷ 0x0EC8 ∷ 0x0EB3 ∷ [])) ≡ 0x0E81 ∷ 0x0ECD ∷ 0x0EC8 ∷ 0x0EB2 ∷ []
+lao = refl
+
+lao-clusters : clusters (found MonotoneGraphemes (0x0E81 ∷ 0x0EC8 ∷ 0x0EB3 ∷ [])) ≡ 0 ∷ 1 ∷ 1 ∷ 1 ∷ []
+lao-clusters = refl
+
+-- a base gives up its descender, and a mark on an ascender goes left
+descender : characters (shaped (0xF70F ∷ []) (0x0E0D ∷ 0x0E38 ∷ [])) ≡ 0xF70F ∷ 0x0E38 ∷ []
+descender = refl
+
+left : characters (shaped (0xF701 ∷ []) (0x0E1B ∷ 0x0E34 ∷ [])) ≡ 0x0E1B ∷ 0xF701 ∷ []
+left = refl
+
+-- the second mark on an ascender goes left too
+left_twice : characters (shaped (0xF701 ∷ 0xF713 ∷ []) (0x0E1B ∷ 0x0E34 ∷ 0x0E48 ∷ [])) ≡ 0x0E1B ∷ 0xF701 ∷ 0xF713 ∷ []
+left_twice = refl
+
+-- a base's type is that of its character before its form
+descender_and_tone : characters (shaped (0xF70F ∷ 0xF70A ∷ []) (0x0E0D ∷ 0x0E38 ∷ 0x0E48 ∷ [])) ≡ 0xF70F ∷ 0x0E38 ∷ 0xF70A ∷ []
+descender_and_tone = refl
+
+-- the second form where the font hasn't the first; the first where it has both
+second_form : characters (shaped (0xF89A ∷ []) (0x0E0D ∷ 0x0E38 ∷ [])) ≡ 0xF89A ∷ 0x0E38 ∷ []
+second_form = refl
+
+first_of_both : characters (shaped (0xF89A ∷ 0xF70F ∷ []) (0x0E0D ∷ 0x0E38 ∷ [])) ≡ 0xF70F ∷ 0x0E38 ∷ []
+first_of_both = refl
+
+-- a mark without a base; a second vowel below
+alone : characters (shaped (0xF718 ∷ []) (0x0E38 ∷ [])) ≡ 0xF718 ∷ []
+alone = refl
+
+below_twice : characters (shaped (0xF70F ∷ 0xF719 ∷ []) (0x0E0D ∷ 0x0E38 ∷ 0x0E39 ∷ [])) ≡ 0xF70F ∷ 0x0E38 ∷ 0xF719 ∷ []
+below_twice = refl
+
+-- after a SARA AM in two
+after_sara_am : characters (shaped (0xF711 ∷ []) (0x0E1B ∷ 0x0E33 ∷ [])) ≡ 0x0E1B ∷ 0xF711 ∷ 0x0E32 ∷ []
+after_sara_am = refl
+
+-- a mark of no type is the base
+no_type : characters (shaped (0xF70F ∷ 0xF718 ∷ []) (0x0E0D ∷ 0x0ECD ∷ 0x0E38 ∷ [])) ≡ 0x0E0D ∷ 0x0ECD ∷ 0xF718 ∷ []
+no_type = refl
+
+-- two bases, each with three marks
+two_bases : characters (shaped (0xF70F ∷ 0xF70A ∷ 0xF705 ∷ 0xF713 ∷ 0xF718 ∷ []) (0x0E0D ∷ 0x0E38 ∷ 0x0E48 ∷ 0x0E48 ∷ 0x0E1B ∷ 0x0E38 ∷ 0x0E48 ∷ 0x0E48 ∷ [])) ≡ 0xF70F ∷ 0x0E38 ∷ 0xF70A ∷ 0x0E48 ∷ 0x0E1B ∷ 0x0E38 ∷ 0xF705 ∷ 0xF713 ∷ []
+two_bases = refl
+
+-- a break between a base and its marks is unsafe, whether a form is found or not
+flags : masks (shaped [] (0x0E14 ∷ 0x0E38 ∷ 0x0E48 ∷ [])) ≡ 0 ∷ 3 ∷ 0 ∷ []
+flags = refl
