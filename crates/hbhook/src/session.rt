@@ -170,9 +170,9 @@ impl Session {
         }
     }
 
-    // The hook before normalization, of a buffer without positions.
+    // The hook before normalization, of a buffer without positions. Hangul's isn't built yet.
     fn preprocess(&mut self, shaper: hb_ot_shaper_t) -> Result<(), LineFault> {
-        if self.buffer.positions_len() > 0 {
+        if self.buffer.positions_len() > 0 || matches!(shaper, hb_ot_shaper_t::Hangul) {
             return Err(LineFault::Unreadable);
         }
         let plan = self.settings.plan()?;
