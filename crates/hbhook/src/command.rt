@@ -11,7 +11,7 @@ use fields::{
 };
 pub use glyph_field::{GlyphField, Marks};
 pub use hook::HookCall;
-pub use setting::{Setting, ShaperName};
+pub use setting::Setting;
 use shapers_base::buffer::{CONTEXT_LENGTH, Span, hb_tag_t};
 use shapers_base::font::GlyphId;
 use shapers_base::plan::hb_arabic_joining_type_t;

@@ -1,12 +1,12 @@
 //! Carries out the lines.
-use crate::command::{Command, GlyphField, HookCall, Setting, ShaperName, Side};
+mod hooks;
+
+use crate::command::{Command, GlyphField, Setting, Side};
 use crate::fault::LineFault;
 use crate::printing::print_buffer;
 use crate::settings::Settings;
-use rustybuzz_shapers::shaper::{THAI_SHAPER, hb_ot_shaper_t};
 use shapers_base::buffer::{GlyphPosition, hb_buffer_t, hb_glyph_info_t};
 use shapers_base::font::{GlyphId, Tables, hb_font_t};
-use shapers_base::plan::Preprocess;
 use std::alloc::{AllocError, Global};
 
 /// The greatest length of a buffer before a line sets it.
@@ -153,50 +153,5 @@ impl Session {
         position.x_advance = advance;
         self.buffer.set_position(place, position);
         Ok(())
-    }
-
-    // Asks a hook of the shaper, whose conditions must hold.
-    fn run(&mut self, call: HookCall) -> Result<(), LineFault> {
-        let shaper = self.settings.shaper.and_then(built_shaper);
-        let shaper = shaper.ok_or(LineFault::Unreadable)?;
-        match call {
-            HookCall::Preprocess => self.preprocess(shaper),
-            HookCall::Masks
-            | HookCall::Postprocess
-            | HookCall::Marks(..)
-            | HookCall::Compose(..)
-            | HookCall::Decompose(_)
-            | HookCall::Pause(_) => Err(LineFault::Unreadable),
-        }
-    }
-
-    // The hook before normalization, of a buffer without positions. Hangul's isn't built yet.
-    fn preprocess(&mut self, shaper: hb_ot_shaper_t) -> Result<(), LineFault> {
-        if self.buffer.positions_len() > 0 || matches!(shaper, hb_ot_shaper_t::Hangul) {
-            return Err(LineFault::Unreadable);
-        }
-        let plan = self.settings.plan()?;
-        let answer = shaper.preprocess_text(&plan, &self.settings.font, &mut self.buffer)?;
-        match answer {
-            Some(Preprocess::Done) => {}
-            Some(Preprocess::CallerRunsVowelConstraints) => self.answers.push_str("caller\n")?,
-            None => self.answers.push_str("absent\n")?,
-        }
-        Ok(())
-    }
-}
-
-// The shaper of this name, among those that are built.
-fn built_shaper(name: ShaperName) -> Option<hb_ot_shaper_t> {
-    match name {
-        ShaperName::Thai => Some(THAI_SHAPER),
-        ShaperName::Arabic
-        | ShaperName::Hangul
-        | ShaperName::Hebrew
-        | ShaperName::Indic
-        | ShaperName::Khmer
-        | ShaperName::Myanmar
-        | ShaperName::Zawgyi
-        | ShaperName::Universal => None,
     }
 }

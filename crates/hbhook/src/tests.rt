@@ -219,6 +219,9 @@ fn refuses_calls(rt: HostRuntime) -> Result<(), Fail> {
         "set maxlen 0",
         "run marks 5 2",
         "run marks 0 2",
+        "run postprocess",
+        "run compose 41",
+        "run decompose 41 300",
         "run preprocess 0",
         "run pause nothing",
     ];
@@ -227,6 +230,49 @@ fn refuses_calls(rt: HostRuntime) -> Result<(), Fail> {
         expect_run(&rt, rt.alloc(), &input, "", "line 3: unreadable\n", 2)?;
     }
     Ok(())
+}
+
+// Hooks that the shapers don't have print so, and leave the glyphs.
+#[test]
+fn tells_of_absent_hooks(rt: HostRuntime) -> Result<(), Fail> {
+    let alloc = rt.alloc();
+    let calls = [
+        ("thai", "masks", "absent"),
+        ("thai", "marks 0 1", "absent"),
+        ("thai", "marks 1 1", "absent"),
+        ("thai", "compose 41 300", "absent"),
+        ("thai", "decompose C0", "absent"),
+        ("zawgyi", "preprocess", "absent"),
+        ("zawgyi", "masks", "absent"),
+        ("arabic", "preprocess", "absent"),
+        ("hebrew", "preprocess", "absent"),
+        ("khmer", "preprocess", "absent"),
+        ("myanmar", "marks 0 0", "absent"),
+        ("indic", "preprocess", "caller"),
+        ("universal", "preprocess", "caller"),
+        ("universal", "decompose C0", "absent"),
+    ];
+    for (shaper, call, answer) in calls {
+        let input = format!(in alloc; "set shaper {shaper}\ntext 41\nrun {call}\n")?;
+        let output = format!(in alloc; "{answer}\n0041 0 00000000 00 0 0 0\n")?;
+        expect_run(&rt, alloc, &input, &output, "", 0)?;
+    }
+    let twice = "set shaper thai\nrun masks\nrun postprocess";
+    expect_run(&rt, alloc, twice, "absent\nabsent\n", "", 0)?;
+    let positions = "set shaper thai\ntext 41\nset positions yes\nrun ";
+    for call in ["preprocess", "masks", "marks 0 0"] {
+        let input = format!(in alloc; "{positions}{call}\n")?;
+        expect_run(&rt, alloc, &input, "", "line 4: unreadable\n", 2)?;
+    }
+    let input = format!(in alloc; "{positions}postprocess\n")?;
+    expect_run(
+        &rt,
+        alloc,
+        &input,
+        "absent\n0041 0 00000000 00 0 0 0 0 0\n",
+        "",
+        0,
+    )
 }
 
 // A refusal prints nothing but its name.

@@ -15,6 +15,8 @@ use Rattle.shapers_base.specs.declared.plan.record.NormalizationMode.{Normalizat
 use Rattle.shapers_base.specs.declared.plan.record.NormalizationMode.TheVariants as mode
 use Rattle.shapers_base.specs.declared.plan.record.ZeroWidthMarks.{ZeroWidthMarks}
 use Rattle.shapers_base.specs.declared.plan.record.ZeroWidthMarks.TheVariants as zeroing
+use Rattle.shapers_clusters.specs.Steps.{run_step}
+use Rattle.shapers_text.specs.Hebrew.{composed_in_hebrew, mark_step}
 use Rattle.shapers_text.specs.Requests.{arabic_list, is_arabic, hangul_list, hangul_overrides}
 use Rattle.shapers_text.specs.Thai.{is_sara_am, rewritten, wants_forms}
 use Rattle.shapers_text.specs.ThaiForms.{preprocessed}
@@ -100,14 +102,19 @@ abbrev pub postprocesses : hb_ot_shaper_t → Bool
 postprocesses Arabic = true
 postprocesses _ = false
 
--- whether it composes characters, and whether it decomposes them
-abbrev pub composes : hb_ot_shaper_t → Bool
-composes Hebrew = true
-composes Indic = true
-composes Khmer = true
-composes Universal = true
-composes _ = false
+-- whether composing is built, or there is none to build
+abbrev pub compose_stands : hb_ot_shaper_t → Bool
+compose_stands Indic = false
+compose_stands Khmer = false
+compose_stands Universal = false
+compose_stands _ = true
 
+-- what two characters compose to, if the shaper composes: with the table's composition, and a font that places marks or not
+abbrev pub composed_by : hb_ot_shaper_t → Option ℕ → Bool → ℕ → ℕ → Option (Option ℕ)
+composed_by Hebrew table places a b = Some (composed_in_hebrew table places a b)
+composed_by _ table places a b = None
+
+-- whether it decomposes characters
 abbrev pub decomposes : hb_ot_shaper_t → Bool
 decomposes Indic = true
 decomposes Khmer = true
@@ -125,6 +132,16 @@ abbrev pub moves_marks : hb_ot_shaper_t → Bool
 moves_marks Arabic = true
 moves_marks Hebrew = true
 moves_marks _ = false
+
+-- whether reordering marks is built, or there is none to build
+abbrev pub marks_stand : hb_ot_shaper_t → Bool
+marks_stand Arabic = false
+marks_stand _ = true
+
+-- the buffer after the marks from start to end are reordered
+abbrev pub after_marks : hb_ot_shaper_t → ℕ → ℕ → Buffer → Buffer
+after_marks Hebrew start end b = record b { glyphs = run_step b.level (mark_step start end b.glyphs) b.glyphs }
+after_marks _ start end b = b
 
 -- what preprocessing answers, if the shaper has it
 abbrev pub preprocess_answer : hb_ot_shaper_t → Option Preprocess

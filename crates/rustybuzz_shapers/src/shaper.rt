@@ -3,15 +3,18 @@
 ghost use Rattle.std.specs.Prelude.{◌≡◌, ◌≤◌, [], length, false, true, None, Ok, IfOk, IsOk, IsNone, is_some, IsOkUnless, OnOk, OnErr};
 ghost use Rattle.shapers_base.specs.declared.buffer.refusal.ShaperError.TheVariants.{Memory};
 ghost use Rattle.shapers_text.specs.Requests.{rclt};
-ghost use Rattle.rustybuzz_shapers.specs.Shapers.{normalizes, wants_gpos_script, zeroes_marks, places_marks, collected, overridden, asked, if_there, keeps_data, postprocesses, composes, decomposes, masks_glyphs, moves_marks, preprocess_answer, preprocess_stands, after_preprocess, RefusesPreprocess};
+ghost use Rattle.rustybuzz_shapers.specs.Shapers.{normalizes, wants_gpos_script, zeroes_marks, places_marks, collected, overridden, asked, if_there, keeps_data, postprocesses, compose_stands, composed_by, decomposes, masks_glyphs, moves_marks, marks_stand, after_marks, preprocess_answer, preprocess_stands, after_preprocess, RefusesPreprocess};
 
 use shapers_base::buffer::{ShaperError, hb_buffer_t, hb_tag_t};
 use shapers_base::font::{Tables, hb_font_t};
 use shapers_base::plan::{hb_ot_shape_plan_t, hb_ot_shape_planner_t};
+mod pauses;
+
+pub use pauses::run_pause;
 pub use shapers_base::plan::{NormalizationMode, Pause, PlanData, Preprocess, ZeroWidthMarks};
 use shapers_indic::ot_shaper_indic;
 use shapers_regroup::{ot_shaper_khmer, ot_shaper_myanmar, ot_shaper_use};
-use shapers_text::{ot_shaper_arabic, ot_shaper_hangul, ot_shaper_thai};
+use shapers_text::{ot_shaper_arabic, ot_shaper_hangul, ot_shaper_hebrew, ot_shaper_thai};
 
 /// A script shaper.
 #[derive(Clone, Copy, Debug, PartialEq, Eq)]
@@ -206,21 +209,23 @@ impl hb_ot_shaper_t {
         }
     }
 
-    /// The character that two characters compose to for this shaper. It isn't built yet for the
-    /// shapers that have it.
+    /// The character that two characters compose to for this shaper: for Hebrew also, where GPOS
+    /// places no marks, the form of a letter and a point. It isn't built yet for Indic, Khmer and the
+    /// universal shaper.
     pub fn compose<T: Tables>(
         self,
-        _plan: &hb_ot_shape_plan_t,
-        _tables: &T,
-        _a: char,
-        _b: char,
+        plan: &hb_ot_shape_plan_t,
+        tables: &T,
+        a: char,
+        b: char,
     ) -> Option<Option<char>>
-        requires unbuilt { composes self ≡ false }
-        ensures { result ≡ None }
+        requires unbuilt { compose_stands self ≡ true }
+        ensures { result ≡ composed_by self (T.composed tables.now a b) plan.now.has_gpos_mark a b }
     {
         match self {
-            Self::Hebrew | Self::Indic | Self::Khmer | Self::Universal => unreachable!(),
-            _ => None,
+            Self::Hebrew => Some(ot_shaper_hebrew::compose(plan, tables, a, b)),
+            Self::Indic | Self::Khmer | Self::Universal => unreachable!(),
+            Self::Arabic | Self::Hangul | Self::Myanmar | Self::MyanmarZawgyi | Self::Thai => None,
         }
     }
 
@@ -260,24 +265,32 @@ impl hb_ot_shaper_t {
         }
     }
 
-    /// Reorders the marks from `start` to `end`. It isn't built yet for the shapers that have it.
+    /// Reorders the marks from `start` to `end`: for Hebrew, at the first three neighbours of its
+    /// classes, the last two merge and change places. It isn't built yet for Arabic.
     pub fn reorder_marks(
         self,
-        _plan: &hb_ot_shape_plan_t,
-        _buffer: &mut hb_buffer_t,
+        plan: &hb_ot_shape_plan_t,
+        buffer: &mut hb_buffer_t,
         start: usize,
         end: usize,
     ) -> Option<()>
-        requires without_positions { _buffer.old.positions ≡ [] }
+        requires without_positions { buffer.old.positions ≡ [] }
         requires in_order { start ≤ end }
-        requires in_range { end ≤ length _buffer.old.glyphs }
-        requires unbuilt { moves_marks self ≡ false }
-        ensures answer { result ≡ None }
-        ensures unchanged { _buffer.new ≡ _buffer.old }
+        requires in_range { end ≤ length buffer.old.glyphs }
+        requires unbuilt { marks_stand self ≡ true }
+        ensures answer { is_some result ≡ moves_marks self }
+        ensures marks { buffer.new ≡ after_marks self start end buffer.old }
     {
         match self {
-            Self::Arabic | Self::Hebrew => unreachable!(),
-            _ => None,
+            Self::Hebrew => Some(ot_shaper_hebrew::reorder_marks(plan, buffer, start, end)),
+            Self::Arabic => unreachable!(),
+            Self::Hangul
+            | Self::Indic
+            | Self::Khmer
+            | Self::Myanmar
+            | Self::MyanmarZawgyi
+            | Self::Thai
+            | Self::Universal => None,
         }
     }
 }

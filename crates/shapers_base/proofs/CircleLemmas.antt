@@ -1,18 +1,18 @@
 -- Steps of the walks that count circles and write them.
-use Rattle.std.proofs.Common.{◌≡◌, ◌==◌, ℕ, suc, ◌+◌, ◌-◌, ◌<◌, ◌≤◌, Bool, true, false, cond, List, [], ◌∷◌, ◌++◌, length, take, drop, get_or, set, refl, ap, sym, ◌∙◌, arith, length-append, length-take-le, length-drop, append_assoc}
-use Rattle.std.specs.List.{prefix_len, flat_map}
+use Rattle.std.proofs.Common.{◌≡◌, ◌==◌, ℕ, suc, ◌+◌, ◌-◌, ◌<◌, ◌≤◌, Bool, true, cond, List, [], ◌∷◌, ◌++◌, length, take, drop, get_or, set, refl, ap, sym, ◌∙◌, arith, length-append, length-take-le, length-drop, append_assoc}
+use Rattle.std.specs.List.{prefix_len}
 use Rattle.std.proofs.lemmas.List.{append-nil, drop-drop, drop_more, drop-take, take-take, take-append-drop, take_at, drop_at, drop_all}
 use Rattle.std.proofs.lemmas.Bool.Decides.{nat_tests}
 use Rattle.shapers_base.specs.declared.buffer.glyph.hb_glyph_info_t.{hb_glyph_info_t}
 use Rattle.shapers_base.specs.declared.ot_shaper_syllabic.DottedCircles.{DottedCircles}
-use Rattle.shapers_base.specs.Circles.{byte_of, circled_syllable, rephas_len, circle_in, with_circle}
+use Rattle.shapers_base.specs.Circles.{circled_syllable, rephas_len, circle_in, with_circle}
 use Rattle.shapers_base.specs.CircleWalk.{openings_from, opens_as_broken, last_broken, circled_from, circles_from, overwritten}
-use Rattle.shapers_base.specs.CircleLaws.{opened_more, length-circled_syllable, circled_from-none, rephas_within}
+use Rattle.shapers_base.specs.CircleLaws.{opened_more, length-circled_syllable, circled_from-none}
 use Rattle.shapers_base.specs.Buffer.{Buffer}
 use Rattle.shapers_base.specs.Clusters.{stretch_of}
 use Rattle.shapers_base.specs.Syllables.{syllables, first_syllable_len}
 use Rattle.shapers_base.specs.SyllableLaws.{syllables_are_runs}
-use Rattle.shapers_base.proofs.Overwriting.{set_behind, stretch_next, length-stretch, take-overwritten, drop-overwritten, overwritten-overwritten, length-overwritten}
+use Rattle.shapers_base.proofs.Overwriting.{set_behind, stretch_next, length-stretch, take-overwritten, drop-overwritten, overwritten-overwritten}
 
 -- a repha more in front, and the first glyph that isn't one
 pub repha_more : (gs : List hb_glyph_info_t) (i end r : ℕ) (g : hb_glyph_info_t) → i < end → i < length gs → g ≡ get_or gs i g → g.category ≡ r → prefix_len (λ h. h.category == r) (stretch_of i end gs) ≡ suc (prefix_len (λ h. h.category == r) (stretch_of (i + 1) end gs))

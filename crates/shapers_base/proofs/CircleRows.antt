@@ -2,8 +2,6 @@
 use Rattle.std.specs.Prelude.{◌≡◌, ℕ, true, false, List, [], ◌∷◌, map, length, Option, Some, None, refl}
 use Rattle.shapers_base.specs.declared.buffer.glyph.hb_glyph_info_t.{hb_glyph_info_t}
 use Rattle.shapers_base.specs.declared.buffer.syllables.Span.{Span}
-use Rattle.shapers_base.specs.declared.font.GlyphId.{GlyphId}
-use Rattle.shapers_base.specs.declared.ot_shaper_syllabic.DottedCircles.{DottedCircles}
 use Rattle.shapers_base.specs.Buffer.{Buffer, new_buffer}
 use Rattle.shapers_base.specs.Circles.{circled, circles_for}
 use Rattle.shapers_base.specs.Glyph.{default_glyph}

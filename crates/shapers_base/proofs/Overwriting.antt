@@ -1,6 +1,6 @@
 -- Lists written over another: `overwritten`, glyph by glyph and stretch by stretch.
 use Rattle.std.proofs.Common.{◌≡◌, ℕ, suc, ◌+◌, ◌-◌, ◌<◌, ◌≤◌, List, [], ◌∷◌, ◌++◌, length, take, drop, get_or, set, refl, ap, sym, ◌∙◌, arith, length-append, length-take-le, length-drop, append_assoc}
-use Rattle.std.proofs.lemmas.List.{take_at, drop_at, drop-drop, set_at, take_more, drop_more, get_or-append_right, get_or_append_left, get_or-drop, get_or-take, take-append-le}
+use Rattle.std.proofs.lemmas.List.{take_at, drop_at, drop-drop, set_at, take_more, drop_more, get_or-append_right, get_or_append_left, get_or-drop, get_or-take}
 use Rattle.std.proofs.Math.Seq.{take-suc}
 use Rattle.shapers_base.specs.CircleWalk.{overwritten}
 use Rattle.shapers_base.specs.Clusters.{stretch_of}
@@ -46,7 +46,7 @@ set_behind to out xs i y e h =
     let long : length (take to xs ++ out) ≡ i = omega (arith, length-written to out xs (omega arith)) in
     let size : to + length (out ++ y ∷ []) ≡ m + 1 = omega (arith, length-append out (y ∷ [])) in
     let before : overwritten to out xs ≡ (take to xs ++ out) ++ get_or xs m y ∷ rest = rw (more, append_assoc) refl in
-    let after : overwritten to (out ++ y ∷ []) xs ≡ (take to xs ++ out) ++ y ∷ rest = rw (size, append_assoc, append_assoc) refl in
+    let after : overwritten to (out ++ y ∷ []) xs ≡ (take to xs ++ out) ++ y ∷ rest = rw size (simp append_assoc) in
     ap (λ ys. set ys i y) before ∙ set_at (take to xs ++ out) (get_or xs m y) rest y i long ∙ sym after
 
 -- one element more in front of it
@@ -65,7 +65,7 @@ overwritten-overwritten to mid a b xs e h =
     let size : to + length (a ++ b) ≡ mid + length b = omega (arith, length-append a b) in
     let front = take-overwritten to a xs mid inside e in
     let back = drop-overwritten to a xs (mid + length b) inside (omega arith) in
-    rw (front, back, size, append_assoc, append_assoc) refl
+    rw (front, back, size) (simp append_assoc)
 
 -- a stretch, one element longer at its end and in front
 pub stretch_more : {X : Type 0} (xs : List X) (start i : ℕ) (d : X) → start ≤ i → i < length xs → stretch_of start (i + 1) xs ≡ stretch_of start i xs ++ get_or xs i d ∷ []

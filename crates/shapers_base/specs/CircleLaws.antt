@@ -1,16 +1,15 @@
 -- What dotted circles add to a text, and that nothing else changes.
-use Rattle.std.specs.Prelude.{◌≡◌, ◌==◌, ℕ, suc, ◌+◌, ◌-◌, ◌<◌, ◌≤◌, Bool, true, false, cond, List, [], ◌∷◌, ◌++◌, take, drop, length, map, replicate, Option, Some, None, count_by, filter, refl, if◌then◌else◌}
-use Rattle.std.specs.List.{flat_map, last_or, prefix_len}
-use Rattle.std.proofs.Common.{ap, sym, ◌∙◌, arith, length-append, length-drop, length-take-le, append_assoc}
+use Rattle.std.specs.Prelude.{◌≡◌, ◌==◌, ℕ, ◌+◌, ◌≤◌, Bool, true, false, cond, List, [], ◌∷◌, ◌++◌, take, drop, length, map, Option, Some, None, count_by, filter, refl, if◌then◌else◌}
+use Rattle.std.specs.List.{flat_map, last_or}
+use Rattle.std.proofs.Common.{ap, ◌∙◌, arith, length-append, length-drop, length-take-le}
 use Rattle.std.proofs.lemmas.List.{append-nil, length-map, map-append, take-append-drop}
 use Rattle.std.proofs.lemmas.List.Elements.{filter-append}
 use Rattle.std.proofs.lemmas.List.Sums.{prefix_len-le-length, sum_by-cons}
-use Rattle.std.proofs.lemmas.Bool.Decides.{nat_tests}
 use Rattle.shapers_base.specs.declared.buffer.glyph.hb_glyph_info_t.{hb_glyph_info_t}
 use Rattle.shapers_base.specs.declared.ot_shaper_syllabic.DottedCircles.{DottedCircles}
 use Rattle.shapers_base.specs.Syllables.{syllables, with_opening}
-use Rattle.shapers_base.specs.Circles.{openings, opens_after, last_byte, is_of_kind, byte_of, rephas_len, circle_in, with_circle, with_circles, circled_syllable}
-use Rattle.shapers_base.specs.CircleWalk.{openings_from, opens_as_broken, last_broken, circled_from, circles_from}
+use Rattle.shapers_base.specs.Circles.{openings, opens_after, last_byte, is_of_kind, byte_of, rephas_len, circle_in, with_circles, circled_syllable}
+use Rattle.shapers_base.specs.CircleWalk.{openings_from, last_broken, circled_from, circles_from}
 use Rattle.shapers_base.specs.Lists.{each_after}
 
 -- a syllable and whether it opens a circle

@@ -48,15 +48,14 @@ impl hb_font_t for Font {
     }
 }
 
-// A buffer of glyphs of these categories, whose clusters count up from 0.
-fn text(alloc: Global, categories: &[u8]) -> Result<hb_buffer_t, ShaperError>
+// A buffer of glyphs of these clusters and categories.
+fn text(alloc: Global, glyphs: &[(u32, u8)]) -> Result<hb_buffer_t, ShaperError>
     ensures { IfOk result (λ b. b.positions ≡ []) }
 {
     let mut buffer = hb_buffer_t::new(alloc, 18);
-    for category in categories {
-        let cluster = buffer.len() as u32;
+    for (cluster, category) in glyphs {
         buffer.push(hb_glyph_info_t {
-            cluster,
+            cluster: *cluster,
             mask: 8,
             category: *category,
             ..hb_glyph_info_t::DEFAULT
@@ -69,7 +68,7 @@ fn text(alloc: Global, categories: &[u8]) -> Result<hb_buffer_t, ShaperError>
 fn sixteen_syllables(alloc: Global) -> Result<hb_buffer_t, ShaperError>
     ensures { IfOk result (λ b. b.positions ≡ []) }
 {
-    let mut buffer = text(alloc, &[1; 16])?;
+    let mut buffer = text(alloc, &[(0, 1); 16])?;
     let one = Span {
         len: 1,
         kind: indic_syllable::CONSONANT_SYLLABLE,
@@ -124,7 +123,7 @@ fn puts_the_circle_behind_a_repha(rt: HostRuntime) -> Result<(), Fail> {
     let font = Font {
         circle: Some(GlyphId(7)),
     };
-    let mut buffer = text(rt.alloc(), &[14, 1])?;
+    let mut buffer = text(rt.alloc(), &[(0, 14), (1, 1)])?;
     set_up_syllables(&[Span { len: 2, kind: 4 }], 4, &mut buffer)?;
     assert_eq!(rt;
         insert_dotted_circles(&font, &mut buffer, 4, 11, Some(14), Some(14)),

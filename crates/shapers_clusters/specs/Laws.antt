@@ -1,5 +1,5 @@
 -- The laws of clusters and glyph flags, as statements.
-use Rattle.std.proofs.Common.{ℕ, ◌-◌, ◌<◌, ◌≤◌, ◌≡◌, true, false, List, ◌++◌, map, length, slice_index, take, drop}
+use Rattle.std.proofs.Common.{ℕ, ◌+◌, ◌++◌, ◌-◌, ◌<◌, ◌≤◌, ◌≡◌, true, false, List, map, length, slice_index, take, drop}
 use Rattle.std.specs.List.{sum_by, All, AllByRecursion, AllZip, Contains}
 use Rattle.shapers_base.specs.declared.buffer.glyph.hb_glyph_info_t.{hb_glyph_info_t}
 use Rattle.shapers_base.specs.declared.buffer.level.BufferClusterLevel.{BufferClusterLevel}
@@ -10,6 +10,7 @@ use Rattle.shapers_clusters.specs.Neighbours.{EndWithin, ShareCluster}
 use Rattle.shapers_clusters.specs.Cuts.{IsMonotone, ExactCuts}
 use Rattle.shapers_clusters.specs.Steps.{pick, Step, run_steps, joined_steps, old_places, FitSteps, MovesMerged, all_first, widened}
 use Rattle.shapers_clusters.specs.Widened.{steps_along, reordered_along}
+use Rattle.shapers_clusters.specs.Halves.{ShareNone}
 use Rattle.shapers_clusters.specs.Falls.{FallsTo}
 use Rattle.shapers_clusters.specs.Labels.{IsLabelled, OneLabel, OneLabelEach}
 use Rattle.shapers_clusters.specs.Sources.{ExactCutsBy, HeldAlong, MovesInsideOf}
@@ -108,3 +109,8 @@ abbrev pub MovedSourcesLaw : Type 0
 MovedSourcesLaw = (level : BufferClusterLevel) (sts : List (ℕ × ℕ)) (standing places : List ℕ) (gs : List hb_glyph_info_t) → merges level ≡ true → EndWithin (length gs) sts → AllByRecursion (λ p. p < length gs) standing → length places ≡ length standing → AllByRecursion (λ p. p < length standing) places → MovesInsideOf sts standing places →
     (clusters (pick (pick places standing) (merge_all level sts gs)) ≡ clusters (pick standing (merge_all level sts gs)))
     × ((i : ℕ) → i < length standing → ShareCluster (clusters (pick (pick places standing) (merge_all level sts gs))) i (slice_index places i))
+
+-- Two halves of a text, cut between two stretches, that share no cluster: the steps of the whole give the halves' results joined.
+abbrev pub HalvesLaw : Type 0
+HalvesLaw = (level : BufferClusterLevel) (ps qs : List (ℕ × List Step)) (gs hs : List hb_glyph_info_t) → sum_by (λ piece. piece.0) ps ≡ length gs → sum_by (λ piece. piece.0) qs ≡ length hs → AllByRecursion (λ piece. FitSteps piece.0 piece.1) ps → AllByRecursion (λ piece. FitSteps piece.0 piece.1) qs → ShareNone gs hs →
+    run_steps level (steps_along (length gs + length hs) 0 (ps ++ qs)) (gs ++ hs) ≡ run_steps level (steps_along (length gs) 0 ps) gs ++ run_steps level (steps_along (length hs) 0 qs) hs

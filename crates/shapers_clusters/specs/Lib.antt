@@ -1,6 +1,7 @@
 pub mod Appended
 pub mod Cuts
 pub mod Falls
+pub mod Halves
 pub mod Joined
 pub mod Labels
 pub mod Laws
@@ -12,4 +13,5 @@ pub mod Proved
 pub mod Sources
 pub mod Spread
 pub mod Steps
+pub mod Swaps
 pub mod Widened

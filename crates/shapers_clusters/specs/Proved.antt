@@ -17,7 +17,8 @@ use Rattle.shapers_clusters.specs.Moves.{clusters-merge_all, clusters-run_steps,
 use Rattle.shapers_clusters.specs.Labels.{IsLabelled, joined-labelled, joined_steps-labelled}
 use Rattle.shapers_clusters.specs.Sources.{ExactCutsBy, exact_cuts_by, sources_share, clusters-moved_sources, clusters-picked, falls-picked}
 use Rattle.shapers_clusters.specs.Widened.{fits-widened, moves-widened, all_fit-widened, all_moves-widened, order_view-widened, all_along, order_view-along}
-use Rattle.shapers_clusters.specs.Laws.{MergeLaw, ExactCutsLaw, StepsLaw, ClustersLaw, MergedStepsLaw, WidenedLaw, AlongLaw, SourcesLaw, MovedSourcesLaw}
+use Rattle.shapers_clusters.specs.Halves.{halves_along}
+use Rattle.shapers_clusters.specs.Laws.{HalvesLaw, MergeLaw, ExactCutsLaw, StepsLaw, ClustersLaw, MergedStepsLaw, WidenedLaw, AlongLaw, SourcesLaw, MovedSourcesLaw}
 
 -- stretches end within the clusters if they do within the glyphs
 ends : (sts : List (ℕ × ℕ)) (gs : List hb_glyph_info_t) → EndWithin (length gs) sts → EndWithin (length (clusters gs)) sts
@@ -119,3 +120,6 @@ moved_sources_hold level sts standing places gs m w s n v h =
       is ∙ sym (clusters-picked level sts standing gs),
       λ i l. subst (Q i) (sym is) (sources_share level m sts cs standing (ends sts gs w) t i (get_or places i 0) l (within_at (length standing) places v i (omega arith)) (h i (omega arith))),
     )
+
+pub halves_hold : HalvesLaw
+halves_hold level ps qs gs hs a b f g h = halves_along level ps qs gs hs a b f g h

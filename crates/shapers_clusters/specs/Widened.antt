@@ -137,14 +137,14 @@ moved-widened s e n (step ∷ steps) front olds rest h a b c f =
     ap (moved_on (map (widened s e n) steps)) (pick-parts s e n step front (map (λ p. s + p) olds) rest h a m c f.0 ∙ ap (λ ys. front ++ (ys ++ rest)) (pick-map (λ p. s + p) step.places olds))
     ∙ moved-widened s e n steps front (pick step.places olds) rest h a k c f.1
 
-range-append : (a j k : ℕ) → range_with_len a (j + k) ≡ range_with_len a j ++ range_with_len (a + j) k
+pub range-append : (a j k : ℕ) → range_with_len a (j + k) ≡ range_with_len a j ++ range_with_len (a + j) k
 range-append a zero k = let i : 0 + k ≡ k = omega arith in let j : a ≡ a + 0 = omega arith in ap (range_with_len a) i ∙ ap (λ x. range_with_len x k) j
 range-append a (suc j) k =
     let i : suc j + k ≡ suc (j + k) = omega arith in
     let l : a + 1 + j ≡ a + suc j = omega arith in
     ap (range_with_len a) i ∙ ap (λ ys. a ∷ ys) (range-append (a + 1) j k ∙ ap (λ x. range_with_len (a + 1) j ++ range_with_len x k) l)
 
-map-range : (s a k : ℕ) → map (λ p. s + p) (range_with_len a k) ≡ range_with_len (s + a) k
+pub map-range : (s a k : ℕ) → map (λ p. s + p) (range_with_len a k) ≡ range_with_len (s + a) k
 map-range s a zero = refl
 map-range s a (suc k) = ap (λ ys. (s + a) ∷ ys) (map-range s (a + 1) k ∙ (let i : s + (a + 1) ≡ s + a + 1 = omega arith in ap (λ x. range_with_len x k) i))
 

@@ -2,7 +2,7 @@
 //! contract of a function without a body.
 #![tactic(auto)]
 
-ghost use Rattle.shapers_clusters.specs.Laws.{MergeLaw, ExactCutsLaw, StepsLaw, ClustersLaw, MergedStepsLaw, WidenedLaw, AlongLaw, SourcesLaw, MovedSourcesLaw};
+ghost use Rattle.shapers_clusters.specs.Laws.{MergeLaw, ExactCutsLaw, StepsLaw, ClustersLaw, MergedStepsLaw, WidenedLaw, AlongLaw, HalvesLaw, SourcesLaw, MovedSourcesLaw};
 
 /// What one merge of clusters does to any glyphs.
 pub fn merge_law()
@@ -38,6 +38,11 @@ pub fn widened_law()
 /// Steps of neighbouring stretches, one after another, are steps over all places.
 pub fn along_law()
     ensures { AlongLaw }
+{}
+
+/// Two halves of a text that share no cluster merge and move each for itself.
+pub fn halves_law()
+    ensures { HalvesLaw }
 {}
 
 /// Made and dropped glyphs: exact cuts, flags and old clusters seen through each glyph's source.

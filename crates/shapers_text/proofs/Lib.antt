@@ -1,6 +1,9 @@
+pub mod HebrewLemmas
+mod HebrewRows
 mod RequestRows
 pub mod ThaiFormLaws
 pub mod ThaiFormWalks
 pub mod ThaiRows
 pub mod ThaiSaraAm
+pub mod ThaiSources
 pub mod ThaiStretches

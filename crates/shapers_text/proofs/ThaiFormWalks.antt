@@ -14,7 +14,8 @@ use Rattle.shapers_text.specs.declared.ot_shaper_thai.forms.Action.{Action}
 use Rattle.shapers_text.specs.declared.ot_shaper_thai.forms.Base.{Base}
 use Rattle.shapers_text.specs.declared.ot_shaper_thai.forms.Consonant.TheVariants.{NotConsonant}
 use Rattle.shapers_text.proofs.ThaiStretches.{with_glyphs}
-use Rattle.shapers_text.specs.ThaiForms.{stands_above, stands_below, mark_type, is_thai_mark, base_type, marks_above, action_of, action_after, forms_between, characters, with_character, with_characters, with_forms, target, form_set, base_after, base_place, stretch_of_mark, mark_stretches_of_each, mark_stretches, unsafe_all}
+use Rattle.shapers_text.specs.Thai.{characters}
+use Rattle.shapers_text.specs.ThaiForms.{stands_above, stands_below, mark_type, is_thai_mark, base_type, marks_above, action_of, action_after, forms_between, with_character, with_characters, with_forms, target, form_set, base_after, base_place, stretch_of_mark, mark_stretches_of_each, mark_stretches, unsafe_all}
 use Rattle.shapers_text.proofs.ThaiFormLaws.{IsBase, base_push, base_none, base_place_push, length-forms, put, shapes}
 
 -- flags leave the characters

@@ -6,8 +6,8 @@ use Rattle.shapers_base.specs.declared.buffer.glyph.hb_glyph_info_t.{hb_glyph_in
 use Rattle.shapers_base.specs.declared.buffer.level.BufferClusterLevel.{BufferClusterLevel}
 use Rattle.shapers_base.specs.declared.buffer.level.BufferClusterLevel.TheVariants.{MonotoneGraphemes, MonotoneCharacters}
 use Rattle.shapers_base.specs.Glyph.{default_glyph, clusters}
-use Rattle.shapers_text.specs.Thai.{sources, sara_am_stretches}
-use Rattle.shapers_text.specs.ThaiForms.{characters, preprocessed}
+use Rattle.shapers_text.specs.Thai.{characters, sources, sara_am_stretches}
+use Rattle.shapers_text.specs.ThaiForms.{preprocessed}
 
 -- a text whose clusters count from 0
 abbrev text : List ℕ → List hb_glyph_info_t
@@ -30,7 +30,7 @@ tone = refl
 tone-clusters : clusters (found MonotoneGraphemes (0x0E14 ∷ 0x0E4B ∷ 0x0E33 ∷ [])) ≡ 0 ∷ 1 ∷ 1 ∷ 1 ∷ []
 tone-clusters = refl
 
-tone-sources : sources (text (0x0E14 ∷ 0x0E4B ∷ 0x0E33 ∷ [])) ≡ 0 ∷ 2 ∷ 1 ∷ 2 ∷ []
+tone-sources : sources (0x0E14 ∷ 0x0E4B ∷ 0x0E33 ∷ []) ≡ 0 ∷ 2 ∷ 1 ∷ 2 ∷ []
 tone-sources = refl
 
 -- only NIKHAHIT is made a mark and a continuation

@@ -1,6 +1,6 @@
 -- SARA AM of Thai and Lao in two.
-use Rattle.std.specs.Prelude.{ℕ, nat_eq, not, codes, Option, None, Some, ◌-◌, ◌+◌, Bool, ◌||◌, ◌&&◌, ◌==◌, nat_le, nat_lt, bit_and, true, false, List, [], ◌∷◌, ◌++◌, length, reverse, map, flat_map, if◌then◌else◌}
-use Rattle.std.specs.List.{suffix_len, enumerate_from}
+use Rattle.std.specs.Prelude.{slice_index, ℕ, nat_eq, not, codes, Option, None, Some, ◌-◌, ◌+◌, Bool, ◌||◌, ◌&&◌, ◌==◌, nat_le, nat_lt, bit_and, true, false, List, [], ◌∷◌, ◌++◌, length, reverse, map, flat_map, if◌then◌else◌}
+use Rattle.std.specs.List.{suffix_len, range_with_len}
 use Rattle.shapers_base.specs.declared.buffer.category.hb_unicode_general_category_t.TheVariants.{Mn}
 use Rattle.shapers_base.specs.declared.buffer.glyph.hb_glyph_info_t.{hb_glyph_info_t}
 use Rattle.shapers_base.specs.declared.buffer.level.BufferClusterLevel.{BufferClusterLevel}
@@ -56,13 +56,17 @@ glyphs_in_two = record { sara_am = λ g. is_sara_am g.glyph_id; above_base = λ 
 abbrev pub rewritten : List hb_glyph_info_t → List hb_glyph_info_t
 rewritten gs = in_two glyphs_in_two gs
 
--- the rule on glyphs with their places: both parts of a SARA AM stand at its place
-abbrev pub places_in_two : InTwo (ℕ × hb_glyph_info_t)
-places_in_two = record { sara_am = λ p. is_sara_am p.1.glyph_id; above_base = λ p. is_above_base p.1.glyph_id; nikhahit = λ p. p; sara_aa = λ p. p }
+-- the characters of glyphs
+abbrev pub characters : List hb_glyph_info_t → List ℕ
+characters gs = map (λ g. g.glyph_id) gs
+
+-- the rule on the places of a text: both parts of a SARA AM stand for its place
+abbrev pub places_in_two : List ℕ → InTwo ℕ
+places_in_two us = record { sara_am = λ i. is_sara_am (slice_index us i); above_base = λ i. is_above_base (slice_index us i); nikhahit = λ i. i; sara_aa = λ i. i }
 
 -- for each glyph of the result the old place that it copies
-abbrev pub sources : List hb_glyph_info_t → List ℕ
-sources gs = map (λ p. p.0) (in_two places_in_two (enumerate_from 0 gs))
+abbrev pub sources : List ℕ → List ℕ
+sources us = in_two (places_in_two us) (range_with_len 0 (length us))
 
 -- whether a SARA AM without marks joins the glyph before it
 abbrev pub joins_before : BufferClusterLevel → Bool

@@ -7,7 +7,7 @@ use Rattle.shapers_base.specs.Glyph.{default_glyph}
 use Rattle.shapers_base.specs.Clusters.{merge_all}
 use Rattle.shapers_base.specs.GlyphFlags.{unsafe_inside}
 use Rattle.shapers_base.specs.Lists.{last_run, before_last_run, each_after}
-use Rattle.shapers_text.specs.Thai.{rewritten, sara_am_stretches}
+use Rattle.shapers_text.specs.Thai.{characters, rewritten, sara_am_stretches}
 use Rattle.shapers_text.specs.declared.ot_shaper_thai.forms.Consonant.{Consonant}
 use Rattle.shapers_text.specs.declared.ot_shaper_thai.forms.Consonant.TheVariants.{NC, AC, RC, DC, NotConsonant}
 use Rattle.shapers_text.specs.declared.ot_shaper_thai.forms.Mark.{Mark}
@@ -156,10 +156,7 @@ abbrev pub forms_between : (ℕ → Bool) → List ℕ → List ℕ → List ℕ
 forms_between has before [] after = []
 forms_between has before (u ∷ us) after = form_between has before u (us ++ after) ∷ forms_between has (before ++ u ∷ []) us after
 
--- the characters of glyphs, and the glyphs with other characters
-abbrev pub characters : List hb_glyph_info_t → List ℕ
-characters gs = map (λ g. g.glyph_id) gs
-
+-- the glyphs with other characters
 abbrev pub with_character : hb_glyph_info_t → ℕ → hb_glyph_info_t
 with_character g u = record g { glyph_id = u }
 

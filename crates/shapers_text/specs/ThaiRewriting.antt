@@ -30,7 +30,7 @@ in_two_plain two xs none =
     ]
 
 -- what stands before and after a SARA AM is rewritten for itself
-in_two-append : {X : Type 0} (two : InTwo X) (xs : List X) (am : X) (ys : List X) → two.sara_am am ≡ true → in_two two (xs ++ am ∷ ys) ≡ in_two two (xs ++ am ∷ []) ++ in_two two ys
+pub in_two-append : {X : Type 0} (two : InTwo X) (xs : List X) (am : X) (ys : List X) → two.sara_am am ≡ true → in_two two (xs ++ am ∷ ys) ≡ in_two two (xs ++ am ∷ []) ++ in_two two ys
 in_two-append two xs am ys h = ap (flat_map (λ piece. opened_back two (reverse piece))) (cut_after-append two.sara_am xs am ys h) ∙ flat_map-append (λ piece. opened_back two (reverse piece)) (cut_after two.sara_am (xs ++ am ∷ [])) (cut_after two.sara_am ys)
 
 -- what the text so far becomes: with a NIKHAHIT pending, that stands before its last above-base marks

@@ -3,4 +3,5 @@
 
 pub mod ot_shaper_arabic;
 pub mod ot_shaper_hangul;
+pub mod ot_shaper_hebrew;
 pub mod ot_shaper_thai;

@@ -5,6 +5,7 @@ ghost use Rattle.std.specs.List.{list_any};
 ghost use Rattle.shapers_base.specs.Refusals.{RefusesLength};
 ghost use Rattle.shapers_text.specs.Thai.{is_sara_am, rewritten, is_thai, wants_forms};
 ghost use Rattle.shapers_text.specs.ThaiForms.{preprocessed};
+ghost use Rattle.shapers_text.specs.ThaiLaws.{InTwoLaw};
 
 use shapers_base::buffer::{Script, ShaperError, hb_buffer_t};
 use shapers_base::font::hb_font_t;
@@ -59,3 +60,9 @@ fn is_thai(script: Option<Script>) -> bool
         Some(script) => script == THAI,
     }
 }
+
+/// What the rewriting of SARA AM makes of clusters and glyph flags: flags and old clusters, the
+/// cluster law and exact cuts.
+pub fn in_two_law()
+    ensures { InTwoLaw }
+{}

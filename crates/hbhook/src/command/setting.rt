@@ -2,26 +2,16 @@
 use super::fields::{decimal, four_characters, hexadecimal, yes_or_no};
 use crate::fault::LineFault;
 use bitflags::Flags;
+use rustybuzz_shapers::shaper::{
+    ARABIC_SHAPER, HANGUL_SHAPER, HEBREW_SHAPER, INDIC_SHAPER, KHMER_SHAPER, MYANMAR_SHAPER,
+    MYANMAR_ZAWGYI_SHAPER, THAI_SHAPER, UNIVERSAL_SHAPER, hb_ot_shaper_t,
+};
 use shapers_base::buffer::{BufferClusterLevel, BufferFlags, Direction, Script, hb_tag_t};
-
-/// The shapers, by name.
-#[derive(Clone, Copy)]
-pub enum ShaperName {
-    Arabic,
-    Hangul,
-    Hebrew,
-    Indic,
-    Khmer,
-    Myanmar,
-    Zawgyi,
-    Thai,
-    Universal,
-}
 
 /// A setting and its value.
 #[derive(Clone, Copy)]
 pub enum Setting {
-    Shaper(ShaperName),
+    Shaper(hb_ot_shaper_t),
     /// The script of the plan and of the buffer.
     Script(Script),
     /// The script chosen in the font.
@@ -44,7 +34,7 @@ impl Setting {
     /// The setting of this name, with its value.
     pub fn parse(key: &str, value: &str) -> Result<Setting, LineFault> {
         match key {
-            "shaper" => Ok(Setting::Shaper(shaper_name(value)?)),
+            "shaper" => Ok(Setting::Shaper(named_shaper(value)?)),
             "script" => Ok(Setting::Script(Script(four_characters(value)?))),
             "chosen" => Ok(Setting::Chosen(hb_tag_t(four_characters(value)?))),
             "found" => Ok(Setting::Found(yes_or_no(value)?)),
@@ -60,17 +50,17 @@ impl Setting {
     }
 }
 
-fn shaper_name(name: &str) -> Result<ShaperName, LineFault> {
+fn named_shaper(name: &str) -> Result<hb_ot_shaper_t, LineFault> {
     match name {
-        "arabic" => Ok(ShaperName::Arabic),
-        "hangul" => Ok(ShaperName::Hangul),
-        "hebrew" => Ok(ShaperName::Hebrew),
-        "indic" => Ok(ShaperName::Indic),
-        "khmer" => Ok(ShaperName::Khmer),
-        "myanmar" => Ok(ShaperName::Myanmar),
-        "zawgyi" => Ok(ShaperName::Zawgyi),
-        "thai" => Ok(ShaperName::Thai),
-        "universal" => Ok(ShaperName::Universal),
+        "arabic" => Ok(ARABIC_SHAPER),
+        "hangul" => Ok(HANGUL_SHAPER),
+        "hebrew" => Ok(HEBREW_SHAPER),
+        "indic" => Ok(INDIC_SHAPER),
+        "khmer" => Ok(KHMER_SHAPER),
+        "myanmar" => Ok(MYANMAR_SHAPER),
+        "zawgyi" => Ok(MYANMAR_ZAWGYI_SHAPER),
+        "thai" => Ok(THAI_SHAPER),
+        "universal" => Ok(UNIVERSAL_SHAPER),
         _ => Err(LineFault::Unreadable),
     }
 }

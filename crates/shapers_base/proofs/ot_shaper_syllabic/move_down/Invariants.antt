@@ -1,4 +1,4 @@
-use Rattle.std.proofs.Common.{◌≡◌, ◌+◌, ◌++◌, [], length, take, drop}
+use Rattle.std.proofs.Common.{◌≡◌, [], length}
 use Rattle.shapers_base.specs.CircleWalk.{overwritten}
 use Rattle.shapers_base.specs.Clusters.{stretch_of}
 use Rattle.shapers_base.proofs.ot_shaper_syllabic.move_down.Given as goal

@@ -1,6 +1,6 @@
 use Rattle.std.proofs.Common.{◌<◌, length, arith}
 use Rattle.std.proofs.lemmas.Bool.Decides.{nat_tests}
-use Rattle.shapers_base.proofs.CircleLemmas.{IsStep, step_is}
+use Rattle.shapers_base.proofs.CircleLemmas.{step_is}
 use Rattle.shapers_base.proofs.ot_shaper_syllabic.DottedCircles.count.Goals as goal
 
 pub loop-start-preserved : goal.loop-start-preserved

@@ -1,4 +1,4 @@
-use Rattle.std.proofs.Common.{◌∙◌, ◌≡◌, true, ap, sym, arith}
+use Rattle.std.proofs.Common.{◌≡◌, true, ap}
 use Rattle.shapers_base.proofs.CircleLemmas.{circle_written, with_glyphs}
 use Rattle.shapers_base.proofs.ot_shaper_syllabic.DottedCircles.move_syllable.Goals as goal
 

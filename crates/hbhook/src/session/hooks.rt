@@ -1,0 +1,173 @@
+//! The lines `run NAME ..`: the conditions of a call are asked before the call is made.
+ghost use Rattle.std.specs.Prelude.{◌≡◌, [], is_ok, OnOk};
+ghost use Rattle.rustybuzz_shapers.specs.Shapers.{preprocess_stands, postprocesses, composes, decomposes, masks_glyphs, moves_marks};
+
+use super::Session;
+use crate::command::HookCall;
+use crate::fault::LineFault;
+use rustybuzz_shapers::shaper::{Preprocess, hb_ot_shaper_t};
+
+impl Session {
+    /// Asks a hook of the shaper. Without a shaper, where the call's conditions fail and where the
+    /// hook isn't built yet, the line doesn't read.
+    pub fn run(&mut self, call: HookCall) -> Result<(), LineFault> {
+        let shaper = self.settings.shaper.ok_or(LineFault::Unreadable)?;
+        match call {
+            HookCall::Preprocess => self.preprocess(shaper),
+            HookCall::Masks => self.set_masks(shaper),
+            HookCall::Postprocess => self.postprocess(shaper),
+            HookCall::Marks(start, end) => self.reorder_marks(shaper, start, end),
+            HookCall::Compose(a, b) => self.compose(shaper, a, b),
+            HookCall::Decompose(ab) => self.decompose(shaper, ab),
+            HookCall::Pause(_) => Err(LineFault::Unreadable),
+        }
+    }
+
+    // The hook before normalization.
+    fn preprocess(&mut self, shaper: hb_ot_shaper_t) -> Result<(), LineFault> {
+        self.check_no_positions()?;
+        check(has_preprocess(shaper))?;
+        let plan = self.settings.plan()?;
+        let answer = shaper.preprocess_text(&plan, &self.settings.font, &mut self.buffer)?;
+        match answer {
+            Some(Preprocess::Done) => Ok(()),
+            Some(Preprocess::CallerRunsVowelConstraints) => self.answer("caller"),
+            None => self.answer("absent"),
+        }
+    }
+
+    // The hook that sets masks.
+    fn set_masks(&mut self, shaper: hb_ot_shaper_t) -> Result<(), LineFault> {
+        self.check_no_positions()?;
+        check(!needs_masks(shaper))?;
+        let plan = self.settings.plan()?;
+        let (font, tables) = (&self.settings.font, &self.settings.tables);
+        let answer = shaper.setup_masks(&plan, font, tables, &mut self.buffer);
+        self.answer_if_absent(answer)
+    }
+
+    // The hook after positioning.
+    fn postprocess(&mut self, shaper: hb_ot_shaper_t) -> Result<(), LineFault> {
+        check(self.buffer.positions_len() == self.buffer.len())?;
+        check(!needs_postprocess(shaper))?;
+        let plan = self.settings.plan()?;
+        let answer = shaper.postprocess_glyphs(&plan, &self.settings.font, &mut self.buffer)?;
+        self.answer_if_absent(answer)
+    }
+
+    // The hook that reorders the marks from `start` to `end`.
+    fn reorder_marks(
+        &mut self,
+        shaper: hb_ot_shaper_t,
+        start: usize,
+        end: usize,
+    ) -> Result<(), LineFault> {
+        self.check_no_positions()?;
+        check(start <= end && end <= self.buffer.len())?;
+        check(!needs_marks(shaper))?;
+        let plan = self.settings.plan()?;
+        let answer = shaper.reorder_marks(&plan, &mut self.buffer, start, end);
+        self.answer_if_absent(answer)
+    }
+
+    // The hook that composes two characters.
+    fn compose(&mut self, shaper: hb_ot_shaper_t, a: char, b: char) -> Result<(), LineFault> {
+        check(!needs_compose(shaper))?;
+        let plan = self.settings.plan()?;
+        match shaper.compose(&plan, &self.settings.tables, a, b) {
+            Some(Some(ab)) => Ok(writeln!(self.answers, "{:04x}", u32::from(ab))?),
+            Some(None) => self.answer("none"),
+            None => self.answer("absent"),
+        }
+    }
+
+    // The hook that decomposes a character.
+    fn decompose(&mut self, shaper: hb_ot_shaper_t, ab: char) -> Result<(), LineFault> {
+        check(!needs_decompose(shaper))?;
+        let plan = self.settings.plan()?;
+        match shaper.decompose(&plan, &self.settings.tables, ab) {
+            Some(Some((a, b))) => {
+                writeln!(self.answers, "{:04x} {:04x}", u32::from(a), u32::from(b))?;
+                Ok(())
+            }
+            Some(None) => self.answer("none"),
+            None => self.answer("absent"),
+        }
+    }
+
+    // The condition of the calls before positioning: no positions.
+    fn check_no_positions(&self) -> Result<(), LineFault>
+        ensures { OnOk result (self.now.buffer.positions ≡ []) }
+    {
+        check(self.buffer.positions_len() == 0)
+    }
+
+    // Prints that a hook is absent, where it is.
+    fn answer_if_absent(&mut self, answer: Option<()>) -> Result<(), LineFault> {
+        match answer {
+            Some(()) => Ok(()),
+            None => self.answer("absent"),
+        }
+    }
+
+    // Keeps a line that the run prints before the glyphs.
+    fn answer(&mut self, line: &str) -> Result<(), LineFault> {
+        writeln!(self.answers, "{line}")?;
+        Ok(())
+    }
+}
+
+// A condition, without which the line doesn't read.
+fn check(holds: bool) -> Result<(), LineFault>
+    ensures { is_ok result ≡ holds }
+{
+    if holds {
+        Ok(())
+    } else {
+        Err(LineFault::Unreadable)
+    }
+}
+
+// Whether the shaper's preprocessing is built, or there is none to build.
+fn has_preprocess(shaper: hb_ot_shaper_t) -> bool
+    ensures { result ≡ preprocess_stands shaper }
+{
+    !matches!(shaper, hb_ot_shaper_t::Hangul)
+}
+
+// Whether the shaper sets masks, which isn't built yet.
+fn needs_masks(shaper: hb_ot_shaper_t) -> bool
+    ensures { result ≡ masks_glyphs shaper }
+{
+    use hb_ot_shaper_t::{Hebrew, MyanmarZawgyi, Thai};
+    !matches!(shaper, Hebrew | MyanmarZawgyi | Thai)
+}
+
+// Whether the shaper rewrites glyphs after positioning, which isn't built yet.
+fn needs_postprocess(shaper: hb_ot_shaper_t) -> bool
+    ensures { result ≡ postprocesses shaper }
+{
+    matches!(shaper, hb_ot_shaper_t::Arabic)
+}
+
+// Whether the shaper reorders marks, which isn't built yet.
+fn needs_marks(shaper: hb_ot_shaper_t) -> bool
+    ensures { result ≡ moves_marks shaper }
+{
+    matches!(shaper, hb_ot_shaper_t::Arabic | hb_ot_shaper_t::Hebrew)
+}
+
+// Whether the shaper composes, which isn't built yet.
+fn needs_compose(shaper: hb_ot_shaper_t) -> bool
+    ensures { result ≡ composes shaper }
+{
+    use hb_ot_shaper_t::{Hebrew, Indic, Khmer, Universal};
+    matches!(shaper, Hebrew | Indic | Khmer | Universal)
+}
+
+// Whether the shaper decomposes, which isn't built yet.
+fn needs_decompose(shaper: hb_ot_shaper_t) -> bool
+    ensures { result ≡ decomposes shaper }
+{
+    matches!(shaper, hb_ot_shaper_t::Indic | hb_ot_shaper_t::Khmer)
+}

@@ -1,0 +1,139 @@
+//! Hebrew: the order of marks, and the letters that compose with points where the font places no marks.
+ghost use Rattle.std.specs.Prelude.{◌≡◌, ◌==◌, ◌&&◌, ◌≤◌, ◌∷◌, [], find, length, option_map, swap, ◌+◌, ◌^◌, ◌<◌, IfSome, true};
+ghost use Rattle.shapers_base.specs.Clusters.{merge, merges};
+ghost use Rattle.shapers_base.specs.Glyph.{clusters, order_view};
+ghost use Rattle.shapers_clusters.specs.Laws.{StepsHold, MergedStepsHold};
+ghost use Rattle.shapers_clusters.specs.Steps.{run_step};
+ghost use Rattle.shapers_text.specs.Hebrew.{mark_step, marks_swapped, second_of_triple, opens_triple, hebrew_form, composed_in_hebrew, lacks_dagesh, is_in_dagesh_row, pairs};
+
+use shapers_base::buffer::modified_combining_class::{BELOW, CCC10, CCC14, CCC17, CCC18, CCC22};
+use shapers_base::buffer::{hb_buffer_t, hb_glyph_info_t};
+use shapers_base::font::Tables;
+use shapers_base::plan::hb_ot_shape_plan_t;
+
+/// Among the marks from `start` to `end`, at the first three neighbours of the classes (patah or
+/// qamats), (sheva or hiriq), (meteg or below), merges the last two and swaps them: a meteg stands
+/// before the point that it is written left of. It can't refuse and takes no memory.
+pub fn reorder_marks(
+    _plan: &hb_ot_shape_plan_t,
+    buffer: &mut hb_buffer_t,
+    start: usize,
+    end: usize,
+)
+    requires in_order { start ≤ end }
+    requires in_range { end ≤ length buffer.old.glyphs }
+    ensures step { buffer.new ≡ record buffer.old { glyphs = run_step buffer.old.level (mark_step start end buffer.old.glyphs) buffer.old.glyphs } }
+    ensures order { order_view buffer.new.glyphs ≡ marks_swapped start end (order_view buffer.old.glyphs) }
+    ensures flags { StepsHold buffer.old.level (mark_step start end buffer.old.glyphs ∷ []) buffer.old.glyphs buffer.new.glyphs }
+    ensures clusters { merges buffer.old.level ≡ true → MergedStepsHold buffer.old.level (mark_step start end buffer.old.glyphs ∷ []) (clusters buffer.old.glyphs) (clusters buffer.new.glyphs) }
+{
+    if let Some(i) = find_triple(buffer, start, end) {
+        merge_and_swap(buffer, i);
+    }
+}
+
+// Merges the glyphs at `i` and behind it, and swaps them.
+fn merge_and_swap(buffer: &mut hb_buffer_t, i: usize)
+    requires in_range { i + 1 < length buffer.old.glyphs }
+    requires fits { i + 2 < 2 ^ 64 }
+    ensures { buffer.new ≡ record buffer.old { glyphs = swap (merge buffer.old.level i (i + 2) buffer.old.glyphs) i (i + 1) } }
+{
+    buffer.merge_clusters(i, i + 2);
+    let (point, meteg) = (buffer.get(i), buffer.get(i + 1));
+    buffer.set(i, meteg);
+    buffer.set(i + 1, point);
+}
+
+// The place of the second of the first three such neighbours.
+fn find_triple(buffer: &hb_buffer_t, start: usize, end: usize) -> Option<usize>
+    requires in_order { start ≤ end }
+    requires in_range { end ≤ length buffer.now.glyphs }
+    ensures first { result ≡ second_of_triple start end buffer.now.glyphs }
+    ensures within { IfSome result (λ i. i + 1 < end) }
+{
+    for i in start..end.saturating_sub(2) {
+        if is_triple(buffer.get(i), buffer.get(i + 1), buffer.get(i + 2)) {
+            return Some(i + 1);
+        }
+    }
+    None
+}
+
+// Whether three neighbours are marks whose last two change places.
+fn is_triple(a: hb_glyph_info_t, b: hb_glyph_info_t, c: hb_glyph_info_t) -> bool
+    ensures { result ≡ opens_triple (a ∷ (b ∷ (c ∷ []))) }
+{
+    matches!(a.modified_combining_class, CCC17 | CCC18)
+        && matches!(b.modified_combining_class, CCC10 | CCC14)
+        && matches!(c.modified_combining_class, CCC22 | BELOW)
+}
+
+/// The composition of two characters: the table's, or else, where GPOS places no marks, the Hebrew
+/// presentation form of a letter and a point.
+pub fn compose<T: Tables>(plan: &hb_ot_shape_plan_t, tables: &T, a: char, b: char) -> Option<char>
+    ensures { result ≡ composed_in_hebrew (T.composed tables.now a b) plan.now.has_gpos_mark a b }
+{
+    match tables.compose(a, b) {
+        Some(composed) => Some(composed),
+        None if plan.has_gpos_mark => None,
+        None => form_of(a, b),
+    }
+}
+
+/// A letter, a point and the form that they compose to.
+const PAIRS: [(char, char, char); 14] = [
+    ('\u{05D9}', '\u{05B4}', '\u{FB1D}'),
+    ('\u{05F2}', '\u{05B7}', '\u{FB1F}'),
+    ('\u{05D0}', '\u{05B7}', '\u{FB2E}'),
+    ('\u{05D0}', '\u{05B8}', '\u{FB2F}'),
+    ('\u{05D5}', '\u{05B9}', '\u{FB4B}'),
+    ('\u{05D1}', '\u{05BF}', '\u{FB4C}'),
+    ('\u{05DB}', '\u{05BF}', '\u{FB4D}'),
+    ('\u{05E4}', '\u{05BF}', '\u{FB4E}'),
+    ('\u{05E9}', '\u{05C1}', '\u{FB2A}'),
+    ('\u{FB49}', '\u{05C1}', '\u{FB2C}'),
+    ('\u{05E9}', '\u{05C2}', '\u{FB2B}'),
+    ('\u{FB49}', '\u{05C2}', '\u{FB2D}'),
+    ('\u{FB2A}', '\u{05BC}', '\u{FB2C}'),
+    ('\u{FB2B}', '\u{05BC}', '\u{FB2D}'),
+];
+
+/// Alef with dagesh, where the row of letters with dagesh begins.
+const ALEF_WITH_DAGESH: u32 = 0xFB30;
+
+// The presentation form of a letter and a point.
+fn form_of(a: char, b: char) -> Option<char>
+    ensures { result ≡ hebrew_form a b }
+{
+    if is_in_dagesh_row(a, b) {
+        return char::from_u32(ALEF_WITH_DAGESH + (a as u32 - 0x05D0));
+    }
+    listed_form(a, b)
+}
+
+// Whether a letter and dagesh stand in the row of letters with dagesh.
+fn is_in_dagesh_row(a: char, b: char) -> bool
+    ensures { result ≡ is_in_dagesh_row a b }
+{
+    b == '\u{05BC}' && matches!(a, '\u{05D0}'..='\u{05EA}') && !lacks_dagesh(a)
+}
+
+// Whether a letter has no form with dagesh.
+fn lacks_dagesh(a: char) -> bool
+    ensures { result ≡ lacks_dagesh a }
+{
+    matches!(
+        a,
+        '\u{05D7}' | '\u{05DD}' | '\u{05DF}' | '\u{05E2}' | '\u{05E5}'
+    )
+}
+
+// The form in the list of pairs.
+fn listed_form(a: char, b: char) -> Option<char>
+    ensures { result ≡ option_map (λ p. p.2) (find (λ p. (p.0 == a) && (p.1 == b)) pairs) }
+{
+    PAIRS
+        .iter()
+        .find(|pair| pair.0 == a && pair.1 == b)
+        .map(|pair| pair.2)
+}
