@@ -164,15 +164,16 @@ fn has_no_hook_for_zawgyi(rt: HostRuntime) -> Result<(), Fail> {
 
 #[test]
 fn leaves_vowel_constraints_to_the_caller(rt: HostRuntime) -> Result<(), Fail> {
-    let mut buffer = hb_buffer_t::new(rt.alloc(), 10);
     let Some(plan) = plan(rt.alloc(), *b"Deva") else {
         assert!(rt; false, "an empty map");
         return Ok(());
     };
     for shaper in [INDIC_SHAPER, UNIVERSAL_SHAPER] {
+        let mut buffer = hb_buffer_t::new(rt.alloc(), 10);
         let answer = shaper.preprocess_text(&plan, &Nothing, &mut buffer);
         assert_eq!(rt; answer, Ok(Some(Preprocess::CallerRunsVowelConstraints)));
     }
+    let mut buffer = hb_buffer_t::new(rt.alloc(), 10);
     let answer = THAI_SHAPER.preprocess_text(&plan, &Nothing, &mut buffer);
     assert_eq!(rt; answer, Ok(Some(Preprocess::Done)));
     Ok(())
