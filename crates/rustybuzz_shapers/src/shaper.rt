@@ -147,12 +147,7 @@ impl hb_ot_shaper_t {
             Self::Hangul => Ok(Some(ot_shaper_hangul::override_features(planner)?)),
             Self::Indic => Ok(Some(ot_shaper_indic::override_features(planner)?)),
             Self::Khmer => Ok(Some(ot_shaper_khmer::override_features(planner)?)),
-            Self::Arabic
-            | Self::Hebrew
-            | Self::Myanmar
-            | Self::MyanmarZawgyi
-            | Self::Thai
-            | Self::Universal => Ok(None),
+            _ => Ok(None),
         }
     }
 
@@ -211,7 +206,14 @@ impl hb_ot_shaper_t {
     {
         match self {
             Self::Arabic => unreachable!(),
-            _ => Ok(None),
+            Self::Hangul
+            | Self::Hebrew
+            | Self::Indic
+            | Self::Khmer
+            | Self::Myanmar
+            | Self::MyanmarZawgyi
+            | Self::Thai
+            | Self::Universal => Ok(None),
         }
     }
 
