@@ -28,10 +28,6 @@ flooded-defaults c m n gs h = elim (cases_eq c m) [
   | inr d ↦ flooded-away c m n gs (λ z. d (omega arith))
 ]
 
-least-opening : (cs : List ℕ) → 0 < length cs → least cs ≤ opening cs
-least-opening [] h = omega arith
-least-opening (c ∷ cs) h = least-le (c ∷ cs) 0 h
-
 -- the least cluster is at most the last one
 pub least-last : (gs : List hb_glyph_info_t) → 0 < length gs → least (clusters gs) ≤ last_cluster gs
 least-last gs h =

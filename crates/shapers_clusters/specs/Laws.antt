@@ -31,9 +31,10 @@ pub record MergeHolds (level : BufferClusterLevel) (s e : ℕ) (gs ms : List hb_
 abbrev pub MergeLaw : Type 0
 MergeLaw = (level : BufferClusterLevel) (s e : ℕ) (gs : List hb_glyph_info_t) → e ≤ length gs → MergeHolds level s e gs (merge level s e gs)
 
--- After merges of clusters that never decrease, or never increase, the cuts are exact, and the clusters still do so.
+-- After merges of clusters that never decrease, or never increase, the cuts are exact, the clusters still do so, and no other
+-- clusters have exact cuts.
 abbrev pub ExactCutsLaw : Type 0
-ExactCutsLaw = (level : BufferClusterLevel) (sts : List (ℕ × ℕ)) (gs : List hb_glyph_info_t) → merges level ≡ true → EndWithin (length gs) sts → IsMonotone (clusters gs) → ExactCuts (clusters gs) sts (clusters (merge_all level sts gs)) × IsMonotone (clusters (merge_all level sts gs))
+ExactCutsLaw = (level : BufferClusterLevel) (sts : List (ℕ × ℕ)) (gs : List hb_glyph_info_t) → merges level ≡ true → EndWithin (length gs) sts → IsMonotone (clusters gs) → ExactCuts (clusters gs) sts (clusters (merge_all level sts gs)) × IsMonotone (clusters (merge_all level sts gs)) × ((js : List ℕ) → ExactCuts (clusters gs) sts js → js ≡ clusters (merge_all level sts gs))
 
 -- What any steps make of the glyphs gs: ms. Each glyph, followed from its old place, keeps all but cluster and glyph flags;
 -- its cluster doesn't rise, and it keeps its flags unless the cluster fell. The clusters are what the steps make of the old ones.

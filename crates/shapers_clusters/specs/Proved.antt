@@ -9,7 +9,7 @@ use Rattle.shapers_base.specs.Clusters.{merge, merge_all}
 use Rattle.shapers_clusters.specs.Joined.{joined, joined_all, clusters-merge}
 use Rattle.shapers_clusters.specs.Merging.{length-merge, length-merge_all, order_view-merge}
 use Rattle.shapers_clusters.specs.Neighbours.{EndWithin, ShareCluster, joined-shares, joined_all-share, length-joined_all}
-use Rattle.shapers_clusters.specs.Cuts.{IsMonotone, ExactCuts, exact_cuts, stays_rising, stays_falling}
+use Rattle.shapers_clusters.specs.Cuts.{IsMonotone, ExactCuts, exact_cuts, one_exact, stays_rising, stays_falling}
 use Rattle.shapers_clusters.specs.Steps.{pick, FitsStep, MovesMerged, all_first}
 use Rattle.shapers_clusters.specs.Picks.{length-pick, within_at}
 use Rattle.shapers_clusters.specs.Falls.{merge-falls}
@@ -46,13 +46,15 @@ pub exact_cuts_hold : ExactCutsLaw
 exact_cuts_hold level sts gs m w mono =
     let cs = clusters gs in
     let is : clusters (merge_all level sts gs) ≡ joined_all level sts cs = clusters-merge_all level sts gs in
-    let P : List ℕ → Type 0 = λ js. ExactCuts cs sts js × IsMonotone js in
-    subst P (sym is) (
-      exact_cuts level m sts cs (ends sts gs w) mono,
-      elim mono [
+    let P : List ℕ → Type 0 = λ js. ExactCuts cs sts js in
+    let Q : List ℕ → Type 0 = λ js. IsMonotone js in
+    let e : ExactCuts cs sts (clusters (merge_all level sts gs)) = subst P (sym is) (exact_cuts level m sts cs (ends sts gs w) mono) in (
+      e,
+      subst Q (sym is) (elim mono [
         | inl up ↦ inl (stays_rising level sts cs (ends sts gs w) up)
         | inr down ↦ inr (stays_falling level sts cs (ends sts gs w) down)
-      ],
+      ]),
+      λ js x. one_exact cs sts js (clusters (merge_all level sts gs)) x e,
     )
 
 pub steps_hold : StepsLaw

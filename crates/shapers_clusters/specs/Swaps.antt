@@ -47,10 +47,10 @@ swap_at xs i k d h =
     let first : i < length xs = omega arith in
     let long : i + 1 < length (set xs i a) = omega (arith, length-set xs i a) in
     ap (λ ys. get_or ys k d) (sym (swap_is xs i (i + 1) d first h)) ∙ elim (cases_eq k (i + 1)) [
-      inl e ↦ ap (λ m. get_or (set (set xs i a) (i + 1) b) m d) e ∙ get_or-set_same (set xs i a) (i + 1) b d long ∙ sym (ap (λ m. get_or xs m d) (turned-second i k e))
-    | inr n ↦ get_or-set_other (set xs i a) (i + 1) k b d n ∙ elim (cases_eq k i) [
-        inl e ↦ ap (λ m. get_or (set xs i a) m d) e ∙ get_or-set_same xs i a d first ∙ sym (ap (λ m. get_or xs m d) (turned-first i k e))
-      | inr m ↦ get_or-set_other xs i k a d m ∙ sym (ap (λ m. get_or xs m d) (turned-other i k m n))
+      | inl e ↦ ap (λ m. get_or (set (set xs i a) (i + 1) b) m d) e ∙ get_or-set_same (set xs i a) (i + 1) b d long ∙ sym (ap (λ m. get_or xs m d) (turned-second i k e))
+      | inr n ↦ get_or-set_other (set xs i a) (i + 1) k b d n ∙ elim (cases_eq k i) [
+        | inl e ↦ ap (λ m. get_or (set xs i a) m d) e ∙ get_or-set_same xs i a d first ∙ sym (ap (λ m. get_or xs m d) (turned-first i k e))
+        | inr m ↦ get_or-set_other xs i k a d m ∙ sym (ap (λ m. get_or xs m d) (turned-other i k m n))
       ]
     ]
 
@@ -75,9 +75,9 @@ pick-swap n xs i e h =
     let long = length-pick places xs within ∙ swapped_length n i in
     let room : i + 1 < length xs = omega arith in
     same_lists (pick places xs) (swap xs i (i + 1)) (long ∙ sym (length-swap xs i (i + 1) ∙ e)) (λ k d l.
-        let m : k < n = omega arith in
-        let p : k < length places = omega (arith, swapped_length n i) in
-        get_or-pick d places xs within k p ∙ ap (λ q. get_or xs q d) (swapped_at n i k 0 h m) ∙ sym (swap_at xs i k d room))
+    let m : k < n = omega arith in
+    let p : k < length places = omega (arith, swapped_length n i) in
+    get_or-pick d places xs within k p ∙ ap (λ q. get_or xs q d) (swapped_at n i k 0 h m) ∙ sym (swap_at xs i k d room))
 
 -- a swap step merges the two and swaps them
 pub run-swap_step : (level : BufferClusterLevel) (gs : List hb_glyph_info_t) (i : ℕ) → i + 1 < length gs → run_step level (swap_step (length gs) i) gs ≡ swap (merge level i (i + 2) gs) i (i + 1)
@@ -92,28 +92,30 @@ held_inside i r a b = grind (arith, nat_tests)
 
 swap_inside : (n i p : ℕ) → i + 1 < n → p < n → HeldBetween ((i, i + 2) ∷ []) p (turned i p)
 swap_inside n i p h l = elim (cases_eq p i) [
-      inl e ↦ λ r a b. held_inside i r (omega (arith, turned-first i p e)) (omega (arith, turned-first i p e))
-    | inr m ↦ elim (cases_eq p (i + 1)) [
-        inl e ↦ λ r a b. held_inside i r (omega (arith, turned-second i p e)) (omega (arith, turned-second i p e))
-      | inr q ↦ λ r a b. absurd (omega (arith, turned-other i p m q))
-      ]
-    ]
+  | inl e ↦ λ r a b. held_inside i r (omega (arith, turned-first i p e)) (omega (arith, turned-first i p e))
+  | inr m ↦ elim (cases_eq p (i + 1)) [
+    | inl e ↦ λ r a b. held_inside i r (omega (arith, turned-second i p e)) (omega (arith, turned-second i p e))
+    | inr q ↦ λ r a b. absurd (omega (arith, turned-other i p m q))
+  ]
+]
 
 -- both move only inside what they merged
 pub swap_moves_merged : (n i : ℕ) → i + 1 < n → MovesMerged n (swap_step n i)
 swap_moves_merged n i h = record {
-    fits = record { as_many = swapped_length n i; within = swapped_within n i h; first_within = (omega arith, tt); then_within = tt };
-    inside = λ p l.
-        let m : p < n = omega (arith, swapped_length n i) in
-        let P : ℕ → Type 0 = HeldBetween ((i, i + 2) ∷ []) p in
-        subst P (sym (swapped_at n i p 0 h m)) (swap_inside n i p h m);
-    nothing_then = refl }
+  fits = record { as_many = swapped_length n i; within = swapped_within n i h; first_within = (omega arith, tt); then_within = tt };
+  inside = λ p l.
+      let m : p < n = omega (arith, swapped_length n i) in
+      let P : ℕ → Type 0 = HeldBetween ((i, i + 2) ∷ []) p in
+      subst P (sym (swapped_at n i p 0 h m)) (swap_inside n i p h m);
+  nothing_then = refl;
+}
 
 pub still_moves_merged : (n : ℕ) → MovesMerged n (still_step n)
 still_moves_merged n = record {
-    fits = record { as_many = length-range_with_len 0 n; within = within_range 0 n n (omega arith); first_within = tt; then_within = tt };
-    inside = λ p l.
-        let m : p < n = omega (arith, length-range_with_len 0 n) in
-        let P : ℕ → Type 0 = HeldBetween [] p in
-        subst P (sym (get_or-range_with_len 0 n p 0 m ∙ zero-add p)) (λ r a b. absurd (omega arith));
-    nothing_then = refl }
+  fits = record { as_many = length-range_with_len 0 n; within = within_range 0 n n (omega arith); first_within = tt; then_within = tt };
+  inside = λ p l.
+      let m : p < n = omega (arith, length-range_with_len 0 n) in
+      let P : ℕ → Type 0 = HeldBetween [] p in
+      subst P (sym (get_or-range_with_len 0 n p 0 m ∙ zero-add p)) (λ r a b. absurd (omega arith));
+  nothing_then = refl;
+}
