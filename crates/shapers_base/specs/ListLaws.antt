@@ -33,23 +33,28 @@ last_run_yes test xs x h =
     let cut : length (xs ++ x ∷ []) - suffix_len test (xs ++ x ∷ []) ≡ length xs - suffix_len test xs = omega (arith, length_push xs x, suffix_len_yes test xs x h, suffix_len-le-length test xs) in
     let within : length xs - suffix_len test xs ≤ length xs = omega arith in
     ap (λ k. drop k (xs ++ x ∷ [])) cut ∙ drop-append-le _ xs (x ∷ []) within
+
 pub before_last_run_yes : {X : Type 0} (test : X → Bool) (xs : List X) (x : X) → test x ≡ true → before_last_run test (xs ++ x ∷ []) ≡ before_last_run test xs
 before_last_run_yes test xs x h =
     let cut : length (xs ++ x ∷ []) - suffix_len test (xs ++ x ∷ []) ≡ length xs - suffix_len test xs = omega (arith, length_push xs x, suffix_len_yes test xs x h, suffix_len-le-length test xs) in
     let within : length xs - suffix_len test xs ≤ length xs = omega arith in
     ap (λ k. take k (xs ++ x ∷ [])) cut ∙ take-append-le _ xs (x ∷ []) within
+
 pub last_run_no : {X : Type 0} (test : X → Bool) (xs : List X) (x : X) → test x ≡ false → last_run test (xs ++ x ∷ []) ≡ []
 last_run_no test xs x h =
     let past : length (xs ++ x ∷ []) ≤ length (xs ++ x ∷ []) - suffix_len test (xs ++ x ∷ []) = omega (arith, suffix_len_no test xs x h) in
     drop_all _ (xs ++ x ∷ []) past
+
 pub before_last_run_no : {X : Type 0} (test : X → Bool) (xs : List X) (x : X) → test x ≡ false → before_last_run test (xs ++ x ∷ []) ≡ xs ++ x ∷ []
 before_last_run_no test xs x h =
     let past : length (xs ++ x ∷ []) ≤ length (xs ++ x ∷ []) - suffix_len test (xs ++ x ∷ []) = omega (arith, suffix_len_no test xs x h) in
     take_all _ (xs ++ x ∷ []) past
+
 pub last_run_stop : {X : Type 0} (test : X → Bool) (xs : List X) (a : X) (ys : List X) → test a ≡ false → last_run test (xs ++ a ∷ ys) ≡ last_run test ys
 last_run_stop test xs a ys h =
     let cut : length (xs ++ a ∷ ys) - suffix_len test (xs ++ a ∷ ys) ≡ length xs + suc (length ys - suffix_len test ys) = omega (arith, length-append xs (a ∷ ys), suffix_len_stop test xs a ys h, suffix_len-le-length test ys) in
     ap (λ k. drop k (xs ++ a ∷ ys)) cut ∙ drop-append-add xs (a ∷ ys) (suc (length ys - suffix_len test ys))
+
 pub before_last_run_stop : {X : Type 0} (test : X → Bool) (xs : List X) (a : X) (ys : List X) → test a ≡ false → before_last_run test (xs ++ a ∷ ys) ≡ xs ++ a ∷ before_last_run test ys
 before_last_run_stop test xs a ys h =
     let cut : length (xs ++ a ∷ ys) - suffix_len test (xs ++ a ∷ ys) ≡ length xs + suc (length ys - suffix_len test ys) = omega (arith, length-append xs (a ∷ ys), suffix_len_stop test xs a ys h, suffix_len-le-length test ys) in
@@ -63,8 +68,8 @@ onto_first_some x (piece ∷ pieces) = omega arith
 cut_after_some : {X : Type 0} (test : X → Bool) (x : X) (xs : List X) → 0 < length (cut_after test (x ∷ xs))
 cut_after_some test x xs =
     elim (test x) as (λ b. 0 < length (cond b ((x ∷ []) ∷ cut_after test xs) (onto_first x (cut_after test xs)))) [
-      true ↦ omega arith
-    | false ↦ onto_first_some x (cut_after test xs)
+      | true ↦ omega arith
+      | false ↦ onto_first_some x (cut_after test xs)
     ]
 
 cut_after_middle : {X : Type 0} (test : X → Bool) (xs : List X) (a : X) (ys : List X) → 0 < length (cut_after test (xs ++ a ∷ ys))
@@ -84,8 +89,8 @@ cut_after-append test (x ∷ xs) a ys h =
     let rest = cut_after test ys in
     let same : whole ≡ front ++ rest = cut_after-append test xs a ys h in
     elim (test x) as (λ b. cond b ((x ∷ []) ∷ whole) (onto_first x whole) ≡ cond b ((x ∷ []) ∷ front) (onto_first x front) ++ rest) [
-      true ↦ ap (λ zs. (x ∷ []) ∷ zs) same
-    | false ↦ ap (onto_first x) same ∙ onto_first-append x front rest (cut_after_middle test xs a [])
+      | true ↦ ap (λ zs. (x ∷ []) ∷ zs) same
+      | false ↦ ap (onto_first x) same ∙ onto_first-append x front rest (cut_after_middle test xs a [])
     ]
 
 -- a list none of which passes, and one more element, is one piece
@@ -110,10 +115,10 @@ pub last_pass : {X : Type 0} (test : X → Bool) (xs : List X) → (list_any tes
 last_pass test [] = inl refl
 last_pass test (x ∷ xs) =
     elim (last_pass test xs) [
-      inr p ↦ inr (record { before = x ∷ p.before; element = p.element; after = p.after; parts = ap (λ zs. x ∷ zs) p.parts; passes = p.passes; none_after = p.none_after })
-    | inl none ↦ elim (test x) as (λ b. test x ≡ b → ((b || list_any test xs) ≡ false) ⊎ LastPass test (x ∷ xs)) [
-        true ↦ λ h. inr (record { before = []; element = x; after = xs; parts = refl; passes = h; none_after = none })
-      | false ↦ λ h. inl none
+      | inr p ↦ inr (record { before = x ∷ p.before; element = p.element; after = p.after; parts = ap (λ zs. x ∷ zs) p.parts; passes = p.passes; none_after = p.none_after })
+      | inl none ↦ elim (test x) as (λ b. test x ≡ b → ((b || list_any test xs) ≡ false) ⊎ LastPass test (x ∷ xs)) [
+        | true ↦ λ h. inr (record { before = []; element = x; after = xs; parts = refl; passes = h; none_after = none })
+        | false ↦ λ h. inl none
       ] refl
     ]
 
@@ -140,8 +145,8 @@ pub last_of : {X : Type 0} (xs : List X) → (xs ≡ []) ⊎ LastOf xs
 last_of [] = inl refl
 last_of (x ∷ xs) =
     elim (last_of xs) [
-      inl e ↦ inr (record { front = []; last = x; parts = ap (λ zs. x ∷ zs) e })
-    | inr p ↦ inr (record { front = x ∷ p.front; last = p.last; parts = ap (λ zs. x ∷ zs) p.parts })
+      | inl e ↦ inr (record { front = []; last = x; parts = ap (λ zs. x ∷ zs) e })
+      | inr p ↦ inr (record { front = x ∷ p.front; last = p.last; parts = ap (λ zs. x ∷ zs) p.parts })
     ]
 
 -- a law of lists from their ends

@@ -10,6 +10,7 @@ cut_after test (x ∷ xs) = if test x then (x ∷ []) ∷ cut_after test xs else
 -- the longest end all of which passes the test, and what stands before it
 abbrev pub last_run : {X : Type 0} → (X → Bool) → List X → List X
 last_run test xs = drop (length xs - suffix_len test xs) xs
+
 abbrev pub before_last_run : {X : Type 0} → (X → Bool) → List X → List X
 before_last_run test xs = take (length xs - suffix_len test xs) xs
 

@@ -102,9 +102,9 @@ swapped gs i x y h hx hy =
 -- the step of the marks is one of the smallest
 pub mark_moves_merged : (start end : ℕ) (gs : List hb_glyph_info_t) → IfSome (second_of_triple start end gs) (λ i. i + 1 < length gs) → MovesMerged (length gs) (mark_step start end gs)
 mark_moves_merged start end gs within = elim (second_of_triple start end gs) as (λ o. IfSome o (λ i. i + 1 < length gs) → MovesMerged (length gs) (step_at (length gs) o)) [
-      None ↦ λ w. still_moves_merged (length gs)
-    | Some i ↦ λ w. swap_moves_merged (length gs) i w
-    ] within
+  | None ↦ λ w. still_moves_merged (length gs)
+  | Some i ↦ λ w. swap_moves_merged (length gs) i w
+] within
 
 -- the classes of the marks show in the order view
 opens_plain : (gs : List hb_glyph_info_t) → opens_triple (order_view gs) ≡ opens_triple gs

@@ -10,8 +10,10 @@ use Rattle.shapers_clusters.specs.Swaps.{still_step, swap_step}
 -- the classes of patah and qamats, of sheva and hiriq, of meteg and marks below
 abbrev pub is_patah_or_qamats : ℕ → Bool
 is_patah_or_qamats class = class == 20 || class == 21
+
 abbrev pub is_sheva_or_hiriq : ℕ → Bool
 is_sheva_or_hiriq class = class == 22 || class == 23
+
 abbrev pub is_meteg_or_below : ℕ → Bool
 is_meteg_or_below class = class == 25 || class == 220
 
@@ -37,6 +39,7 @@ marks_swapped start end gs = option_map_or (λ i. swap gs i (i + 1)) (second_of_
 abbrev pub step_at : ℕ → Option ℕ → Step
 step_at n None = still_step n
 step_at n (Some i) = swap_step n i
+
 abbrev pub mark_step : ℕ → ℕ → List hb_glyph_info_t → Step
 mark_step start end gs = step_at (length gs) (second_of_triple start end gs)
 
