@@ -1,10 +1,10 @@
 -- The sources of the rewriting, and the laws of clusters through them.
-use Rattle.std.proofs.Common.{◌≡◌, ◌⊎◌, inl, inr, ℕ, zero, suc, ◌-◌, ◌+◌, ◌<◌, ◌≤◌, Bool, true, false, cond, ◌||◌, ◌&&◌, ◌%◌, nat_lt, eqb, List, [], ◌∷◌, ◌++◌, length, take, drop, get_or, map, slice_index, refl, sym, ap, ◌∙◌, subst, arith, length-append, add-zero, add-one}
-use Rattle.std.specs.List.{suffix_len, prefix_len, list_any, flat_map, range_with_len, All, AllZip, AllByRecursion, Contains}
+use Rattle.std.proofs.Common.{◌≡◌, inl, inr, ℕ, zero, suc, ◌-◌, ◌+◌, ◌<◌, ◌≤◌, Bool, true, false, cond, ◌||◌, ◌&&◌, ◌%◌, nat_lt, eqb, List, [], ◌∷◌, ◌++◌, length, take, drop, get_or, map, slice_index, refl, sym, ap, ◌∙◌, subst, arith, length-append}
+use Rattle.std.specs.List.{suffix_len, list_any, range_with_len, All, AllZip, AllByRecursion, Contains}
 use Rattle.std.proofs.lemmas.Bool.{or_cases, cases_eq}
-use Rattle.std.proofs.lemmas.List.{append_assoc, append-nil, map_push, length-map, take-map, get_or-map, same_lists, length_push, length-take-le, length-drop, take_at, take-append-drop, drop_more, get_or_push, get_or_default, get_or_at, get_or-append_right, get_or_append_left, get_or-drop, get_or-take}
+use Rattle.std.proofs.lemmas.List.{append_assoc, append-nil, map_push, length-map, take-map, same_lists, length_push, length-take-le, length-drop, take_at, take-append-drop, drop_more, get_or_push, get_or_default, get_or_at, get_or-append_right, get_or_append_left, get_or-drop, get_or-take}
 use Rattle.std.proofs.lemmas.List.FromFn.{get_or-range_with_len, get_or-map-range_with_len, length-range_with_len}
-use Rattle.std.proofs.lemmas.List.Elements.{recursion_from_All, All-from_recursion, All-nil, All-push, All-take, All-cons, All-get_or, All-from_get_or}
+use Rattle.std.proofs.lemmas.List.Elements.{recursion_from_All, All-nil, All-push, All-take, All-cons, All-get_or, All-from_get_or}
 use Rattle.std.proofs.lemmas.List.Concat.{flat_map-append}
 use Rattle.std.proofs.lemmas.List.Folds.{list_any-append}
 use Rattle.std.proofs.lemmas.List.Sums.{suffix_len-le-length}
@@ -14,7 +14,7 @@ use Rattle.std.proofs.lemmas.Grind.{get_or_tail}
 use Rattle.shapers_base.specs.declared.buffer.glyph.hb_glyph_info_t.{hb_glyph_info_t}
 use Rattle.shapers_base.specs.declared.buffer.level.BufferClusterLevel.{BufferClusterLevel}
 use Rattle.shapers_base.specs.Glyph.{default_glyph, clusters}
-use Rattle.shapers_base.specs.Clusters.{merge_all, merges}
+use Rattle.shapers_base.specs.Clusters.{merge_all}
 use Rattle.shapers_base.specs.Lists.{last_run, before_last_run, each_after}
 use Rattle.shapers_base.specs.ListLaws.{from_end, suffix_len_push}
 use Rattle.shapers_clusters.specs.Neighbours.{EndWithin, ShareCluster, held as holds}
@@ -26,7 +26,7 @@ use Rattle.shapers_clusters.specs.Sources.{ExactCutsBy, HeldAlong}
 use Rattle.shapers_clusters.specs.Proved.{sources_hold}
 use Rattle.shapers_text.specs.Thai.{stretch_of_sara_am, stretches_at, stretches_of_each, sara_am_stretches, joins_before, is_sara_am, is_above_base, InTwo, in_two, glyphs_in_two, nikhahit, sara_aa, rewritten, characters, places_in_two, sources}
 use Rattle.shapers_text.specs.ThaiRewriting.{held, in_two-append, in_two_push, in_two_push_am, held_push_mark, held_push_other}
-use Rattle.shapers_text.specs.ThaiLaws.{unnamed, new_place, made_place, InTwoHolds, InTwoLaw}
+use Rattle.shapers_text.specs.ThaiLaws.{unnamed, new_place, made_place, InTwoLaw}
 use Rattle.shapers_text.proofs.ThaiSaraAm.{apart}
 use Rattle.shapers_text.proofs.ThaiStretches.{text-merge_all, stretches_within}
 

@@ -1,5 +1,5 @@
 -- What the rewriting makes of clusters and glyph flags.
-use Rattle.std.specs.Prelude.{ℕ, ◌+◌, ◌<◌, ◌≡◌, true, false, List, map, length, take, slice_index}
+use Rattle.std.specs.Prelude.{ℕ, Bool, ◌+◌, ◌<◌, ◌≡◌, true, false, List, map, length, take, slice_index}
 use Rattle.std.specs.List.{suffix_len, All, AllZip, Contains}
 use Rattle.shapers_base.specs.declared.buffer.category.hb_unicode_general_category_t.TheVariants.{Cc}
 use Rattle.shapers_base.specs.declared.buffer.glyph.hb_glyph_info_t.{hb_glyph_info_t}
@@ -12,6 +12,7 @@ use Rattle.shapers_clusters.specs.Cuts.{IsMonotone}
 use Rattle.shapers_clusters.specs.Steps.{pick}
 use Rattle.shapers_clusters.specs.Falls.{FlagsFall}
 use Rattle.shapers_clusters.specs.Sources.{ExactCutsBy}
+use Rattle.shapers_text.specs.ThaiForms.{preprocessed}
 use Rattle.shapers_text.specs.Thai.{is_sara_am, is_above_base, characters, rewritten, sources, sara_am_stretches}
 
 -- a glyph without what the parts of a SARA AM change
@@ -39,3 +40,15 @@ pub record InTwoHolds (level : BufferClusterLevel) (gs rs : List hb_glyph_info_t
 
 abbrev pub InTwoLaw : Type 0
 InTwoLaw = (level : BufferClusterLevel) (gs : List hb_glyph_info_t) → InTwoHolds level gs (rewritten (merge_all level (sara_am_stretches level gs) gs))
+
+-- a glyph without what the private use forms change
+abbrev pub unshaped : hb_glyph_info_t → hb_glyph_info_t
+unshaped g = record g { glyph_id = 0; mask = 0 }
+
+-- The forms change characters and masks alone; so clusters are those of the rewriting.
+pub record FormsHold (plain shaped : List hb_glyph_info_t) : Type 0 where
+  pub rest_stays : map unshaped shaped ≡ map unshaped plain
+  pub clusters_stay : clusters shaped ≡ clusters plain
+
+abbrev pub FormsLaw : Type 0
+FormsLaw = (has : ℕ → Bool) (level : BufferClusterLevel) (gs : List hb_glyph_info_t) → FormsHold (preprocessed false has level gs) (preprocessed true has level gs)

@@ -5,7 +5,7 @@ ghost use Rattle.std.specs.List.{list_any};
 ghost use Rattle.shapers_base.specs.Refusals.{RefusesLength};
 ghost use Rattle.shapers_text.specs.Thai.{is_sara_am, rewritten, is_thai, wants_forms};
 ghost use Rattle.shapers_text.specs.ThaiForms.{preprocessed};
-ghost use Rattle.shapers_text.specs.ThaiLaws.{InTwoLaw};
+ghost use Rattle.shapers_text.specs.ThaiLaws.{InTwoLaw, FormsLaw};
 
 use shapers_base::buffer::{Script, ShaperError, hb_buffer_t};
 use shapers_base::font::hb_font_t;
@@ -65,4 +65,9 @@ fn is_thai(script: Option<Script>) -> bool
 /// cluster law and exact cuts.
 pub fn in_two_law()
     ensures { InTwoLaw }
+{}
+
+/// The private use forms change characters and masks alone, so the laws of clusters hold with them.
+pub fn forms_law()
+    ensures { FormsLaw }
 {}

@@ -174,18 +174,21 @@ fn is_mark(u: u32) -> bool
     !matches!(get_mark_type(u), Mark::NotMark)
 }
 
-// Flags the places from each mark's base to the mark: a break there would change the forms.
+// Flags the places from each mark's base to the mark: a break there would change the forms. The
+// stretch to a base's last mark holds those to the others.
 fn flag_marks(buffer: &mut hb_buffer_t)
     ensures { buffer.new ≡ record buffer.old { glyphs = unsafe_all (mark_stretches (characters buffer.old.glyphs)) buffer.old.glyphs } }
 {
     let mut base = 0;
+    let mut last = 0;
     for i in 0..buffer.len() {
-        if is_mark(buffer.get(i).glyph_id) {
-            buffer.unsafe_to_break(base, i);
-        } else {
+        if !is_mark(buffer.get(i).glyph_id) {
+            buffer.unsafe_to_break(base, last);
             base = i;
         }
+        last = i;
     }
+    buffer.unsafe_to_break(base, last);
 }
 
 /// The base of the marks that come next, and how many marks stand above and below it so far.
