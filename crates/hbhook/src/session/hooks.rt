@@ -100,10 +100,10 @@ impl Session {
     // A pause, which reads the spans so far.
     fn pause(&mut self, pause: Pause) -> Result<(), LineFault> {
         self.check_no_positions()?;
-        let spans = self.settings.spans.as_slice();
-        check(kinds_fit(spans) && has_pause(pause))?;
+        check(has_pause(pause) && kinds_fit(self.settings.spans.as_slice()))?;
         let plan = self.settings.plan()?;
-        run_pause(pause, &plan, &self.settings.font, spans, &mut self.buffer)?;
+        let (font, spans) = (&self.settings.font, self.settings.spans.as_slice());
+        run_pause(pause, &plan, font, spans, &mut self.buffer)?;
         Ok(())
     }
 
