@@ -1,10 +1,11 @@
 -- The laws of clusters and glyph flags, as statements.
-use Rattle.std.proofs.Common.{ℕ, ◌+◌, ◌++◌, ◌-◌, ◌<◌, ◌≤◌, ◌≡◌, true, false, List, map, length, slice_index, take, drop}
+use Rattle.std.proofs.Common.{ℕ, ◌+◌, ◌++◌, ◌-◌, ◌<◌, ◌≤◌, ◌≡◌, Bool, true, false, List, map, length, slice_index, take, drop}
 use Rattle.std.specs.List.{sum_by, All, AllByRecursion, AllZip, Contains}
 use Rattle.shapers_base.specs.declared.buffer.glyph.hb_glyph_info_t.{hb_glyph_info_t}
 use Rattle.shapers_base.specs.declared.buffer.level.BufferClusterLevel.{BufferClusterLevel}
 use Rattle.shapers_base.specs.Glyph.{clusters, order_view}
 use Rattle.shapers_base.specs.Clusters.{merge, merge_all, merges, stretch_of}
+use Rattle.shapers_base.specs.GlyphFlags.{unsafe_inside, unsafe_to_concat_in, tatweel_inside}
 use Rattle.shapers_clusters.specs.Joined.{joined_all}
 use Rattle.shapers_clusters.specs.Neighbours.{EndWithin, ShareCluster}
 use Rattle.shapers_clusters.specs.Cuts.{IsMonotone, ExactCuts}
@@ -14,6 +15,16 @@ use Rattle.shapers_clusters.specs.Halves.{ShareNone}
 use Rattle.shapers_clusters.specs.Falls.{FallsTo}
 use Rattle.shapers_clusters.specs.Labels.{IsLabelled, OneLabel, OneLabelEach}
 use Rattle.shapers_clusters.specs.Sources.{ExactCutsBy, HeldAlong, MovesInsideOf}
+
+-- Merges of any stretch at any level, and the three flag calls, whatever the buffer asks for, leave the order view of the glyphs gs.
+pub record ViewStays (s e : ℕ) (gs : List hb_glyph_info_t) : Type 0 where
+  pub merging : (level : BufferClusterLevel) → order_view (merge level s e gs) ≡ order_view gs
+  pub breaking : order_view (unsafe_inside s e gs) ≡ order_view gs
+  pub concatenating : (asked : Bool) → order_view (unsafe_to_concat_in asked s e gs) ≡ order_view gs
+  pub joining : (asked : Bool) → order_view (tatweel_inside asked s e gs) ≡ order_view gs
+
+abbrev pub ViewLaw : Type 0
+ViewLaw = (s e : ℕ) (gs : List hb_glyph_info_t) → s ≤ e → ViewStays s e gs
 
 -- What one merge of s..e makes of the glyphs gs: ms. Nothing but clusters and glyph flags changes. No cluster rises, and a
 -- glyph keeps its flags unless its cluster fell. Every cluster is one that was there. The places of the stretch share one

@@ -1,6 +1,7 @@
 pub mod Appended
 pub mod Cuts
 pub mod Falls
+pub mod FlagCalls
 pub mod Halves
 pub mod Joined
 pub mod Labels

@@ -2,7 +2,12 @@
 //! contract of a function without a body.
 #![tactic(auto)]
 
-ghost use Rattle.shapers_clusters.specs.Laws.{MergeLaw, ExactCutsLaw, StepsLaw, ClustersLaw, MergedStepsLaw, WidenedLaw, AlongLaw, HalvesLaw, SourcesLaw, MovedSourcesLaw};
+ghost use Rattle.shapers_clusters.specs.Laws.{ViewLaw, MergeLaw, ExactCutsLaw, StepsLaw, ClustersLaw, MergedStepsLaw, WidenedLaw, AlongLaw, HalvesLaw, SourcesLaw, MovedSourcesLaw};
+
+/// Merges and the three flag calls leave the order view.
+pub fn view_law()
+    ensures { ViewLaw }
+{}
 
 /// What one merge of clusters does to any glyphs.
 pub fn merge_law()
