@@ -12,7 +12,8 @@ use Rattle.shapers_clusters.specs.Cuts.{IsMonotone, ExactCuts}
 use Rattle.shapers_clusters.specs.Steps.{pick, Step, run_steps, joined_steps, old_places, FitSteps, MovesMerged, all_first, widened}
 use Rattle.shapers_clusters.specs.Widened.{steps_along, reordered_along}
 use Rattle.shapers_clusters.specs.Halves.{ShareNone}
-use Rattle.shapers_clusters.specs.Falls.{FallsTo}
+use Rattle.shapers_clusters.specs.Falls.{FallsTo, FlagsFall}
+use Rattle.shapers_clusters.specs.Copies.{Copies, SharesIn}
 use Rattle.shapers_clusters.specs.Labels.{IsLabelled, OneLabel, OneLabelEach}
 use Rattle.shapers_clusters.specs.Sources.{ExactCutsBy, HeldAlong, MovesInsideOf}
 
@@ -114,6 +115,19 @@ pub record SourcesHold (level : BufferClusterLevel) (sts : List (ℕ × ℕ)) (s
 
 abbrev pub SourcesLaw : Type 0
 SourcesLaw = (level : BufferClusterLevel) (sts : List (ℕ × ℕ)) (sources : List ℕ) (gs : List hb_glyph_info_t) → EndWithin (length gs) sts → AllByRecursion (λ p. p < length gs) sources → SourcesHold level sts sources gs (pick sources (merge_all level sts gs))
+
+-- Made glyphs that change in more than cluster and flags: rs has, place by place, the cluster and the glyph flags that its
+-- source has after the merges. Neighbours in the result whose sources stand in one merged stretch share one cluster.
+pub record CopiesHold (level : BufferClusterLevel) (sts : List (ℕ × ℕ)) (sources : List ℕ) (gs rs : List hb_glyph_info_t) : Type 0 where
+  pub falls : AllZip FlagsFall (pick sources gs) rs
+  pub clusters_are : clusters rs ≡ pick sources (joined_all level sts (clusters gs))
+  pub old_clusters : All (Contains (clusters gs)) (clusters rs)
+  pub unmerged : merges level ≡ false → clusters rs ≡ pick sources (clusters gs)
+  pub share : merges level ≡ true → SharesIn sts sources (clusters rs)
+  pub exact : merges level ≡ true → IsMonotone (clusters gs) → ExactCutsBy (clusters gs) sts sources (clusters rs)
+
+abbrev pub CopiesLaw : Type 0
+CopiesLaw = (level : BufferClusterLevel) (sts : List (ℕ × ℕ)) (sources : List ℕ) (gs rs : List hb_glyph_info_t) → EndWithin (length gs) sts → AllZip (Copies (merge_all level sts gs)) sources rs → CopiesHold level sts sources gs rs
 
 -- Made glyphs that move: where each stands at first in its source's place, and moves go only inside what merged, the clusters
 -- stay as they stood, and all places between a glyph's new place and the one where it stood share one cluster.

@@ -1,4 +1,5 @@
 pub mod Appended
+pub mod Copies
 pub mod Cuts
 pub mod Falls
 pub mod FlagCalls

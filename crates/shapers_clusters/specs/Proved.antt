@@ -1,5 +1,5 @@
 -- The laws, proved; other crates cite these with arguments.
-use Rattle.std.proofs.Common.{ℕ, ◌<◌, ◌≤◌, ◌≡◌, inl, inr, List, [], ◌∷◌, length, get_or, slice_index, refl, sym, ◌∙◌, ap, subst, arith}
+use Rattle.std.proofs.Common.{ℕ, ◌+◌, ◌<◌, ◌≤◌, ◌≡◌, inl, inr, List, [], ◌∷◌, ◌++◌, length, get_or, slice_index, refl, sym, ◌∙◌, ap, subst, arith, length-append}
 use Rattle.std.specs.List.{All, AllByRecursion, Contains}
 use Rattle.std.proofs.lemmas.List.{length-map}
 use Rattle.std.proofs.lemmas.List.Elements.{All-contains_itself}
@@ -11,15 +11,16 @@ use Rattle.shapers_clusters.specs.Merging.{length-merge, length-merge_all, order
 use Rattle.shapers_clusters.specs.Neighbours.{EndWithin, ShareCluster, joined-shares, joined_all-share, length-joined_all}
 use Rattle.shapers_clusters.specs.Cuts.{IsMonotone, ExactCuts, exact_cuts, one_exact, stays_rising, stays_falling}
 use Rattle.shapers_clusters.specs.Steps.{pick, FitsStep, MovesMerged, all_first}
-use Rattle.shapers_clusters.specs.Picks.{length-pick, within_at}
-use Rattle.shapers_clusters.specs.Falls.{merge-falls}
+use Rattle.shapers_clusters.specs.Picks.{length-pick, pick-map, within_at}
+use Rattle.shapers_clusters.specs.Falls.{merge-falls, all_flags_on, all_flags_fall}
+use Rattle.shapers_clusters.specs.Copies.{copied, held_in_stretch}
 use Rattle.shapers_clusters.specs.Moves.{clusters-merge_all, clusters-run_steps, order_view-run_steps, falls-run_steps, joined-merged_steps, share-moved, merge-unmerged, merge_all-unmerged, run_steps-unmerged, end_within-all_first, all-joined, all-picked, all-joined_steps}
 use Rattle.shapers_clusters.specs.Labels.{IsLabelled, joined-labelled, joined_steps-labelled}
 use Rattle.shapers_clusters.specs.Sources.{ExactCutsBy, exact_cuts_by, sources_share, clusters-moved_sources, clusters-picked, falls-picked}
 use Rattle.shapers_clusters.specs.Widened.{fits-widened, moves-widened, all_fit-widened, all_moves-widened, order_view-widened, all_along, order_view-along}
 use Rattle.shapers_clusters.specs.Halves.{halves_along}
 use Rattle.shapers_clusters.specs.FlagCalls.{order_view-unsafe_inside, order_view-unsafe_to_concat_in, order_view-tatweel_inside}
-use Rattle.shapers_clusters.specs.Laws.{ViewLaw, HalvesLaw, MergeLaw, ExactCutsLaw, StepsLaw, ClustersLaw, MergedStepsLaw, WidenedLaw, AlongLaw, SourcesLaw, MovedSourcesLaw}
+use Rattle.shapers_clusters.specs.Laws.{ViewLaw, HalvesLaw, MergeLaw, ExactCutsLaw, StepsLaw, ClustersLaw, MergedStepsLaw, WidenedLaw, AlongLaw, SourcesLaw, CopiesLaw, MovedSourcesLaw}
 
 -- stretches end within the clusters if they do within the glyphs
 ends : (sts : List (ℕ × ℕ)) (gs : List hb_glyph_info_t) → EndWithin (length gs) sts → EndWithin (length (clusters gs)) sts
@@ -117,6 +118,23 @@ sources_hold level sts sources gs w v =
       old_clusters = all (All (Contains cs)) (all-picked (Contains cs) sources (joined_all level sts cs) (subst P (sym (length-joined_all level sts cs (ends sts gs w) ∙ n)) v) (all-joined (Contains cs) level sts cs (ends sts gs w) (All-contains_itself cs)));
       share = λ m i j il jl h. all (λ js. ShareCluster js i j) (sources_share level m sts cs sources (ends sts gs w) u i j il jl h);
       exact = λ m mono. all (λ js. ExactCutsBy cs sts sources js) (exact_cuts_by level m sts cs sources (ends sts gs w) mono u);
+    }
+
+pub copies_hold : CopiesLaw
+copies_hold level sts sources gs rs w h =
+    let ms = merge_all level sts gs in
+    let c = copied ms sources rs h in
+    let s = sources_hold level sts sources gs w (subst (λ n. AllByRecursion (λ p. p < n) sources) (length-merge_all level sts gs w) c.within) in
+    let n : length sources ≡ length rs = sym s.as_many ∙ sym (length-map (pick sources ms) (λ g. g.cluster)) ∙ sym (ap length c.same_clusters) ∙ length-map rs (λ g. g.cluster) in
+    record {
+      falls = all_flags_on (pick sources gs) (pick sources ms) rs (all_flags_fall (pick sources gs) (pick sources ms) s.falls) c.kept;
+      clusters_are = c.same_clusters ∙ s.clusters_are;
+      old_clusters = subst (All (Contains (clusters gs))) (sym c.same_clusters) s.old_clusters;
+      unmerged = λ m. c.same_clusters ∙ ap clusters (s.unmerged m) ∙ sym (pick-map (λ g. g.cluster) sources gs);
+      share = λ m st front inside behind among parts all i j a b x y.
+          let many : length sources ≡ length front + (length inside + length behind) = ap length parts ∙ length-append front (inside ++ behind) ∙ ap (λ k. length front + k) (length-append inside behind) in
+          subst (λ cs. ShareCluster cs i j) (sym c.same_clusters) (s.share m i j (omega arith) (omega arith) (held_in_stretch sts st sources front inside behind among parts all i j a b x y));
+      exact = λ m mono. subst (ExactCutsBy (clusters gs) sts sources) (sym c.same_clusters) (s.exact m mono);
     }
 
 pub moved_sources_hold : MovedSourcesLaw

@@ -14,36 +14,32 @@ use Rattle.shapers_base.specs.Lists.{each_after}
 use Rattle.shapers_base.specs.ListLaws.{none_from_count, suffix_len_push}
 use Rattle.shapers_clusters.specs.Merging.{length-merge_all, order_view-merge_all}
 use Rattle.shapers_clusters.specs.Appended.{merge_all-appended}
-use Rattle.shapers_text.specs.Thai.{is_sara_am, is_above_base, glyphs_in_two, rewritten, stretch_of_sara_am, stretches_at, stretches_of_each, sara_am_stretches, joins_before}
+use Rattle.shapers_text.specs.Thai.{characters, is_sara_am, is_above_base, glyphs_in_two, rewritten, stretch_of_sara_am, stretches_at, stretches_of_each, sara_am_stretches, joins_before}
 use Rattle.shapers_text.specs.ThaiRewriting.{in_two_plain, lengths}
 use Rattle.shapers_text.proofs.ThaiSaraAm.{apart}
 
--- the characters of glyphs
-abbrev pub text : List hb_glyph_info_t → List ℕ
-text gs = map (λ g. g.glyph_id) gs
-
-text-view : (gs : List hb_glyph_info_t) → text (order_view gs) ≡ text gs
-text-view [] = refl
-text-view (g ∷ gs) = ap (λ us. g.glyph_id ∷ us) (text-view gs)
+characters-view : (gs : List hb_glyph_info_t) → characters (order_view gs) ≡ characters gs
+characters-view [] = refl
+characters-view (g ∷ gs) = ap (λ us. g.glyph_id ∷ us) (characters-view gs)
 
 -- merging leaves the characters
-pub text-merge_all : (level : BufferClusterLevel) (sts : List (ℕ × ℕ)) (gs : List hb_glyph_info_t) → text (merge_all level sts gs) ≡ text gs
-text-merge_all level sts gs = sym (text-view (merge_all level sts gs)) ∙ ap text (order_view-merge_all level sts gs) ∙ text-view gs
+pub characters-merge_all : (level : BufferClusterLevel) (sts : List (ℕ × ℕ)) (gs : List hb_glyph_info_t) → characters (merge_all level sts gs) ≡ characters gs
+characters-merge_all level sts gs = sym (characters-view (merge_all level sts gs)) ∙ ap characters (order_view-merge_all level sts gs) ∙ characters-view gs
 
 pub merge_all-append : (level : BufferClusterLevel) (xs ys : List (ℕ × ℕ)) (gs : List hb_glyph_info_t) → merge_all level (xs ++ ys) gs ≡ merge_all level ys (merge_all level xs gs)
 merge_all-append level [] ys gs = refl
 merge_all-append level (x ∷ xs) ys gs = merge_all-append level xs ys (merge level x.0 x.1 gs)
 
 -- the number of SARA AM is that of the characters
-count-text : (gs : List hb_glyph_info_t) → count_by (λ g. is_sara_am g.glyph_id) gs ≡ count_by is_sara_am (text gs)
-count-text [] = refl
-count-text (g ∷ gs) =
+count-characters : (gs : List hb_glyph_info_t) → count_by (λ g. is_sara_am g.glyph_id) gs ≡ count_by is_sara_am (characters gs)
+count-characters [] = refl
+count-characters (g ∷ gs) =
     sum_by-cons (λ x. cond (is_sara_am x.glyph_id) 1 0) g gs
-    ∙ ap (λ n. cond (is_sara_am g.glyph_id) 1 0 + n) (count-text gs)
-    ∙ sym (sum_by-cons (λ u. cond (is_sara_am u) 1 0) g.glyph_id (text gs))
+    ∙ ap (λ n. cond (is_sara_am g.glyph_id) 1 0 + n) (count-characters gs)
+    ∙ sym (sum_by-cons (λ u. cond (is_sara_am u) 1 0) g.glyph_id (characters gs))
 
 pub count-merge_all : (level : BufferClusterLevel) (sts : List (ℕ × ℕ)) (gs : List hb_glyph_info_t) → count_by (λ g. is_sara_am g.glyph_id) (merge_all level sts gs) ≡ count_by (λ g. is_sara_am g.glyph_id) gs
-count-merge_all level sts gs = count-text (merge_all level sts gs) ∙ ap (count_by is_sara_am) (text-merge_all level sts gs) ∙ sym (count-text gs)
+count-merge_all level sts gs = count-characters (merge_all level sts gs) ∙ ap (count_by is_sara_am) (characters-merge_all level sts gs) ∙ sym (count-characters gs)
 
 -- a text without SARA AM merges nothing
 stretches_none_after : (level : BufferClusterLevel) (before gs : List hb_glyph_info_t) → list_any (λ g. is_sara_am g.glyph_id) gs ≡ false → stretches_of_each level (each_after before gs) ≡ []
@@ -84,12 +80,12 @@ one_more a b h = omega arith
 
 -- the walk: the characters are those of the start, so many marks stand before this place, and the merges to come complete those done
 pub record Merging (level : BufferClusterLevel) (start now : List hb_glyph_info_t) (len i marks : ℕ) : Type 0 where
-  pub same_text : text now ≡ text start
+  pub same_characters : characters now ≡ characters start
   pub marks_before : marks ≡ suffix_len (λ g. is_above_base g.glyph_id) (take i (take len start))
   pub rest : merge_all level (stretches_of_each level (each_after (take i (take len start)) (drop i (take len start)))) now ≡ merge_all level (sara_am_stretches level (take len start)) start
 
 pub merging_none : (level : BufferClusterLevel) (start : List hb_glyph_info_t) (len : ℕ) → Merging level start start len 0 0
-merging_none level start len = record { same_text = refl; marks_before = refl; rest = refl }
+merging_none level start len = record { same_characters = refl; marks_before = refl; rest = refl }
 
 pub merging_next : (level : BufferClusterLevel) (start now : List hb_glyph_info_t) (len i marks : ℕ) (g : hb_glyph_info_t) (after : List hb_glyph_info_t) (marks' : ℕ) → len ≤ length start → i < len → Merging level start now len i marks → g ≡ get_or now i g → after ≡ merge_all level (stretches_at level i g.glyph_id marks) now → marks' ≡ cond (is_above_base g.glyph_id) (marks + 1) 0 → Merging level start after len (i + 1) marks'
 merging_next level start now len i marks g after marks' within inside m at merged counted =
@@ -97,13 +93,13 @@ merging_next level start now len i marks g after marks' within inside m at merge
     let t = get_or front i g in
     let long : length front ≡ len = length-take-le len start within in
     let inner : i < length front = omega arith in
-    let as_long : length now ≡ length start = sym (length-map now (λ x. x.glyph_id)) ∙ ap length m.same_text ∙ length-map start (λ x. x.glyph_id) in
+    let as_long : length now ≡ length start = sym (length-map now (λ x. x.glyph_id)) ∙ ap length m.same_characters ∙ length-map start (λ x. x.glyph_id) in
     let inside_now : i < length now = omega arith in
     let inside_start : i < length start = omega arith in
     let read : g.glyph_id ≡ t.glyph_id =
     ap (λ x. x.glyph_id) at
     ∙ sym (get_or-map (λ x. x.glyph_id) now i g 0 inside_now)
-    ∙ ap (λ us. get_or us i 0) m.same_text
+    ∙ ap (λ us. get_or us i 0) m.same_characters
     ∙ get_or-map (λ x. x.glyph_id) start i g 0 inside_start
     ∙ ap (λ x. x.glyph_id) (sym (get_or-take len start i g inside)) in
     let before = take i front in
@@ -119,7 +115,7 @@ merging_next level start now len i marks g after marks' within inside m at merge
     ∙ ap (λ n. stretches_at level i g.glyph_id n ++ stretches_of_each level (each_after (before ++ t ∷ []) behind)) (sym m.marks_before)
     ∙ ap (λ xs. stretches_at level i g.glyph_id marks ++ stretches_of_each level (each_after xs behind)) (sym more) in
     record {
-      same_text = ap text merged ∙ text-merge_all level (stretches_at level i g.glyph_id marks) now ∙ m.same_text;
+      same_characters = ap characters merged ∙ characters-merge_all level (stretches_at level i g.glyph_id marks) now ∙ m.same_characters;
       marks_before =
           counted
           ∙ ap (λ n. cond (is_above_base g.glyph_id) n 0) (one_more marks w m.marks_before)
