@@ -1,7 +1,6 @@
 -- Span set-up and dotted circles, computed on small texts.
 use Rattle.std.specs.Prelude.{◌≡◌, ℕ, true, false, List, [], ◌∷◌, map, length, Option, Some, None, refl}
 use Rattle.shapers_base.specs.declared.buffer.glyph.hb_glyph_info_t.{hb_glyph_info_t}
-use Rattle.shapers_base.specs.declared.buffer.syllables.Span.{Span}
 use Rattle.shapers_base.specs.Buffer.{Buffer, new_buffer}
 use Rattle.shapers_base.specs.Circles.{circled, circles_for}
 use Rattle.shapers_base.specs.Glyph.{default_glyph}

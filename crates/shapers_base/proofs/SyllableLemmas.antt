@@ -1,9 +1,8 @@
 -- Steps of the loops that write syllable bytes.
-use Rattle.std.proofs.Common.{◌≡◌, ℕ, suc, ◌+◌, ◌-◌, ◌<◌, ◌≤◌, List, [], ◌∷◌, ◌++◌, map, length, take, drop, replicate, refl, ap, sym, ◌∙◌, arith, zero, length-append, length-take-le, append_assoc}
+use Rattle.std.proofs.Common.{◌≡◌, ℕ, suc, ◌+◌, ◌-◌, ◌≤◌, List, [], ◌∷◌, ◌++◌, map, length, take, drop, replicate, refl, ap, arith, zero, length-append, length-take-le, append_assoc}
 use Rattle.std.proofs.lemmas.List.{length-map, take_at, drop_at, drop-drop}
 use Rattle.std.proofs.lemmas.Grind.{common_steps}
 use Rattle.shapers_base.specs.declared.buffer.glyph.hb_glyph_info_t.{hb_glyph_info_t}
-use Rattle.shapers_base.specs.Clusters.{stretch_of}
 use Rattle.shapers_base.specs.GlyphFlags.{with_stretch}
 use Rattle.shapers_base.specs.Syllables.{in_syllable, with_bytes}
 

@@ -1,6 +1,5 @@
 -- What a buffer is to its callers, and how calls change it.
-use Rattle.std.specs.Prelude.{ℕ, ◌+◌, ◌*◌, ◌≡◌, ◌<◌, ◌≤◌, ◌==◌, nat_lt, bit_and, Bool, ◌||◌, ◌&&◌, List, [], ◌∷◌, ◌++◌, map, length, replicate, reverse, take, Option, None, true, false, sum_by, if◌then◌else◌}
-use Rattle.std.specs.List.{list_all, list_any}
+use Rattle.std.specs.Prelude.{ℕ, ◌≡◌, ◌<◌, ◌≤◌, ◌==◌, bit_and, Bool, ◌||◌, List, [], ◌∷◌, ◌++◌, length, replicate, Option, None, false}
 use Rattle.shapers_base.specs.declared.buffer.flags.BufferFlags.{BufferFlags}
 use Rattle.shapers_base.specs.declared.buffer.glyph.GlyphPosition.{GlyphPosition}
 use Rattle.shapers_base.specs.declared.buffer.glyph.hb_glyph_info_t.{hb_glyph_info_t}

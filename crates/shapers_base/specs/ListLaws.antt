@@ -1,13 +1,13 @@
 -- Laws of the words on lists.
-use Rattle.std.proofs.Common.{◌≡◌, ◌⊎◌, inl, inr, ℕ, suc, ◌-◌, ◌+◌, ◌<◌, ◌≤◌, Bool, true, false, cond, ◌||◌, List, [], ◌∷◌, ◌++◌, length, take, drop, reverse, refl, sym, ap, subst, ◌∙◌, arith, length-append, zero-add}
-use Rattle.std.specs.List.{suffix_len, prefix_len, onto_first, list_any, count_by, flat_map}
-use Rattle.std.proofs.lemmas.List.{append_assoc, append-nil, reverse-append, take-append-le, drop-append-le, take_all, drop_all, take-append-drop, reverse-reverse, length_push, length-reverse}
+use Rattle.std.proofs.Common.{◌≡◌, ◌⊎◌, inl, inr, ℕ, suc, ◌-◌, ◌+◌, ◌<◌, ◌≤◌, Bool, true, false, cond, ◌||◌, List, [], ◌∷◌, ◌++◌, length, take, drop, reverse, refl, sym, ap, subst, ◌∙◌, arith, length-append}
+use Rattle.std.specs.List.{suffix_len, prefix_len, onto_first, list_any, count_by}
+use Rattle.std.proofs.lemmas.List.{append_assoc, reverse-append, take-append-le, drop-append-le, take_all, drop_all, take-append-drop, reverse-reverse, length_push}
 use Rattle.std.proofs.lemmas.List.Sums.{sum_by-cons, sum_by_push, suffix_len-le-length}
 use Rattle.std.proofs.Math.Seq.{drop-append-add, take-append-add}
 use Rattle.std.proofs.lemmas.Bool.{or_parts, or_from}
 use Rattle.std.proofs.lemmas.List.Folds.{list_any-append}
-use Rattle.std.proofs.lemmas.Grind.{common_steps, reverse_onto}
-use Rattle.shapers_base.specs.Lists.{cut_after, last_run, before_last_run, each_after}
+use Rattle.std.proofs.lemmas.Grind.{reverse_onto}
+use Rattle.shapers_base.specs.Lists.{cut_after, last_run, before_last_run}
 
 -- the longest end, where one more element stands at the end
 pub suffix_len_push : {X : Type 0} (test : X → Bool) (xs : List X) (x : X) → suffix_len test (xs ++ x ∷ []) ≡ cond (test x) (1 + suffix_len test xs) 0

@@ -1,5 +1,5 @@
 -- Words on lists: cuts, the longest end that passes a test, each element with what stands before it.
-use Rattle.std.specs.Prelude.{ℕ, ◌-◌, ◌+◌, Bool, true, false, List, [], ◌∷◌, ◌++◌, length, take, drop, if◌then◌else◌}
+use Rattle.std.specs.Prelude.{◌-◌, Bool, List, [], ◌∷◌, ◌++◌, length, take, drop, if◌then◌else◌}
 use Rattle.std.specs.List.{suffix_len, onto_first}
 
 -- the list cut after each element that passes the test

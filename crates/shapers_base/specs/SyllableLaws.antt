@@ -1,5 +1,5 @@
 -- What the cutting into syllables is.
-use Rattle.std.specs.Prelude.{◌≡◌, ◌==◌, ◌<◌, ℕ, suc, ◌+◌, Bool, true, false, List, [], ◌∷◌, take, drop, length, refl, cond, if◌then◌else◌}
+use Rattle.std.specs.Prelude.{◌≡◌, ◌==◌, suc, Bool, true, false, List, [], ◌∷◌, take, drop, refl}
 use Rattle.std.specs.List.{prefix_len}
 use Rattle.std.proofs.Common.{ap, sym, ◌∙◌, arith, one-add}
 use Rattle.std.proofs.lemmas.Bool.Decides.{nat_tests}

@@ -1,5 +1,5 @@
 -- Syllables: longest runs of equal syllable bytes, and the spans that set them.
-use Rattle.std.specs.Prelude.{ℕ, suc, ◌+◌, ◌*◌, ◌%◌, ◌==◌, nat_lt, Bool, ◌&&◌, ◌||◌, List, [], ◌∷◌, ◌++◌, drop, replicate, sum_by, if◌then◌else◌}
+use Rattle.std.specs.Prelude.{ℕ, suc, ◌+◌, ◌*◌, ◌%◌, ◌==◌, nat_lt, Bool, ◌&&◌, ◌||◌, List, [], ◌∷◌, ◌++◌, replicate, sum_by, if◌then◌else◌}
 use Rattle.std.specs.List.{list_all, list_any, prefix_len}
 use Rattle.shapers_base.specs.declared.buffer.glyph.hb_glyph_info_t.{hb_glyph_info_t}
 use Rattle.shapers_base.specs.declared.buffer.syllables.Span.{Span}

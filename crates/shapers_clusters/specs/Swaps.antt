@@ -1,7 +1,7 @@
 -- The smallest steps: nothing moves, or two neighbours merge and change places.
-use Rattle.std.proofs.Common.{ℕ, ◌+◌, ◌<◌, ◌≤◌, ◌≡◌, ◌≢◌, ◌==◌, ◌⊎◌, inl, inr, min, max, Bool, true, List, [], ◌∷◌, length, get_or, set, slice_index, refl, sym, ◌∙◌, ap, subst, zero-add, arith, get_or-set_same, get_or-set_other, length-set, if◌then◌else◌}
+use Rattle.std.proofs.Common.{ℕ, ◌+◌, ◌<◌, ◌≡◌, ◌≢◌, ◌==◌, inl, inr, true, List, [], ◌∷◌, length, get_or, set, refl, sym, ◌∙◌, ap, subst, zero-add, arith, get_or-set_same, get_or-set_other, length-set, if◌then◌else◌}
 use Rattle.std.specs.Prelude.{swap}
-use Rattle.std.specs.List.{All, AllByRecursion, range_with_len}
+use Rattle.std.specs.List.{AllByRecursion, range_with_len}
 use Rattle.std.proofs.lemmas.List.{same_lists}
 use Rattle.std.proofs.lemmas.List.Edits.{swap_is, length-swap}
 use Rattle.std.proofs.lemmas.List.Elements.{recursion_from_All}
@@ -12,9 +12,9 @@ use Rattle.shapers_base.specs.declared.buffer.glyph.hb_glyph_info_t.{hb_glyph_in
 use Rattle.shapers_base.specs.declared.buffer.level.BufferClusterLevel.{BufferClusterLevel}
 use Rattle.shapers_base.specs.Clusters.{merge}
 use Rattle.shapers_clusters.specs.Merging.{length-merge}
-use Rattle.shapers_clusters.specs.Neighbours.{EndWithin, held}
+use Rattle.shapers_clusters.specs.Neighbours.{held}
 use Rattle.shapers_clusters.specs.Picks.{length-pick, get_or-pick, pick-all, within_range}
-use Rattle.shapers_clusters.specs.Steps.{pick, Step, run_step, FitsStep, HeldBetween, MovesInside, MovesMerged}
+use Rattle.shapers_clusters.specs.Steps.{pick, Step, run_step, HeldBetween, MovesMerged}
 
 -- the step of n places in which nothing moves
 abbrev pub still_step : ℕ → Step

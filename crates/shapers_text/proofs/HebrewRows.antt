@@ -1,10 +1,10 @@
 -- Hebrew computed on small texts.
-use Rattle.std.specs.Prelude.{◌≡◌, ℕ, false, true, Some, None, List, [], ◌∷◌, map, refl}
+use Rattle.std.specs.Prelude.{◌≡◌, ℕ, true, Some, None, List, [], ◌∷◌, map, refl}
 use Rattle.shapers_base.specs.declared.buffer.glyph.hb_glyph_info_t.{hb_glyph_info_t}
 use Rattle.shapers_base.specs.declared.buffer.level.BufferClusterLevel.TheVariants.{MonotoneGraphemes, Characters}
 use Rattle.shapers_base.specs.Glyph.{default_glyph, clusters}
 use Rattle.shapers_clusters.specs.Steps.{run_step}
-use Rattle.shapers_text.specs.Hebrew.{mark_step, marks_swapped, hebrew_form, composed_in_hebrew}
+use Rattle.shapers_text.specs.Hebrew.{mark_step, hebrew_form, composed_in_hebrew}
 
 -- marks of these classes and clusters
 abbrev marks : List (ℕ × ℕ) → List hb_glyph_info_t

@@ -1,6 +1,7 @@
 pub mod HebrewLemmas
 mod HebrewRows
 mod RequestRows
+pub mod ThaiClusters
 pub mod ThaiFormLaws
 pub mod ThaiFormWalks
 pub mod ThaiRows

@@ -1,32 +1,23 @@
--- The sources of the rewriting; its clusters and glyph flags then follow from the law of copies.
-use Rattle.std.proofs.Common.{◌≡◌, inl, inr, ℕ, zero, suc, ◌-◌, ◌+◌, ◌<◌, ◌≤◌, true, false, cond, ◌&&◌, nat_lt, List, [], ◌∷◌, ◌++◌, length, take, drop, get_or, slice_index, refl, sym, ap, ◌∙◌, subst, arith, Bool}
-use Rattle.std.specs.List.{suffix_len, range_with_len, All, AllZip, Contains}
-use Rattle.std.proofs.lemmas.Bool.{cases_lt}
+-- The rewriting by places: each glyph copies its source; the sources at a SARA AM, and its merged stretch.
+use Rattle.std.proofs.Common.{◌≡◌, ℕ, zero, suc, ◌-◌, ◌+◌, ◌<◌, ◌≤◌, true, false, cond, ◌&&◌, nat_lt, List, [], ◌∷◌, ◌++◌, length, take, drop, get_or, slice_index, refl, sym, ap, ◌∙◌, subst, arith}
+use Rattle.std.specs.List.{suffix_len, range_with_len, AllZip, Contains}
 use Rattle.std.proofs.lemmas.Bool.Decides.{nat_tests}
-use Rattle.std.proofs.lemmas.List.{append_assoc, append-nil, length-map, length-take-le, take_at, drop_at, take_more, take_all, drop_more, take-append-drop}
-use Rattle.std.proofs.lemmas.List.FromFn.{get_or-range_with_len, length-range_with_len}
-use Rattle.std.proofs.lemmas.List.Elements.{All-cons, All-from_get_or, Contains-append_left, Contains-append_right}
+use Rattle.std.proofs.lemmas.List.{append_assoc, append-nil, length-map, length-take-le, take_at, drop_at, take_more, drop_more, take-append-drop}
+use Rattle.std.proofs.lemmas.List.FromFn.{length-range_with_len}
+use Rattle.std.proofs.lemmas.List.Elements.{Contains-append_left, Contains-append_right}
 use Rattle.std.proofs.lemmas.List.Sums.{suffix_len-le-length}
-use Rattle.std.proofs.lemmas.Slice.Zip.{AllZip-long}
 use Rattle.shapers_base.specs.declared.buffer.glyph.hb_glyph_info_t.{hb_glyph_info_t}
 use Rattle.shapers_base.specs.declared.buffer.level.BufferClusterLevel.{BufferClusterLevel}
-use Rattle.shapers_base.specs.Glyph.{default_glyph, clusters}
-use Rattle.shapers_base.specs.Clusters.{merge_all}
+use Rattle.shapers_base.specs.Glyph.{default_glyph}
 use Rattle.shapers_base.specs.Lists.{last_run, before_last_run, each_after}
 use Rattle.shapers_base.specs.ListLaws.{suffix_len_push}
-use Rattle.shapers_clusters.specs.Neighbours.{ShareCluster, share_all}
 use Rattle.shapers_clusters.specs.Picks.{AllZip-pushed}
 use Rattle.shapers_clusters.specs.Widened.{range-append}
-use Rattle.shapers_clusters.specs.Merging.{length-merge_all}
-use Rattle.shapers_clusters.specs.Copies.{Copies, SharesIn}
-use Rattle.shapers_clusters.specs.Proved.{copies_hold}
-use Rattle.shapers_text.specs.Thai.{stretches_at, stretches_of_each, sara_am_stretches, stretch_of_sara_am, joins_before, is_sara_am, is_above_base, in_two, glyphs_in_two, nikhahit, sara_aa, rewritten, characters, places_in_two, sources}
+use Rattle.shapers_clusters.specs.Copies.{Copies}
+use Rattle.shapers_text.specs.Thai.{stretches_at, stretches_of_each, sara_am_stretches, stretch_of_sara_am, joins_before, is_sara_am, is_above_base, in_two, glyphs_in_two, nikhahit, rewritten, characters, places_in_two, sources}
 use Rattle.shapers_text.specs.ThaiRewriting.{held, in_two-append, in_two_push, in_two_push_am, held_push_mark, held_push_other}
-use Rattle.shapers_text.specs.ThaiLaws.{marks_before, new_place, ClustersInTwo, InTwoLaw}
-use Rattle.shapers_text.specs.ThaiForms.{preprocessed, pua_shaped}
+use Rattle.shapers_text.specs.ThaiLaws.{marks_before}
 use Rattle.shapers_text.proofs.ThaiSaraAm.{apart}
-use Rattle.shapers_text.proofs.ThaiStretches.{characters-merge_all, stretches_within}
-use Rattle.shapers_text.proofs.ThaiFormWalks.{forms_hold}
 
 -- the glyph at a place, and its character
 abbrev at : List hb_glyph_info_t → ℕ → hb_glyph_info_t
@@ -45,7 +36,7 @@ range_split : (j k : ℕ) → range_with_len 0 (j + k) ≡ range_with_len 0 j ++
 range_split j k = let same : 0 + j ≡ j = omega arith in range-append 0 j k ∙ ap (λ n. range_with_len 0 j ++ range_with_len n k) same
 
 -- The first k glyphs, rewritten, copy their sources; and as many above-base marks end them as end the places.
-record CopiesUpto (gs : List hb_glyph_info_t) (k : ℕ) : Type 0 where
+pub record CopiesUpto (gs : List hb_glyph_info_t) (k : ℕ) : Type 0 where
   pub whole : AllZip (Copies gs) (in_two (places_in_two (characters gs)) (range_with_len 0 k)) (rewritten (take k gs))
   pub pending : (w : ℕ) (x : hb_glyph_info_t) → Copies gs w x → AllZip (Copies gs) (held (places_in_two (characters gs)) (range_with_len 0 k) w) (held glyphs_in_two (take k gs) x)
   pub marks : suffix_len (places_in_two (characters gs)).above_base (range_with_len 0 k) ≡ suffix_len (λ g. is_above_base g.glyph_id) (take k gs)
@@ -75,7 +66,7 @@ copies_pending gs k inside c w x copy =
           AllZip-pushed (Copies gs) _ _ _ _ _ _ (held_push_other ids (range_with_len 0 k) k w (sym same ∙ e)) (held_push_other glyphs_in_two (take k gs) g x e) (copies_whole gs k inside c) copy
     ] refl
 
-copies_upto : (gs : List hb_glyph_info_t) (k : ℕ) → k ≤ length gs → CopiesUpto gs k
+pub copies_upto : (gs : List hb_glyph_info_t) (k : ℕ) → k ≤ length gs → CopiesUpto gs k
 copies_upto gs zero within = record { whole = tt; pending = λ w x copy. (copy, tt); marks = refl }
 copies_upto gs (suc k) within =
     let inside : k < length gs = omega arith in
@@ -97,11 +88,11 @@ copies_upto gs (suc k) within =
     }
 
 -- the sources at a SARA AM: what comes before, the SARA AM, its marks, the SARA AM again, what comes behind
-record SourcesAt (gs : List hb_glyph_info_t) (i : ℕ) : Type 0 where
+pub record SourcesAt (gs : List hb_glyph_info_t) (i : ℕ) : Type 0 where
   pub behind : List ℕ
   pub parts : sources (characters gs) ≡ in_two (places_in_two (characters gs)) (range_with_len 0 (i - marks_before gs i)) ++ ((i ∷ range_with_len (i - marks_before gs i) (marks_before gs i)) ++ behind)
 
-sources_at : (gs : List hb_glyph_info_t) (i : ℕ) → i < length gs → is_sara_am (slice_index (characters gs) i) ≡ true → SourcesAt gs i
+pub sources_at : (gs : List hb_glyph_info_t) (i : ℕ) → i < length gs → is_sara_am (slice_index (characters gs) i) ≡ true → SourcesAt gs i
 sources_at gs i inside is_am =
     let us = characters gs in
     let ids = places_in_two us in
@@ -143,7 +134,7 @@ stretch_among level before (x ∷ xs) am after st here =
 some_marks : (w : ℕ) → 0 < w → nat_lt 0 w ≡ true
 some_marks w h = grind (arith, nat_tests)
 
-stretch_at : (level : BufferClusterLevel) (gs : List hb_glyph_info_t) (i : ℕ) → i < length gs → is_sara_am (slice_index (characters gs) i) ≡ true → 0 < marks_before gs i → Contains (sara_am_stretches level gs) (i - marks_before gs i, i + 1)
+pub stretch_at : (level : BufferClusterLevel) (gs : List hb_glyph_info_t) (i : ℕ) → i < length gs → is_sara_am (slice_index (characters gs) i) ≡ true → 0 < marks_before gs i → Contains (sara_am_stretches level gs) (i - marks_before gs i, i + 1)
 stretch_at level gs i inside is_am some =
     let w = marks_before gs i in
     let st : ℕ × ℕ = (i - w, i + 1) in
@@ -155,53 +146,3 @@ stretch_at level gs i inside is_am some =
     ∙ ap (λ b. cond b (st ∷ []) (cond (joins_before level && nat_lt 0 i) ((i - 1, i + 1) ∷ []) [])) (some_marks w some) in
     subst (λ zs. Contains (stretches_of_each level (each_after [] zs)) st) (sym whole)
     (stretch_among level [] (take i gs) g (drop (i + 1) gs) st (subst (λ sts. Contains sts st) (sym here) (0, omega arith, refl)))
-
--- the glyphs of the result, against the merged ones
-copies : (level : BufferClusterLevel) (gs : List hb_glyph_info_t) → AllZip (Copies (merge_all level (sara_am_stretches level gs) gs)) (sources (characters gs)) (rewritten (merge_all level (sara_am_stretches level gs) gs))
-copies level gs =
-    let ms = merge_all level (sara_am_stretches level gs) gs in
-    let same : characters ms ≡ characters gs = characters-merge_all level (sara_am_stretches level gs) gs in
-    let long : length ms ≡ length (characters ms) = sym (length-map ms (λ g. g.glyph_id)) in
-    let c = (copies_upto ms (length (characters ms)) (omega arith)).whole in
-    subst (λ us. AllZip (Copies ms) (sources us) (rewritten ms)) same (subst (λ xs. AllZip (Copies ms) (sources (characters ms)) (rewritten xs)) (take_all (length (characters ms)) ms (omega arith)) c)
-
--- where its NIKHAHIT goes, and from where
-nikhahit_shares : (level : BufferClusterLevel) (gs : List hb_glyph_info_t) (cs : List ℕ) (i : ℕ) → i < length gs → is_sara_am (slice_index (characters gs) i) ≡ true → SharesIn (sara_am_stretches level gs) (sources (characters gs)) cs → ShareCluster cs (new_place gs i) (new_place gs i + marks_before gs i)
-nikhahit_shares level gs cs i inside is_am share =
-    let w = marks_before gs i in
-    let few : w ≤ i = omega (arith, suffix_len-le-length (λ g. is_above_base g.glyph_id) (take i gs), length-take-le i gs (omega arith)) in
-    let a = sources_at gs i inside is_am in
-    let run = range_with_len (i - w) w in
-    let many = length-range_with_len (i - w) w in
-    let front = in_two (places_in_two (characters gs)) (range_with_len 0 (i - w)) in
-    let place : length (rewritten (take (i - w) gs)) ≡ length front = AllZip-long (Copies gs) _ _ (copies_upto gs (i - w) (omega arith)).whole in
-    let P : ℕ → Type 0 = λ p. (i - w ≤ p) × (p < i + 1) in
-    let each : All P (i ∷ run) = All-cons P i run (omega arith, omega arith) (All-from_get_or P run 0 (λ t inner. let e = get_or-range_with_len (i - w) w t 0 (omega arith) in (omega arith, omega arith))) in
-    elim (cases_lt 0 w) [
-      | inl some ↦ share (i - w, i + 1) front (i ∷ run) a.behind (stretch_at level gs i inside is_am some) a.parts each (new_place gs i) (new_place gs i + w) (omega arith) (omega arith) (omega arith) (omega arith)
-      | inr none ↦ share_all cs (new_place gs i) (new_place gs i + w) (λ r low high. absurd (omega arith))
-    ]
-
-pub in_two_holds : InTwoLaw
-in_two_holds level gs =
-    let sts = sara_am_stretches level gs in
-    let h = copies_hold level sts (sources (characters gs)) gs (rewritten (merge_all level sts gs)) (stretches_within level gs) (copies level gs) in
-    record {
-      in_clusters = record {
-        clusters_are = h.clusters_are;
-        old_clusters = h.old_clusters;
-        unmerged = h.unmerged;
-        cluster_law = λ m i inside is_am. nikhahit_shares level gs (clusters (rewritten (merge_all level sts gs))) i inside is_am (h.share m);
-        exact = h.exact;
-      };
-      falls = h.falls;
-    }
-
--- the whole hook: its forms leave the clusters
-pub plain_in_two : (level : BufferClusterLevel) (gs text : List hb_glyph_info_t) → text ≡ preprocessed false (λ _. false) level gs → ClustersInTwo level gs (clusters text)
-plain_in_two level gs text is = subst (λ xs. ClustersInTwo level gs (clusters xs)) (sym is) (in_two_holds level gs).in_clusters
-
-pub shaped_in_two : (has : ℕ → Bool) (level : BufferClusterLevel) (gs text shaped : List hb_glyph_info_t) → text ≡ preprocessed false has level gs → shaped ≡ pua_shaped has text → ClustersInTwo level gs (clusters shaped)
-shaped_in_two has level gs text shaped is forms =
-    let same : clusters shaped ≡ clusters (preprocessed false has level gs) = ap clusters (forms ∙ ap (pua_shaped has) is) ∙ (forms_hold has level gs).clusters_stay in
-    subst (ClustersInTwo level gs) (sym same) (in_two_holds level gs).in_clusters

@@ -1,4 +1,4 @@
-use Rattle.std.proofs.Common.{◌≡◌, true, List, [], ◌∷◌, ◌+◌, ◌<◌, ◌∙◌, ℕ, Option, Some, None, length, sym, ap, subst, refl, arith}
+use Rattle.std.proofs.Common.{◌≡◌, true, [], ◌∷◌, ◌+◌, ◌<◌, ◌∙◌, ℕ, Option, Some, None, length, sym, ap, subst, arith}
 use Rattle.std.specs.Prelude.{IfSome, swap}
 use Rattle.shapers_base.specs.Buffer.{Buffer}
 use Rattle.shapers_base.specs.Clusters.{merge, merges}

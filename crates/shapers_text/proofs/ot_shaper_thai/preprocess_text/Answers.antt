@@ -1,7 +1,7 @@
 -- The laws of clusters, from the two equations.
 use Rattle.std.proofs.Common.{ap, is_some}
 use Rattle.shapers_base.specs.Buffer.{Buffer}
-use Rattle.shapers_text.proofs.ThaiSources.{plain_in_two, shaped_in_two}
+use Rattle.shapers_text.proofs.ThaiClusters.{plain_in_two, shaped_in_two}
 use Rattle.shapers_text.proofs.ot_shaper_thai.preprocess_text.Goals as goal
 
 pub returns-then-wants_forms-clause-clusters : goal.returns-then-wants_forms-clause-clusters

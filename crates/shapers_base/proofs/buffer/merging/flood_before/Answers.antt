@@ -1,4 +1,3 @@
-use Rattle.std.proofs.Common.{sym, refl}
 use Rattle.std.proofs.lemmas.List.{reverse-reverse}
 use Rattle.shapers_base.proofs.ClusterLemmas.{flooded_itself}
 use Rattle.shapers_base.proofs.buffer.merging.flood_before.Goals as goal

@@ -2,7 +2,7 @@ use Rattle.std.proofs.Common.{◌≡◌, ◌+◌, ◌≤◌, ◌∙◌, length, 
 use Rattle.std.specs.Prelude.{sum_by}
 use Rattle.std.proofs.lemmas.List.{drop_more}
 use Rattle.std.proofs.lemmas.List.Sums.{sum_by-cons}
-use Rattle.shapers_base.specs.Syllables.{with_bytes, span_bytes, span_byte}
+use Rattle.shapers_base.specs.Syllables.{span_bytes, span_byte}
 use Rattle.shapers_base.specs.declared.buffer.syllables.Span.{Span}
 use Rattle.shapers_base.proofs.SyllableLemmas.{bytes_next}
 use Rattle.shapers_base.proofs.buffer.syllables.set_bytes.Goals as goal

@@ -1,5 +1,5 @@
-use Rattle.std.proofs.Common.{◌≡◌, ◌+◌, ◌++◌, length, map, take, drop}
-use Rattle.std.specs.Prelude.{IsTrue, sum_by}
+use Rattle.std.proofs.Common.{◌≡◌, ◌+◌, ◌++◌, length, take, drop}
+use Rattle.std.specs.Prelude.{sum_by}
 use Rattle.shapers_base.specs.Syllables.{with_bytes, span_bytes}
 use Rattle.shapers_base.proofs.buffer.syllables.set_bytes.Given as goal
 
