@@ -66,3 +66,16 @@ order_view-merge level s e gs = merge_cases (λ ms. order_view ms ≡ order_view
 pub order_view-merge_all : (level : BufferClusterLevel) (sts : List (ℕ × ℕ)) (gs : List hb_glyph_info_t) → order_view (merge_all level sts gs) ≡ order_view gs
 order_view-merge_all level [] gs = refl
 order_view-merge_all level (st ∷ sts) gs = order_view-merge_all level sts (merge level st.0 st.1 gs) ∙ order_view-merge level st.0 st.1 gs
+
+-- stretches in two lists, one list after the other
+pub merge_all-append : (level : BufferClusterLevel) (xs ys : List (ℕ × ℕ)) (gs : List hb_glyph_info_t) → merge_all level (xs ++ ys) gs ≡ merge_all level ys (merge_all level xs gs)
+merge_all-append level [] ys gs = refl
+merge_all-append level (x ∷ xs) ys gs = merge_all-append level xs ys (merge level x.0 x.1 gs)
+
+-- what is read of the order view alone stays through merges
+map-order_view : {X : Type 0} (f : hb_glyph_info_t → X) → ((g : hb_glyph_info_t) → f (plain g) ≡ f g) → (gs : List hb_glyph_info_t) → map f (order_view gs) ≡ map f gs
+map-order_view f plainly [] = refl
+map-order_view f plainly (g ∷ gs) = ap (λ x. x ∷ map f (order_view gs)) (plainly g) ∙ ap (λ xs. f g ∷ xs) (map-order_view f plainly gs)
+
+pub map-merge_all : {X : Type 0} (f : hb_glyph_info_t → X) → ((g : hb_glyph_info_t) → f (plain g) ≡ f g) → (level : BufferClusterLevel) (sts : List (ℕ × ℕ)) (gs : List hb_glyph_info_t) → map f (merge_all level sts gs) ≡ map f gs
+map-merge_all f plainly level sts gs = sym (map-order_view f plainly (merge_all level sts gs)) ∙ ap (map f) (order_view-merge_all level sts gs) ∙ map-order_view f plainly gs

@@ -6,29 +6,21 @@ use Rattle.std.proofs.lemmas.List.{take_more, drop_more, length-take-le, length_
 use Rattle.std.proofs.lemmas.List.Sums.{sum_by-cons, suffix_len-le-length}
 use Rattle.shapers_base.specs.declared.buffer.glyph.hb_glyph_info_t.{hb_glyph_info_t}
 use Rattle.shapers_base.specs.declared.buffer.level.BufferClusterLevel.{BufferClusterLevel}
-use Rattle.shapers_base.specs.Glyph.{default_glyph, order_view}
+use Rattle.shapers_base.specs.Glyph.{default_glyph}
 use Rattle.shapers_base.specs.declared.buffer.glyph.GlyphPosition.{GlyphPosition}
 use Rattle.shapers_base.specs.Buffer.{Buffer, grown, more_positions}
-use Rattle.shapers_base.specs.Clusters.{merge, merge_all}
+use Rattle.shapers_base.specs.Clusters.{merge_all}
 use Rattle.shapers_base.specs.Lists.{each_after}
 use Rattle.shapers_base.specs.ListLaws.{none_from_count, suffix_len_push}
-use Rattle.shapers_clusters.specs.Merging.{length-merge_all, order_view-merge_all}
+use Rattle.shapers_clusters.specs.Merging.{length-merge_all, merge_all-append, map-merge_all}
 use Rattle.shapers_clusters.specs.Appended.{merge_all-appended}
 use Rattle.shapers_text.specs.Thai.{characters, is_sara_am, is_above_base, glyphs_in_two, rewritten, stretch_of_sara_am, stretches_at, stretches_of_each, sara_am_stretches, joins_before}
 use Rattle.shapers_text.specs.ThaiRewriting.{in_two_plain, lengths}
 use Rattle.shapers_text.proofs.ThaiSaraAm.{apart}
 
-characters-view : (gs : List hb_glyph_info_t) → characters (order_view gs) ≡ characters gs
-characters-view [] = refl
-characters-view (g ∷ gs) = ap (λ us. g.glyph_id ∷ us) (characters-view gs)
-
 -- merging leaves the characters
 pub characters-merge_all : (level : BufferClusterLevel) (sts : List (ℕ × ℕ)) (gs : List hb_glyph_info_t) → characters (merge_all level sts gs) ≡ characters gs
-characters-merge_all level sts gs = sym (characters-view (merge_all level sts gs)) ∙ ap characters (order_view-merge_all level sts gs) ∙ characters-view gs
-
-pub merge_all-append : (level : BufferClusterLevel) (xs ys : List (ℕ × ℕ)) (gs : List hb_glyph_info_t) → merge_all level (xs ++ ys) gs ≡ merge_all level ys (merge_all level xs gs)
-merge_all-append level [] ys gs = refl
-merge_all-append level (x ∷ xs) ys gs = merge_all-append level xs ys (merge level x.0 x.1 gs)
+characters-merge_all level sts gs = map-merge_all (λ g. g.glyph_id) (λ g. refl) level sts gs
 
 -- the number of SARA AM is that of the characters
 count-characters : (gs : List hb_glyph_info_t) → count_by (λ g. is_sara_am g.glyph_id) gs ≡ count_by is_sara_am (characters gs)
