@@ -1,5 +1,5 @@
 -- The two walks: the flags, and the forms.
-use Rattle.std.proofs.Common.{◌≡◌, ◌≢◌, ℕ, zero, suc, ◌-◌, ◌+◌, ◌<◌, ◌≤◌, eqb, bit_or, Bool, true, false, cond, List, [], ◌∷◌, ◌++◌, length, take, drop, get_or, map, refl, sym, ap, ◌∙◌, subst, arith, append_assoc, length-append}
+use Rattle.std.proofs.Common.{◌≡◌, ◌≢◌, ℕ, zero, suc, ◌-◌, ◌+◌, ◌<◌, ◌≤◌, eqb, bit_or, Bool, true, false, cond, List, [], ◌∷◌, ◌++◌, length, take, drop, get_or, map, refl, sym, ap, ◌∙◌, subst, arith, append_assoc, length-append, length-take}
 use Rattle.std.specs.Int.Bits.{or_add_and}
 use Rattle.std.specs.List.{AllByRecursion}
 use Rattle.std.proofs.lemmas.Bool.Decides.{nat_tests}
@@ -65,11 +65,21 @@ in_order : (each : List (List ℕ × ℕ)) → AllByRecursion (λ st. st.0 ≤ s
 in_order [] = tt
 in_order (p ∷ each) = in_order_at p.0 p.1 (mark_stretches_of_each each) (in_order each)
 
--- a stretch of no place has no flags
+-- a stretch of one place, or none, has no flags
+eqb_same : (a : ℕ) → eqb a a ≡ true
+eqb_same a = grind (arith, nat_tests)
+
+flagged_few : (bits : ℕ) (gs : List hb_glyph_info_t) → length gs ≤ 1 → flagged bits gs ≡ gs
+flagged_few bits [] few = refl
+flagged_few bits (g ∷ []) few = ap (λ b. cond b g (with_bits bits g) ∷ []) (eqb_same g.cluster)
+flagged_few bits (g ∷ h ∷ gs) few = absurd (omega arith)
+
+pub unsafe_few : (s e : ℕ) (gs : List hb_glyph_info_t) → s ≤ e → e - s ≤ 1 → unsafe_inside s e gs ≡ gs
+unsafe_few s e gs h few =
+    ap (λ xs. take s gs ++ (xs ++ drop e gs)) (flagged_few 3 (stretch_of s e gs) (omega (arith, length-take (e - s) (drop s gs)))) ∙ three_parts s e gs h
+
 unsafe_nothing : (s : ℕ) (gs : List hb_glyph_info_t) → unsafe_inside s s gs ≡ gs
-unsafe_nothing s gs =
-    let none : s - s ≡ 0 = omega arith in
-    ap (λ n. take s gs ++ (flagged 3 (take n (drop s gs)) ++ drop s gs)) none ∙ take-append-drop s gs
+unsafe_nothing s gs = unsafe_few s s gs (omega arith) (omega arith)
 
 -- a longer stretch from the same place has the flags of the shorter
 flag_twice : (mask : ℕ) → bit_or (bit_or mask 3) 3 ≡ bit_or mask 3

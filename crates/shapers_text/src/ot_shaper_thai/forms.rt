@@ -1,6 +1,7 @@
 //! The private use forms of Thai, for fonts whose GSUB table doesn't know the script: marks that
 //! would touch are shifted, and a descender that is in the way is left out. (The Thai note.)
 ghost use Rattle.std.specs.Prelude.{◌≡◌, ℕ, ◌+◌, ◌^◌, ◌<◌, ◌≤◌, ◌==◌, [], ◌∷◌, ◌++◌, true, false, length, take, find, is_some, slice_index_or, slice_set};
+ghost use Rattle.shapers_base.specs.GlyphFlags.{unsafe_inside};
 ghost use Rattle.shapers_text.specs.Thai.{characters};
 ghost use Rattle.shapers_text.specs.ThaiForms.{consonant_type, mark_type, is_thai_mark, action_of, mappings_of, shaped_by, unsafe_all, mark_stretches, base_after, target, form_set, with_forms, pua_shaped};
 
@@ -174,6 +175,17 @@ fn is_mark(u: u32) -> bool
     !matches!(get_mark_type(u), Mark::NotMark)
 }
 
+// Flags the places from a base to its last mark. One mark behind its base flags nothing.
+fn flag_from(buffer: &mut hb_buffer_t, base: usize, last: usize)
+    requires in_order { base ≤ last }
+    requires in_range { last ≤ length buffer.old.glyphs }
+    ensures { buffer.new ≡ record buffer.old { glyphs = unsafe_inside base last buffer.old.glyphs } }
+{
+    if last - base > 1 {
+        buffer.unsafe_to_break(base, last);
+    }
+}
+
 // Flags the places from each mark's base to the mark: a break there would change the forms. The
 // stretch to a base's last mark holds those to the others.
 fn flag_marks(buffer: &mut hb_buffer_t)
@@ -183,12 +195,12 @@ fn flag_marks(buffer: &mut hb_buffer_t)
     let mut last = 0;
     for i in 0..buffer.len() {
         if !is_mark(buffer.get(i).glyph_id) {
-            buffer.unsafe_to_break(base, last);
+            flag_from(buffer, base, last);
             base = i;
         }
         last = i;
     }
-    buffer.unsafe_to_break(base, last);
+    flag_from(buffer, base, last);
 }
 
 /// The base of the marks that come next, and how many marks stand above and below it so far.
@@ -244,17 +256,29 @@ fn set_form<F: hb_font_t>(face: &F, buffer: &mut hb_buffer_t, place: usize, acti
     buffer.set(place, hb_glyph_info_t { glyph_id, ..glyph });
 }
 
-// Does what the character at place `i` does: to itself, or to its base.
+// Does what the mark at place `i` does: to itself, or to its base.
+fn act_as<F: hb_font_t>(face: &F, buffer: &mut hb_buffer_t, base: Base, i: usize, mark: Mark)
+    requires place { base.place < length buffer.old.glyphs }
+    requires in_range { i < length buffer.old.glyphs }
+    ensures { buffer.new ≡ record buffer.old { glyphs = form_set (λ c. is_some (F.nominal_glyph face.now c)) (target (action_of base.consonant mark base.above base.below) base.place i) (action_of base.consonant mark base.above base.below) buffer.old.glyphs } }
+{
+    let action = get_action(base.consonant, mark, base.above, base.below);
+    match action {
+        Action::NOP => {}
+        Action::RD => set_form(face, buffer, base.place, action),
+        Action::SD | Action::SL | Action::SDL => set_form(face, buffer, i, action),
+    }
+}
+
+// Does what the character at place `i` does, if it is a mark.
 fn act<F: hb_font_t>(face: &F, buffer: &mut hb_buffer_t, base: Base, i: usize, u: u32)
     requires place { base.place < length buffer.old.glyphs }
     requires in_range { i < length buffer.old.glyphs }
     ensures { buffer.new ≡ record buffer.old { glyphs = form_set (λ c. is_some (F.nominal_glyph face.now c)) (target (action_of base.consonant (mark_type u) base.above base.below) base.place i) (action_of base.consonant (mark_type u) base.above base.below) buffer.old.glyphs } }
 {
-    let action = get_action(base.consonant, get_mark_type(u), base.above, base.below);
-    match action {
-        Action::NOP => {}
-        Action::RD => set_form(face, buffer, base.place, action),
-        Action::SD | Action::SL | Action::SDL => set_form(face, buffer, i, action),
+    match get_mark_type(u) {
+        Mark::NotMark => {}
+        mark => act_as(face, buffer, base, i, mark),
     }
 }
 

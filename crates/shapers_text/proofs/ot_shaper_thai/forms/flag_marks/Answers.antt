@@ -19,7 +19,7 @@ loop-i-preserved c =
     let now = c.if-not-is_mark.buffer in
     let changed : now ≡ with_glyphs l.buffer (flagged_at g.glyph_id l.base l.last l.buffer.glyphs) =
     elim c.if-not-is_mark.branch [
-      | then-not-is_mark w ↦ w.buffer-is ∙ w.unsafe_to_break.ensures ∙ sym (ap (λ b. with_glyphs l.buffer (cond b l.buffer.glyphs (unsafe_inside l.base l.last l.buffer.glyphs))) (sym c.is_mark.ensures ∙ w.if-not-is_mark.true))
+      | then-not-is_mark w ↦ w.buffer-is ∙ w.flag_from.ensures ∙ sym (ap (λ b. with_glyphs l.buffer (cond b l.buffer.glyphs (unsafe_inside l.base l.last l.buffer.glyphs))) (sym c.is_mark.ensures ∙ w.if-not-is_mark.true))
       | else-not-is_mark w ↦ w.buffer-is ∙ sym (ap (λ b. with_glyphs l.buffer (cond b l.buffer.glyphs (unsafe_inside l.base l.last l.buffer.glyphs))) (sym c.is_mark.ensures ∙ w.if-not-is_mark.false))
     ] in
     let counted : c.if-not-is_mark.base ≡ cond (is_thai_mark g.glyph_id) l.base l.i =
@@ -36,6 +36,6 @@ pub returns : goal.returns
 returns c =
     let l = c.loop-i in
     let start = c.args.buffer.now in
-    c.unsafe_to_break-2.ensures
+    c.flag_from-2.ensures
     ∙ ap (λ (b : Buffer). with_glyphs b (unsafe_inside l.base l.last l.buffer.glyphs)) l.invariant.fields
     ∙ ap (with_glyphs start) (flagging_all start.glyphs l.buffer.glyphs l.i l.base l.last (omega (arith, c.len-i-end.ensures.length)) l.invariant.walk)
