@@ -14,8 +14,8 @@ use Rattle.shapers_base.specs.Clusters.{merge_all}
 use Rattle.shapers_clusters.specs.Neighbours.{ShareCluster, share_all}
 use Rattle.shapers_clusters.specs.Copies.{Copies, SharesIn}
 use Rattle.shapers_clusters.specs.Proved.{copies_hold}
-use Rattle.shapers_text.specs.Thai.{sara_am_stretches, is_sara_am, is_above_base, in_two, rewritten, characters, places_in_two, sources}
-use Rattle.shapers_text.specs.ThaiLaws.{marks_before, new_place, ClustersInTwo, InTwoLaw}
+use Rattle.shapers_text.specs.Thai.{marks_before, sara_am_stretches, is_sara_am, is_above_base, in_two, rewritten, characters, places_in_two, sources}
+use Rattle.shapers_text.specs.ThaiLaws.{new_place, ClustersInTwo, InTwoLaw}
 use Rattle.shapers_text.specs.ThaiForms.{preprocessed, pua_shaped}
 use Rattle.shapers_text.proofs.ThaiStretches.{characters-merge_all, stretches_within}
 use Rattle.shapers_text.proofs.ThaiFormWalks.{forms_hold}

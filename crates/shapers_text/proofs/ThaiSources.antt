@@ -14,9 +14,8 @@ use Rattle.shapers_base.specs.ListLaws.{suffix_len_push}
 use Rattle.shapers_clusters.specs.Picks.{AllZip-pushed}
 use Rattle.shapers_clusters.specs.Widened.{range-append}
 use Rattle.shapers_clusters.specs.Copies.{Copies}
-use Rattle.shapers_text.specs.Thai.{stretches_at, stretches_of_each, sara_am_stretches, stretch_of_sara_am, joins_before, is_sara_am, is_above_base, in_two, glyphs_in_two, nikhahit, rewritten, characters, places_in_two, sources}
+use Rattle.shapers_text.specs.Thai.{marks_before, stretches_at, stretches_of_each, sara_am_stretches, stretch_of_sara_am, joins_before, is_sara_am, is_above_base, in_two, glyphs_in_two, nikhahit, rewritten, characters, places_in_two, sources}
 use Rattle.shapers_text.specs.ThaiRewriting.{held, in_two-append, in_two_push, in_two_push_am, held_push_mark, held_push_other}
-use Rattle.shapers_text.specs.ThaiLaws.{marks_before}
 use Rattle.shapers_text.proofs.ThaiSaraAm.{apart}
 
 -- the glyph at a place, and its character

@@ -1,9 +1,9 @@
 -- The merged stretches, from the left.
 use Rattle.std.proofs.Common.{◌≡◌, ℕ, ◌-◌, ◌+◌, ◌<◌, ◌≤◌, Bool, true, false, cond, ◌&&◌, nat_lt, List, [], ◌∷◌, ◌++◌, length, take, drop, get_or, replicate, refl, sym, ap, ◌∙◌, arith, length-append}
-use Rattle.std.specs.List.{list_any, count_by, suffix_len, AllByRecursion}
+use Rattle.std.specs.List.{list_any, count_by, suffix_len, AllByRecursion, take-map}
 use Rattle.std.proofs.lemmas.Bool.{or_parts}
-use Rattle.std.proofs.lemmas.List.{take_more, drop_more, length-take-le, length_push, length-take, drop_all, length-map, get_or-map, get_or-take, take_at, length-replicate}
-use Rattle.std.proofs.lemmas.List.Sums.{sum_by-cons, suffix_len-le-length}
+use Rattle.std.proofs.lemmas.List.{map_push, take-take, take_more, drop_more, length-take-le, length_push, drop_all, length-map, get_or-map, get_or-take, take_at, length-replicate}
+use Rattle.std.proofs.lemmas.List.Sums.{sum_by-cons}
 use Rattle.shapers_base.specs.declared.buffer.glyph.hb_glyph_info_t.{hb_glyph_info_t}
 use Rattle.shapers_base.specs.declared.buffer.level.BufferClusterLevel.{BufferClusterLevel}
 use Rattle.shapers_base.specs.Glyph.{default_glyph}
@@ -11,10 +11,10 @@ use Rattle.shapers_base.specs.declared.buffer.glyph.GlyphPosition.{GlyphPosition
 use Rattle.shapers_base.specs.Buffer.{Buffer, grown, more_positions}
 use Rattle.shapers_base.specs.Clusters.{merge_all}
 use Rattle.shapers_base.specs.Lists.{each_after}
-use Rattle.shapers_base.specs.ListLaws.{none_from_count, suffix_len_push}
+use Rattle.shapers_base.specs.ListLaws.{from_end, none_from_count, suffix_len_push}
 use Rattle.shapers_clusters.specs.Merging.{length-merge_all, merge_all-append, map-merge_all}
 use Rattle.shapers_clusters.specs.Appended.{merge_all-appended}
-use Rattle.shapers_text.specs.Thai.{characters, is_sara_am, is_above_base, glyphs_in_two, rewritten, stretch_of_sara_am, stretches_at, stretches_of_each, sara_am_stretches, joins_before}
+use Rattle.shapers_text.specs.Thai.{characters, is_sara_am, is_above_base, marks_before, glyphs_in_two, rewritten, stretch_of_sara_am, stretches_at, stretches_of_each, sara_am_stretches, joins_before}
 use Rattle.shapers_text.specs.ThaiRewriting.{in_two_plain, lengths}
 use Rattle.shapers_text.proofs.ThaiSaraAm.{apart}
 
@@ -67,20 +67,34 @@ stretches_within_after level m before (g ∷ gs) h =
 pub stretches_within : (level : BufferClusterLevel) (gs : List hb_glyph_info_t) → AllByRecursion (λ st. st.1 ≤ length gs) (sara_am_stretches level gs)
 stretches_within level gs = stretches_within_after level (length gs) [] gs (omega arith)
 
-one_more : (a b : ℕ) → a ≡ b → a + 1 ≡ 1 + b
-one_more a b h = omega arith
+-- as many marks end two texts of the same characters
+marks_by_characters : (gs : List hb_glyph_info_t) → suffix_len (λ g. is_above_base g.glyph_id) gs ≡ suffix_len is_above_base (characters gs)
+marks_by_characters gs =
+    from_end (λ xs. suffix_len (λ g. is_above_base g.glyph_id) xs ≡ suffix_len is_above_base (characters xs)) refl
+    (λ xs g same.
+    suffix_len_push (λ x. is_above_base x.glyph_id) xs g
+    ∙ ap (λ n. cond (is_above_base g.glyph_id) (1 + n) 0) same
+    ∙ sym (suffix_len_push is_above_base (characters xs) g.glyph_id)
+    ∙ sym (ap (suffix_len is_above_base) (map_push (λ x. x.glyph_id) xs g))) gs
 
--- the walk: the characters are those of the start, so many marks stand before this place, and the merges to come complete those done
-pub record Merging (level : BufferClusterLevel) (start now : List hb_glyph_info_t) (len i marks : ℕ) : Type 0 where
+same_marks : (start now : List hb_glyph_info_t) (len i : ℕ) → characters now ≡ characters start → i ≤ len → marks_before now i ≡ suffix_len (λ g. is_above_base g.glyph_id) (take i (take len start))
+same_marks start now len i same within =
+    marks_by_characters (take i now)
+    ∙ ap (suffix_len is_above_base) (sym (take-map (λ g. g.glyph_id) i now) ∙ ap (take i) same ∙ take-map (λ g. g.glyph_id) i start)
+    ∙ sym (marks_by_characters (take i start))
+    ∙ ap (suffix_len (λ g. is_above_base g.glyph_id)) (sym (take-take i len start within))
+
+-- the walk: the characters are those of the start, and the merges to come complete those done
+pub record Merging (level : BufferClusterLevel) (start now : List hb_glyph_info_t) (len i : ℕ) : Type 0 where
   pub same_characters : characters now ≡ characters start
-  pub marks_before : marks ≡ suffix_len (λ g. is_above_base g.glyph_id) (take i (take len start))
   pub rest : merge_all level (stretches_of_each level (each_after (take i (take len start)) (drop i (take len start)))) now ≡ merge_all level (sara_am_stretches level (take len start)) start
 
-pub merging_none : (level : BufferClusterLevel) (start : List hb_glyph_info_t) (len : ℕ) → Merging level start start len 0 0
-merging_none level start len = record { same_characters = refl; marks_before = refl; rest = refl }
+pub merging_none : (level : BufferClusterLevel) (start : List hb_glyph_info_t) (len : ℕ) → Merging level start start len 0
+merging_none level start len = record { same_characters = refl; rest = refl }
 
-pub merging_next : (level : BufferClusterLevel) (start now : List hb_glyph_info_t) (len i marks : ℕ) (g : hb_glyph_info_t) (after : List hb_glyph_info_t) (marks' : ℕ) → len ≤ length start → i < len → Merging level start now len i marks → g ≡ get_or now i g → after ≡ merge_all level (stretches_at level i g.glyph_id marks) now → marks' ≡ cond (is_above_base g.glyph_id) (marks + 1) 0 → Merging level start after len (i + 1) marks'
-merging_next level start now len i marks g after marks' within inside m at merged counted =
+pub merging_next : (level : BufferClusterLevel) (start now : List hb_glyph_info_t) (len i : ℕ) (g : hb_glyph_info_t) (after : List hb_glyph_info_t) → len ≤ length start → i < len → Merging level start now len i → g ≡ get_or now i g → after ≡ merge_all level (stretches_at level i g.glyph_id (marks_before now i)) now → Merging level start after len (i + 1)
+merging_next level start now len i g after within inside m at merged =
+    let marks = marks_before now i in
     let front = take len start in
     let t = get_or front i g in
     let long : length front ≡ len = length-take-le len start within in
@@ -104,16 +118,10 @@ merging_next level start now len i marks g after marks' within inside m at merge
     ap (λ xs. stretches_of_each level (each_after before xs)) (drop_more front i g inner)
     ∙ ap (λ n. stretches_at level n t.glyph_id w ++ stretches_of_each level (each_after (before ++ t ∷ []) behind)) place
     ∙ ap (λ u. stretches_at level i u w ++ stretches_of_each level (each_after (before ++ t ∷ []) behind)) (sym read)
-    ∙ ap (λ n. stretches_at level i g.glyph_id n ++ stretches_of_each level (each_after (before ++ t ∷ []) behind)) (sym m.marks_before)
+    ∙ ap (λ n. stretches_at level i g.glyph_id n ++ stretches_of_each level (each_after (before ++ t ∷ []) behind)) (sym (same_marks start now len i m.same_characters (omega arith)))
     ∙ ap (λ xs. stretches_at level i g.glyph_id marks ++ stretches_of_each level (each_after xs behind)) (sym more) in
     record {
       same_characters = ap characters merged ∙ characters-merge_all level (stretches_at level i g.glyph_id marks) now ∙ m.same_characters;
-      marks_before =
-          counted
-          ∙ ap (λ n. cond (is_above_base g.glyph_id) n 0) (one_more marks w m.marks_before)
-          ∙ ap (λ u. cond (is_above_base u) (1 + w) 0) read
-          ∙ sym (suffix_len_push (λ x. is_above_base x.glyph_id) before t)
-          ∙ ap (suffix_len (λ x. is_above_base x.glyph_id)) (sym more);
       rest =
           ap (merge_all level to_come) merged
           ∙ sym (merge_all-append level (stretches_at level i g.glyph_id marks) to_come now)
@@ -121,12 +129,8 @@ merging_next level start now len i marks g after marks' within inside m at merge
           ∙ m.rest;
     }
 
-pub merging_marks : (level : BufferClusterLevel) (start now : List hb_glyph_info_t) (len i marks : ℕ) → Merging level start now len i marks → marks ≤ i
-merging_marks level start now len i marks m =
-    omega (arith, m.marks_before, suffix_len-le-length (λ g. is_above_base g.glyph_id) (take i (take len start)), length-take i (take len start))
-
-pub merging_all : (level : BufferClusterLevel) (start now : List hb_glyph_info_t) (len i marks : ℕ) → len ≤ length start → len ≤ i → Merging level start now len i marks → now ≡ merge_all level (sara_am_stretches level (take len start)) start
-merging_all level start now len i marks within end m =
+pub merging_all : (level : BufferClusterLevel) (start now : List hb_glyph_info_t) (len i : ℕ) → len ≤ length start → len ≤ i → Merging level start now len i → now ≡ merge_all level (sara_am_stretches level (take len start)) start
+merging_all level start now len i within end m =
     let long : length (take len start) ≤ i = omega (arith, length-take-le len start within) in
     sym (ap (λ xs. merge_all level (stretches_of_each level (each_after (take i (take len start)) xs)) now) (drop_all i (take len start) long)) ∙ m.rest
 
@@ -144,10 +148,10 @@ pub same_fields : (start mid now : Buffer) (gs : List hb_glyph_info_t) → mid �
 same_fields start mid now gs kept changed =
     changed ∙ ap (λ (b : Buffer). with_glyphs b gs) kept ∙ ap (with_glyphs start) (sym (ap (λ (b : Buffer). b.glyphs) changed))
 
-pub merging_step : (start mid now : Buffer) (len i marks : ℕ) (g : hb_glyph_info_t) (marks' : ℕ) → len ≤ length start.glyphs → i < len → Merging start.level start.glyphs mid.glyphs len i marks → mid ≡ with_glyphs start mid.glyphs → g ≡ get_or mid.glyphs i g → now ≡ with_glyphs mid (merge_all mid.level (stretches_at mid.level i g.glyph_id marks) mid.glyphs) → marks' ≡ cond (is_above_base g.glyph_id) (marks + 1) 0 → Merging start.level start.glyphs now.glyphs len (i + 1) marks'
-merging_step start mid now len i marks g marks' within inside m kept at changed counted =
-    merging_next start.level start.glyphs mid.glyphs len i marks g now.glyphs marks' within inside m at
-    (ap (λ (b : Buffer). b.glyphs) changed ∙ ap (λ (b : Buffer). merge_all b.level (stretches_at b.level i g.glyph_id marks) mid.glyphs) kept) counted
+pub merging_step : (start mid now : Buffer) (len i : ℕ) (g : hb_glyph_info_t) → len ≤ length start.glyphs → i < len → Merging start.level start.glyphs mid.glyphs len i → mid ≡ with_glyphs start mid.glyphs → g ≡ get_or mid.glyphs i g → now ≡ with_glyphs mid (merge_all mid.level (stretches_at mid.level i g.glyph_id (marks_before mid.glyphs i)) mid.glyphs) → Merging start.level start.glyphs now.glyphs len (i + 1)
+merging_step start mid now len i g within inside m kept at changed =
+    merging_next start.level start.glyphs mid.glyphs len i g now.glyphs within inside m at
+    (ap (λ (b : Buffer). b.glyphs) changed ∙ ap (λ (b : Buffer). merge_all b.level (stretches_at b.level i g.glyph_id (marks_before mid.glyphs i)) mid.glyphs) kept)
 
 -- the text without SARA AM stays, and is as long
 pub unchanged : (level : BufferClusterLevel) (gs : List hb_glyph_info_t) → count_by (λ g. is_sara_am g.glyph_id) gs ≡ 0 → gs ≡ rewritten (merge_all level (sara_am_stretches level gs) gs)

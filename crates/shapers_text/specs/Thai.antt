@@ -1,5 +1,5 @@
 -- SARA AM of Thai and Lao in two.
-use Rattle.std.specs.Prelude.{slice_index, ℕ, nat_eq, not, codes, Option, None, Some, ◌-◌, ◌+◌, Bool, ◌||◌, ◌&&◌, ◌==◌, nat_le, nat_lt, bit_and, true, false, List, [], ◌∷◌, ◌++◌, length, reverse, map, flat_map, if◌then◌else◌}
+use Rattle.std.specs.Prelude.{slice_index, ℕ, nat_eq, not, codes, Option, None, Some, ◌-◌, ◌+◌, Bool, ◌||◌, ◌&&◌, ◌==◌, nat_le, nat_lt, bit_and, true, false, List, [], ◌∷◌, ◌++◌, length, take, reverse, map, flat_map, if◌then◌else◌}
 use Rattle.std.specs.List.{suffix_len, range_with_len}
 use Rattle.shapers_base.specs.declared.buffer.category.hb_unicode_general_category_t.TheVariants.{Mn}
 use Rattle.shapers_base.specs.declared.buffer.glyph.hb_glyph_info_t.{hb_glyph_info_t}
@@ -20,6 +20,10 @@ is_thai_above_base u = u == 0x0E31 || (nat_le 0x0E34 u && nat_le u 0x0E37) || u 
 -- an above-base mark: one of Thai, once bit 0x80 is cleared, which leads from Lao to Thai
 abbrev pub is_above_base : ℕ → Bool
 is_above_base u = is_thai_above_base (bit_and u 0xFFFFFF7F)
+
+-- how many above-base marks stand right before place i
+abbrev pub marks_before : List hb_glyph_info_t → ℕ → ℕ
+marks_before gs i = suffix_len (λ g. is_above_base g.glyph_id) (take i gs)
 
 -- what a text in two is made of: which are SARA AM and which are above-base marks, and the NIKHAHIT and SARA AA of a SARA AM
 pub record InTwo (X : Type 0) : Type 0 where

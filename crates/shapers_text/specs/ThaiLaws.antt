@@ -1,6 +1,6 @@
 -- What the rewriting makes of clusters and glyph flags.
 use Rattle.std.specs.Prelude.{ℕ, Bool, ◌+◌, ◌-◌, ◌<◌, ◌≡◌, true, false, List, map, length, take, slice_index}
-use Rattle.std.specs.List.{suffix_len, All, AllZip, Contains}
+use Rattle.std.specs.List.{All, AllZip, Contains}
 use Rattle.shapers_base.specs.declared.buffer.glyph.hb_glyph_info_t.{hb_glyph_info_t}
 use Rattle.shapers_base.specs.declared.buffer.level.BufferClusterLevel.{BufferClusterLevel}
 use Rattle.shapers_base.specs.Glyph.{clusters}
@@ -12,11 +12,7 @@ use Rattle.shapers_clusters.specs.Steps.{pick}
 use Rattle.shapers_clusters.specs.Falls.{FlagsFall}
 use Rattle.shapers_clusters.specs.Sources.{ExactCutsBy}
 use Rattle.shapers_text.specs.ThaiForms.{preprocessed}
-use Rattle.shapers_text.specs.Thai.{is_sara_am, is_above_base, characters, rewritten, sources, sara_am_stretches}
-
--- how many above-base marks stand right before place i
-abbrev pub marks_before : List hb_glyph_info_t → ℕ → ℕ
-marks_before gs i = suffix_len (λ g. is_above_base g.glyph_id) (take i gs)
+use Rattle.shapers_text.specs.Thai.{is_sara_am, marks_before, characters, rewritten, sources, sara_am_stretches}
 
 -- where the NIKHAHIT of a SARA AM at place i stands in the result: behind what the text before its marks becomes
 abbrev pub new_place : List hb_glyph_info_t → ℕ → ℕ

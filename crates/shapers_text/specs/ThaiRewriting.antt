@@ -1,5 +1,5 @@
 -- The rewriting, read from its end.
-use Rattle.std.proofs.Common.{◌≡◌, inl, inr, ◌-◌, ◌+◌, true, false, cond, List, [], ◌∷◌, ◌++◌, length, reverse, refl, sym, ap, ◌∙◌, arith, Option, None, Some}
+use Rattle.std.proofs.Common.{◌≡◌, inl, inr, ◌-◌, ◌+◌, ◌≤◌, ℕ, true, false, cond, List, [], ◌∷◌, ◌++◌, length, take, drop, reverse, refl, sym, ap, ◌∙◌, arith, Option, None, Some}
 use Rattle.std.specs.List.{list_any, flat_map, count_by, suffix_len}
 use Rattle.std.proofs.lemmas.List.{append_assoc, append-nil, reverse-append, reverse-reverse, length_push}
 use Rattle.std.proofs.lemmas.List.Concat.{flat_map-append}
@@ -114,6 +114,21 @@ no_am two apart x h =
 abbrev pub becomes : List hb_glyph_info_t → Option hb_glyph_info_t → List hb_glyph_info_t
 becomes text None = in_two glyphs_in_two text
 becomes text (Some nikhahit) = held glyphs_in_two text nikhahit
+
+-- The text before `end`, and a NIKHAHIT that may be pending, is still to be written: just so many places are left, and reading is ahead.
+pub record IsUnwritten (glyphs : List hb_glyph_info_t) (end : ℕ) (pending : Option hb_glyph_info_t) (place : ℕ) : Type 0 where
+  pub room : length (becomes (take end glyphs) pending) ≡ place
+  pub ahead : end ≤ place
+  pub within : place ≤ length glyphs
+
+-- what it becomes, and what stands behind it
+abbrev pub whole_of : List hb_glyph_info_t → ℕ → Option hb_glyph_info_t → ℕ → List hb_glyph_info_t
+whole_of glyphs end pending place = becomes (take end glyphs) pending ++ drop place glyphs
+
+-- in the middle of writing the whole
+pub record Written (whole glyphs : List hb_glyph_info_t) (end : ℕ) (pending : Option hb_glyph_info_t) (place : ℕ) : Type 0 where
+  pub left : IsUnwritten glyphs end pending place
+  pub joined : whole_of glyphs end pending place ≡ whole
 
 -- the lengths: one more glyph for each SARA AM
 pub record Lengths {X : Type 0} (two : InTwo X) (xs : List X) : Type 0 where

@@ -1,10 +1,10 @@
 //! SARA AM in two: NIKHAHIT, which goes before the above-base marks, and SARA AA.
-ghost use Rattle.std.specs.Prelude.{◌≡◌, ℕ, ◌+◌, ◌^◌, ◌<◌, ◌≤◌, [], ◌∷◌, ◌++◌, true, false, length, take, count_by, is_some, IsOk, OnOk, OnErr};
+ghost use Rattle.std.specs.Prelude.{◌≡◌, ℕ, ◌+◌, ◌^◌, ◌<◌, ◌≤◌, [], true, false, length, take, count_by, None, Some, IsOk, OnOk, OnErr};
 ghost use Rattle.std.specs.List.{list_any};
 ghost use Rattle.shapers_base.specs.Clusters.{merge_all};
 ghost use Rattle.shapers_base.specs.Refusals.{RefusesLength};
-ghost use Rattle.shapers_text.specs.Thai.{is_sara_am, is_above_base, nikhahit, sara_aa, rewritten, stretches_at, sara_am_stretches};
-ghost use Rattle.shapers_text.specs.ThaiRewriting.{becomes};
+ghost use Rattle.shapers_text.specs.Thai.{is_sara_am, is_above_base, nikhahit, sara_aa, rewritten, marks_before, stretches_at, sara_am_stretches};
+ghost use Rattle.shapers_text.specs.ThaiRewriting.{Written, IsUnwritten, whole_of};
 
 use shapers_base::buffer::{
     BufferClusterLevel, ShaperError, hb_buffer_t, hb_glyph_info_t, hb_unicode_general_category_t,
@@ -61,16 +61,31 @@ fn count_sara_am(buffer: &hb_buffer_t) -> usize
     count
 }
 
-// Merges what a character at `place` merges, with `marks` above-base marks before it.
-fn merge_at(buffer: &mut hb_buffer_t, place: usize, u: u32, marks: usize)
+// How many above-base marks stand right before `place`.
+fn count_marks_before(buffer: &hb_buffer_t, place: usize) -> usize
+    requires { place ≤ length buffer.now.glyphs }
+    ensures count { result ≡ marks_before buffer.now.glyphs place }
+    ensures few { result ≤ place }
+{
+    for i in (0..place).rev() {
+        if !is_above_base_mark(buffer.get(i).glyph_id) {
+            return place - 1 - i;
+        }
+    }
+    place
+}
+
+// Merges what a character at `place` merges: a SARA AM with its marks or, without any, with the glyph
+// before it.
+fn merge_at(buffer: &mut hb_buffer_t, place: usize, u: u32)
     requires in_range { place < length buffer.old.glyphs }
     requires fits { place + 1 < 2 ^ 64 }
-    requires before { marks ≤ place }
-    ensures { buffer.new ≡ record buffer.old { glyphs = merge_all buffer.old.level (stretches_at buffer.old.level place u marks) buffer.old.glyphs } }
+    ensures { buffer.new ≡ record buffer.old { glyphs = merge_all buffer.old.level (stretches_at buffer.old.level place u (marks_before buffer.old.glyphs place)) buffer.old.glyphs } }
 {
     if !is_sara_am(u) {
         return;
     }
+    let marks = count_marks_before(buffer, place);
     if marks > 0 {
         buffer.merge_clusters(place - marks, place + 1);
         return;
@@ -90,42 +105,54 @@ fn merge_all_sara_am(buffer: &mut hb_buffer_t, len: usize)
     requires { len ≤ length buffer.old.glyphs }
     ensures { buffer.new ≡ record buffer.old { glyphs = merge_all buffer.old.level (sara_am_stretches buffer.old.level (take len buffer.old.glyphs)) buffer.old.glyphs } }
 {
-    let mut marks = 0;
     for i in 0..len {
         let u = buffer.get(i).glyph_id;
-        merge_at(buffer, i, u, marks);
-        marks = if is_above_base_mark(u) { marks + 1 } else { 0 };
+        merge_at(buffer, i, u);
     }
 }
 
-// What is still to be written: the text before `end`, and a NIKHAHIT that goes before its last marks.
+// What is still to be written: what the text before `end` becomes, over the places before `place`.
 #[derive(Drop)]
 struct Unwritten {
     end: usize,
-    nikhahit: Option<hb_glyph_info_t>,
+    place: usize,
 }
 
 impl Unwritten {
-    // Takes the last glyph of what this text becomes.
-    fn take_last(&mut self, buffer: &hb_buffer_t) -> hb_glyph_info_t
-        requires in_range { self.old.end ≤ length buffer.now.glyphs }
-        requires some { self.old.end ≡ 0 → is_some self.old.nikhahit ≡ true }
-        ensures last { becomes (take self.old.end buffer.now.glyphs) self.old.nikhahit ≡ becomes (take self.new.end buffer.now.glyphs) self.new.nikhahit ++ result ∷ [] }
+    // Writes what the last glyph becomes; if it is a SARA AM, with its marks.
+    fn write_last(&mut self, buffer: &mut hb_buffer_t)
+        requires some { 0 < self.old.end }
+        requires unwritten { IsUnwritten buffer.old.glyphs self.old.end None self.old.place }
+        ensures fields { buffer.new ≡ record buffer.old { glyphs = buffer.new.glyphs } }
+        ensures written { Written (whole_of buffer.old.glyphs self.old.end None self.old.place) buffer.new.glyphs self.new.end None self.new.place }
+        ensures shorter { self.new.end < self.old.end }
+    {
+        self.end -= 1;
+        self.place -= 1;
+        let glyph = buffer.get(self.end);
+        if is_sara_am(glyph.glyph_id) {
+            buffer.set(self.place, sara_aa_from_sara_am(glyph));
+            self.write_nikhahit(buffer, nikhahit_from_sara_am(glyph));
+        } else {
+            buffer.set(self.place, glyph);
+        }
+    }
+
+    // Writes the marks that end the text, and a NIKHAHIT before them.
+    fn write_nikhahit(&mut self, buffer: &mut hb_buffer_t, nikhahit: hb_glyph_info_t)
+        requires { IsUnwritten buffer.old.glyphs self.old.end (Some nikhahit) self.old.place }
+        ensures fields { buffer.new ≡ record buffer.old { glyphs = buffer.new.glyphs } }
+        ensures written { Written (whole_of buffer.old.glyphs self.old.end (Some nikhahit) self.old.place) buffer.new.glyphs self.new.end None self.new.place }
         ensures shorter { self.new.end ≤ self.old.end }
     {
-        if let Some(nikhahit) = self.nikhahit {
-            if self.end == 0 || !is_above_base_mark(buffer.get(self.end - 1).glyph_id) {
-                self.nikhahit = None;
-                return nikhahit;
-            }
+        let marks = count_marks_before(buffer, self.end);
+        for _ in 0..marks {
+            self.end -= 1;
+            self.place -= 1;
+            buffer.set(self.place, buffer.get(self.end));
         }
-        self.end -= 1;
-        let glyph = buffer.get(self.end);
-        if !is_sara_am(glyph.glyph_id) {
-            return glyph;
-        }
-        self.nikhahit = Some(nikhahit_from_sara_am(glyph));
-        sara_aa_from_sara_am(glyph)
+        self.place -= 1;
+        buffer.set(self.place, nikhahit);
     }
 }
 
@@ -137,13 +164,10 @@ fn write_in_two(buffer: &mut hb_buffer_t, len: usize)
 {
     let mut unwritten = Unwritten {
         end: len,
-        nikhahit: None,
+        place: buffer.len(),
     };
-    let mut place = buffer.len();
-    while unwritten.end < place {
-        let glyph = unwritten.take_last(buffer);
-        place -= 1;
-        buffer.set(place, glyph);
+    while unwritten.end < unwritten.place {
+        unwritten.write_last(buffer);
     }
 }
 
