@@ -100,6 +100,13 @@ impl hb_buffer_t {
         self.info.is_empty()
     }
 
+    /// The glyphs, from the first to the last.
+    pub fn glyphs(&self) -> &[hb_glyph_info_t]
+        ensures { result.now ≡ self.now.glyphs }
+    {
+        self.info.as_slice()
+    }
+
     /// The glyph at place `i`.
     pub fn get(&self, i: usize) -> hb_glyph_info_t
         requires { i < length self.now.glyphs }

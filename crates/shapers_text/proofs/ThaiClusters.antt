@@ -52,6 +52,7 @@ in_two_holds level gs =
     let sts = sara_am_stretches level gs in
     let h = copies_hold level sts (sources (characters gs)) gs (rewritten (merge_all level sts gs)) (stretches_within level gs) (copies level gs) in
     record {
+      copies = copies level gs;
       in_clusters = record {
         clusters_are = h.clusters_are;
         old_clusters = h.old_clusters;

@@ -11,6 +11,7 @@ use Rattle.shapers_clusters.specs.Cuts.{IsMonotone}
 use Rattle.shapers_clusters.specs.Steps.{pick}
 use Rattle.shapers_clusters.specs.Falls.{FlagsFall}
 use Rattle.shapers_clusters.specs.Sources.{ExactCutsBy}
+use Rattle.shapers_clusters.specs.Copies.{Copies}
 use Rattle.shapers_text.specs.ThaiForms.{preprocessed}
 use Rattle.shapers_text.specs.Thai.{is_sara_am, marks_before, characters, rewritten, sources, sara_am_stretches}
 
@@ -28,8 +29,10 @@ pub record ClustersInTwo (level : BufferClusterLevel) (gs : List hb_glyph_info_t
   pub cluster_law : merges level ≡ true → (i : ℕ) → i < length gs → is_sara_am (slice_index (characters gs) i) ≡ true → ShareCluster cs (new_place gs i) (new_place gs i + marks_before gs i)
   pub exact : merges level ≡ true → IsMonotone (clusters gs) → ExactCutsBy (clusters gs) (sara_am_stretches level gs) (sources (characters gs)) cs
 
--- What it gives: rs. Besides, no cluster rises, and glyph flags stay unless it fell.
+-- What it gives: rs. Each glyph has the cluster and the glyph flags of its source after the merges; so no cluster rises, and
+-- glyph flags stay unless it fell.
 pub record InTwoHolds (level : BufferClusterLevel) (gs rs : List hb_glyph_info_t) : Type 0 where
+  pub copies : AllZip (Copies (merge_all level (sara_am_stretches level gs) gs)) (sources (characters gs)) rs
   pub in_clusters : ClustersInTwo level gs (clusters rs)
   pub falls : AllZip FlagsFall (pick (sources (characters gs)) gs) rs
 

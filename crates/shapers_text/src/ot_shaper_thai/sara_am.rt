@@ -52,13 +52,11 @@ fn sara_aa_from_sara_am(am: hb_glyph_info_t) -> hb_glyph_info_t
 fn count_sara_am(buffer: &hb_buffer_t) -> usize
     ensures { result ≡ count_by (λ g. is_sara_am g.glyph_id) buffer.now.glyphs }
 {
-    let mut count = 0;
-    for i in 0..buffer.len() {
-        if is_sara_am(buffer.get(i).glyph_id) {
-            count += 1;
-        }
-    }
-    count
+    buffer
+        .glyphs()
+        .iter()
+        .filter(|glyph| is_sara_am(glyph.glyph_id))
+        .count()
 }
 
 // How many above-base marks stand right before `place`.
@@ -67,12 +65,11 @@ fn count_marks_before(buffer: &hb_buffer_t, place: usize) -> usize
     ensures count { result ≡ marks_before buffer.now.glyphs place }
     ensures few { result ≤ place }
 {
-    for i in (0..place).rev() {
-        if !is_above_base_mark(buffer.get(i).glyph_id) {
-            return place - 1 - i;
-        }
-    }
-    place
+    buffer.glyphs()[..place]
+        .iter()
+        .rev()
+        .take_while(|glyph| is_above_base_mark(glyph.glyph_id))
+        .count()
 }
 
 // Merges what a character at `place` merges: a SARA AM with its marks or, without any, with the glyph
