@@ -9,6 +9,8 @@ pub mod GlyphFlags
 pub mod ListLaws
 pub mod Lists
 pub mod Map
+pub mod MappedLists
+pub mod PieceLaws
 pub mod Planner
 pub mod Refusals
 pub mod Syllabic

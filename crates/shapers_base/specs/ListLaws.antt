@@ -10,9 +10,6 @@ use Rattle.std.proofs.lemmas.Grind.{reverse_onto}
 use Rattle.shapers_base.specs.Lists.{cut_after, last_run, before_last_run}
 
 -- the longest end, where one more element stands at the end
-pub suffix_len_push : {X : Type 0} (test : X → Bool) (xs : List X) (x : X) → suffix_len test (xs ++ x ∷ []) ≡ cond (test x) (1 + suffix_len test xs) 0
-suffix_len_push test xs x = ap (prefix_len test) (reverse-append xs (x ∷ []))
-
 pub suffix_len_yes : {X : Type 0} (test : X → Bool) (xs : List X) (x : X) → test x ≡ true → suffix_len test (xs ++ x ∷ []) ≡ 1 + suffix_len test xs
 suffix_len_yes test xs x h = rw (reverse-append xs (x ∷ []), h)
 

@@ -1,11 +1,12 @@
 -- The merge rule over clusters alone.
-use Rattle.std.proofs.Common.{ℕ, zero, suc, ◌-◌, ◌<◌, ◌≤◌, ◌≡◌, ◌≢◌, ◌==◌, min, Bool, true, false, if◌then◌else◌, nat_lt, not, ◌&&◌, inl, inr, List, [], ◌∷◌, ◌++◌, map, length, get_or, reverse, take, drop, fold, refl, sym, ◌∙◌, ap, subst, arith}
-use Rattle.std.proofs.lemmas.List.{map-append, reverse-append, map_push, take-map, drop-map}
+use Rattle.std.proofs.Common.{ℕ, zero, suc, ◌-◌, ◌<◌, ◌≤◌, ◌≡◌, ◌≢◌, ◌==◌, min, Bool, true, false, if◌then◌else◌, nat_lt, not, ◌&&◌, inl, inr, List, [], ◌∷◌, ◌++◌, map, length, get_or, reverse, take, drop, fold, refl, sym, subst, arith}
+use Rattle.std.proofs.lemmas.List.{map-append, take-map, drop-map}
 use Rattle.std.proofs.lemmas.Bool.{cases_lt, cases_eq}
 use Rattle.std.proofs.lemmas.Bool.Decides.{nat_tests}
 use Rattle.shapers_base.specs.declared.buffer.glyph.hb_glyph_info_t.{hb_glyph_info_t}
 use Rattle.shapers_base.specs.declared.buffer.level.BufferClusterLevel.{BufferClusterLevel}
 use Rattle.shapers_base.specs.Glyph.{clusters}
+use Rattle.shapers_base.specs.MappedLists.{map-reverse}
 use Rattle.shapers_base.specs.Clusters.{least, first_cluster, in_cluster, flooded, merged, merge, merges, stretch_of}
 
 -- the first of a list of numbers, 0 where there is none
@@ -54,10 +55,6 @@ least-le (c ∷ cs) (suc k) h = fold_min-le c cs k (omega arith)
 pub least-among : (cs : List ℕ) → 0 < length cs → (k : ℕ) × (k < length cs) × (get_or cs k 0 ≡ least cs)
 least-among [] h = absurd (omega arith)
 least-among (c ∷ cs) h = fold_min-among c cs
-
-pub map-reverse : {X Y : Type 0} (f : X → Y) (xs : List X) → map f (reverse xs) ≡ reverse (map f xs)
-map-reverse f [] = refl
-map-reverse f (x ∷ xs) = ap (map f) (reverse-append (x ∷ []) xs) ∙ map_push f (reverse xs) x ∙ ap (λ l. l ++ f x ∷ []) (map-reverse f xs) ∙ sym (reverse-append (f x ∷ []) (map f xs))
 
 pub opening-at : (cs : List ℕ) → opening cs ≡ get_or cs 0 0
 opening-at [] = refl

@@ -13,7 +13,7 @@ use Rattle.shapers_clusters.specs.Steps.{pick, Step, run_steps, joined_steps, ol
 use Rattle.shapers_clusters.specs.Widened.{steps_along, reordered_along}
 use Rattle.shapers_clusters.specs.Halves.{ShareNone}
 use Rattle.shapers_clusters.specs.Falls.{FallsTo, FlagsFall}
-use Rattle.shapers_clusters.specs.Copies.{Copies, SharesIn}
+use Rattle.shapers_clusters.specs.Made.{ShowsClusters}
 use Rattle.shapers_clusters.specs.Labels.{IsLabelled, OneLabel, OneLabelEach}
 use Rattle.shapers_clusters.specs.Sources.{ExactCutsBy, HeldAlong, MovesInsideOf}
 
@@ -101,33 +101,26 @@ pub record AlongHolds (level : BufferClusterLevel) (pieces : List (ℕ × List S
 abbrev pub AlongLaw : Type 0
 AlongLaw = (level : BufferClusterLevel) (pieces : List (ℕ × List Step)) (gs : List hb_glyph_info_t) → sum_by (λ piece. piece.0) pieces ≤ length gs → AllByRecursion (λ piece. FitSteps piece.0 piece.1) pieces → AlongHolds level pieces gs
 
--- Made and dropped glyphs: ms has, place by place, what listed old places, the sources, have after the merges. No cluster rises,
--- glyph flags stay unless it fell, every cluster is one that was there. Where the level merges nothing, nothing changes. At the levels that
--- merge, places whose sources the merged stretches hold together share one cluster; exact cuts seen through the sources.
-pub record SourcesHold (level : BufferClusterLevel) (sts : List (ℕ × ℕ)) (sources : List ℕ) (gs ms : List hb_glyph_info_t) : Type 0 where
-  pub as_many : length ms ≡ length sources
-  pub falls : AllZip FallsTo (pick sources gs) ms
-  pub clusters_are : clusters ms ≡ pick sources (joined_all level sts (clusters gs))
-  pub old_clusters : All (Contains (clusters gs)) (clusters ms)
-  pub unmerged : merges level ≡ false → ms ≡ pick sources gs
-  pub share : merges level ≡ true → (i j : ℕ) → i < length sources → j < length sources → HeldAlong sts sources i j → ShareCluster (clusters ms) i j
-  pub exact : merges level ≡ true → IsMonotone (clusters gs) → ExactCutsBy (clusters gs) sts sources (clusters ms)
+-- The clusters js of made glyphs, from the old clusters cs: each is that of its source after the merges. So every cluster is one
+-- that was there, and where the level merges nothing each glyph has its source's own. At the levels that merge, places whose
+-- sources the merged stretches hold together share one cluster; exact cuts seen through the sources.
+pub record ClustersMade (level : BufferClusterLevel) (sts : List (ℕ × ℕ)) (sources cs js : List ℕ) : Type 0 where
+  pub clusters_are : js ≡ pick sources (joined_all level sts cs)
+  pub old_clusters : All (Contains cs) js
+  pub unmerged : merges level ≡ false → js ≡ pick sources cs
+  pub share : merges level ≡ true → (i j : ℕ) → i < length sources → j < length sources → HeldAlong sts sources i j → ShareCluster js i j
+  pub exact : merges level ≡ true → IsMonotone cs → ExactCutsBy cs sts sources js
 
-abbrev pub SourcesLaw : Type 0
-SourcesLaw = (level : BufferClusterLevel) (sts : List (ℕ × ℕ)) (sources : List ℕ) (gs : List hb_glyph_info_t) → EndWithin (length gs) sts → AllByRecursion (λ p. p < length gs) sources → SourcesHold level sts sources gs (pick sources (merge_all level sts gs))
-
--- Made glyphs that change in more than cluster and flags: rs has, place by place, the cluster and the glyph flags that its
--- source has after the merges. Neighbours in the result whose sources stand in one merged stretch share one cluster.
-pub record CopiesHold (level : BufferClusterLevel) (sts : List (ℕ × ℕ)) (sources : List ℕ) (gs rs : List hb_glyph_info_t) : Type 0 where
+-- Made and dropped glyphs rs: to a view that shows clusters and glyph flags, each is what stands after the merges at a listed old
+-- place, its source, whatever else the hook changes. No cluster rises, and glyph flags stay unless it fell.
+pub record MadeHold (view : hb_glyph_info_t → hb_glyph_info_t) (level : BufferClusterLevel) (sts : List (ℕ × ℕ)) (sources : List ℕ) (gs rs : List hb_glyph_info_t) : Type 0 where
+  pub as_many : length rs ≡ length sources
+  pub clusters_made : ClustersMade level sts sources (clusters gs) (clusters rs)
   pub falls : AllZip FlagsFall (pick sources gs) rs
-  pub clusters_are : clusters rs ≡ pick sources (joined_all level sts (clusters gs))
-  pub old_clusters : All (Contains (clusters gs)) (clusters rs)
-  pub unmerged : merges level ≡ false → clusters rs ≡ pick sources (clusters gs)
-  pub share : merges level ≡ true → SharesIn sts sources (clusters rs)
-  pub exact : merges level ≡ true → IsMonotone (clusters gs) → ExactCutsBy (clusters gs) sts sources (clusters rs)
+  pub unmerged : merges level ≡ false → map view rs ≡ map view (pick sources gs)
 
-abbrev pub CopiesLaw : Type 0
-CopiesLaw = (level : BufferClusterLevel) (sts : List (ℕ × ℕ)) (sources : List ℕ) (gs rs : List hb_glyph_info_t) → EndWithin (length gs) sts → AllZip (Copies (merge_all level sts gs)) sources rs → CopiesHold level sts sources gs rs
+abbrev pub MadeLaw : Type 0
+MadeLaw = (view : hb_glyph_info_t → hb_glyph_info_t) → ShowsClusters view → (level : BufferClusterLevel) (sts : List (ℕ × ℕ)) (sources : List ℕ) (gs rs : List hb_glyph_info_t) → EndWithin (length gs) sts → AllByRecursion (λ p. p < length gs) sources → map view rs ≡ map view (pick sources (merge_all level sts gs)) → MadeHold view level sts sources gs rs
 
 -- Made glyphs that move: where each stands at first in its source's place, and moves go only inside what merged, the clusters
 -- stay as they stood, and all places between a glyph's new place and the one where it stood share one cluster.

@@ -1,5 +1,4 @@
 pub mod Appended
-pub mod Copies
 pub mod Cuts
 pub mod Falls
 pub mod FlagCalls
@@ -7,6 +6,7 @@ pub mod Halves
 pub mod Joined
 pub mod Labels
 pub mod Laws
+pub mod Made
 pub mod Merging
 pub mod Moves
 pub mod Neighbours

@@ -1,5 +1,5 @@
 -- What steps do: to the order view, to each glyph's cluster and flags, and to the list of clusters.
-use Rattle.std.proofs.Common.{ℕ, ◌-◌, ◌<◌, ◌≤◌, ◌≡◌, inl, inr, ◌||◌, Bool, true, false, min, max, List, [], ◌∷◌, ◌++◌, length, get_or, refl, sym, ◌∙◌, ap, subst, arith, append_assoc, if◌then◌else◌, ◌&&◌, not, nat_lt}
+use Rattle.std.proofs.Common.{ℕ, ◌-◌, ◌<◌, ◌≤◌, ◌≡◌, inl, inr, ◌||◌, Bool, true, false, min, max, List, [], ◌∷◌, length, get_or, refl, sym, ◌∙◌, ap, subst, arith, append_assoc, if◌then◌else◌, ◌&&◌, not, nat_lt, cond, ◌++◌, map, reverse, take, drop}
 use Rattle.std.specs.List.{All, AllByRecursion, AllZip, fold, range_with_len}
 use Rattle.std.proofs.lemmas.List.{length-map, ext_get_or}
 use Rattle.std.proofs.lemmas.List.Elements.{All-from_get_or, length_all_zip}
@@ -10,8 +10,8 @@ use Rattle.std.proofs.lemmas.Bool.Decides.{nat_tests}
 use Rattle.shapers_base.specs.declared.buffer.glyph.hb_glyph_info_t.{hb_glyph_info_t}
 use Rattle.shapers_base.specs.declared.buffer.level.BufferClusterLevel.{BufferClusterLevel}
 use Rattle.shapers_base.specs.Glyph.{clusters, order_view, plain}
-use Rattle.shapers_base.specs.Clusters.{merge, merged, merge_all, merges}
-use Rattle.shapers_clusters.specs.Joined.{joined, joined_all, clusters-merge}
+use Rattle.shapers_base.specs.Clusters.{merge, merged, merge_all, merges, stretch_of, least}
+use Rattle.shapers_clusters.specs.Joined.{joined, joined_all, opening, flood, clusters-merge}
 use Rattle.shapers_clusters.specs.Merging.{order_view-merge_all, length-merge_all}
 use Rattle.shapers_clusters.specs.Neighbours.{EndWithin, held, ShareCluster, length-joined_all, joined_all-linked, joined_all-reached, share_all}
 use Rattle.shapers_clusters.specs.Steps.{pick, Step, run_step, run_steps, joined_step, joined_steps, moved_on, old_places, FitsStep, FitSteps, HeldBetween, MovesMerged, all_first}
@@ -97,6 +97,15 @@ merge-unmerged level m s e gs = ap (λ b. if b && not (nat_lt (e - s) 2) then me
 pub merge_all-unmerged : (level : BufferClusterLevel) → merges level ≡ false → (sts : List (ℕ × ℕ)) (gs : List hb_glyph_info_t) → merge_all level sts gs ≡ gs
 merge_all-unmerged level m [] gs = refl
 merge_all-unmerged level m (st ∷ sts) gs = ap (merge_all level sts) (merge-unmerged level m st.0 st.1 gs) ∙ merge_all-unmerged level m sts gs
+
+joined-unmerged : (level : BufferClusterLevel) → merges level ≡ false → (s e : ℕ) (cs : List ℕ) → joined level s e cs ≡ cs
+joined-unmerged level m s e cs =
+    let middle = stretch_of s e cs in
+    ap (λ b. cond (b && not (nat_lt (e - s) 2)) (reverse (flood (opening middle) (least middle) (reverse (take s cs))) ++ (map (λ _. least middle) middle ++ flood (opening (reverse middle)) (least middle) (drop e cs))) cs) m
+
+pub joined_all-unmerged : (level : BufferClusterLevel) → merges level ≡ false → (sts : List (ℕ × ℕ)) (cs : List ℕ) → joined_all level sts cs ≡ cs
+joined_all-unmerged level m [] cs = refl
+joined_all-unmerged level m (st ∷ sts) cs = ap (joined_all level sts) (joined-unmerged level m st.0 st.1 cs) ∙ joined_all-unmerged level m sts cs
 
 pub run_steps-unmerged : (level : BufferClusterLevel) → merges level ≡ false → (steps : List Step) (gs : List hb_glyph_info_t) → run_steps level steps gs ≡ pick (old_places (length gs) steps) gs
 run_steps-unmerged level m steps gs = followed_all (λ xs gs. gs ≡ xs) (λ gs step. run_step level step gs) (λ _. Unit {0})

@@ -115,14 +115,3 @@ pick-cons_zip R p ps xs ys h i = cons_zip R (slice_get xs p) (slice_get ys p) (p
 pub AllZip-pick : {X Y : Type 0} (R : X → Y → Type 0) (ps : List ℕ) (xs : List X) (ys : List Y) → AllZip R xs ys → AllZip R (pick ps xs) (pick ps ys)
 AllZip-pick R [] xs ys h = tt
 AllZip-pick R (p ∷ ps) xs ys h = pick-cons_zip R p ps xs ys h (AllZip-pick R ps xs ys h)
-
-AllZip-push_both : {X Y : Type 0} (R : X → Y → Type 0) (ws : List X) (xs : List Y) (w : X) (x : Y) → AllZip R ws xs → R w x → AllZip R (ws ++ w ∷ []) (xs ++ x ∷ [])
-AllZip-push_both R [] [] w x all last = (last, tt)
-AllZip-push_both R [] (y ∷ ys) w x all last = absurd all
-AllZip-push_both R (v ∷ vs) [] w x all last = absurd all
-AllZip-push_both R (v ∷ vs) (y ∷ ys) w x all last = (all.0, AllZip-push_both R vs ys w x all.1 last)
-
--- two lists, each by its last element
-pub AllZip-pushed : {X Y : Type 0} (R : X → Y → Type 0) (zs ws : List X) (w : X) (ys xs : List Y) (x : Y) → zs ≡ ws ++ w ∷ [] → ys ≡ xs ++ x ∷ [] → AllZip R ws xs → R w x → AllZip R zs ys
-AllZip-pushed R zs ws w ys xs x is_zs is_ys all last =
-    subst (λ vs. AllZip R vs ys) (sym is_zs) (subst (λ vs. AllZip R (ws ++ w ∷ []) vs) (sym is_ys) (AllZip-push_both R ws xs w x all last))

@@ -1,26 +1,28 @@
 -- The laws, proved; other crates cite these with arguments.
-use Rattle.std.proofs.Common.{ℕ, ◌+◌, ◌<◌, ◌≤◌, ◌≡◌, inl, inr, List, [], ◌∷◌, ◌++◌, length, get_or, slice_index, refl, sym, ◌∙◌, ap, subst, arith, length-append}
+use Rattle.std.proofs.Common.{ℕ, ◌+◌, ◌-◌, map, true, ◌<◌, ◌≤◌, ◌≡◌, inl, inr, List, [], ◌∷◌, ◌++◌, length, get_or, slice_index, refl, sym, ◌∙◌, ap, subst, arith, length-append}
 use Rattle.std.specs.List.{All, AllByRecursion, Contains}
+use Rattle.std.proofs.lemmas.Bool.{cases_lt}
 use Rattle.std.proofs.lemmas.List.{length-map}
 use Rattle.std.proofs.lemmas.List.Elements.{All-contains_itself}
 use Rattle.shapers_base.specs.declared.buffer.glyph.hb_glyph_info_t.{hb_glyph_info_t}
+use Rattle.shapers_base.specs.declared.buffer.level.BufferClusterLevel.{BufferClusterLevel}
 use Rattle.shapers_base.specs.Glyph.{clusters}
-use Rattle.shapers_base.specs.Clusters.{merge, merge_all}
+use Rattle.shapers_base.specs.Clusters.{merge, merge_all, merges}
 use Rattle.shapers_clusters.specs.Joined.{joined, joined_all, clusters-merge}
 use Rattle.shapers_clusters.specs.Merging.{length-merge, length-merge_all, order_view-merge}
-use Rattle.shapers_clusters.specs.Neighbours.{EndWithin, ShareCluster, joined-shares, joined_all-share, length-joined_all}
+use Rattle.shapers_clusters.specs.Neighbours.{EndWithin, ShareCluster, share_all, joined-shares, joined_all-share, length-joined_all}
 use Rattle.shapers_clusters.specs.Cuts.{IsMonotone, ExactCuts, exact_cuts, one_exact, stays_rising, stays_falling}
 use Rattle.shapers_clusters.specs.Steps.{pick, FitsStep, MovesMerged, all_first}
-use Rattle.shapers_clusters.specs.Picks.{length-pick, pick-map, within_at}
+use Rattle.shapers_clusters.specs.Picks.{length-pick, within_at}
 use Rattle.shapers_clusters.specs.Falls.{merge-falls, all_flags_on, all_flags_fall}
-use Rattle.shapers_clusters.specs.Copies.{copied, held_in_stretch}
-use Rattle.shapers_clusters.specs.Moves.{clusters-merge_all, clusters-run_steps, order_view-run_steps, falls-run_steps, joined-merged_steps, share-moved, merge-unmerged, merge_all-unmerged, run_steps-unmerged, end_within-all_first, all-joined, all-picked, all-joined_steps}
+use Rattle.shapers_clusters.specs.Made.{ShowsClusters, Made, AreMade, are_made, same_clusters, held_in_stretch}
+use Rattle.shapers_clusters.specs.Moves.{clusters-merge_all, clusters-run_steps, order_view-run_steps, falls-run_steps, joined-merged_steps, share-moved, merge-unmerged, merge_all-unmerged, joined_all-unmerged, run_steps-unmerged, end_within-all_first, all-joined, all-picked, all-joined_steps}
 use Rattle.shapers_clusters.specs.Labels.{IsLabelled, joined-labelled, joined_steps-labelled}
-use Rattle.shapers_clusters.specs.Sources.{ExactCutsBy, exact_cuts_by, sources_share, clusters-moved_sources, clusters-picked, falls-picked}
+use Rattle.shapers_clusters.specs.Sources.{exact_cuts_by, sources_share, clusters-moved_sources, clusters-picked, falls-picked}
 use Rattle.shapers_clusters.specs.Widened.{fits-widened, moves-widened, all_fit-widened, all_moves-widened, order_view-widened, all_along, order_view-along}
 use Rattle.shapers_clusters.specs.Halves.{halves_along}
 use Rattle.shapers_clusters.specs.FlagCalls.{order_view-unsafe_inside, order_view-unsafe_to_concat_in, order_view-tatweel_inside}
-use Rattle.shapers_clusters.specs.Laws.{ViewLaw, HalvesLaw, MergeLaw, ExactCutsLaw, StepsLaw, ClustersLaw, MergedStepsLaw, WidenedLaw, AlongLaw, SourcesLaw, CopiesLaw, MovedSourcesLaw}
+use Rattle.shapers_clusters.specs.Laws.{ViewLaw, HalvesLaw, MergeLaw, ExactCutsLaw, StepsLaw, ClustersLaw, MergedStepsLaw, WidenedLaw, AlongLaw, ClustersMade, MadeHold, MadeLaw, MovedSourcesLaw}
 
 -- stretches end within the clusters if they do within the glyphs
 ends : (sts : List (ℕ × ℕ)) (gs : List hb_glyph_info_t) → EndWithin (length gs) sts → EndWithin (length (clusters gs)) sts
@@ -101,41 +103,49 @@ along_holds level pieces gs l f = record {
   view = order_view-along level 0 pieces gs (omega arith) f;
 }
 
-pub sources_hold : SourcesLaw
-sources_hold level sts sources gs w v =
-    let cs = clusters gs in
-    let n : length cs ≡ length gs = length-map gs (λ g. g.cluster) in
-    let is = clusters-picked level sts sources gs in
+-- the clusters of made glyphs
+clusters_made : (level : BufferClusterLevel) (sts : List (ℕ × ℕ)) (sources cs : List ℕ) → EndWithin (length cs) sts → AllByRecursion (λ p. p < length cs) sources → ClustersMade level sts sources cs (pick sources (joined_all level sts cs))
+clusters_made level sts sources cs w v =
+    let js = joined_all level sts cs in
     let P : ℕ → Type 0 = λ n. AllByRecursion (λ p. p < n) sources in
-    let u : AllByRecursion (λ p. p < length cs) sources = subst P (sym n) v in
-    let x = subst P (sym (length-merge_all level sts gs w)) v in
-    let all : (P : List ℕ → Type 0) → P (pick sources (joined_all level sts cs)) → P (clusters (pick sources (merge_all level sts gs))) = λ P h. subst P (sym is) h in
     record {
-      as_many = length-pick sources (merge_all level sts gs) x;
-      falls = falls-picked level sts sources gs w;
-      clusters_are = is;
-      unmerged = λ m. ap (pick sources) (merge_all-unmerged level m sts gs);
-      old_clusters = all (All (Contains cs)) (all-picked (Contains cs) sources (joined_all level sts cs) (subst P (sym (length-joined_all level sts cs (ends sts gs w) ∙ n)) v) (all-joined (Contains cs) level sts cs (ends sts gs w) (All-contains_itself cs)));
-      share = λ m i j il jl h. all (λ js. ShareCluster js i j) (sources_share level m sts cs sources (ends sts gs w) u i j il jl h);
-      exact = λ m mono. all (λ js. ExactCutsBy cs sts sources js) (exact_cuts_by level m sts cs sources (ends sts gs w) mono u);
+      clusters_are = refl;
+      old_clusters = all-picked (Contains cs) sources js (subst P (sym (length-joined_all level sts cs w)) v) (all-joined (Contains cs) level sts cs w (All-contains_itself cs));
+      unmerged = λ m. ap (pick sources) (joined_all-unmerged level m sts cs);
+      share = λ m. sources_share level m sts cs sources w v;
+      exact = λ m mono. exact_cuts_by level m sts cs sources w mono v;
     }
 
-pub copies_hold : CopiesLaw
-copies_hold level sts sources gs rs w h =
+pub made_hold : MadeLaw
+made_hold view shows level sts sources gs rs w v same =
+    let cs = clusters gs in
     let ms = merge_all level sts gs in
-    let c = copied ms sources rs h in
-    let s = sources_hold level sts sources gs w (subst (λ n. AllByRecursion (λ p. p < n) sources) (length-merge_all level sts gs w) c.within) in
-    let n : length sources ≡ length rs = sym s.as_many ∙ sym (length-map (pick sources ms) (λ g. g.cluster)) ∙ sym (ap length c.same_clusters) ∙ length-map rs (λ g. g.cluster) in
+    let P : ℕ → Type 0 = λ n. AllByRecursion (λ p. p < n) sources in
+    let n : length cs ≡ length gs = length-map gs (λ g. g.cluster) in
+    let c = same_clusters view shows (pick sources ms) rs same in
+    let is : clusters rs ≡ pick sources (joined_all level sts cs) = c.clusters_are ∙ clusters-picked level sts sources gs in
     record {
-      falls = all_flags_on (pick sources gs) (pick sources ms) rs (all_flags_fall (pick sources gs) (pick sources ms) s.falls) c.kept;
-      clusters_are = c.same_clusters ∙ s.clusters_are;
-      old_clusters = subst (All (Contains (clusters gs))) (sym c.same_clusters) s.old_clusters;
-      unmerged = λ m. c.same_clusters ∙ ap clusters (s.unmerged m) ∙ sym (pick-map (λ g. g.cluster) sources gs);
-      share = λ m st front inside behind among parts all i j a b x y.
-          let many : length sources ≡ length front + (length inside + length behind) = ap length parts ∙ length-append front (inside ++ behind) ∙ ap (λ k. length front + k) (length-append inside behind) in
-          subst (λ cs. ShareCluster cs i j) (sym c.same_clusters) (s.share m i j (omega arith) (omega arith) (held_in_stretch sts st sources front inside behind among parts all i j a b x y));
-      exact = λ m mono. subst (ExactCutsBy (clusters gs) sts sources) (sym c.same_clusters) (s.exact m mono);
+      as_many = sym (length-map rs view) ∙ ap length same ∙ length-map (pick sources ms) view ∙ length-pick sources ms (subst P (sym (length-merge_all level sts gs w)) v);
+      clusters_made = subst (ClustersMade level sts sources cs) (sym is) (clusters_made level sts sources cs (ends sts gs w) (subst P (sym n) v));
+      falls = all_flags_on (pick sources gs) (pick sources ms) rs (all_flags_fall (pick sources gs) (pick sources ms) (falls-picked level sts sources gs w)) c.flags_stay;
+      unmerged = λ m. same ∙ ap (λ xs. map view (pick sources xs)) (merge_all-unmerged level m sts gs);
     }
+
+-- the same from made glyphs, each with the place that it comes of
+pub made_hold_by : (view : hb_glyph_info_t → hb_glyph_info_t) → ShowsClusters view → (level : BufferClusterLevel) (sts : List (ℕ × ℕ)) (sources : List ℕ) (gs rs : List hb_glyph_info_t) → EndWithin (length gs) sts → (made : List (Made view (merge_all level sts gs))) → map (λ m. m.place) made ≡ sources → map (λ m. m.glyph) made ≡ rs → (map view rs ≡ map view (pick sources (merge_all level sts gs))) × MadeHold view level sts sources gs rs
+made_hold_by view shows level sts sources gs rs w made places glyphs =
+    let ms = merge_all level sts gs in
+    let a = subst (λ ps. AreMade view ms ps rs) places (subst (AreMade view ms (map (λ m. m.place) made)) glyphs (are_made view ms made)) in
+    (a.same, made_hold view shows level sts sources gs rs w (subst (λ n. AllByRecursion (λ p. p < n) sources) (length-merge_all level sts gs w) a.within) a.same)
+
+-- where some stretch holds the sources of a part of the result, unless that is one place, its places p to q share one cluster
+pub part_shares : {level : BufferClusterLevel} {sts : List (ℕ × ℕ)} {sources cs js : List ℕ} → ClustersMade level sts sources cs js → merges level ≡ true → (st : ℕ × ℕ) (front inside behind : List ℕ) → (1 < length inside → Contains sts st) → sources ≡ front ++ (inside ++ behind) → All (λ p. (st.0 ≤ p) × (p < st.1)) inside → (p q : ℕ) → p ≡ length front → q ≡ p + (length inside - 1) → ShareCluster js p q
+part_shares {sts = sts} {sources = sources} {js = js} made m st front inside behind among parts all p q first last =
+    let many : length sources ≡ length front + (length inside + length behind) = ap length parts ∙ length-append front (inside ++ behind) ∙ ap (λ k. length front + k) (length-append inside behind) in
+    elim (cases_lt 1 (length inside)) [
+      | inl some ↦ made.share m p q (omega arith) (omega arith) (held_in_stretch sts st sources front inside behind (among some) parts all p q (omega arith) (omega arith) (omega arith) (omega arith))
+      | inr one ↦ share_all js p q (λ r low high. absurd (omega arith))
+    ]
 
 pub moved_sources_hold : MovedSourcesLaw
 moved_sources_hold level sts standing places gs m w s n v h =

@@ -12,12 +12,9 @@ use Rattle.shapers_base.specs.Glyph.{order_view, plain}
 use Rattle.shapers_base.specs.Clusters.{stretch_of}
 use Rattle.shapers_clusters.specs.Neighbours.{EndWithin, held}
 use Rattle.shapers_clusters.specs.Steps.{pick, Step, run_step, run_steps, moved_on, old_places, FitsStep, FitSteps, MovesInside, MovesMerged, shifted, widened}
+use Rattle.shapers_base.specs.MappedLists.{all-append}
 use Rattle.shapers_clusters.specs.Picks.{length-pick, pick-map, pick-append, pick-range, pick-within, some_element}
 use Rattle.shapers_clusters.specs.Moves.{order_view-run_steps, falls-run_steps, length-old_places, within-old_places}
-
-pub all-append : {X : Type 0} (P : X → Type 0) (xs ys : List X) → AllByRecursion P xs → AllByRecursion P ys → AllByRecursion P (xs ++ ys)
-all-append P [] ys h i = i
-all-append P (x ∷ xs) ys h i = (h.0, all-append P xs ys h.1 i)
 
 all-mapped : {X Y : Type 0} (P : X → Type 0) (Q : Y → Type 0) (f : X → Y) (xs : List X) → ((x : X) → P x → Q (f x)) → AllByRecursion P xs → AllByRecursion Q (map f xs)
 all-mapped P Q f [] g h = tt

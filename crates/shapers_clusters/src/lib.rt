@@ -2,7 +2,7 @@
 //! contract of a function without a body.
 #![tactic(auto)]
 
-ghost use Rattle.shapers_clusters.specs.Laws.{ViewLaw, MergeLaw, ExactCutsLaw, StepsLaw, ClustersLaw, MergedStepsLaw, WidenedLaw, AlongLaw, HalvesLaw, SourcesLaw, CopiesLaw, MovedSourcesLaw};
+ghost use Rattle.shapers_clusters.specs.Laws.{ViewLaw, MergeLaw, ExactCutsLaw, StepsLaw, ClustersLaw, MergedStepsLaw, WidenedLaw, AlongLaw, HalvesLaw, MadeLaw, MovedSourcesLaw};
 
 /// Merges and the three flag calls leave the order view.
 pub fn view_law()
@@ -51,13 +51,8 @@ pub fn halves_law()
 {}
 
 /// Made and dropped glyphs: exact cuts, flags and old clusters seen through each glyph's source.
-pub fn sources_law()
-    ensures { SourcesLaw }
-{}
-
-/// Made glyphs that take cluster and glyph flags from their sources, whatever else of them changes.
-pub fn copies_law()
-    ensures { CopiesLaw }
+pub fn made_law()
+    ensures { MadeLaw }
 {}
 
 /// Made glyphs that move inside merged stretches: the cluster law.

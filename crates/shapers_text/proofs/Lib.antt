@@ -4,7 +4,7 @@ mod RequestRows
 pub mod ThaiClusters
 pub mod ThaiFormLaws
 pub mod ThaiFormWalks
+pub mod ThaiInTwo
 pub mod ThaiRows
 pub mod ThaiSaraAm
-pub mod ThaiSources
 pub mod ThaiStretches

@@ -1,73 +1,76 @@
--- What the hook makes of clusters and glyph flags, by the law of copies.
-use Rattle.std.proofs.Common.{◌≡◌, inl, inr, ℕ, ◌-◌, ◌+◌, ◌<◌, ◌≤◌, true, false, List, ◌∷◌, length, take, slice_index, sym, ap, ◌∙◌, subst, arith, Bool}
-use Rattle.std.specs.List.{range_with_len, All, AllZip}
-use Rattle.std.proofs.lemmas.Bool.{cases_lt}
-use Rattle.std.proofs.lemmas.List.{length-map, length-take-le, take_all}
-use Rattle.std.proofs.lemmas.List.FromFn.{get_or-range_with_len, length-range_with_len}
-use Rattle.std.proofs.lemmas.List.Elements.{All-cons, All-from_get_or}
+-- What the hook makes of clusters and glyph flags, by the law of made glyphs.
+use Rattle.std.proofs.Common.{◌≡◌, ℕ, ◌-◌, ◌+◌, ◌<◌, ◌≤◌, true, false, nat_lt, Bool, List, [], ◌∷◌, ◌++◌, length, map, refl, sym, ap, ◌∙◌, subst, arith}
+use Rattle.std.specs.List.{suffix_len, range_with_len, enumerate_from, Contains}
+use Rattle.std.proofs.lemmas.Bool.Decides.{nat_tests}
+use Rattle.std.proofs.lemmas.List.Elements.{All-cons}
+use Rattle.std.proofs.lemmas.List.FromFn.{length-range_with_len}
 use Rattle.std.proofs.lemmas.List.Sums.{suffix_len-le-length}
-use Rattle.std.proofs.lemmas.Slice.Zip.{AllZip-long}
+use Rattle.std.proofs.lemmas.Simd.{map-map}
 use Rattle.shapers_base.specs.declared.buffer.glyph.hb_glyph_info_t.{hb_glyph_info_t}
 use Rattle.shapers_base.specs.declared.buffer.level.BufferClusterLevel.{BufferClusterLevel}
 use Rattle.shapers_base.specs.Glyph.{clusters}
-use Rattle.shapers_base.specs.Clusters.{merge_all}
-use Rattle.shapers_clusters.specs.Neighbours.{ShareCluster, share_all}
-use Rattle.shapers_clusters.specs.Copies.{Copies, SharesIn}
-use Rattle.shapers_clusters.specs.Proved.{copies_hold}
-use Rattle.shapers_text.specs.Thai.{marks_before, sara_am_stretches, is_sara_am, is_above_base, in_two, rewritten, characters, places_in_two, sources}
-use Rattle.shapers_text.specs.ThaiLaws.{new_place, ClustersInTwo, InTwoLaw}
+use Rattle.shapers_base.specs.Clusters.{merge_all, merges}
+use Rattle.shapers_base.specs.Lists.{before_last_run, each_after}
+use Rattle.shapers_base.specs.MappedLists.{All-range, Contains-flat_map, Contains-each_after}
+use Rattle.shapers_clusters.specs.Neighbours.{ShareCluster}
+use Rattle.shapers_clusters.specs.Made.{Made, all_standing, glyphs-standing, numbered-standing}
+use Rattle.shapers_clusters.specs.Laws.{ClustersMade}
+use Rattle.shapers_clusters.specs.Proved.{made_hold_by, part_shares}
+use Rattle.shapers_text.specs.Thai.{characters, is_sara_am, is_above_base, InTwo, in_two, glyphs_in_two, places_in_two, nikhahit, sara_aa, rewritten, sources, sara_am_stretches, stretches_at}
+use Rattle.shapers_text.specs.ThaiLaws.{unnamed, new_place, ClustersInTwo, InTwoLaw}
 use Rattle.shapers_text.specs.ThaiForms.{preprocessed, pua_shaped}
+use Rattle.shapers_text.proofs.ThaiInTwo.{read_by, in_two-map, sources_at}
 use Rattle.shapers_text.proofs.ThaiStretches.{characters-merge_all, stretches_within}
 use Rattle.shapers_text.proofs.ThaiFormWalks.{forms_hold}
-use Rattle.shapers_text.proofs.ThaiSources.{copies_upto, sources_at, stretch_at}
 
--- the glyphs of the result, against the merged ones
-copies : (level : BufferClusterLevel) (gs : List hb_glyph_info_t) → AllZip (Copies (merge_all level (sara_am_stretches level gs) gs)) (sources (characters gs)) (rewritten (merge_all level (sara_am_stretches level gs) gs))
-copies level gs =
-    let ms = merge_all level (sara_am_stretches level gs) gs in
-    let same : characters ms ≡ characters gs = characters-merge_all level (sara_am_stretches level gs) gs in
-    let long : length ms ≡ length (characters ms) = sym (length-map ms (λ g. g.glyph_id)) in
-    let c = (copies_upto ms (length (characters ms)) (omega arith)).whole in
-    subst (λ us. AllZip (Copies ms) (sources us) (rewritten ms)) same (subst (λ xs. AllZip (Copies ms) (sources (characters ms)) (rewritten xs)) (take_all (length (characters ms)) ms (omega arith)) c)
+-- the rule on made glyphs: what comes of a SARA AM comes of its place
+abbrev made_in_two : (gs : List hb_glyph_info_t) → InTwo (Made unnamed gs)
+made_in_two gs = read_by (λ m. m.glyph) (λ m. record m { glyph = nikhahit m.glyph; same = m.same }) (λ m. record m { glyph = sara_aa m.glyph; same = m.same }) glyphs_in_two
 
--- where its NIKHAHIT goes, and from where
-nikhahit_shares : (level : BufferClusterLevel) (gs : List hb_glyph_info_t) (cs : List ℕ) (i : ℕ) → i < length gs → is_sara_am (slice_index (characters gs) i) ≡ true → SharesIn (sara_am_stretches level gs) (sources (characters gs)) cs → ShareCluster cs (new_place gs i) (new_place gs i + marks_before gs i)
-nikhahit_shares level gs cs i inside is_am share =
-    let w = marks_before gs i in
-    let few : w ≤ i = omega (arith, suffix_len-le-length (λ g. is_above_base g.glyph_id) (take i gs), length-take-le i gs (omega arith)) in
-    let a = sources_at gs i inside is_am in
-    let run = range_with_len (i - w) w in
-    let many = length-range_with_len (i - w) w in
-    let front = in_two (places_in_two (characters gs)) (range_with_len 0 (i - w)) in
-    let place : length (rewritten (take (i - w) gs)) ≡ length front = AllZip-long (Copies gs) _ _ (copies_upto gs (i - w) (omega arith)).whole in
-    let P : ℕ → Type 0 = λ p. (i - w ≤ p) × (p < i + 1) in
-    let each : All P (i ∷ run) = All-cons P i run (omega arith, omega arith) (All-from_get_or P run 0 (λ t inner. let e = get_or-range_with_len (i - w) w t 0 (omega arith) in (omega arith, omega arith))) in
-    elim (cases_lt 0 w) [
-      | inl some ↦ share (i - w, i + 1) front (i ∷ run) a.behind (stretch_at level gs i inside is_am some) a.parts each (new_place gs i) (new_place gs i + w) (omega arith) (omega arith) (omega arith) (omega arith)
-      | inr none ↦ share_all cs (new_place gs i) (new_place gs i + w) (λ r low high. absurd (omega arith))
-    ]
+some_marks : (w : ℕ) → 0 < w → nat_lt 0 w ≡ true
+some_marks w h = grind (arith, nat_tests)
 
+-- a SARA AM with marks merges with them, and that stretch holds together what comes of them
+shares : (level : BufferClusterLevel) (us cs js : List ℕ) → ClustersMade level (sara_am_stretches level us) (sources us) cs js → merges level ≡ true → (xs : List ℕ) (u : ℕ) (ys : List ℕ) → us ≡ xs ++ u ∷ ys → is_sara_am u ≡ true → ShareCluster js (new_place xs) (new_place xs + suffix_len is_above_base xs)
+shares level us cs js made m xs u ys split is_am =
+    let n = length xs in
+    let w = suffix_len is_above_base xs in
+    let st : ℕ × ℕ = (n - w, n + 1) in
+    let few = suffix_len-le-length is_above_base xs in
+    let P : ℕ → Type 0 = λ p. (n - w ≤ p) × (p < n + 1) in
+    let (behind, parts) = sources_at xs u ys is_am in
+    let long = length-range_with_len (n - w) w in
+    let merged : 0 < w → Contains (stretches_at level n u w) st = λ some. let test = some_marks w some in rw (is_am, test) (0, omega arith, refl) in
+    part_shares made m st (sources (before_last_run is_above_base xs)) (n ∷ range_with_len (n - w) w) behind
+    (λ some. subst (λ vs. Contains (sara_am_stretches level vs) st) (sym split) (Contains-flat_map _ (each_after [] (xs ++ u ∷ ys)) (xs, u) st (Contains-each_after [] xs u ys) (merged (omega arith))))
+    (ap sources split ∙ parts)
+    (All-cons P n (range_with_len (n - w) w) (omega arith, omega arith) (All-range P (n - w) w (λ p low high. (omega arith, omega arith))))
+    (new_place xs) (new_place xs + w) refl (omega arith)
+
+-- the rule makes the glyphs of the result, and their places are the sources
 pub in_two_holds : InTwoLaw
 in_two_holds level gs =
-    let sts = sara_am_stretches level gs in
-    let h = copies_hold level sts (sources (characters gs)) gs (rewritten (merge_all level sts gs)) (stretches_within level gs) (copies level gs) in
+    let us = characters gs in
+    let sts = sara_am_stretches level us in
+    let ms = merge_all level sts gs in
+    let standing = all_standing unnamed ms in
+    let made = in_two (made_in_two ms) standing in
+    let glyphs : map (λ m. m.glyph) made ≡ rewritten ms = in_two-map (λ m. m.glyph) _ _ glyphs_in_two (λ m. refl) (λ m. refl) standing ∙ ap rewritten (glyphs-standing unnamed ms) in
+    let numbered = numbered-standing (λ g. g.glyph_id) unnamed ms ∙ ap (enumerate_from 0) (characters-merge_all level sts gs) in
+    let pairs : map (λ m. (m.place, m.glyph.glyph_id)) made ≡ in_two places_in_two (enumerate_from 0 us) = in_two-map (λ m. (m.place, m.glyph.glyph_id)) _ _ places_in_two (λ m. refl) (λ m. refl) standing ∙ ap (in_two places_in_two) numbered in
+    let places = sym (map-map (λ p. p.0) (λ m. (m.place, m.glyph.glyph_id)) made) ∙ ap (map (λ p. p.0)) pairs in
+    let (same, h) = made_hold_by unnamed (record { cluster = λ g. refl; flags = λ g. refl }) level sts (sources us) gs (rewritten ms) (stretches_within level gs) made places glyphs in
     record {
-      copies = copies level gs;
-      in_clusters = record {
-        clusters_are = h.clusters_are;
-        old_clusters = h.old_clusters;
-        unmerged = h.unmerged;
-        cluster_law = λ m i inside is_am. nikhahit_shares level gs (clusters (rewritten (merge_all level sts gs))) i inside is_am (h.share m);
-        exact = h.exact;
-      };
+      made = same;
+      in_clusters = record { made = h.clusters_made; cluster_law = shares level us (clusters gs) (clusters (rewritten ms)) h.clusters_made };
       falls = h.falls;
     }
 
 -- the whole hook: its forms leave the clusters
-pub plain_in_two : (level : BufferClusterLevel) (gs text : List hb_glyph_info_t) → text ≡ preprocessed false (λ _. false) level gs → ClustersInTwo level gs (clusters text)
-plain_in_two level gs text is = subst (λ xs. ClustersInTwo level gs (clusters xs)) (sym is) (in_two_holds level gs).in_clusters
+pub plain_in_two : (level : BufferClusterLevel) (gs text : List hb_glyph_info_t) → text ≡ preprocessed false (λ _. false) level gs → ClustersInTwo level (characters gs) (clusters gs) (clusters text)
+plain_in_two level gs text is = subst (λ xs. ClustersInTwo level (characters gs) (clusters gs) (clusters xs)) (sym is) (in_two_holds level gs).in_clusters
 
-pub shaped_in_two : (has : ℕ → Bool) (level : BufferClusterLevel) (gs text shaped : List hb_glyph_info_t) → text ≡ preprocessed false has level gs → shaped ≡ pua_shaped has text → ClustersInTwo level gs (clusters shaped)
+pub shaped_in_two : (has : ℕ → Bool) (level : BufferClusterLevel) (gs text shaped : List hb_glyph_info_t) → text ≡ preprocessed false has level gs → shaped ≡ pua_shaped has text → ClustersInTwo level (characters gs) (clusters gs) (clusters shaped)
 shaped_in_two has level gs text shaped is forms =
     let same : clusters shaped ≡ clusters (preprocessed false has level gs) = ap clusters (forms ∙ ap (pua_shaped has) is) ∙ (forms_hold has level gs).clusters_stay in
-    subst (ClustersInTwo level gs) (sym same) (in_two_holds level gs).in_clusters
+    subst (ClustersInTwo level (characters gs) (clusters gs)) (sym same) (in_two_holds level gs).in_clusters

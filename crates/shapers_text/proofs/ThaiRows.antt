@@ -57,7 +57,7 @@ twice-clusters = refl
 twice-apart : clusters (found MonotoneCharacters (0x0E33 ∷ 0x0E33 ∷ [])) ≡ 0 ∷ 0 ∷ 1 ∷ 1 ∷ []
 twice-apart = refl
 
-twice-stretches : sara_am_stretches MonotoneGraphemes (text (0x0E33 ∷ 0x0E33 ∷ [])) ≡ (0, 2) ∷ []
+twice-stretches : sara_am_stretches MonotoneGraphemes (0x0E33 ∷ 0x0E33 ∷ []) ≡ (0, 2) ∷ []
 twice-stretches = refl
 
 -- Lao

@@ -1,25 +1,13 @@
 -- The steps of the rewriting, on glyphs.
-use Rattle.std.proofs.Common.{◌≡◌, inl, inr, Bool, ℕ, ◌-◌, ◌+◌, ◌<◌, ◌≤◌, true, false, eqb, List, [], ◌∷◌, ◌++◌, length, take, drop, get_or, set, Option, None, Some, refl, sym, ap, ◌∙◌, subst, arith}
-use Rattle.std.proofs.lemmas.Bool.{or_cases}
-use Rattle.std.proofs.lemmas.Bool.Decides.{nat_tests}
+use Rattle.std.proofs.Common.{◌≡◌, Bool, ℕ, ◌-◌, ◌+◌, ◌<◌, ◌≤◌, true, false, List, [], ◌∷◌, ◌++◌, length, take, drop, get_or, set, Option, None, Some, refl, sym, ap, ◌∙◌, subst, arith}
 use Rattle.std.proofs.lemmas.List.{append_assoc, append-nil, take_more, take-append-drop, take-set-le, drop-set, length-set, length-take-le, length_push, drop_all, take_all}
 use Rattle.std.proofs.lemmas.List.Sums.{suffix_len-le-length, suffix_len-take_yes, suffix_len-take_no}
 use Rattle.std.specs.List.{suffix_len}
 use Rattle.shapers_base.specs.declared.buffer.glyph.hb_glyph_info_t.{hb_glyph_info_t}
 use Rattle.shapers_base.specs.ListLaws.{none_from_count}
-use Rattle.shapers_text.specs.Thai.{is_sara_am, is_above_base, marks_before, in_two, nikhahit, sara_aa, glyphs_in_two, rewritten}
-use Rattle.shapers_text.specs.ThaiRewriting.{IsUnwritten, Written, whole_of, becomes, in_two_plain, in_two_push, in_two_push_am, held_push_mark, lengths}
-
-eqb_eq : (a b : ℕ) → eqb a b ≡ true → a ≡ b
-eqb_eq a b h = grind (arith, nat_tests)
-
--- a SARA AM is no above-base mark
-pub apart : (g : hb_glyph_info_t) → is_sara_am g.glyph_id ≡ true → is_above_base g.glyph_id ≡ false
-apart g h =
-    elim (or_cases _ _ h) [
-      | inl e ↦ ap is_above_base (eqb_eq g.glyph_id 0x0E33 e)
-      | inr e ↦ ap is_above_base (eqb_eq g.glyph_id 0x0EB3 e)
-    ]
+use Rattle.shapers_text.specs.Thai.{is_sara_am, is_above_base, in_two, nikhahit, sara_aa, glyphs_in_two, rewritten}
+use Rattle.shapers_text.specs.ThaiRewriting.{marks_of, IsUnwritten, Written, whole_of, becomes}
+use Rattle.shapers_text.proofs.ThaiInTwo.{in_two_plain, in_two_push, in_two_push_am, held_push_mark, lengths}
 
 pub take_pushed : (gs : List hb_glyph_info_t) (e : ℕ) (g : hb_glyph_info_t) → 0 < e → e ≤ length gs → g ≡ get_or gs (e - 1) g → take e gs ≡ take (e - 1) gs ++ g ∷ []
 take_pushed gs e g some within at =
@@ -29,25 +17,25 @@ take_pushed gs e g some within at =
 
 -- what a text becomes is no shorter than it
 pub becomes_longer : (xs : List hb_glyph_info_t) (pending : Option hb_glyph_info_t) → length xs ≤ length (becomes xs pending)
-becomes_longer xs None = omega (arith, (lengths glyphs_in_two apart xs).whole)
-becomes_longer xs (Some nikhahit) = omega (arith, (lengths glyphs_in_two apart xs).pending nikhahit)
+becomes_longer xs None = omega (arith, (lengths glyphs_in_two xs).whole)
+becomes_longer xs (Some nikhahit) = omega (arith, (lengths glyphs_in_two xs).pending nikhahit)
 
 -- the mark that ends a text before some place
-pub last_mark : (gs : List hb_glyph_info_t) (end : ℕ) (g : hb_glyph_info_t) → 0 < marks_before gs end → end ≤ length gs → g ≡ get_or gs (end - 1) g → (is_above_base g.glyph_id ≡ true) × (marks_before gs end ≡ 1 + marks_before gs (end - 1))
+pub last_mark : (gs : List hb_glyph_info_t) (end : ℕ) (g : hb_glyph_info_t) → 0 < marks_of gs end → end ≤ length gs → g ≡ get_or gs (end - 1) g → (is_above_base g.glyph_id ≡ true) × (marks_of gs end ≡ 1 + marks_of gs (end - 1))
 last_mark gs end g some within at =
     let test : hb_glyph_info_t → Bool = λ x. is_above_base x.glyph_id in
     let inside : 0 < end = omega (arith, suffix_len-le-length test (take end gs), length-take-le end gs within) in
     let same : test g ≡ test (get_or gs (end - 1) g) = ap test at in
-    elim (test g) as (λ b. test g ≡ b → (b ≡ true) × (marks_before gs end ≡ 1 + marks_before gs (end - 1))) [
+    elim (test g) as (λ b. test g ≡ b → (b ≡ true) × (marks_of gs end ≡ 1 + marks_of gs (end - 1))) [
       | true ↦ λ e. (refl, suffix_len-take_yes test gs end g inside within (sym same ∙ e))
       | false ↦ λ e. absurd (omega (arith, suffix_len-take_no test gs end g inside within (sym same ∙ e)))
     ] refl
 
 -- no mark ends the text: a NIKHAHIT stands at its end
-pub becomes_bare : (gs : List hb_glyph_info_t) (end : ℕ) (nikhahit : hb_glyph_info_t) → marks_before gs end ≡ 0 → becomes (take end gs) (Some nikhahit) ≡ becomes (take end gs) None ++ nikhahit ∷ []
+pub becomes_bare : (gs : List hb_glyph_info_t) (end : ℕ) (nikhahit : hb_glyph_info_t) → marks_of gs end ≡ 0 → becomes (take end gs) (Some nikhahit) ≡ becomes (take end gs) None ++ nikhahit ∷ []
 becomes_bare gs end nikhahit none =
     let xs = take end gs in
-    let all : length xs - marks_before gs end ≡ length xs = omega arith in
+    let all : length xs - marks_of gs end ≡ length xs = omega arith in
     ap (λ n. in_two glyphs_in_two (take n xs) ++ nikhahit ∷ drop n xs) all
     ∙ ap (λ ys. in_two glyphs_in_two ys ++ nikhahit ∷ drop (length xs) xs) (take_all (length xs) xs (omega arith))
     ∙ ap (λ ys. in_two glyphs_in_two xs ++ nikhahit ∷ ys) (drop_all (length xs) xs (omega arith))
@@ -80,13 +68,10 @@ written_next whole gs end pending place end' pending' g w last shorter =
           ∙ w.joined;
     }
 
--- the text before `end` has a last glyph, so a place is left
-pub some_place : (gs : List hb_glyph_info_t) (end place : ℕ) → 0 < end → IsUnwritten gs end None place → 0 < place
-some_place gs end place some u = omega (arith, u.ahead)
-
+-- where a NIKHAHIT is pending, a place is left for it
 pub some_place_held : (gs : List hb_glyph_info_t) (end place : ℕ) (nikhahit : hb_glyph_info_t) → IsUnwritten gs end (Some nikhahit) place → end < place
 some_place_held gs end place nikhahit u =
-    omega (arith, u.room, u.ahead, u.within, (lengths glyphs_in_two apart (take end gs)).pending nikhahit, length-take-le end gs (omega (arith, u.ahead, u.within)))
+    omega (arith, u.room, u.ahead, u.within, (lengths glyphs_in_two (take end gs)).pending nikhahit, length-take-le end gs (omega (arith, u.ahead, u.within)))
 
 -- the last glyph is another than SARA AM
 pub written_other : (gs : List hb_glyph_info_t) (end place : ℕ) (g : hb_glyph_info_t) → 0 < end → IsUnwritten gs end None place → g ≡ get_or gs (end - 1) g → is_sara_am g.glyph_id ≡ false → Written (whole_of gs end None place) (set gs (place - 1) g) (end - 1) None (place - 1)
@@ -100,7 +85,7 @@ written_am gs now end place g first second some u at passes is_first is_second c
     let within : end ≤ length gs = omega (arith, u.ahead, u.within) in
     let last : becomes (take end gs) None ≡ becomes (take (end - 1) gs) (Some first) ++ second ∷ [] =
     ap (λ xs. becomes xs None) (take_pushed gs end g some within at)
-    ∙ in_two_push_am glyphs_in_two apart (take (end - 1) gs) g passes
+    ∙ in_two_push_am glyphs_in_two (take (end - 1) gs) g passes
     ∙ ap (λ n. becomes (take (end - 1) gs) (Some n) ++ sara_aa g ∷ []) (sym is_first)
     ∙ ap (λ n. becomes (take (end - 1) gs) (Some first) ++ n ∷ []) (sym is_second) in
     subst (λ xs. Written (whole_of gs end None place) xs (end - 1) (Some first) (place - 1)) (sym changed) (written_next _ gs end None place (end - 1) (Some first) second (record { left = u; joined = refl }) last (omega arith))
@@ -108,7 +93,7 @@ written_am gs now end place g first second some u at passes is_first is_second c
 -- the walk over the marks of a SARA AM: so many are left
 pub record MarksLeft (whole gs : List hb_glyph_info_t) (end place marks : ℕ) (nikhahit : hb_glyph_info_t) : Type 0 where
   pub written : Written whole gs end (Some nikhahit) place
-  pub left : marks ≡ marks_before gs end
+  pub left : marks ≡ marks_of gs end
 
 -- while marks are left, there is text before, and reading stays ahead
 pub record MarksFit (gs : List hb_glyph_info_t) (end place marks : ℕ) : Type 0 where
@@ -148,7 +133,7 @@ written_all whole gs end place w met =
     let front : length (take end gs) ≡ end = length-take-le end gs within in
     let ends : place ≡ end = omega (arith, w.left.ahead) in
     let same : becomes (take end gs) None ≡ take end gs =
-    in_two_plain glyphs_in_two (take end gs) (none_from_count glyphs_in_two.sara_am (take end gs) (omega (arith, w.left.room, (lengths glyphs_in_two apart (take end gs)).whole))) in
+    in_two_plain glyphs_in_two (take end gs) (none_from_count (λ (g : hb_glyph_info_t). is_sara_am g.glyph_id) (take end gs) (omega (arith, w.left.room, (lengths glyphs_in_two (take end gs)).whole))) in
     sym (take-append-drop end gs) ∙ ap (λ xs. xs ++ drop end gs) (sym same) ∙ ap (λ n. becomes (take end gs) None ++ drop n gs) (sym ends) ∙ w.joined
 
 pub written_none : (gs : List hb_glyph_info_t) (len : ℕ) → len ≤ length gs → length gs ≡ length (rewritten (take len gs)) → Written (rewritten (take len gs)) gs len None (length gs)

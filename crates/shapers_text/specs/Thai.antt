@@ -1,13 +1,13 @@
 -- SARA AM of Thai and Lao in two.
-use Rattle.std.specs.Prelude.{slice_index, ℕ, nat_eq, not, codes, Option, None, Some, ◌-◌, ◌+◌, Bool, ◌||◌, ◌&&◌, ◌==◌, nat_le, nat_lt, bit_and, true, false, List, [], ◌∷◌, ◌++◌, length, take, reverse, map, flat_map, if◌then◌else◌}
-use Rattle.std.specs.List.{suffix_len, range_with_len}
+use Rattle.std.specs.Prelude.{ℕ, nat_eq, not, codes, Option, None, Some, ◌-◌, ◌+◌, Bool, ◌||◌, ◌&&◌, ◌==◌, nat_le, nat_lt, bit_and, true, false, List, [], ◌∷◌, ◌++◌, length, map, flat_map, if◌then◌else◌}
+use Rattle.std.specs.List.{suffix_len, enumerate_from}
 use Rattle.shapers_base.specs.declared.buffer.category.hb_unicode_general_category_t.TheVariants.{Mn}
 use Rattle.shapers_base.specs.declared.buffer.glyph.hb_glyph_info_t.{hb_glyph_info_t}
 use Rattle.shapers_base.specs.declared.buffer.level.BufferClusterLevel.{BufferClusterLevel}
 use Rattle.shapers_base.specs.declared.buffer.level.BufferClusterLevel.TheVariants.{MonotoneGraphemes, MonotoneCharacters, Characters}
 use Rattle.std.specs.Cmp.Lexicographic.{pointwise}
 use Rattle.shapers_base.specs.declared.buffer.tag.Script.{Script}
-use Rattle.shapers_base.specs.Lists.{cut_after, last_run, before_last_run, each_after}
+use Rattle.shapers_base.specs.Lists.{last_run, before_last_run, each_after, opened_pieces}
 
 -- SARA AM, of Thai and of Lao
 abbrev pub is_sara_am : ℕ → Bool
@@ -21,29 +21,26 @@ is_thai_above_base u = u == 0x0E31 || (nat_le 0x0E34 u && nat_le u 0x0E37) || u 
 abbrev pub is_above_base : ℕ → Bool
 is_above_base u = is_thai_above_base (bit_and u 0xFFFFFF7F)
 
--- how many above-base marks stand right before place i
-abbrev pub marks_before : List hb_glyph_info_t → ℕ → ℕ
-marks_before gs i = suffix_len (λ g. is_above_base g.glyph_id) (take i gs)
-
--- what a text in two is made of: which are SARA AM and which are above-base marks, and the NIKHAHIT and SARA AA of a SARA AM
+-- what a text in two is made of: characters, and the NIKHAHIT and SARA AA of a SARA AM
 pub record InTwo (X : Type 0) : Type 0 where
-  pub sara_am : X → Bool
-  pub above_base : X → Bool
+  pub character : X → ℕ
   pub nikhahit : X → X
   pub sara_aa : X → X
 
+-- whether it is a SARA AM, whether an above-base mark
+abbrev pub is_am : {X : Type 0} → InTwo X → X → Bool
+is_am two = λ x. is_sara_am (two.character x)
+
+abbrev pub is_above : {X : Type 0} → InTwo X → X → Bool
+is_above two = λ x. is_above_base (two.character x)
+
 -- `.. W SARA_AM` as `.. NIKHAHIT W SARA_AA`, W the longest run of above-base marks there
 abbrev pub opened : {X : Type 0} → InTwo X → List X → X → List X
-opened two text am = before_last_run two.above_base text ++ (two.nikhahit am ∷ (last_run two.above_base text ++ two.sara_aa am ∷ []))
+opened two text am = before_last_run (is_above two) text ++ (two.nikhahit am ∷ (last_run (is_above two) text ++ two.sara_aa am ∷ []))
 
--- a piece of the text, given from its end back: opened, if it ends with a SARA AM
-abbrev pub opened_back : {X : Type 0} → InTwo X → List X → List X
-opened_back two [] = []
-opened_back two (x ∷ before) = if two.sara_am x then opened two (reverse before) x else reverse (x ∷ before)
-
--- the text cut after each SARA AM, with each piece opened
+-- the text cut after each SARA AM, with each piece that ends with one opened
 abbrev pub in_two : {X : Type 0} → InTwo X → List X → List X
-in_two two text = flat_map (λ piece. opened_back two (reverse piece)) (cut_after two.sara_am text)
+in_two two text = opened_pieces (is_am two) (opened two) text
 
 -- NIKHAHIT and SARA AA out of SARA AM: NIKHAHIT is a continuation of category Mn
 abbrev pub nikhahit : hb_glyph_info_t → hb_glyph_info_t
@@ -54,7 +51,7 @@ sara_aa am = record am { glyph_id = am.glyph_id - 1 }
 
 -- the rule on glyphs
 abbrev pub glyphs_in_two : InTwo hb_glyph_info_t
-glyphs_in_two = record { sara_am = λ g. is_sara_am g.glyph_id; above_base = λ g. is_above_base g.glyph_id; nikhahit = nikhahit; sara_aa = sara_aa }
+glyphs_in_two = record { character = λ g. g.glyph_id; nikhahit = nikhahit; sara_aa = sara_aa }
 
 -- the glyphs with each SARA AM in two
 abbrev pub rewritten : List hb_glyph_info_t → List hb_glyph_info_t
@@ -64,13 +61,13 @@ rewritten gs = in_two glyphs_in_two gs
 abbrev pub characters : List hb_glyph_info_t → List ℕ
 characters gs = map (λ g. g.glyph_id) gs
 
--- the rule on the places of a text: both parts of a SARA AM stand for its place
-abbrev pub places_in_two : List ℕ → InTwo ℕ
-places_in_two us = record { sara_am = λ i. is_sara_am (slice_index us i); above_base = λ i. is_above_base (slice_index us i); nikhahit = λ i. i; sara_aa = λ i. i }
+-- the rule on characters with their places: both parts of a SARA AM keep its place
+abbrev pub places_in_two : InTwo (ℕ × ℕ)
+places_in_two = record { character = λ p. p.1; nikhahit = λ p. (p.0, p.1 + 0x1A); sara_aa = λ p. (p.0, p.1 - 1) }
 
 -- for each glyph of the result the old place that it copies
 abbrev pub sources : List ℕ → List ℕ
-sources us = in_two (places_in_two us) (range_with_len 0 (length us))
+sources us = map (λ p. p.0) (in_two places_in_two (enumerate_from 0 us))
 
 -- whether a SARA AM without marks joins the glyph before it
 abbrev pub joins_before : BufferClusterLevel → Bool
@@ -85,17 +82,16 @@ stretch_of_sara_am level am w =
     else if joins_before level && nat_lt 0 am then (am - 1, am + 1) ∷ []
     else []
 
--- what a character at this place merges, with w above-base marks before it
+-- what the character u at a place merges, with w above-base marks before it
 abbrev pub stretches_at : BufferClusterLevel → ℕ → ℕ → ℕ → List (ℕ × ℕ)
 stretches_at level place u w = if is_sara_am u then stretch_of_sara_am level place w else []
 
--- the merged stretches, from the left, of glyphs each given with what stands before it
-abbrev pub stretches_of_each : BufferClusterLevel → List (List hb_glyph_info_t × hb_glyph_info_t) → List (ℕ × ℕ)
-stretches_of_each level each = flat_map (λ p. stretches_at level (length p.0) p.1.glyph_id (suffix_len (λ g. is_above_base g.glyph_id) p.0)) each
+-- the merged stretches, from the left, of characters each given with what stands before it; those of a text
+abbrev pub stretches_of_each : BufferClusterLevel → List (List ℕ × ℕ) → List (ℕ × ℕ)
+stretches_of_each level each = flat_map (λ p. stretches_at level (length p.0) p.1 (suffix_len is_above_base p.0)) each
 
--- the merged stretches of a text, from the left
-abbrev pub sara_am_stretches : BufferClusterLevel → List hb_glyph_info_t → List (ℕ × ℕ)
-sara_am_stretches level gs = stretches_of_each level (each_after [] gs)
+abbrev pub sara_am_stretches : BufferClusterLevel → List ℕ → List (ℕ × ℕ)
+sara_am_stretches level us = stretches_of_each level (each_after [] us)
 
 -- whether the plan asks for private use forms: the script is Thai, and GSUB doesn't have it
 abbrev pub is_thai : Option Script → Bool

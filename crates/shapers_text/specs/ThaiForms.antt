@@ -217,5 +217,5 @@ pua_shaped has gs = with_forms has (unsafe_all (mark_stretches (characters gs)) 
 -- the whole rewriting, with the private use forms or without
 abbrev pub preprocessed : Bool → (ℕ → Bool) → BufferClusterLevel → List hb_glyph_info_t → List hb_glyph_info_t
 preprocessed forms has level gs =
-    let text = rewritten (merge_all level (sara_am_stretches level gs) gs) in
+    let text = rewritten (merge_all level (sara_am_stretches level (characters gs)) gs) in
     if forms then pua_shaped has text else text

@@ -1,43 +1,43 @@
 -- What the rewriting makes of clusters and glyph flags.
-use Rattle.std.specs.Prelude.{ℕ, Bool, ◌+◌, ◌-◌, ◌<◌, ◌≡◌, true, false, List, map, length, take, slice_index}
-use Rattle.std.specs.List.{All, AllZip, Contains}
+use Rattle.std.specs.Prelude.{ℕ, Bool, ◌+◌, ◌≡◌, true, false, List, ◌∷◌, ◌++◌, map, length}
+use Rattle.std.specs.List.{AllZip, suffix_len}
 use Rattle.shapers_base.specs.declared.buffer.glyph.hb_glyph_info_t.{hb_glyph_info_t}
 use Rattle.shapers_base.specs.declared.buffer.level.BufferClusterLevel.{BufferClusterLevel}
+use Rattle.shapers_base.specs.declared.buffer.category.hb_unicode_general_category_t.TheVariants.{Cc}
+use Rattle.shapers_base.specs.Lists.{before_last_run}
 use Rattle.shapers_base.specs.Glyph.{clusters}
 use Rattle.shapers_base.specs.Clusters.{merge_all, merges}
-use Rattle.shapers_clusters.specs.Joined.{joined_all}
 use Rattle.shapers_clusters.specs.Neighbours.{ShareCluster}
-use Rattle.shapers_clusters.specs.Cuts.{IsMonotone}
 use Rattle.shapers_clusters.specs.Steps.{pick}
 use Rattle.shapers_clusters.specs.Falls.{FlagsFall}
-use Rattle.shapers_clusters.specs.Sources.{ExactCutsBy}
-use Rattle.shapers_clusters.specs.Copies.{Copies}
+use Rattle.shapers_clusters.specs.Laws.{ClustersMade}
 use Rattle.shapers_text.specs.ThaiForms.{preprocessed}
-use Rattle.shapers_text.specs.Thai.{is_sara_am, marks_before, characters, rewritten, sources, sara_am_stretches}
+use Rattle.shapers_text.specs.Thai.{is_sara_am, is_above_base, characters, rewritten, sources, sara_am_stretches}
 
--- where the NIKHAHIT of a SARA AM at place i stands in the result: behind what the text before its marks becomes
-abbrev pub new_place : List hb_glyph_info_t → ℕ → ℕ
-new_place gs i = length (rewritten (take (i - marks_before gs i) gs))
+-- where the NIKHAHIT of a SARA AM stands in the result, if xs is the text before it: behind what comes of the text before its marks
+abbrev pub new_place : List ℕ → ℕ
+new_place xs = length (sources (before_last_run is_above_base xs))
 
--- What the rewriting of the glyphs gs makes of their clusters: cs. They are the old ones after the merges, each glyph having
--- that of its source; so every cluster is one that was there, and at level Characters each glyph has its source's own. At the
--- levels that merge all places between a NIKHAHIT and where it stood before its move share one cluster, and the cuts are exact.
-pub record ClustersInTwo (level : BufferClusterLevel) (gs : List hb_glyph_info_t) (cs : List ℕ) : Type 0 where
-  pub clusters_are : cs ≡ pick (sources (characters gs)) (joined_all level (sara_am_stretches level gs) (clusters gs))
-  pub old_clusters : All (Contains (clusters gs)) cs
-  pub unmerged : merges level ≡ false → cs ≡ pick (sources (characters gs)) (clusters gs)
-  pub cluster_law : merges level ≡ true → (i : ℕ) → i < length gs → is_sara_am (slice_index (characters gs) i) ≡ true → ShareCluster cs (new_place gs i) (new_place gs i + marks_before gs i)
-  pub exact : merges level ≡ true → IsMonotone (clusters gs) → ExactCutsBy (clusters gs) (sara_am_stretches level gs) (sources (characters gs)) cs
+-- What the rewriting of the characters us makes of their clusters cs: js. They are the clusters of made glyphs, each having that
+-- of its source after the merges, with exact cuts. At the levels that merge, wherever the text is xs, a SARA AM and ys, all places
+-- between its NIKHAHIT and where that stood before its move share one cluster.
+pub record ClustersInTwo (level : BufferClusterLevel) (us cs js : List ℕ) : Type 0 where
+  pub made : ClustersMade level (sara_am_stretches level us) (sources us) cs js
+  pub cluster_law : merges level ≡ true → (xs : List ℕ) (u : ℕ) (ys : List ℕ) → us ≡ xs ++ u ∷ ys → is_sara_am u ≡ true → ShareCluster js (new_place xs) (new_place xs + suffix_len is_above_base xs)
 
--- What it gives: rs. Each glyph has the cluster and the glyph flags of its source after the merges; so no cluster rises, and
--- glyph flags stay unless it fell.
+-- a glyph without what the rewriting changes
+abbrev pub unnamed : hb_glyph_info_t → hb_glyph_info_t
+unnamed g = record g { glyph_id = 0; general_category = Cc; continuation = false }
+
+-- What it gives: rs. Each glyph is its source after the merges in all but character, category and continuation; so no cluster rises,
+-- and glyph flags stay unless it fell.
 pub record InTwoHolds (level : BufferClusterLevel) (gs rs : List hb_glyph_info_t) : Type 0 where
-  pub copies : AllZip (Copies (merge_all level (sara_am_stretches level gs) gs)) (sources (characters gs)) rs
-  pub in_clusters : ClustersInTwo level gs (clusters rs)
+  pub made : map unnamed rs ≡ map unnamed (pick (sources (characters gs)) (merge_all level (sara_am_stretches level (characters gs)) gs))
+  pub in_clusters : ClustersInTwo level (characters gs) (clusters gs) (clusters rs)
   pub falls : AllZip FlagsFall (pick (sources (characters gs)) gs) rs
 
 abbrev pub InTwoLaw : Type 0
-InTwoLaw = (level : BufferClusterLevel) (gs : List hb_glyph_info_t) → InTwoHolds level gs (rewritten (merge_all level (sara_am_stretches level gs) gs))
+InTwoLaw = (level : BufferClusterLevel) (gs : List hb_glyph_info_t) → InTwoHolds level gs (rewritten (merge_all level (sara_am_stretches level (characters gs)) gs))
 
 -- a glyph without what the private use forms change
 abbrev pub unshaped : hb_glyph_info_t → hb_glyph_info_t

@@ -4,7 +4,7 @@ ghost use Rattle.std.specs.Prelude.{◌≡◌, ℕ, [], length, false, is_some, 
 ghost use Rattle.std.specs.List.{list_any};
 ghost use Rattle.shapers_base.specs.Glyph.{clusters};
 ghost use Rattle.shapers_base.specs.Refusals.{RefusesLength};
-ghost use Rattle.shapers_text.specs.Thai.{is_sara_am, rewritten, is_thai, wants_forms};
+ghost use Rattle.shapers_text.specs.Thai.{is_sara_am, characters, rewritten, is_thai, wants_forms};
 ghost use Rattle.shapers_text.specs.ThaiForms.{preprocessed};
 ghost use Rattle.shapers_text.specs.ThaiLaws.{ClustersInTwo, InTwoLaw, FormsLaw};
 
@@ -34,7 +34,7 @@ pub fn preprocess_text<F: hb_font_t>(
 ) -> Result<(), ShaperError>
     requires { buffer.old.positions ≡ [] }
     ensures ok { OnOk result (buffer.new ≡ record buffer.old { glyphs = preprocessed (wants_forms plan.now.script plan.now.ot_map.found) (λ c. is_some (F.nominal_glyph face.now c)) buffer.old.level buffer.old.glyphs }) }
-    ensures clusters { OnOk result (ClustersInTwo buffer.old.level buffer.old.glyphs (clusters buffer.new.glyphs)) }
+    ensures clusters { OnOk result (ClustersInTwo buffer.old.level (characters buffer.old.glyphs) (clusters buffer.old.glyphs) (clusters buffer.new.glyphs)) }
     ensures length { RefusesLength buffer.old.max_len (length (rewritten buffer.old.glyphs)) result }
     ensures err { OnErr result (buffer.new ≡ buffer.old) }
     ensures without { list_any (λ g. is_sara_am g.glyph_id) buffer.old.glyphs ≡ false → IsOk result }

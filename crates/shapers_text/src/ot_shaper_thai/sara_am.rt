@@ -3,8 +3,8 @@ ghost use Rattle.std.specs.Prelude.{◌≡◌, ℕ, ◌+◌, ◌^◌, ◌<◌, �
 ghost use Rattle.std.specs.List.{list_any};
 ghost use Rattle.shapers_base.specs.Clusters.{merge_all};
 ghost use Rattle.shapers_base.specs.Refusals.{RefusesLength};
-ghost use Rattle.shapers_text.specs.Thai.{is_sara_am, is_above_base, nikhahit, sara_aa, rewritten, marks_before, stretches_at, sara_am_stretches};
-ghost use Rattle.shapers_text.specs.ThaiRewriting.{Written, IsUnwritten, whole_of};
+ghost use Rattle.shapers_text.specs.Thai.{is_sara_am, is_above_base, nikhahit, sara_aa, characters, rewritten, stretches_at, sara_am_stretches};
+ghost use Rattle.shapers_text.specs.ThaiRewriting.{marks_of, Written, IsUnwritten, whole_of};
 
 use shapers_base::buffer::{
     BufferClusterLevel, ShaperError, hb_buffer_t, hb_glyph_info_t, hb_unicode_general_category_t,
@@ -62,7 +62,7 @@ fn count_sara_am(buffer: &hb_buffer_t) -> usize
 // How many above-base marks stand right before `place`.
 fn count_marks_before(buffer: &hb_buffer_t, place: usize) -> usize
     requires { place ≤ length buffer.now.glyphs }
-    ensures count { result ≡ marks_before buffer.now.glyphs place }
+    ensures count { result ≡ marks_of buffer.now.glyphs place }
     ensures few { result ≤ place }
 {
     buffer.glyphs()[..place]
@@ -77,7 +77,7 @@ fn count_marks_before(buffer: &hb_buffer_t, place: usize) -> usize
 fn merge_at(buffer: &mut hb_buffer_t, place: usize, u: u32)
     requires in_range { place < length buffer.old.glyphs }
     requires fits { place + 1 < 2 ^ 64 }
-    ensures { buffer.new ≡ record buffer.old { glyphs = merge_all buffer.old.level (stretches_at buffer.old.level place u (marks_before buffer.old.glyphs place)) buffer.old.glyphs } }
+    ensures { buffer.new ≡ record buffer.old { glyphs = merge_all buffer.old.level (stretches_at buffer.old.level place u (marks_of buffer.old.glyphs place)) buffer.old.glyphs } }
 {
     if !is_sara_am(u) {
         return;
@@ -100,7 +100,7 @@ fn merge_at(buffer: &mut hb_buffer_t, place: usize, u: u32)
 // Merges what each SARA AM of the first `len` glyphs merges, from the left.
 fn merge_all_sara_am(buffer: &mut hb_buffer_t, len: usize)
     requires { len ≤ length buffer.old.glyphs }
-    ensures { buffer.new ≡ record buffer.old { glyphs = merge_all buffer.old.level (sara_am_stretches buffer.old.level (take len buffer.old.glyphs)) buffer.old.glyphs } }
+    ensures { buffer.new ≡ record buffer.old { glyphs = merge_all buffer.old.level (sara_am_stretches buffer.old.level (take len (characters buffer.old.glyphs))) buffer.old.glyphs } }
 {
     for i in 0..len {
         let u = buffer.get(i).glyph_id;
@@ -173,7 +173,7 @@ fn write_in_two(buffer: &mut hb_buffer_t, len: usize)
 /// Refuses as a growth does. (OpenType's Thai and Lao notes; rustybuzz's comment on the rule.)
 pub fn rewrite_sara_am(buffer: &mut hb_buffer_t) -> Result<(), ShaperError>
     requires { buffer.old.positions ≡ [] }
-    ensures ok { OnOk result (buffer.new ≡ record buffer.old { glyphs = rewritten (merge_all buffer.old.level (sara_am_stretches buffer.old.level buffer.old.glyphs) buffer.old.glyphs) }) }
+    ensures ok { OnOk result (buffer.new ≡ record buffer.old { glyphs = rewritten (merge_all buffer.old.level (sara_am_stretches buffer.old.level (characters buffer.old.glyphs)) buffer.old.glyphs) }) }
     ensures length { RefusesLength buffer.old.max_len (length (rewritten buffer.old.glyphs)) result }
     ensures err { OnErr result (buffer.new ≡ buffer.old) }
     ensures without { list_any (λ g. is_sara_am g.glyph_id) buffer.old.glyphs ≡ false → IsOk result }

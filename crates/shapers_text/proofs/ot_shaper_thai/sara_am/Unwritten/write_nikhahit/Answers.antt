@@ -1,9 +1,9 @@
 -- The start, one more mark, and the NIKHAHIT.
-use Rattle.std.proofs.Common.{◌≡◌, ◌-◌, ◌+◌, Some, refl, sym, ap, subst, ◌∙◌, List, arith}
+use Rattle.std.proofs.Common.{◌≡◌, ◌-◌, ◌+◌, None, Some, refl, sym, ap, subst, ◌∙◌, List, arith}
 use Rattle.shapers_base.specs.Buffer.{Buffer}
 use Rattle.shapers_base.specs.declared.buffer.glyph.hb_glyph_info_t.{hb_glyph_info_t}
-use Rattle.shapers_text.specs.ThaiRewriting.{whole_of}
-use Rattle.shapers_text.proofs.ThaiSaraAm.{MarksLeft, marks_fit, marks_next}
+use Rattle.shapers_text.specs.ThaiRewriting.{Written, whole_of}
+use Rattle.shapers_text.proofs.ThaiSaraAm.{MarksLeft, marks_fit, marks_next, marks_done}
 use Rattle.shapers_text.proofs.ThaiStretches.{same_fields}
 use Rattle.shapers_text.proofs.ot_shaper_thai.sara_am.Unwritten.write_nikhahit.Goals as goal
 
@@ -36,3 +36,11 @@ loop-preserved c =
       fit = marks_fit whole now.glyphs (l.self.end - 1) (l.self.place - 1) (marks - (l.counter + 1)) c.args.nikhahit walk;
       shorter = omega (arith, l.invariant.shorter);
     }
+
+pub returns-clause-written : goal.returns-clause-written
+returns-clause-written c =
+    let l = c.loop in
+    let u = c.args.self.now in
+    let whole = whole_of c.args.buffer.now.glyphs u.end (Some c.args.nikhahit) u.place in
+    let done = marks_done whole l.buffer.glyphs l.self.end l.self.place (c.count_marks_before-marks.result - l.counter) c.args.nikhahit (omega (arith, c.loop-test.false)) l.invariant.walk in
+    subst (λ (gs : List hb_glyph_info_t). Written whole gs l.self.end None (l.self.place - 1)) (sym (ap (λ (x : Buffer). x.glyphs) c.set-2.ensures)) done

@@ -1,0 +1,148 @@
+-- The rule of SARA AM, read from the end of a text; through maps; at one SARA AM.
+use Rattle.std.proofs.Common.{◌≡◌, inl, inr, eqb, map, ◌-◌, ◌+◌, ℕ, true, false, cond, List, [], ◌∷◌, ◌++◌, length, take, refl, sym, ap, ◌∙◌, arith}
+use Rattle.std.specs.List.{list_any, count_by, suffix_len, take-map, enumerate_from, range_with_len}
+use Rattle.std.proofs.lemmas.Bool.{or_cases}
+use Rattle.std.proofs.lemmas.Bool.Decides.{nat_tests}
+use Rattle.std.proofs.lemmas.List.{map-append, append_assoc, length_push}
+use Rattle.shapers_base.specs.declared.buffer.glyph.hb_glyph_info_t.{hb_glyph_info_t}
+use Rattle.shapers_base.specs.Lists.{last_run, before_last_run}
+use Rattle.shapers_base.specs.ListLaws.{from_end, count_push, last_pass, none_in_front, last_run_yes, before_last_run_yes, last_run_no, before_last_run_no, last_run_stop, before_last_run_stop}
+use Rattle.shapers_base.specs.PieceLaws.{one_piece, opened_pieces-none, opened_pieces-append, opened_pieces-push, opened_pieces-map}
+use Rattle.shapers_base.specs.MappedLists.{suffix_len-map, last_run-map, before_last_run-map, enumerate-append, before_last_run-enumerate_from, places-last_run}
+use Rattle.shapers_text.specs.Thai.{is_sara_am, is_above_base, is_am, is_above, InTwo, opened, in_two, places_in_two, sources, characters}
+use Rattle.shapers_text.specs.ThaiRewriting.{marks_of, held}
+
+eqb_eq : (a b : ℕ) → eqb a b ≡ true → a ≡ b
+eqb_eq a b h = grind (arith, nat_tests)
+
+-- a SARA AM is no above-base mark
+apart : (u : ℕ) → is_sara_am u ≡ true → is_above_base u ≡ false
+apart u h =
+    elim (or_cases _ _ h) [
+      | inl e ↦ ap is_above_base (eqb_eq u 0x0E33 e)
+      | inr e ↦ ap is_above_base (eqb_eq u 0x0EB3 e)
+    ]
+
+-- a text without SARA AM stays
+pub in_two_plain : {X : Type 0} (two : InTwo X) (xs : List X) → list_any (is_am two) xs ≡ false → in_two two xs ≡ xs
+in_two_plain two xs none = opened_pieces-none (is_am two) (opened two) xs none
+
+-- what stands before and after a SARA AM is rewritten for itself
+pub in_two-append : {X : Type 0} (two : InTwo X) (xs : List X) (am : X) (ys : List X) → is_am two am ≡ true → in_two two (xs ++ am ∷ ys) ≡ in_two two (xs ++ am ∷ []) ++ in_two two ys
+in_two-append two xs am ys h = opened_pieces-append (is_am two) (opened two) xs am ys h
+
+-- one more glyph that is no SARA AM
+pub in_two_push : {X : Type 0} (two : InTwo X) (xs : List X) (x : X) → is_am two x ≡ false → in_two two (xs ++ x ∷ []) ≡ in_two two xs ++ x ∷ []
+in_two_push two xs x fails = opened_pieces-push (is_am two) (opened two) xs x fails
+
+-- where a NIKHAHIT is pending, what stands before an earlier SARA AM is rewritten for itself too
+held_after : {X : Type 0} (two : InTwo X) (before : List X) (am : X) (after : List X) (nikhahit : X) → is_am two am ≡ true → is_above two am ≡ false → held two (before ++ am ∷ after) nikhahit ≡ in_two two (before ++ am ∷ []) ++ held two after nikhahit
+held_after two before am after nikhahit h stops =
+    ap (λ zs. in_two two zs ++ nikhahit ∷ last_run (is_above two) (before ++ am ∷ after)) (before_last_run_stop (is_above two) before am after stops)
+    ∙ ap (λ zs. in_two two (before ++ am ∷ before_last_run (is_above two) after) ++ nikhahit ∷ zs) (last_run_stop (is_above two) before am after stops)
+    ∙ ap (λ zs. zs ++ nikhahit ∷ last_run (is_above two) after) (in_two-append two before am (before_last_run (is_above two) after) h)
+    ∙ append_assoc (in_two two (before ++ am ∷ [])) (in_two two (before_last_run (is_above two) after)) (nikhahit ∷ last_run (is_above two) after)
+
+in_two_push_am_first : {X : Type 0} (two : InTwo X) (xs : List X) (x : X) → list_any (is_am two) xs ≡ false → is_am two x ≡ true → in_two two (xs ++ x ∷ []) ≡ held two xs (two.nikhahit x) ++ two.sara_aa x ∷ []
+in_two_push_am_first two xs x none passes =
+    let before = before_last_run (is_above two) xs in
+    let run = last_run (is_above two) xs in
+    one_piece (is_am two) (opened two) xs x none
+    ∙ ap (λ b. cond b (opened two xs x) (xs ++ x ∷ [])) passes
+    ∙ sym (append_assoc before (two.nikhahit x ∷ run) (two.sara_aa x ∷ []))
+    ∙ ap (λ zs. (zs ++ two.nikhahit x ∷ run) ++ two.sara_aa x ∷ []) (sym (in_two_plain two before (none_in_front (is_am two) (length xs - suffix_len (is_above two) xs) xs none)))
+
+in_two_push_am_after : {X : Type 0} (two : InTwo X) (before : List X) (am : X) (after : List X) (x : X) → is_am two am ≡ true → is_above two am ≡ false → list_any (is_am two) after ≡ false → is_am two x ≡ true → in_two two ((before ++ am ∷ after) ++ x ∷ []) ≡ held two (before ++ am ∷ after) (two.nikhahit x) ++ two.sara_aa x ∷ []
+in_two_push_am_after two before am after x h stops none passes =
+    ap (in_two two) (append_assoc before (am ∷ after) (x ∷ []))
+    ∙ in_two-append two before am (after ++ x ∷ []) h
+    ∙ ap (λ zs. in_two two (before ++ am ∷ []) ++ zs) (in_two_push_am_first two after x none passes)
+    ∙ sym (append_assoc (in_two two (before ++ am ∷ [])) (held two after (two.nikhahit x)) (two.sara_aa x ∷ []))
+    ∙ ap (λ zs. zs ++ two.sara_aa x ∷ []) (sym (held_after two before am after (two.nikhahit x) h stops))
+
+-- one more glyph that is a SARA AM: its NIKHAHIT is pending
+pub in_two_push_am : {X : Type 0} (two : InTwo X) (xs : List X) (x : X) → is_am two x ≡ true → in_two two (xs ++ x ∷ []) ≡ held two xs (two.nikhahit x) ++ two.sara_aa x ∷ []
+in_two_push_am two xs x passes =
+    elim (last_pass (is_am two) xs) [
+      | inl none ↦ in_two_push_am_first two xs x none passes
+      | inr p ↦
+          ap (λ zs. in_two two (zs ++ x ∷ [])) p.parts
+          ∙ in_two_push_am_after two p.before p.element p.after x p.passes (apart (two.character p.element) p.passes) p.none_after passes
+          ∙ ap (λ zs. held two zs (two.nikhahit x) ++ two.sara_aa x ∷ []) (sym p.parts)
+    ]
+
+-- one more above-base mark, or another glyph, where a NIKHAHIT is pending
+pub held_push_mark : {X : Type 0} (two : InTwo X) (xs : List X) (x nikhahit : X) → is_above two x ≡ true → held two (xs ++ x ∷ []) nikhahit ≡ held two xs nikhahit ++ x ∷ []
+held_push_mark two xs x nikhahit h =
+    ap (λ zs. in_two two zs ++ nikhahit ∷ last_run (is_above two) (xs ++ x ∷ [])) (before_last_run_yes (is_above two) xs x h)
+    ∙ ap (λ zs. in_two two (before_last_run (is_above two) xs) ++ nikhahit ∷ zs) (last_run_yes (is_above two) xs x h)
+    ∙ sym (append_assoc (in_two two (before_last_run (is_above two) xs)) (nikhahit ∷ last_run (is_above two) xs) (x ∷ []))
+
+pub held_push_other : {X : Type 0} (two : InTwo X) (xs : List X) (x nikhahit : X) → is_above two x ≡ false → held two (xs ++ x ∷ []) nikhahit ≡ in_two two (xs ++ x ∷ []) ++ nikhahit ∷ []
+held_push_other two xs x nikhahit h =
+    ap (λ zs. in_two two zs ++ nikhahit ∷ last_run (is_above two) (xs ++ x ∷ [])) (before_last_run_no (is_above two) xs x h)
+    ∙ ap (λ zs. in_two two (xs ++ x ∷ []) ++ nikhahit ∷ zs) (last_run_no (is_above two) xs x h)
+
+-- an above-base mark is no SARA AM
+pub no_am : {X : Type 0} (two : InTwo X) (x : X) → is_above two x ≡ true → is_am two x ≡ false
+no_am two x h =
+    elim (is_am two x) as (λ b. is_am two x ≡ b → b ≡ false) [ true ↦ λ e. sym h ∙ apart (two.character x) e | false ↦ λ e. refl ] refl
+
+-- at a SARA AM: what stands before its marks is rewritten for itself, and what stands behind it
+pub in_two_at : {X : Type 0} (two : InTwo X) (xs : List X) (am : X) (ys : List X) → is_am two am ≡ true → in_two two (xs ++ am ∷ ys) ≡ in_two two (before_last_run (is_above two) xs) ++ ((two.nikhahit am ∷ last_run (is_above two) xs) ++ (two.sara_aa am ∷ in_two two ys))
+in_two_at two xs am ys passes =
+    in_two-append two xs am ys passes
+    ∙ ap (λ zs. zs ++ in_two two ys) (in_two_push_am two xs am passes)
+    ∙ append_assoc (held two xs (two.nikhahit am)) (two.sara_aa am ∷ []) (in_two two ys)
+    ∙ append_assoc (in_two two (before_last_run (is_above two) xs)) (two.nikhahit am ∷ last_run (is_above two) xs) (two.sara_aa am ∷ in_two two ys)
+
+-- the rule on what f reads as the other reads its own: what it makes leads to what the other makes, if its parts of a SARA AM do
+abbrev pub read_by : {X Y : Type 0} → (X → Y) → (X → X) → (X → X) → InTwo Y → InTwo X
+read_by f nikhahit sara_aa two = record { character = λ x. two.character (f x); nikhahit = nikhahit; sara_aa = sara_aa }
+
+pub in_two-map : {X Y : Type 0} (f : X → Y) (nikhahit sara_aa : X → X) (two : InTwo Y) → ((x : X) → f (nikhahit x) ≡ two.nikhahit (f x)) → ((x : X) → f (sara_aa x) ≡ two.sara_aa (f x)) → (xs : List X) → map f (in_two (read_by f nikhahit sara_aa two) xs) ≡ in_two two (map f xs)
+in_two-map f nikhahit sara_aa two first second xs =
+    let a = read_by f nikhahit sara_aa two in
+    opened_pieces-map f (is_am two) (opened a) (opened two)
+    (λ before x. simp (map-append, before_last_run-map (is_above two) f before, last_run-map (is_above two) f before, first x, second x)) xs
+
+-- the sources at a SARA AM: those of the text before its marks, the SARA AM, its marks, the SARA AM again, and so on
+pub sources_at : (xs : List ℕ) (u : ℕ) (ys : List ℕ) → is_sara_am u ≡ true → (behind : List ℕ) × (sources (xs ++ u ∷ ys) ≡ sources (before_last_run is_above_base xs) ++ ((length xs ∷ range_with_len (length xs - suffix_len is_above_base xs) (suffix_len is_above_base xs)) ++ behind))
+sources_at xs u ys passes =
+    let place : ℕ × ℕ → ℕ = λ p. p.0 in
+    let rest = enumerate_from (length xs + 1) ys in (
+      length xs ∷ map place (in_two places_in_two rest),
+      ap (λ ps. map place (in_two places_in_two ps)) (enumerate-append xs (u ∷ ys))
+          ∙ ap (map place) (in_two_at places_in_two (enumerate_from 0 xs) (length xs, u) rest passes)
+          ∙ simp (map-append, before_last_run-enumerate_from is_above_base 0 xs, places-last_run is_above_base xs),
+    )
+
+pub marks_of-characters : (gs : List hb_glyph_info_t) (i : ℕ) → marks_of gs i ≡ suffix_len is_above_base (take i (characters gs))
+marks_of-characters gs i = sym (suffix_len-map is_above_base (λ g. g.glyph_id) (take i gs)) ∙ ap (suffix_len is_above_base) (sym (take-map (λ g. g.glyph_id) i gs))
+
+-- the lengths: one more glyph for each SARA AM
+pub record Lengths {X : Type 0} (two : InTwo X) (xs : List X) : Type 0 where
+  pub whole : length (in_two two xs) ≡ length xs + count_by (is_am two) xs
+  pub pending : (nikhahit : X) → length (held two xs nikhahit) ≡ length xs + count_by (is_am two) xs + 1
+
+longer : {X : Type 0} (xs ys : List X) (y : X) → xs ≡ ys ++ y ∷ [] → length xs ≡ length ys + 1
+longer xs ys y e = ap length e ∙ length_push ys y
+
+lengths_push : {X : Type 0} (two : InTwo X) (xs : List X) (x : X) → Lengths two xs → length (in_two two (xs ++ x ∷ [])) ≡ length (xs ++ x ∷ []) + count_by (is_am two) (xs ++ x ∷ [])
+lengths_push two xs x p =
+    elim (is_am two x) as (λ b. is_am two x ≡ b → length (in_two two (xs ++ x ∷ [])) ≡ length (xs ++ x ∷ []) + count_by (is_am two) (xs ++ x ∷ [])) [
+      | true ↦ λ h. omega (arith, longer _ _ _ (in_two_push_am two xs x h), p.pending (two.nikhahit x), length_push xs x, count_push (is_am two) xs x true h)
+      | false ↦ λ h. omega (arith, longer _ _ _ (in_two_push two xs x h), p.whole, length_push xs x, count_push (is_am two) xs x false h)
+    ] refl
+
+lengths_push_held : {X : Type 0} (two : InTwo X) (xs : List X) (x nikhahit : X) → Lengths two xs → length (held two (xs ++ x ∷ []) nikhahit) ≡ length (xs ++ x ∷ []) + count_by (is_am two) (xs ++ x ∷ []) + 1
+lengths_push_held two xs x nikhahit p =
+    elim (is_above two x) as (λ b. is_above two x ≡ b → length (held two (xs ++ x ∷ []) nikhahit) ≡ length (xs ++ x ∷ []) + count_by (is_am two) (xs ++ x ∷ []) + 1) [
+      | true ↦ λ h. omega (arith, longer _ _ _ (held_push_mark two xs x nikhahit h), p.pending nikhahit, length_push xs x, count_push (is_am two) xs x false (no_am two x h))
+      | false ↦ λ h. omega (arith, longer _ _ _ (held_push_other two xs x nikhahit h), lengths_push two xs x p)
+    ] refl
+
+pub lengths : {X : Type 0} (two : InTwo X) (xs : List X) → Lengths two xs
+lengths two xs =
+    from_end (Lengths two) (record { whole = refl; pending = λ n. refl })
+    (λ xs x p. record { whole = lengths_push two xs x p; pending = λ n. lengths_push_held two xs x n p }) xs
