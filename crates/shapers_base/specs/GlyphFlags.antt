@@ -1,5 +1,5 @@
 -- The three glyph flags: who gets which.
-use Rattle.std.specs.Prelude.{ℕ, ◌==◌, bit_or, Bool, List, ◌++◌, map, take, drop, if◌then◌else◌}
+use Rattle.std.specs.Prelude.{ℕ, ◌==◌, bit_or, Bool, List, [], ◌∷◌, ◌++◌, map, take, drop, if◌then◌else◌}
 use Rattle.shapers_base.specs.declared.buffer.glyph.hb_glyph_info_t.{hb_glyph_info_t}
 use Rattle.shapers_base.specs.Glyph.{clusters}
 use Rattle.shapers_base.specs.Clusters.{least, stretch_of}
@@ -23,6 +23,11 @@ flagged bits gs = map (with_bits_off bits (least (clusters gs))) gs
 -- no break and no concatenation inside the stretch from s to e: bits 1 and 2
 abbrev pub unsafe_inside : ℕ → ℕ → List hb_glyph_info_t → List hb_glyph_info_t
 unsafe_inside s e gs = with_stretch s e (flagged 3) gs
+
+-- no break inside these stretches, one after another
+abbrev pub unsafe_all : List (ℕ × ℕ) → List hb_glyph_info_t → List hb_glyph_info_t
+unsafe_all [] gs = gs
+unsafe_all (st ∷ sts) gs = unsafe_all sts (unsafe_inside st.0 st.1 gs)
 
 -- no concatenation at any place of the stretch: bit 2, where the buffer asks for it
 abbrev pub unsafe_to_concat_in : Bool → ℕ → ℕ → List hb_glyph_info_t → List hb_glyph_info_t

@@ -2,7 +2,7 @@
 use Rattle.std.proofs.Common.{ℕ, suc, ◌+◌, ◌-◌, ◌<◌, ◌≤◌, ◌≡◌, ◌≢◌, ◌==◌, ◌↔◌, min, max, Bool, true, false, ◌||◌, nat_lt, ◌&&◌, ◌⊎◌, inl, inr, List, [], ◌∷◌, length, get_or, slice_index, refl, sym, ◌∙◌, ap, subst, arith}
 use Rattle.std.specs.List.{AllPairs}
 use Rattle.std.proofs.lemmas.List.{ext_get_or, get_or_default}
-use Rattle.std.proofs.lemmas.Bool.{cases_lt}
+use Rattle.std.proofs.lemmas.Bool.{cases_lt, eqb-false}
 use Rattle.std.proofs.lemmas.Bool.Decides.{nat_tests}
 use Rattle.shapers_base.specs.declared.buffer.level.BufferClusterLevel.{BufferClusterLevel}
 use Rattle.shapers_base.specs.Clusters.{merges}
@@ -129,9 +129,6 @@ or_none false b h = (refl, h)
 not_in : (s e p : ℕ) → (nat_lt s p && nat_lt p e) ≡ false → s < p → p < e → ⊥
 not_in s e p h a b = grind (arith, nat_tests)
 
-eq_fails : (a b : ℕ) → (a == b) ≡ false → a ≢ b
-eq_fails a b h = grind (arith, nat_tests)
-
 joined_all-cut : (R : ℕ → ℕ → Type 0) → IsOrder R → (level : BufferClusterLevel) (sts : List (ℕ × ℕ)) (cs : List ℕ) → EndWithin (length cs) sts → InOrder R cs → (p : ℕ) → suc p < length cs → get_or cs p 0 ≢ get_or cs (suc p) 0 → held sts (suc p) ≡ false → get_or (joined_all level sts cs) p 0 ≢ get_or (joined_all level sts cs) (suc p) 0
 joined_all-cut R o level [] cs w h p l ne out = ne
 joined_all-cut R o level (st ∷ sts) cs w h p l ne out =
@@ -147,7 +144,7 @@ unlinked_cut R o level sts cs w h p z l n =
     let b = or_none (slice_index cs (p - 1) == slice_index cs p) (held sts p) n in
     let P : ℕ → Type 0 = λ k. get_or (joined_all level sts cs) (p - 1) 0 ≢ get_or (joined_all level sts cs) k 0 in
     let Q : ℕ → Type 0 = λ k. get_or cs (p - 1) 0 ≢ get_or cs k 0 in
-    subst P i (joined_all-cut R o level sts cs w h (p - 1) (omega arith) (subst Q (sym i) (eq_fails (get_or cs (p - 1) 0) (get_or cs p 0) b.0)) (ap (held sts) i ∙ b.1))
+    subst P i (joined_all-cut R o level sts cs w h (p - 1) (omega arith) (subst Q (sym i) (eqb-false (get_or cs (p - 1) 0) (get_or cs p 0) b.0)) (ap (held sts) i ∙ b.1))
 
 bool_cases : (b : Bool) → (b ≡ true) ⊎ (b ≡ false)
 bool_cases true = inl refl

@@ -13,16 +13,18 @@ use Rattle.shapers_clusters.specs.Steps.{pick, Step, run_steps, joined_steps, ol
 use Rattle.shapers_clusters.specs.Widened.{steps_along, reordered_along}
 use Rattle.shapers_clusters.specs.Halves.{ShareNone}
 use Rattle.shapers_clusters.specs.Falls.{FallsTo, FlagsFall}
+use Rattle.shapers_clusters.specs.FlagCalls.{FlagsAlone}
 use Rattle.shapers_clusters.specs.Made.{ShowsClusters}
 use Rattle.shapers_clusters.specs.Labels.{IsLabelled, OneLabel, OneLabelEach}
 use Rattle.shapers_clusters.specs.Sources.{ExactCutsBy, HeldAlong, MovesInsideOf}
 
--- Merges of any stretch at any level, and the three flag calls, whatever the buffer asks for, leave the order view of the glyphs gs.
+-- Merges of any stretch at any level leave the order view of the glyphs gs; the three flag calls, whatever the buffer asks for,
+-- change nothing but glyph flags.
 pub record ViewStays (s e : ℕ) (gs : List hb_glyph_info_t) : Type 0 where
   pub merging : (level : BufferClusterLevel) → order_view (merge level s e gs) ≡ order_view gs
-  pub breaking : order_view (unsafe_inside s e gs) ≡ order_view gs
-  pub concatenating : (asked : Bool) → order_view (unsafe_to_concat_in asked s e gs) ≡ order_view gs
-  pub joining : (asked : Bool) → order_view (tatweel_inside asked s e gs) ≡ order_view gs
+  pub breaking : FlagsAlone gs (unsafe_inside s e gs)
+  pub concatenating : (asked : Bool) → FlagsAlone gs (unsafe_to_concat_in asked s e gs)
+  pub joining : (asked : Bool) → FlagsAlone gs (tatweel_inside asked s e gs)
 
 abbrev pub ViewLaw : Type 0
 ViewLaw = (s e : ℕ) (gs : List hb_glyph_info_t) → s ≤ e → ViewStays s e gs

@@ -2,6 +2,7 @@ pub mod Appended
 pub mod Cuts
 pub mod Falls
 pub mod FlagCalls
+pub mod Flagging
 pub mod Halves
 pub mod Joined
 pub mod Labels

@@ -1,8 +1,7 @@
 -- What merges do to any clusters: none rises, neighbours that share one still do, and so do the places of a stretch.
 use Rattle.std.proofs.Common.{ℕ, zero, suc, ◌+◌, ◌-◌, ◌<◌, ◌≤◌, ◌≡◌, ◌==◌, min, max, Bool, true, false, ◌||◌, nat_lt, ◌&&◌, ◌⊎◌, inl, inr, List, [], ◌∷◌, length, get_or, slice_index, refl, sym, ◌∙◌, ap, subst, arith}
 use Rattle.std.specs.List.{AllByRecursion, list_any}
-use Rattle.std.proofs.lemmas.Bool.{cases_lt}
-use Rattle.std.proofs.lemmas.Bool.Decides.{nat_tests}
+use Rattle.std.proofs.lemmas.Bool.{cases_lt, ltb-true, eqb-true}
 use Rattle.shapers_base.specs.declared.buffer.level.BufferClusterLevel.{BufferClusterLevel}
 use Rattle.shapers_base.specs.Clusters.{merges}
 use Rattle.shapers_clusters.specs.Joined.{joined, joined_all}
@@ -124,15 +123,9 @@ and_both : (a b : Bool) → (a && b) ≡ true → (a ≡ true) × (b ≡ true)
 and_both true b h = (refl, h)
 and_both false b h = (cc, cc)
 
-lt_holds : (a b : ℕ) → nat_lt a b ≡ true → a < b
-lt_holds a b h = grind (arith, nat_tests)
-
-eq_holds : (a b : ℕ) → (a == b) ≡ true → a ≡ b
-eq_holds a b h = grind (arith, nat_tests)
-
 in_stretch : (s e p : ℕ) (rest : Bool) → (nat_lt s p && nat_lt p e || rest) ≡ true → ((s < p) × (p < e)) ⊎ (rest ≡ true)
 in_stretch s e p rest h = elim (or_cases (nat_lt s p && nat_lt p e) rest h) [
-  | inl i ↦ let b = and_both (nat_lt s p) (nat_lt p e) i in inl (lt_holds s p b.0, lt_holds p e b.1)
+  | inl i ↦ let b = and_both (nat_lt s p) (nat_lt p e) i in inl (ltb-true s p b.0, ltb-true p e b.1)
   | inr r ↦ inr r
 ]
 
@@ -154,7 +147,7 @@ joined_all-linked level m sts cs h p z l q =
     let i : suc (p - 1) ≡ p = omega arith in
     let js = joined_all level sts cs in
     let up : get_or js (p - 1) 0 ≡ get_or js (suc (p - 1)) 0 = elim (or_cases (slice_index cs (p - 1) == slice_index cs p) (held sts p) q) [
-      | inl e ↦ joined_all-neighbours level sts cs h (p - 1) (omega arith) (eq_holds (get_or cs (p - 1) 0) (get_or cs p 0) e ∙ ap (λ k. get_or cs k 0) (sym i))
+      | inl e ↦ joined_all-neighbours level sts cs h (p - 1) (omega arith) (eqb-true (get_or cs (p - 1) 0) (get_or cs p 0) e ∙ ap (λ k. get_or cs k 0) (sym i))
       | inr e ↦ joined_all-held level m sts cs h (p - 1) (omega arith) (ap (held sts) i ∙ e)
     ] in
     up ∙ ap (λ k. get_or js k 0) i

@@ -21,7 +21,7 @@ use Rattle.shapers_clusters.specs.Labels.{IsLabelled, joined-labelled, joined_st
 use Rattle.shapers_clusters.specs.Sources.{exact_cuts_by, sources_share, clusters-moved_sources, clusters-picked, falls-picked}
 use Rattle.shapers_clusters.specs.Widened.{fits-widened, moves-widened, all_fit-widened, all_moves-widened, order_view-widened, all_along, order_view-along}
 use Rattle.shapers_clusters.specs.Halves.{halves_along}
-use Rattle.shapers_clusters.specs.FlagCalls.{order_view-unsafe_inside, order_view-unsafe_to_concat_in, order_view-tatweel_inside}
+use Rattle.shapers_clusters.specs.FlagCalls.{unsafe_inside-alone, unsafe_to_concat_in-alone, tatweel_inside-alone}
 use Rattle.shapers_clusters.specs.Laws.{ViewLaw, HalvesLaw, MergeLaw, ExactCutsLaw, StepsLaw, ClustersLaw, MergedStepsLaw, WidenedLaw, AlongLaw, ClustersMade, MadeHold, MadeLaw, MovedSourcesLaw}
 
 -- stretches end within the clusters if they do within the glyphs
@@ -31,9 +31,9 @@ ends sts gs w = let P : ℕ → Type 0 = λ n. EndWithin n sts in subst P (sym (
 pub view_stays : ViewLaw
 view_stays s e gs h = record {
   merging = λ level. order_view-merge level s e gs;
-  breaking = order_view-unsafe_inside s e gs h;
-  concatenating = λ asked. order_view-unsafe_to_concat_in asked s e gs h;
-  joining = λ asked. order_view-tatweel_inside asked s e gs h;
+  breaking = unsafe_inside-alone s e gs h;
+  concatenating = λ asked. unsafe_to_concat_in-alone asked s e gs h;
+  joining = λ asked. tatweel_inside-alone asked s e gs h;
 }
 
 pub merge_holds : MergeLaw

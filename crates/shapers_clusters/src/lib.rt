@@ -4,7 +4,7 @@
 
 ghost use Rattle.shapers_clusters.specs.Laws.{ViewLaw, MergeLaw, ExactCutsLaw, StepsLaw, ClustersLaw, MergedStepsLaw, WidenedLaw, AlongLaw, HalvesLaw, MadeLaw, MovedSourcesLaw};
 
-/// Merges and the three flag calls leave the order view.
+/// Merges leave the order view; the three flag calls change nothing but glyph flags.
 pub fn view_law()
     ensures { ViewLaw }
 {}

@@ -1,7 +1,7 @@
 -- What the hook makes of clusters and glyph flags, by the law of made glyphs.
-use Rattle.std.proofs.Common.{◌≡◌, ℕ, ◌-◌, ◌+◌, ◌<◌, ◌≤◌, true, false, nat_lt, Bool, List, [], ◌∷◌, ◌++◌, length, map, refl, sym, ap, ◌∙◌, subst, arith}
+use Rattle.std.proofs.Common.{◌≡◌, ℕ, ◌-◌, ◌+◌, ◌<◌, ◌≤◌, true, false, Bool, List, [], ◌∷◌, ◌++◌, length, map, refl, sym, ap, ◌∙◌, subst, arith}
+use Rattle.std.proofs.lemmas.Bool.{lt-ltb}
 use Rattle.std.specs.List.{suffix_len, range_with_len, enumerate_from, Contains}
-use Rattle.std.proofs.lemmas.Bool.Decides.{nat_tests}
 use Rattle.std.proofs.lemmas.List.Elements.{All-cons}
 use Rattle.std.proofs.lemmas.List.FromFn.{length-range_with_len}
 use Rattle.std.proofs.lemmas.List.Sums.{suffix_len-le-length}
@@ -27,9 +27,6 @@ use Rattle.shapers_text.proofs.ThaiFormWalks.{forms_hold}
 abbrev made_in_two : (gs : List hb_glyph_info_t) → InTwo (Made unnamed gs)
 made_in_two gs = read_by (λ m. m.glyph) (λ m. record m { glyph = nikhahit m.glyph; same = m.same }) (λ m. record m { glyph = sara_aa m.glyph; same = m.same }) glyphs_in_two
 
-some_marks : (w : ℕ) → 0 < w → nat_lt 0 w ≡ true
-some_marks w h = grind (arith, nat_tests)
-
 -- a SARA AM with marks merges with them, and that stretch holds together what comes of them
 shares : (level : BufferClusterLevel) (us cs js : List ℕ) → ClustersMade level (sara_am_stretches level us) (sources us) cs js → merges level ≡ true → (xs : List ℕ) (u : ℕ) (ys : List ℕ) → us ≡ xs ++ u ∷ ys → is_sara_am u ≡ true → ShareCluster js (new_place xs) (new_place xs + suffix_len is_above_base xs)
 shares level us cs js made m xs u ys split is_am =
@@ -40,7 +37,7 @@ shares level us cs js made m xs u ys split is_am =
     let P : ℕ → Type 0 = λ p. (n - w ≤ p) × (p < n + 1) in
     let (behind, parts) = sources_at xs u ys is_am in
     let long = length-range_with_len (n - w) w in
-    let merged : 0 < w → Contains (stretches_at level n u w) st = λ some. let test = some_marks w some in rw (is_am, test) (0, omega arith, refl) in
+    let merged : 0 < w → Contains (stretches_at level n u w) st = λ some. let test = lt-ltb 0 w some in rw (is_am, test) (0, omega arith, refl) in
     part_shares made m st (sources (before_last_run is_above_base xs)) (n ∷ range_with_len (n - w) w) behind
     (λ some. subst (λ vs. Contains (sara_am_stretches level vs) st) (sym split) (Contains-flat_map _ (each_after [] (xs ++ u ∷ ys)) (xs, u) st (Contains-each_after [] xs u ys) (merged (omega arith))))
     (ap sources split ∙ parts)

@@ -1,8 +1,7 @@
 -- The forms, one more character at the end.
 use Rattle.std.proofs.Common.{◌≡◌, ◌⊎◌, inl, inr, ℕ, suc, ◌-◌, ◌+◌, ◌==◌, Bool, true, false, cond, not, ◌||◌, ◌&&◌, List, [], ◌∷◌, ◌++◌, length, take, drop, get_or, set, reverse, refl, sym, ap, ◌∙◌, subst, arith, length-append}
 use Rattle.std.specs.List.{list_any, count_by, take_while, suffix_len}
-use Rattle.std.proofs.lemmas.Bool.{or_parts}
-use Rattle.std.proofs.lemmas.Bool.Decides.{nat_tests}
+use Rattle.std.proofs.lemmas.Bool.{or_parts, eqb-true}
 use Rattle.std.proofs.lemmas.List.{append_assoc, append-nil, get_or_at, set_at, reverse-append, length_push}
 use Rattle.std.proofs.lemmas.List.Folds.{list_any-append}
 use Rattle.std.proofs.lemmas.List.Sums.{take_while-cons}
@@ -139,13 +138,10 @@ no_action DC NotMark a b h = refl
 no_action NotConsonant NotMark a b h = refl
 
 -- a vowel below has no form without a descender
-eqb_eq : (a b : ℕ) → (a == b) ≡ true → a ≡ b
-eqb_eq a b h = grind (arith, nat_tests)
-
 not_this : (v u : ℕ) → stands_below (mark_type u) ≡ true → stands_below (mark_type v) ≡ false → (v == u) ≡ false
 not_this v u below other =
     elim (v == u) as (λ b. (v == u) ≡ b → b ≡ false) [
-      | true ↦ λ e. sym below ∙ ap (λ w. stands_below (mark_type w)) (sym (eqb_eq v u e)) ∙ other
+      | true ↦ λ e. sym below ∙ ap (λ w. stands_below (mark_type w)) (sym (eqb-true v u e)) ∙ other
       | false ↦ λ e. refl
     ] refl
 
@@ -189,7 +185,7 @@ zero_count test xs =
     elim (list_any test xs) as (λ b. list_any test xs ≡ b → (count_by test xs == 0) ≡ not b) [
       | false ↦ λ none. ap (λ n. n == 0) (count_from_none test xs none)
       | true ↦ λ some. elim (count_by test xs == 0) as (λ c. (count_by test xs == 0) ≡ c → c ≡ false) [
-        | true ↦ λ zero. sym some ∙ none_from_count test xs (eqb_eq _ _ zero)
+        | true ↦ λ zero. sym some ∙ none_from_count test xs (eqb-true _ _ zero)
         | false ↦ λ _. refl
       ] refl
     ] refl

@@ -1,8 +1,7 @@
 -- The rule of SARA AM, read from the end of a text; through maps; at one SARA AM.
-use Rattle.std.proofs.Common.{◌≡◌, inl, inr, eqb, map, ◌-◌, ◌+◌, ℕ, true, false, cond, List, [], ◌∷◌, ◌++◌, length, take, refl, sym, ap, ◌∙◌, arith}
+use Rattle.std.proofs.Common.{◌≡◌, inl, inr, map, ◌-◌, ◌+◌, ℕ, true, false, cond, List, [], ◌∷◌, ◌++◌, length, take, refl, sym, ap, ◌∙◌, arith}
 use Rattle.std.specs.List.{list_any, count_by, suffix_len, take-map, enumerate_from, range_with_len}
-use Rattle.std.proofs.lemmas.Bool.{or_cases}
-use Rattle.std.proofs.lemmas.Bool.Decides.{nat_tests}
+use Rattle.std.proofs.lemmas.Bool.{or_cases, eqb-true}
 use Rattle.std.proofs.lemmas.List.{map-append, append_assoc, length_push}
 use Rattle.shapers_base.specs.declared.buffer.glyph.hb_glyph_info_t.{hb_glyph_info_t}
 use Rattle.shapers_base.specs.Lists.{last_run, before_last_run}
@@ -12,15 +11,12 @@ use Rattle.shapers_base.specs.MappedLists.{suffix_len-map, last_run-map, before_
 use Rattle.shapers_text.specs.Thai.{is_sara_am, is_above_base, is_am, is_above, InTwo, opened, in_two, places_in_two, sources, characters}
 use Rattle.shapers_text.specs.ThaiRewriting.{marks_of, held}
 
-eqb_eq : (a b : ℕ) → eqb a b ≡ true → a ≡ b
-eqb_eq a b h = grind (arith, nat_tests)
-
 -- a SARA AM is no above-base mark
 apart : (u : ℕ) → is_sara_am u ≡ true → is_above_base u ≡ false
 apart u h =
     elim (or_cases _ _ h) [
-      | inl e ↦ ap is_above_base (eqb_eq u 0x0E33 e)
-      | inr e ↦ ap is_above_base (eqb_eq u 0x0EB3 e)
+      | inl e ↦ ap is_above_base (eqb-true u 0x0E33 e)
+      | inr e ↦ ap is_above_base (eqb-true u 0x0EB3 e)
     ]
 
 -- a text without SARA AM stays

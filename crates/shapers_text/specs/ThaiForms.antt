@@ -5,7 +5,7 @@ use Rattle.shapers_base.specs.declared.buffer.glyph.hb_glyph_info_t.{hb_glyph_in
 use Rattle.shapers_base.specs.declared.buffer.level.BufferClusterLevel.{BufferClusterLevel}
 use Rattle.shapers_base.specs.Glyph.{default_glyph}
 use Rattle.shapers_base.specs.Clusters.{merge_all}
-use Rattle.shapers_base.specs.GlyphFlags.{unsafe_inside}
+use Rattle.shapers_base.specs.GlyphFlags.{unsafe_all}
 use Rattle.shapers_base.specs.Lists.{last_run, before_last_run, each_after}
 use Rattle.shapers_text.specs.Thai.{characters, rewritten, sara_am_stretches}
 use Rattle.shapers_text.specs.declared.ot_shaper_thai.forms.Consonant.{Consonant}
@@ -204,11 +204,6 @@ mark_stretches_of_each each = flat_map (λ p. stretch_of_mark (base_place p.0) (
 
 abbrev pub mark_stretches : List ℕ → List (ℕ × ℕ)
 mark_stretches us = mark_stretches_of_each (each_after [] us)
-
--- no break inside the stretches, one after another
-abbrev pub unsafe_all : List (ℕ × ℕ) → List hb_glyph_info_t → List hb_glyph_info_t
-unsafe_all [] gs = gs
-unsafe_all (st ∷ sts) gs = unsafe_all sts (unsafe_inside st.0 st.1 gs)
 
 -- forms and flags: a break between a base and its marks would change the forms
 abbrev pub pua_shaped : (ℕ → Bool) → List hb_glyph_info_t → List hb_glyph_info_t
