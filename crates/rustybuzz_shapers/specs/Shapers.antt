@@ -1,10 +1,12 @@
 -- The records of the shapers: their constants, and which hooks they have.
-use Rattle.std.specs.Prelude.{ℕ, Bool, true, false, List, ◌≡◌, length, Option, None, Some, Result, IsOk, codes}
+use Rattle.std.specs.Prelude.{ℕ, Bool, true, false, List, [], ◌∷◌, ◌≡◌, length, Option, None, Some, Result, IsOk, codes}
 use Rattle.std.specs.List.{list_any}
 use Rattle.std.specs.Option.{option_map}
 use Rattle.shapers_base.specs.Buffer.{Buffer}
 use Rattle.shapers_base.specs.Planner.{Planner, with_requests}
 use Rattle.shapers_base.specs.Refusals.{RefusesLength}
+use Rattle.shapers_base.specs.declared.buffer.glyph.hb_glyph_info_t.{hb_glyph_info_t}
+use Rattle.shapers_base.specs.declared.buffer.level.BufferClusterLevel.{BufferClusterLevel}
 use Rattle.shapers_base.specs.declared.buffer.refusal.ShaperError.{ShaperError}
 use Rattle.shapers_base.specs.declared.buffer.tag.hb_tag_t.{hb_tag_t}
 use Rattle.shapers_base.specs.declared.buffer.tag.Script.{Script}
@@ -15,11 +17,12 @@ use Rattle.shapers_base.specs.declared.plan.record.NormalizationMode.{Normalizat
 use Rattle.shapers_base.specs.declared.plan.record.NormalizationMode.TheVariants as mode
 use Rattle.shapers_base.specs.declared.plan.record.ZeroWidthMarks.{ZeroWidthMarks}
 use Rattle.shapers_base.specs.declared.plan.record.ZeroWidthMarks.TheVariants as zeroing
-use Rattle.shapers_clusters.specs.Steps.{run_step}
+use Rattle.shapers_clusters.specs.Steps.{Step, run_step}
 use Rattle.shapers_text.specs.Hebrew.{composed_in_hebrew, mark_step}
 use Rattle.shapers_text.specs.Requests.{arabic_list, is_arabic, hangul_list, hangul_overrides}
 use Rattle.shapers_text.specs.Thai.{is_sara_am, rewritten, wants_forms}
 use Rattle.shapers_text.specs.ThaiForms.{preprocessed}
+use Rattle.shapers_text.specs.ThaiLaws.{ClustersInTwo}
 use Rattle.shapers_regroup.specs.Requests.{khmer_list, khmer_overrides, myanmar_list, universal_list}
 use Rattle.shapers_indic.specs.Requests.{indic_list, indic_overrides}
 use Rattle.rustybuzz_shapers.specs.declared.shaper.hb_ot_shaper_t.{hb_ot_shaper_t}
@@ -143,6 +146,11 @@ abbrev pub after_marks : hb_ot_shaper_t → ℕ → ℕ → Buffer → Buffer
 after_marks Hebrew start end b = record b { glyphs = run_step b.level (mark_step start end b.glyphs) b.glyphs }
 after_marks _ start end b = b
 
+-- its steps (docs/LAWS.md)
+abbrev pub marks_steps : hb_ot_shaper_t → ℕ → ℕ → List hb_glyph_info_t → List Step
+marks_steps Hebrew start end gs = mark_step start end gs ∷ []
+marks_steps _ start end gs = []
+
 -- what preprocessing answers, if the shaper has it
 abbrev pub preprocess_answer : hb_ot_shaper_t → Option Preprocess
 preprocess_answer Hangul = Some Done
@@ -160,6 +168,11 @@ preprocess_stands _ = true
 abbrev pub after_preprocess : hb_ot_shaper_t → Option Script → Bool → (ℕ → Bool) → Buffer → Buffer
 after_preprocess Thai s found has b = record b { glyphs = preprocessed (wants_forms s found) has b.level b.glyphs }
 after_preprocess _ s found has b = b
+
+-- what preprocessing makes of the clusters cs of the characters us: for Thai what its rewriting does, else nothing
+abbrev pub ClustersPreprocessed : hb_ot_shaper_t → BufferClusterLevel → List ℕ → List ℕ → List ℕ → Type 0
+ClustersPreprocessed Thai level us cs js = ClustersInTwo level us cs js
+ClustersPreprocessed _ level us cs js = js ≡ cs
 
 -- when preprocessing refuses: never, but for Thai, as a growth does where there is a SARA AM
 abbrev pub RefusesPreprocess : {T : Type 0} → hb_ot_shaper_t → Buffer → Result T ShaperError → Type 0

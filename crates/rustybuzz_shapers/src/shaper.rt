@@ -2,8 +2,12 @@
 //! and changes nothing.
 ghost use Rattle.std.specs.Prelude.{◌≡◌, ◌≤◌, [], length, false, true, None, Ok, IfOk, IsOk, IsNone, is_some, IsOkUnless, OnOk, OnErr};
 ghost use Rattle.shapers_base.specs.declared.buffer.refusal.ShaperError.TheVariants.{Memory};
+ghost use Rattle.shapers_base.specs.Clusters.{merges};
+ghost use Rattle.shapers_base.specs.Glyph.{clusters};
+ghost use Rattle.shapers_clusters.specs.Laws.{StepsHold, MergedStepsHold};
 ghost use Rattle.shapers_text.specs.Requests.{rclt};
-ghost use Rattle.rustybuzz_shapers.specs.Shapers.{normalizes, wants_gpos_script, zeroes_marks, places_marks, collected, overridden, asked, if_there, keeps_data, postprocesses, compose_stands, composed_by, decomposes, masks_glyphs, moves_marks, marks_stand, after_marks, preprocess_answer, preprocess_stands, after_preprocess, RefusesPreprocess};
+ghost use Rattle.shapers_text.specs.Thai.{characters};
+ghost use Rattle.rustybuzz_shapers.specs.Shapers.{normalizes, wants_gpos_script, zeroes_marks, places_marks, collected, overridden, asked, if_there, keeps_data, postprocesses, compose_stands, composed_by, decomposes, masks_glyphs, moves_marks, marks_stand, after_marks, marks_steps, preprocess_answer, preprocess_stands, after_preprocess, ClustersPreprocessed, RefusesPreprocess};
 
 use shapers_base::buffer::{ShaperError, hb_buffer_t, hb_tag_t};
 use shapers_base::font::{Tables, hb_font_t};
@@ -176,6 +180,7 @@ impl hb_ot_shaper_t {
         requires unbuilt { preprocess_stands self ≡ true }
         ensures answer { IfOk result (λ answer. answer ≡ preprocess_answer self) }
         ensures ok { OnOk result (buffer.new ≡ after_preprocess self plan.now.script plan.now.ot_map.found (λ c. is_some (F.nominal_glyph face.now c)) buffer.old) }
+        ensures clusters { OnOk result (ClustersPreprocessed self buffer.old.level (characters buffer.old.glyphs) (clusters buffer.old.glyphs) (clusters buffer.new.glyphs)) }
         ensures refusal { RefusesPreprocess self buffer.old result }
         ensures err { OnErr result (buffer.new ≡ buffer.old) }
     {
@@ -288,6 +293,8 @@ impl hb_ot_shaper_t {
         requires unbuilt { marks_stand self ≡ true }
         ensures answer { is_some result ≡ moves_marks self }
         ensures marks { buffer.new ≡ after_marks self start end buffer.old }
+        ensures flags { StepsHold buffer.old.level (marks_steps self start end buffer.old.glyphs) buffer.old.glyphs buffer.new.glyphs }
+        ensures clusters { merges buffer.old.level ≡ true → MergedStepsHold buffer.old.level (marks_steps self start end buffer.old.glyphs) (clusters buffer.old.glyphs) (clusters buffer.new.glyphs) }
     {
         match self {
             Self::Hebrew => Some(ot_shaper_hebrew::reorder_marks(plan, buffer, start, end)),

@@ -8,6 +8,7 @@ use Rattle.shapers_base.specs.declared.buffer.level.BufferClusterLevel.TheVarian
 use Rattle.shapers_base.specs.Glyph.{default_glyph, clusters}
 use Rattle.shapers_text.specs.Thai.{characters, sources, sara_am_stretches}
 use Rattle.shapers_text.specs.ThaiForms.{preprocessed}
+use Rattle.shapers_text.specs.ThaiLaws.{new_place}
 
 -- a text whose clusters count from 0
 abbrev text : List ℕ → List hb_glyph_info_t
@@ -32,6 +33,10 @@ tone-clusters = refl
 
 tone-sources : sources (0x0E14 ∷ 0x0E4B ∷ 0x0E33 ∷ []) ≡ 0 ∷ 2 ∷ 1 ∷ 2 ∷ []
 tone-sources = refl
+
+-- behind the consonant
+tone-new_place : new_place (0x0E14 ∷ 0x0E4B ∷ []) ≡ 1
+tone-new_place = refl
 
 -- only NIKHAHIT is made a mark and a continuation
 made-marks : map (λ g. g.continuation) (found MonotoneGraphemes (0x0E14 ∷ 0x0E4B ∷ 0x0E33 ∷ [])) ≡ false ∷ true ∷ false ∷ false ∷ []
