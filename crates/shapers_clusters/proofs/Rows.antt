@@ -3,7 +3,7 @@ use Rattle.std.proofs.Common.{ℕ, ◌+◌, ◌-◌, ◌≡◌, ◌≤◌, [], �
 use Rattle.std.specs.List.{AllByRecursion}
 use Rattle.shapers_base.specs.declared.buffer.level.BufferClusterLevel.TheVariants.{MonotoneGraphemes, Characters}
 use Rattle.shapers_clusters.specs.Joined.{joined, joined_all}
-use Rattle.shapers_clusters.specs.Steps.{Step, joined_steps, old_places, MovesMerged, widened}
+use Rattle.shapers_clusters.specs.Steps.{pick, Step, joined_steps, old_places, MovesMerged, widened}
 use Rattle.shapers_clusters.specs.Moves.{moves_anywhere}
 use Rattle.shapers_clusters.specs.Widened.{moves-widened}
 
@@ -24,6 +24,13 @@ row_unmerged = refl
 -- two merges that overlap, on falling clusters
 row_falling : joined_all MonotoneGraphemes ((0, 2) ∷ (1, 3) ∷ []) (4 ∷ 3 ∷ 2 ∷ 1 ∷ []) ≡ 2 ∷ 2 ∷ 2 ∷ 1 ∷ []
 row_falling = refl
+
+-- a glyph made out of the last of a merged stretch goes before the others; one that is dropped leaves its cluster to the rest
+row_made : pick (0 ∷ 2 ∷ 1 ∷ 2 ∷ 3 ∷ []) (joined_all MonotoneGraphemes ((1, 3) ∷ []) (0 ∷ 1 ∷ 2 ∷ 3 ∷ [])) ≡ 0 ∷ 1 ∷ 1 ∷ 1 ∷ 3 ∷ []
+row_made = refl
+
+row_dropped : pick (0 ∷ 2 ∷ 3 ∷ []) (joined_all MonotoneGraphemes ((1, 3) ∷ []) (0 ∷ 1 ∷ 2 ∷ 3 ∷ [])) ≡ 0 ∷ 1 ∷ 3 ∷ []
+row_dropped = refl
 
 -- of six marks the last two of the first three merge and swap
 swap_two : Step

@@ -213,7 +213,7 @@ pub length-old_places : (n : ℕ) (steps : List Step) → FitSteps n steps → l
 length-old_places n steps f = kept (λ ps. length ps ≡ n) (λ ps step. pick step.places ps) (FitsStep n)
     (λ step ps g e. let P : ℕ → Type 0 = λ n. AllByRecursion (λ p. p < n) step.places in length-pick step.places ps (subst P (sym e) g.within) ∙ g.as_many) steps (range_with_len 0 n) f (length-range_with_len 0 n)
 
-merged_fits : (n : ℕ) (steps : List Step) → AllByRecursion (MovesMerged n) steps → FitSteps n steps
+pub merged_fits : (n : ℕ) (steps : List Step) → AllByRecursion (MovesMerged n) steps → FitSteps n steps
 merged_fits n [] f = tt
 merged_fits n (step ∷ steps) f = (f.0.fits, merged_fits n steps f.1)
 

@@ -12,17 +12,17 @@ use Rattle.shapers_clusters.specs.Joined.{joined, joined_all, clusters-merge}
 use Rattle.shapers_clusters.specs.Merging.{length-merge, length-merge_all, order_view-merge}
 use Rattle.shapers_clusters.specs.Neighbours.{EndWithin, ShareCluster, share_all, joined-shares, joined_all-share, length-joined_all}
 use Rattle.shapers_clusters.specs.Cuts.{IsMonotone, ExactCuts, exact_cuts, one_exact, stays_rising, stays_falling}
-use Rattle.shapers_clusters.specs.Steps.{pick, FitsStep, MovesMerged, all_first}
+use Rattle.shapers_clusters.specs.Steps.{pick, Step, run_steps, FitsStep, MovesMerged, all_first}
 use Rattle.shapers_clusters.specs.Picks.{length-pick, within_at}
 use Rattle.shapers_clusters.specs.Falls.{merge-falls, all_flags_on, all_flags_fall}
 use Rattle.shapers_clusters.specs.Made.{ShowsClusters, Made, AreMade, are_made, same_clusters, held_in_stretch}
-use Rattle.shapers_clusters.specs.Moves.{clusters-merge_all, clusters-run_steps, order_view-run_steps, falls-run_steps, joined-merged_steps, share-moved, merge-unmerged, merge_all-unmerged, joined_all-unmerged, run_steps-unmerged, end_within-all_first, all-joined, all-picked, all-joined_steps}
+use Rattle.shapers_clusters.specs.Moves.{clusters-merge_all, clusters-run_steps, order_view-run_steps, falls-run_steps, joined-merged_steps, share-moved, merge-unmerged, merge_all-unmerged, joined_all-unmerged, run_steps-unmerged, end_within-all_first, merged_fits, all-joined, all-picked, all-joined_steps}
 use Rattle.shapers_clusters.specs.Labels.{IsLabelled, joined-labelled, joined_steps-labelled}
 use Rattle.shapers_clusters.specs.Sources.{exact_cuts_by, sources_share, clusters-moved_sources, clusters-picked, falls-picked}
 use Rattle.shapers_clusters.specs.Widened.{fits-widened, moves-widened, all_fit-widened, all_moves-widened, order_view-widened, all_along, order_view-along}
 use Rattle.shapers_clusters.specs.Halves.{halves_along}
 use Rattle.shapers_clusters.specs.FlagCalls.{unsafe_inside-alone, unsafe_to_concat_in-alone, tatweel_inside-alone}
-use Rattle.shapers_clusters.specs.Laws.{ViewLaw, HalvesLaw, MergeLaw, ExactCutsLaw, StepsLaw, ClustersLaw, MergedStepsLaw, WidenedLaw, AlongLaw, ClustersMade, MadeHold, MadeLaw, MovedSourcesLaw}
+use Rattle.shapers_clusters.specs.Laws.{ViewLaw, HalvesLaw, MergeLaw, ExactCutsLaw, StepsLaw, ClustersLaw, MergedStepsLaw, WidenedLaw, AlongLaw, StepsHold, MergedStepsHold, ClustersMade, MadeHold, MadeLaw, MovedSourcesLaw}
 
 -- stretches end within the clusters if they do within the glyphs
 ends : (sts : List (ℕ × ℕ)) (gs : List hb_glyph_info_t) → EndWithin (length gs) sts → EndWithin (length (clusters gs)) sts
@@ -88,6 +88,13 @@ merged_steps_hold level steps cs m f =
       cluster_law = λ p l. share-moved level m steps cs f p l;
       exact = λ mono. subst P (sym is) (exact_cuts level m (all_first steps) cs (end_within-all_first (length cs) steps f) mono);
     }
+
+-- both of the glyphs that such steps leave: what a hook that only reorders promises
+pub reordered_hold : (level : BufferClusterLevel) (steps : List Step) (gs : List hb_glyph_info_t) → AllByRecursion (MovesMerged (length gs)) steps → StepsHold level steps gs (run_steps level steps gs) × (merges level ≡ true → MergedStepsHold level steps (clusters gs) (clusters (run_steps level steps gs)))
+reordered_hold level steps gs moves =
+    let holds = steps_hold level steps gs (merged_fits (length gs) steps moves) in
+    let P : ℕ → Type 0 = λ n. AllByRecursion (MovesMerged n) steps in
+    (holds, λ m. subst (MergedStepsHold level steps (clusters gs)) (sym holds.clusters_are) (merged_steps_hold level steps (clusters gs) m (subst P (sym (length-map gs (λ g. g.cluster))) moves)))
 
 pub widened_holds : WidenedLaw
 widened_holds level s e steps gs h l f = record {

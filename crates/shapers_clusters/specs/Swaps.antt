@@ -2,7 +2,7 @@
 use Rattle.std.proofs.Common.{ℕ, ◌+◌, ◌<◌, ◌≡◌, ◌≢◌, ◌==◌, inl, inr, true, List, [], ◌∷◌, length, get_or, set, refl, sym, ◌∙◌, ap, subst, zero-add, arith, get_or-set_same, get_or-set_other, length-set, if◌then◌else◌}
 use Rattle.std.specs.Prelude.{swap}
 use Rattle.std.specs.List.{AllByRecursion, range_with_len}
-use Rattle.std.proofs.lemmas.List.{same_lists}
+use Rattle.std.proofs.lemmas.List.{same_lists, map-set, get_or-map, length-map}
 use Rattle.std.proofs.lemmas.List.Edits.{swap_is, length-swap}
 use Rattle.std.proofs.lemmas.List.Elements.{recursion_from_All}
 use Rattle.std.proofs.lemmas.List.FromFn.{get_or-range_with_len, length-range_with_len}
@@ -11,7 +11,8 @@ use Rattle.std.proofs.lemmas.Bool.Decides.{nat_tests}
 use Rattle.shapers_base.specs.declared.buffer.glyph.hb_glyph_info_t.{hb_glyph_info_t}
 use Rattle.shapers_base.specs.declared.buffer.level.BufferClusterLevel.{BufferClusterLevel}
 use Rattle.shapers_base.specs.Clusters.{merge}
-use Rattle.shapers_clusters.specs.Merging.{length-merge}
+use Rattle.shapers_base.specs.Glyph.{plain, order_view, default_glyph}
+use Rattle.shapers_clusters.specs.Merging.{length-merge, order_view-merge}
 use Rattle.shapers_clusters.specs.Neighbours.{held}
 use Rattle.shapers_clusters.specs.Picks.{length-pick, get_or-pick, pick-all, within_range}
 use Rattle.shapers_clusters.specs.Steps.{pick, Step, run_step, HeldBetween, MovesMerged}
@@ -86,6 +87,25 @@ run-swap_step level gs i h = pick-swap (length gs) (merge level i (i + 2) gs) i 
 -- a still step leaves the glyphs as they are
 pub run-still_step : (level : BufferClusterLevel) (gs : List hb_glyph_info_t) → run_step level (still_step (length gs)) gs ≡ gs
 run-still_step level gs = pick-all (length gs) gs refl
+
+-- in the order view they change places
+order_view-swap : (ms : List hb_glyph_info_t) (i : ℕ) → i + 1 < length ms → order_view (swap ms i (i + 1)) ≡ swap (order_view ms) i (i + 1)
+order_view-swap ms i h =
+    let d = default_glyph in
+    let a = get_or ms (i + 1) d in
+    let b = get_or ms i d in
+    let long : i + 1 < length (order_view ms) = omega (arith, length-map ms plain) in
+    ap order_view (sym (swap_is ms i (i + 1) d (omega arith) h))
+    ∙ map-set plain (set ms i a) (i + 1) b
+    ∙ ap (λ xs. set xs (i + 1) (plain b)) (map-set plain ms i a)
+    ∙ ap (λ x. set (set (order_view ms) i x) (i + 1) (plain b)) (sym (get_or-map plain ms (i + 1) d (plain d) h))
+    ∙ ap (λ x. set (set (order_view ms) i (get_or (order_view ms) (i + 1) (plain d))) (i + 1) x) (sym (get_or-map plain ms i d (plain d) (omega arith)))
+    ∙ swap_is (order_view ms) i (i + 1) (plain d) (omega arith) long
+
+pub order_view-swap_step : (level : BufferClusterLevel) (gs : List hb_glyph_info_t) (i : ℕ) → i + 1 < length gs → order_view (run_step level (swap_step (length gs) i) gs) ≡ swap (order_view gs) i (i + 1)
+order_view-swap_step level gs i within =
+    let long : i + 1 < length (merge level i (i + 2) gs) = omega (arith, length-merge level i (i + 2) gs (omega arith)) in
+    ap order_view (run-swap_step level gs i within) ∙ order_view-swap (merge level i (i + 2) gs) i long ∙ ap (λ xs. swap xs i (i + 1)) (order_view-merge level i (i + 2) gs)
 
 held_inside : (i r : ℕ) → i < r → r < i + 2 → held ((i, i + 2) ∷ []) r ≡ true
 held_inside i r a b = grind (arith, nat_tests)

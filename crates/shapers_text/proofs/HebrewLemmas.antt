@@ -1,5 +1,5 @@
 -- Steps of the search for the first three marks.
-use Rattle.std.proofs.Common.{◌≡◌, ℕ, suc, ◌+◌, ◌-◌, ◌<◌, ◌≤◌, Bool, true, false, List, [], ◌∷◌, length, get_or, take, drop, set, refl, ap, sym, ◌∙◌, arith, Some, None, Option, subst}
+use Rattle.std.proofs.Common.{◌≡◌, ℕ, suc, ◌+◌, ◌-◌, ◌<◌, ◌≤◌, Bool, true, false, List, [], ◌∷◌, length, get_or, take, drop, set, refl, ap, sym, ◌∙◌, arith, Some, None, Option}
 use Rattle.std.specs.Prelude.{option_map}
 use Rattle.std.proofs.lemmas.List.{drop_more, get_or_read}
 use Rattle.std.proofs.lemmas.List.Edits.{swap_is}
@@ -11,15 +11,14 @@ use Rattle.std.specs.Prelude.{swap}
 use Rattle.std.specs.Prelude.{IfSome}
 use Rattle.std.specs.Prelude.{if◌then◌else◌}
 use Rattle.std.specs.Option.{option_map_or}
-use Rattle.std.proofs.lemmas.List.{take-map, drop-map, map-set, get_or-map, length-map}
+use Rattle.std.proofs.lemmas.List.{take-map, drop-map}
 use Rattle.shapers_base.specs.declared.buffer.level.BufferClusterLevel.{BufferClusterLevel}
 use Rattle.shapers_base.specs.Glyph.{plain, order_view, clusters}
-use Rattle.shapers_base.specs.Clusters.{merge, merges}
+use Rattle.shapers_base.specs.Clusters.{merges}
 use Rattle.shapers_clusters.specs.Laws.{StepsHold, MergedStepsHold}
-use Rattle.shapers_clusters.specs.Merging.{length-merge, order_view-merge}
-use Rattle.shapers_clusters.specs.Proved.{steps_hold, merged_steps_hold}
+use Rattle.shapers_clusters.specs.Proved.{reordered_hold}
 use Rattle.shapers_clusters.specs.Steps.{MovesMerged, run_step}
-use Rattle.shapers_clusters.specs.Swaps.{still_moves_merged, swap_moves_merged, run-still_step, run-swap_step}
+use Rattle.shapers_clusters.specs.Swaps.{still_moves_merged, swap_moves_merged, run-still_step, order_view-swap_step}
 use Rattle.shapers_text.specs.Hebrew.{mark_step, step_at, marks_swapped, opens_triple, triple_place, second_of_triple}
 
 -- a stretch that isn't empty opens with the glyph at its start
@@ -125,24 +124,9 @@ second_plain start end gs =
     ∙ ap (λ xs. option_map (λ i. start + i + 1) (triple_place xs)) (take-map plain (end - start) (drop start gs))
     ∙ ap (option_map (λ i. start + i + 1)) (place_plain (stretch_of start end gs))
 
-plain_swap : (ms : List hb_glyph_info_t) (i : ℕ) → i + 1 < length ms → order_view (swap ms i (i + 1)) ≡ swap (order_view ms) i (i + 1)
-plain_swap ms i h =
-    let d = default_glyph in
-    let a = get_or ms (i + 1) d in
-    let b = get_or ms i d in
-    let long : i + 1 < length (order_view ms) = omega (arith, length-map ms plain) in
-    ap order_view (sym (swap_is ms i (i + 1) d (omega arith) h))
-    ∙ map-set plain (set ms i a) (i + 1) b
-    ∙ ap (λ xs. set xs (i + 1) (plain b)) (map-set plain ms i a)
-    ∙ ap (λ x. set (set (order_view ms) i x) (i + 1) (plain b)) (sym (get_or-map plain ms (i + 1) d (plain d) h))
-    ∙ ap (λ x. set (set (order_view ms) i (get_or (order_view ms) (i + 1) (plain d))) (i + 1) x) (sym (get_or-map plain ms i d (plain d) (omega arith)))
-    ∙ swap_is (order_view ms) i (i + 1) (plain d) (omega arith) long
-
 marks_view_at : (level : BufferClusterLevel) (gs : List hb_glyph_info_t) (o : Option ℕ) → IfSome o (λ i. i + 1 < length gs) → order_view (run_step level (step_at (length gs) o) gs) ≡ option_map_or (λ i. swap (order_view gs) i (i + 1)) o (order_view gs)
 marks_view_at level gs None within = ap order_view (run-still_step level gs)
-marks_view_at level gs (Some i) within =
-    let long : i + 1 < length (merge level i (i + 2) gs) = omega (arith, length-merge level i (i + 2) gs (omega arith)) in
-    ap order_view (run-swap_step level gs i within) ∙ plain_swap (merge level i (i + 2) gs) i long ∙ ap (λ xs. swap xs i (i + 1)) (order_view-merge level i (i + 2) gs)
+marks_view_at level gs (Some i) within = order_view-swap_step level gs i within
 
 -- the order view of the step is the rule's
 pub marks_view : (level : BufferClusterLevel) (start end : ℕ) (gs : List hb_glyph_info_t) → IfSome (second_of_triple start end gs) (λ i. i + 1 < length gs) → order_view (run_step level (mark_step start end gs) gs) ≡ marks_swapped start end (order_view gs)
@@ -151,13 +135,7 @@ marks_view level start end gs within =
 
 -- what the step leaves, by the laws
 pub mark_laws : (level : BufferClusterLevel) (start end : ℕ) (gs : List hb_glyph_info_t) → IfSome (second_of_triple start end gs) (λ i. i + 1 < length gs) → StepsHold level (mark_step start end gs ∷ []) gs (run_step level (mark_step start end gs) gs) × (merges level ≡ true → MergedStepsHold level (mark_step start end gs ∷ []) (clusters gs) (clusters (run_step level (mark_step start end gs) gs)))
-mark_laws level start end gs within =
-    let moves = mark_moves_merged start end gs within in
-    let steps = mark_step start end gs ∷ [] in
-    let holds = steps_hold level steps gs (moves.fits, tt) in
-    let P : ℕ → Type 0 = λ n. MovesMerged n (mark_step start end gs) in
-    let Q : List ℕ → Type 0 = λ js. MergedStepsHold level steps (clusters gs) js in
-    (holds, λ m. subst Q (sym holds.clusters_are) (merged_steps_hold level steps (clusters gs) m (subst P (sym (length-map gs (λ g. g.cluster))) moves, tt)))
+mark_laws level start end gs within = reordered_hold level (mark_step start end gs ∷ []) gs (mark_moves_merged start end gs within, tt)
 
 -- the step is the one that the search found
 pub mark_step_is : (level : BufferClusterLevel) (start end : ℕ) (gs : List hb_glyph_info_t) (o : Option ℕ) → o ≡ second_of_triple start end gs → run_step level (step_at (length gs) o) gs ≡ run_step level (mark_step start end gs) gs
