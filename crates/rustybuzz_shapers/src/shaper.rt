@@ -2,9 +2,8 @@
 //! and changes nothing.
 ghost use Rattle.std.specs.Prelude.{◌≡◌, ◌≤◌, [], length, false, true, None, Ok, IfOk, IsOk, IsNone, is_some, IsOkUnless, OnOk, OnErr};
 ghost use Rattle.shapers_base.specs.declared.buffer.refusal.ShaperError.TheVariants.{Memory};
-ghost use Rattle.shapers_base.specs.Clusters.{merges};
 ghost use Rattle.shapers_base.specs.Glyph.{clusters};
-ghost use Rattle.shapers_clusters.specs.Laws.{StepsHold, MergedStepsHold};
+ghost use Rattle.shapers_clusters.specs.Laws.{ReorderedHold};
 ghost use Rattle.shapers_text.specs.Requests.{rclt};
 ghost use Rattle.shapers_text.specs.Thai.{characters};
 ghost use Rattle.rustybuzz_shapers.specs.Shapers.{normalizes, wants_gpos_script, zeroes_marks, places_marks, collected, overridden, asked, if_there, keeps_data, postprocesses, compose_stands, composed_by, decomposes, masks_glyphs, moves_marks, marks_stand, after_marks, marks_steps, preprocess_answer, preprocess_stands, after_preprocess, ClustersPreprocessed, RefusesPreprocess};
@@ -293,8 +292,7 @@ impl hb_ot_shaper_t {
         requires unbuilt { marks_stand self ≡ true }
         ensures answer { is_some result ≡ moves_marks self }
         ensures marks { buffer.new ≡ after_marks self start end buffer.old }
-        ensures flags { StepsHold buffer.old.level (marks_steps self start end buffer.old.glyphs) buffer.old.glyphs buffer.new.glyphs }
-        ensures clusters { merges buffer.old.level ≡ true → MergedStepsHold buffer.old.level (marks_steps self start end buffer.old.glyphs) (clusters buffer.old.glyphs) (clusters buffer.new.glyphs) }
+        ensures laws { ReorderedHold buffer.old.level (marks_steps self start end buffer.old.glyphs) buffer.old.glyphs buffer.new.glyphs }
     {
         match self {
             Self::Hebrew => Some(ot_shaper_hebrew::reorder_marks(plan, buffer, start, end)),

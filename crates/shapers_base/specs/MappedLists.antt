@@ -1,7 +1,7 @@
 -- Laws of mapped and of numbered lists.
 use Rattle.std.proofs.Common.{◌≡◌, ℕ, zero, suc, ◌-◌, ◌+◌, ◌<◌, ◌≤◌, ◌||◌, Bool, true, false, cond, List, [], ◌∷◌, ◌++◌, length, map, flat_map, take, drop, reverse, refl, sym, ap, subst, ◌∙◌, arith}
 use Rattle.std.specs.List.{All, list_any, suffix_len, prefix_len, onto_first, enumerate_from, range_with_len, AllByRecursion, Contains, take-map}
-use Rattle.std.proofs.lemmas.List.{append_assoc, append-nil, length_push, reverse-append, map_push, length-map, drop-map}
+use Rattle.std.proofs.lemmas.List.{append_assoc, append-nil, get_or-map, length_push, reverse-append, map_push, length-map, drop-map}
 use Rattle.std.proofs.lemmas.List.Elements.{All-from_get_or, Contains-append_left, Contains-append_right}
 use Rattle.std.proofs.lemmas.List.FromFn.{length-enumerate_from, length-range_with_len, get_or-range_with_len}
 use Rattle.std.proofs.lemmas.List.Sums.{suffix_len-le-length}
@@ -134,3 +134,6 @@ All-range P a n each =
 pub list_any-map : {X Y : Type 0} (test : Y → Bool) (f : X → Y) (xs : List X) → list_any test (map f xs) ≡ list_any (λ x. test (f x)) xs
 list_any-map test f [] = refl
 list_any-map test f (x ∷ xs) = ap (λ b. test (f x) || b) (list_any-map test f xs)
+
+pub Contains-map : {X Y : Type 0} (f : X → Y) (xs : List X) (x : X) → Contains xs x → Contains (map f xs) (f x)
+Contains-map f xs x (k, inside, at) = (k, omega (arith, length-map xs f), get_or-map f xs k x (f x) inside ∙ ap f at)

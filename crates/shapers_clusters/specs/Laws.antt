@@ -1,5 +1,6 @@
 -- The laws of clusters and glyph flags, as statements.
 use Rattle.std.proofs.Common.{ℕ, ◌+◌, ◌++◌, ◌-◌, ◌<◌, ◌≤◌, ◌≡◌, Bool, true, false, List, map, length, slice_index, take, drop}
+use Rattle.std.specs.List.Sorted.{IsPermutation}
 use Rattle.std.specs.List.{sum_by, All, AllByRecursion, AllZip, Contains}
 use Rattle.shapers_base.specs.declared.buffer.glyph.hb_glyph_info_t.{hb_glyph_info_t}
 use Rattle.shapers_base.specs.declared.buffer.level.BufferClusterLevel.{BufferClusterLevel}
@@ -12,6 +13,7 @@ use Rattle.shapers_clusters.specs.Cuts.{IsMonotone, ExactCuts}
 use Rattle.shapers_clusters.specs.Steps.{pick, Step, run_steps, joined_steps, old_places, FitSteps, MovesMerged, all_first, widened}
 use Rattle.shapers_clusters.specs.Widened.{steps_along, reordered_along}
 use Rattle.shapers_clusters.specs.Halves.{ShareNone}
+use Rattle.shapers_clusters.specs.Permuted.{Permutes}
 use Rattle.shapers_clusters.specs.Falls.{FallsTo, FlagsFall}
 use Rattle.shapers_clusters.specs.FlagCalls.{FlagsAlone}
 use Rattle.shapers_clusters.specs.Made.{ShowsClusters}
@@ -63,6 +65,10 @@ pub record StepsHold (level : BufferClusterLevel) (steps : List Step) (gs ms : L
 abbrev pub StepsLaw : Type 0
 StepsLaw = (level : BufferClusterLevel) (steps : List Step) (gs : List hb_glyph_info_t) → FitSteps (length gs) steps → StepsHold level steps gs (run_steps level steps gs)
 
+-- Steps that take each place once lose no glyph: the order view is the old one in some order.
+abbrev pub PermutedLaw : Type 0
+PermutedLaw = (level : BufferClusterLevel) (steps : List Step) (gs : List hb_glyph_info_t) → FitSteps (length gs) steps → AllByRecursion (Permutes (length gs)) steps → IsPermutation (order_view gs) (order_view (run_steps level steps gs))
+
 -- What any steps make of the clusters cs: js. Every cluster is one that was there. Labels that each stretch respects as it merges
 -- are respected in the end.
 pub record ClustersHold (level : BufferClusterLevel) (steps : List Step) (cs js : List ℕ) : Type 0 where
@@ -83,21 +89,33 @@ pub record MergedStepsHold (level : BufferClusterLevel) (steps : List Step) (cs 
 abbrev pub MergedStepsLaw : Type 0
 MergedStepsLaw = (level : BufferClusterLevel) (steps : List Step) (cs : List ℕ) → merges level ≡ true → AllByRecursion (MovesMerged (length cs)) steps → MergedStepsHold level steps cs (joined_steps level steps cs)
 
--- Steps over the stretch s..e are steps over all places: they fit, they move only inside what they merged first if they did,
+-- What a hook that only reorders promises, by steps that move only inside what they merged first and take each place once: of the
+-- glyphs gs no one is lost, and the laws of steps hold.
+pub record ReorderedHold (level : BufferClusterLevel) (steps : List Step) (gs ms : List hb_glyph_info_t) : Type 0 where
+  pub kept : IsPermutation (order_view gs) (order_view ms)
+  pub glyphs : StepsHold level steps gs ms
+  pub in_clusters : merges level ≡ true → MergedStepsHold level steps (clusters gs) (clusters ms)
+
+abbrev pub ReorderedLaw : Type 0
+ReorderedLaw = (level : BufferClusterLevel) (steps : List Step) (gs : List hb_glyph_info_t) → AllByRecursion (MovesMerged (length gs)) steps → AllByRecursion (Permutes (length gs)) steps → ReorderedHold level steps gs (run_steps level steps gs)
+
+-- Steps over the stretch s..e are steps over all places: they fit, they move only inside what they merged first, and take each place once, if they did,
 -- and their order view is that of the stretch, reordered, between what stood before and behind it.
 pub record WidenedHolds (level : BufferClusterLevel) (s e : ℕ) (steps : List Step) (gs : List hb_glyph_info_t) : Type 0 where
   pub fit : FitSteps (length gs) (map (widened s e (length gs)) steps)
   pub merged : AllByRecursion (MovesMerged (e - s)) steps → AllByRecursion (MovesMerged (length gs)) (map (widened s e (length gs)) steps)
+  pub permuted : AllByRecursion (Permutes (e - s)) steps → AllByRecursion (Permutes (length gs)) (map (widened s e (length gs)) steps)
   pub view : order_view (run_steps level (map (widened s e (length gs)) steps) gs) ≡ take s (order_view gs) ++ (pick (old_places (e - s) steps) (stretch_of s e (order_view gs)) ++ drop e (order_view gs))
 
 abbrev pub WidenedLaw : Type 0
 WidenedLaw = (level : BufferClusterLevel) (s e : ℕ) (steps : List Step) (gs : List hb_glyph_info_t) → s ≤ e → e ≤ length gs → FitSteps (e - s) steps → WidenedHolds level s e steps gs
 
 -- Steps of neighbouring stretches, one after another from place 0, are steps over all places: they fit, they move only inside what
--- they merged first if they did, and each stretch of the order view is reordered for itself.
+-- they merged first, and take each place once, if they did, and each stretch of the order view is reordered for itself.
 pub record AlongHolds (level : BufferClusterLevel) (pieces : List (ℕ × List Step)) (gs : List hb_glyph_info_t) : Type 0 where
   pub fit : FitSteps (length gs) (steps_along (length gs) 0 pieces)
   pub merged : AllByRecursion (λ piece. AllByRecursion (MovesMerged piece.0) piece.1) pieces → AllByRecursion (MovesMerged (length gs)) (steps_along (length gs) 0 pieces)
+  pub permuted : AllByRecursion (λ piece. AllByRecursion (Permutes piece.0) piece.1) pieces → AllByRecursion (Permutes (length gs)) (steps_along (length gs) 0 pieces)
   pub view : order_view (run_steps level (steps_along (length gs) 0 pieces) gs) ≡ reordered_along pieces (order_view gs)
 
 abbrev pub AlongLaw : Type 0

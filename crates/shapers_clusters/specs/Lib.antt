@@ -11,6 +11,7 @@ pub mod Made
 pub mod Merging
 pub mod Moves
 pub mod Neighbours
+pub mod Permuted
 pub mod Picks
 pub mod Proved
 pub mod Sources

@@ -14,7 +14,7 @@ pick-within d p ps xs h = ap (λ o. cons_option o (pick ps xs)) (slice_get-get_o
 pick-past : {X : Type 0} (p : ℕ) (ps : List ℕ) (xs : List X) → length xs ≤ p → pick (p ∷ ps) xs ≡ pick ps xs
 pick-past p ps xs h = ap (λ o. cons_option o (pick ps xs)) (slice_get_past xs p h)
 
-nothing_picked : {X : Type 0} (ps : List ℕ) (xs : List X) → length xs ≡ 0 → pick ps xs ≡ []
+pub nothing_picked : {X : Type 0} (ps : List ℕ) (xs : List X) → length xs ≡ 0 → pick ps xs ≡ []
 nothing_picked [] xs h = refl
 nothing_picked (p ∷ ps) xs h = pick-past p ps xs (omega arith) ∙ nothing_picked ps xs h
 

@@ -12,7 +12,7 @@ use Rattle.shapers_clusters.specs.Joined.{joined, joined_all, clusters-merge}
 use Rattle.shapers_clusters.specs.Merging.{length-merge, length-merge_all, order_view-merge}
 use Rattle.shapers_clusters.specs.Neighbours.{EndWithin, ShareCluster, share_all, joined-shares, joined_all-share, length-joined_all}
 use Rattle.shapers_clusters.specs.Cuts.{IsMonotone, ExactCuts, exact_cuts, one_exact, stays_rising, stays_falling}
-use Rattle.shapers_clusters.specs.Steps.{pick, Step, run_steps, FitsStep, MovesMerged, all_first}
+use Rattle.shapers_clusters.specs.Steps.{pick, FitsStep, MovesMerged, all_first}
 use Rattle.shapers_clusters.specs.Picks.{length-pick, within_at}
 use Rattle.shapers_clusters.specs.Falls.{merge-falls, all_flags_on, all_flags_fall}
 use Rattle.shapers_clusters.specs.Made.{ShowsClusters, Made, AreMade, are_made, same_clusters, held_in_stretch}
@@ -21,8 +21,9 @@ use Rattle.shapers_clusters.specs.Labels.{IsLabelled, joined-labelled, joined_st
 use Rattle.shapers_clusters.specs.Sources.{exact_cuts_by, sources_share, clusters-moved_sources, clusters-picked, falls-picked}
 use Rattle.shapers_clusters.specs.Widened.{fits-widened, moves-widened, all_fit-widened, all_moves-widened, order_view-widened, all_along, order_view-along}
 use Rattle.shapers_clusters.specs.Halves.{halves_along}
+use Rattle.shapers_clusters.specs.Permuted.{Permutes, order_view-permuted, permutes-widened, all_permute-widened}
 use Rattle.shapers_clusters.specs.FlagCalls.{unsafe_inside-alone, unsafe_to_concat_in-alone, tatweel_inside-alone}
-use Rattle.shapers_clusters.specs.Laws.{ViewLaw, HalvesLaw, MergeLaw, ExactCutsLaw, StepsLaw, ClustersLaw, MergedStepsLaw, WidenedLaw, AlongLaw, StepsHold, MergedStepsHold, ClustersMade, MadeHold, MadeLaw, MovedSourcesLaw}
+use Rattle.shapers_clusters.specs.Laws.{ViewLaw, HalvesLaw, MergeLaw, ExactCutsLaw, StepsLaw, PermutedLaw, ClustersLaw, MergedStepsLaw, WidenedLaw, AlongLaw, MergedStepsHold, ReorderedLaw, ClustersMade, MadeHold, MadeLaw, MovedSourcesLaw}
 
 -- stretches end within the clusters if they do within the glyphs
 ends : (sts : List (ℕ × ℕ)) (gs : List hb_glyph_info_t) → EndWithin (length gs) sts → EndWithin (length (clusters gs)) sts
@@ -74,6 +75,9 @@ steps_hold level steps gs f =
     let falls = falls-run_steps level steps gs f in
     record { same_length = falls.0; moved_view = order_view-run_steps level steps gs; falls = falls.1; clusters_are = clusters-run_steps level steps gs; unmerged = λ m. run_steps-unmerged level m steps gs }
 
+pub permuted_hold : PermutedLaw
+permuted_hold level steps gs f h = order_view-permuted level steps gs f h
+
 pub clusters_hold : ClustersLaw
 clusters_hold level steps cs f =
     let all = all-joined_steps (Contains cs) level (length cs) steps cs refl f (All-contains_itself cs) in
@@ -89,17 +93,22 @@ merged_steps_hold level steps cs m f =
       exact = λ mono. subst P (sym is) (exact_cuts level m (all_first steps) cs (end_within-all_first (length cs) steps f) mono);
     }
 
--- both of the glyphs that such steps leave: what a hook that only reorders promises
-pub reordered_hold : (level : BufferClusterLevel) (steps : List Step) (gs : List hb_glyph_info_t) → AllByRecursion (MovesMerged (length gs)) steps → StepsHold level steps gs (run_steps level steps gs) × (merges level ≡ true → MergedStepsHold level steps (clusters gs) (clusters (run_steps level steps gs)))
-reordered_hold level steps gs moves =
-    let holds = steps_hold level steps gs (merged_fits (length gs) steps moves) in
+pub reordered_hold : ReorderedLaw
+reordered_hold level steps gs moves permutes =
+    let fits = merged_fits (length gs) steps moves in
+    let holds = steps_hold level steps gs fits in
     let P : ℕ → Type 0 = λ n. AllByRecursion (MovesMerged n) steps in
-    (holds, λ m. subst (MergedStepsHold level steps (clusters gs)) (sym holds.clusters_are) (merged_steps_hold level steps (clusters gs) m (subst P (sym (length-map gs (λ g. g.cluster))) moves)))
+    record {
+      kept = order_view-permuted level steps gs fits permutes;
+      glyphs = holds;
+      in_clusters = λ m. subst (MergedStepsHold level steps (clusters gs)) (sym holds.clusters_are) (merged_steps_hold level steps (clusters gs) m (subst P (sym (length-map gs (λ g. g.cluster))) moves));
+    }
 
 pub widened_holds : WidenedLaw
 widened_holds level s e steps gs h l f = record {
   fit = all_fit-widened s e (length gs) steps h l f;
   merged = λ m. all_moves-widened s e (length gs) steps h l m;
+  permuted = λ m. all_permute-widened s e (length gs) steps h l m;
   view = order_view-widened level s e steps gs h l f;
 }
 
@@ -107,6 +116,7 @@ pub along_holds : AlongLaw
 along_holds level pieces gs l f = record {
   fit = all_along FitsStep fits-widened (length gs) 0 pieces (omega arith) f;
   merged = λ m. all_along MovesMerged moves-widened (length gs) 0 pieces (omega arith) m;
+  permuted = λ m. all_along Permutes permutes-widened (length gs) 0 pieces (omega arith) m;
   view = order_view-along level 0 pieces gs (omega arith) f;
 }
 

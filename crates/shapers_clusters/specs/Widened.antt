@@ -16,7 +16,7 @@ use Rattle.shapers_base.specs.MappedLists.{all-append}
 use Rattle.shapers_clusters.specs.Picks.{length-pick, pick-map, pick-append, pick-range, pick-within, some_element}
 use Rattle.shapers_clusters.specs.Moves.{order_view-run_steps, falls-run_steps, length-old_places, within-old_places}
 
-all-mapped : {X Y : Type 0} (P : X → Type 0) (Q : Y → Type 0) (f : X → Y) (xs : List X) → ((x : X) → P x → Q (f x)) → AllByRecursion P xs → AllByRecursion Q (map f xs)
+pub all-mapped : {X Y : Type 0} (P : X → Type 0) (Q : Y → Type 0) (f : X → Y) (xs : List X) → ((x : X) → P x → Q (f x)) → AllByRecursion P xs → AllByRecursion Q (map f xs)
 all-mapped P Q f [] g h = tt
 all-mapped P Q f (x ∷ xs) g h = (g x h.0, all-mapped P Q f xs g h.1)
 
@@ -145,16 +145,19 @@ pub map-range : (s a k : ℕ) → map (λ p. s + p) (range_with_len a k) ≡ ran
 map-range s a zero = refl
 map-range s a (suc k) = ap (λ ys. (s + a) ∷ ys) (map-range s (a + 1) k ∙ (let i : s + (a + 1) ≡ s + a + 1 = omega arith in ap (λ x. range_with_len x k) i))
 
-pub old_places-widened : (s e n : ℕ) (steps : List Step) → s ≤ e → e ≤ n → FitSteps (e - s) steps → old_places n (map (widened s e n) steps) ≡ range_with_len 0 s ++ (map (λ p. s + p) (old_places (e - s) steps) ++ range_with_len e (n - e))
-old_places-widened s e n steps h l f =
-    let split : range_with_len 0 n ≡ range_with_len 0 s ++ (map (λ p. s + p) (range_with_len 0 (e - s)) ++ range_with_len e (n - e)) =
+-- all places, in three parts
+pub range-three : (s e n : ℕ) → s ≤ e → e ≤ n → range_with_len 0 n ≡ range_with_len 0 s ++ (map (λ p. s + p) (range_with_len 0 (e - s)) ++ range_with_len e (n - e))
+range-three s e n h l =
     (let i : n ≡ s + ((e - s) + (n - e)) = omega arith in ap (range_with_len 0) i)
     ∙ range-append 0 s ((e - s) + (n - e))
     ∙ ap (λ ys. range_with_len 0 s ++ ys) (range-append (0 + s) (e - s) (n - e)
     ∙ ap (λ ys. ys ++ range_with_len (0 + s + (e - s)) (n - e)) ((let i : 0 + s ≡ s + 0 = omega arith in ap (λ k. range_with_len k (e - s)) i) ∙ sym (map-range s 0 (e - s)))
-    ∙ (let i : 0 + s + (e - s) ≡ e = omega arith in ap (λ k. map (λ p. s + p) (range_with_len 0 (e - s)) ++ range_with_len k (n - e)) i)) in
+    ∙ (let i : 0 + s + (e - s) ≡ e = omega arith in ap (λ k. map (λ p. s + p) (range_with_len 0 (e - s)) ++ range_with_len k (n - e)) i))
+
+pub old_places-widened : (s e n : ℕ) (steps : List Step) → s ≤ e → e ≤ n → FitSteps (e - s) steps → old_places n (map (widened s e n) steps) ≡ range_with_len 0 s ++ (map (λ p. s + p) (old_places (e - s) steps) ++ range_with_len e (n - e))
+old_places-widened s e n steps h l f =
     let rest : e + length (range_with_len e (n - e)) ≡ n = omega (arith, length-range_with_len e (n - e)) in
-    ap (moved_on (map (widened s e n) steps)) split
+    ap (moved_on (map (widened s e n) steps)) (range-three s e n h l)
     ∙ moved-widened s e n steps (range_with_len 0 s) (range_with_len 0 (e - s)) (range_with_len e (n - e)) h (length-range_with_len 0 s) (length-range_with_len 0 (e - s)) rest f
 
 -- the order view after widened steps: the stretch is reordered by the steps, and nothing else

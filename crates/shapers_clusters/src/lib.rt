@@ -2,7 +2,7 @@
 //! contract of a function without a body.
 #![tactic(auto)]
 
-ghost use Rattle.shapers_clusters.specs.Laws.{ViewLaw, MergeLaw, ExactCutsLaw, StepsLaw, ClustersLaw, MergedStepsLaw, WidenedLaw, AlongLaw, HalvesLaw, MadeLaw, MovedSourcesLaw};
+ghost use Rattle.shapers_clusters.specs.Laws.{ViewLaw, MergeLaw, ExactCutsLaw, StepsLaw, PermutedLaw, ClustersLaw, MergedStepsLaw, ReorderedLaw, WidenedLaw, AlongLaw, HalvesLaw, MadeLaw, MovedSourcesLaw};
 
 /// Merges leave the order view; the three flag calls change nothing but glyph flags.
 pub fn view_law()
@@ -25,6 +25,11 @@ pub fn steps_law()
     ensures { StepsLaw }
 {}
 
+/// Moves that take each place once lose no glyph.
+pub fn permuted_law()
+    ensures { PermutedLaw }
+{}
+
 /// What merges and moves, in any order, do to any clusters: none is new, and labels are respected.
 pub fn clusters_law()
     ensures { ClustersLaw }
@@ -33,6 +38,11 @@ pub fn clusters_law()
 /// Moves inside merged stretches leave the merged clusters in place: the cluster law and exact cuts.
 pub fn merged_steps_law()
     ensures { MergedStepsLaw }
+{}
+
+/// What a hook that only reorders promises: no glyph is lost, flags, exact cuts and the cluster law.
+pub fn reordered_law()
+    ensures { ReorderedLaw }
 {}
 
 /// Steps over a stretch of places are steps over all places.

@@ -13,9 +13,9 @@ use Rattle.std.specs.Prelude.{if◌then◌else◌}
 use Rattle.std.specs.Option.{option_map_or}
 use Rattle.std.proofs.lemmas.List.{take-map, drop-map}
 use Rattle.shapers_base.specs.declared.buffer.level.BufferClusterLevel.{BufferClusterLevel}
-use Rattle.shapers_base.specs.Glyph.{plain, order_view, clusters}
-use Rattle.shapers_base.specs.Clusters.{merges}
-use Rattle.shapers_clusters.specs.Laws.{StepsHold, MergedStepsHold}
+use Rattle.shapers_base.specs.Glyph.{plain, order_view}
+use Rattle.shapers_clusters.specs.Laws.{ReorderedHold}
+use Rattle.shapers_clusters.specs.Permuted.{Permutes, still_permutes, swap_permutes}
 use Rattle.shapers_clusters.specs.Proved.{reordered_hold}
 use Rattle.shapers_clusters.specs.Steps.{MovesMerged, run_step}
 use Rattle.shapers_clusters.specs.Swaps.{still_moves_merged, swap_moves_merged, run-still_step, order_view-swap_step}
@@ -105,6 +105,12 @@ mark_moves_merged start end gs within = elim (second_of_triple start end gs) as 
   | Some i ↦ λ w. swap_moves_merged (length gs) i w
 ] within
 
+mark_permutes : (start end : ℕ) (gs : List hb_glyph_info_t) → IfSome (second_of_triple start end gs) (λ i. i + 1 < length gs) → Permutes (length gs) (mark_step start end gs)
+mark_permutes start end gs within = elim (second_of_triple start end gs) as (λ o. IfSome o (λ i. i + 1 < length gs) → Permutes (length gs) (step_at (length gs) o)) [
+  | None ↦ λ w. still_permutes (length gs)
+  | Some i ↦ λ w. swap_permutes (length gs) i w
+] within
+
 -- the classes of the marks show in the order view
 opens_plain : (gs : List hb_glyph_info_t) → opens_triple (order_view gs) ≡ opens_triple gs
 opens_plain [] = refl
@@ -134,8 +140,8 @@ marks_view level start end gs within =
     marks_view_at level gs (second_of_triple start end gs) within ∙ ap (λ o. option_map_or (λ i. swap (order_view gs) i (i + 1)) o (order_view gs)) (sym (second_plain start end gs))
 
 -- what the step leaves, by the laws
-pub mark_laws : (level : BufferClusterLevel) (start end : ℕ) (gs : List hb_glyph_info_t) → IfSome (second_of_triple start end gs) (λ i. i + 1 < length gs) → StepsHold level (mark_step start end gs ∷ []) gs (run_step level (mark_step start end gs) gs) × (merges level ≡ true → MergedStepsHold level (mark_step start end gs ∷ []) (clusters gs) (clusters (run_step level (mark_step start end gs) gs)))
-mark_laws level start end gs within = reordered_hold level (mark_step start end gs ∷ []) gs (mark_moves_merged start end gs within, tt)
+pub mark_laws : (level : BufferClusterLevel) (start end : ℕ) (gs : List hb_glyph_info_t) → IfSome (second_of_triple start end gs) (λ i. i + 1 < length gs) → ReorderedHold level (mark_step start end gs ∷ []) gs (run_step level (mark_step start end gs) gs)
+mark_laws level start end gs within = reordered_hold level (mark_step start end gs ∷ []) gs (mark_moves_merged start end gs within, tt) (mark_permutes start end gs within, tt)
 
 -- the step is the one that the search found
 pub mark_step_is : (level : BufferClusterLevel) (start end : ℕ) (gs : List hb_glyph_info_t) (o : Option ℕ) → o ≡ second_of_triple start end gs → run_step level (step_at (length gs) o) gs ≡ run_step level (mark_step start end gs) gs

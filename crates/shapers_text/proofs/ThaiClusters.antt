@@ -19,7 +19,7 @@ use Rattle.shapers_clusters.specs.Proved.{made_hold_by, part_shares}
 use Rattle.shapers_text.specs.Thai.{characters, is_sara_am, is_above_base, InTwo, in_two, glyphs_in_two, places_in_two, nikhahit, sara_aa, rewritten, sources, sara_am_stretches, stretches_at}
 use Rattle.shapers_text.specs.ThaiLaws.{unnamed, new_place, ClustersInTwo, InTwoLaw}
 use Rattle.shapers_text.specs.ThaiForms.{preprocessed, pua_shaped}
-use Rattle.shapers_text.proofs.ThaiInTwo.{read_by, in_two-map, sources_at}
+use Rattle.shapers_text.proofs.ThaiInTwo.{kept, none_lost, read_by, in_two-map, sources_at}
 use Rattle.shapers_text.proofs.ThaiStretches.{characters-merge_all, stretches_within}
 use Rattle.shapers_text.proofs.ThaiFormWalks.{forms_hold}
 
@@ -59,7 +59,8 @@ in_two_holds level gs =
     let (same, h) = made_hold_by unnamed (record { cluster = λ g. refl; flags = λ g. refl }) level sts (sources us) gs (rewritten ms) (stretches_within level gs) made places glyphs in
     record {
       made = same;
-      in_clusters = record { made = h.clusters_made; cluster_law = shares level us (clusters gs) (clusters (rewritten ms)) h.clusters_made };
+      kept = (kept glyphs_in_two ms).whole;
+      in_clusters = record { made = h.clusters_made; none_lost = none_lost us; cluster_law = shares level us (clusters gs) (clusters (rewritten ms)) h.clusters_made };
       falls = h.falls;
     }
 

@@ -1,14 +1,19 @@
 -- The rule of SARA AM, read from the end of a text; through maps; at one SARA AM.
-use Rattle.std.proofs.Common.{◌≡◌, inl, inr, map, ◌-◌, ◌+◌, ℕ, true, false, cond, List, [], ◌∷◌, ◌++◌, length, take, refl, sym, ap, ◌∙◌, arith}
-use Rattle.std.specs.List.{list_any, count_by, suffix_len, take-map, enumerate_from, range_with_len}
+use Rattle.std.proofs.Common.{◌≡◌, inl, inr, map, ◌-◌, ◌+◌, ◌<◌, ℕ, Bool, get_or, flat_map, subst, true, false, cond, List, [], ◌∷◌, ◌++◌, length, take, refl, sym, ap, ◌∙◌, arith}
+use Rattle.std.specs.List.Sorted.{IsPermutation}
+use Rattle.std.proofs.lemmas.List.Sorted.{IsPermutation-refl, IsPermutation-trans, IsPermutation-sym, IsPermutation-cons, IsPermutation-middle, IsPermutation-to_front, IsPermutation-append_left, Contains-permutation}
+use Rattle.std.proofs.lemmas.List.Elements.{Contains-get_or}
+use Rattle.std.proofs.lemmas.List.Concat.{flat_map-append}
+use Rattle.std.proofs.lemmas.List.FromFn.{get_or-enumerate_from, length-enumerate_from}
+use Rattle.std.specs.List.{Contains, list_any, count_by, suffix_len, take-map, enumerate_from, range_with_len}
 use Rattle.std.proofs.lemmas.Bool.{or_cases, eqb-true}
-use Rattle.std.proofs.lemmas.List.{map-append, append_assoc, length_push}
+use Rattle.std.proofs.lemmas.List.{map-append, append_assoc, append-nil, length_push}
 use Rattle.shapers_base.specs.declared.buffer.glyph.hb_glyph_info_t.{hb_glyph_info_t}
 use Rattle.shapers_base.specs.Lists.{last_run, before_last_run}
 use Rattle.shapers_base.specs.ListLaws.{from_end, count_push, last_pass, none_in_front, last_run_yes, before_last_run_yes, last_run_no, before_last_run_no, last_run_stop, before_last_run_stop}
 use Rattle.shapers_base.specs.PieceLaws.{one_piece, opened_pieces-none, opened_pieces-append, opened_pieces-push, opened_pieces-map}
-use Rattle.shapers_base.specs.MappedLists.{suffix_len-map, last_run-map, before_last_run-map, enumerate-append, before_last_run-enumerate_from, places-last_run}
-use Rattle.shapers_text.specs.Thai.{is_sara_am, is_above_base, is_am, is_above, InTwo, opened, in_two, places_in_two, sources, characters}
+use Rattle.shapers_base.specs.MappedLists.{Contains-map, Contains-flat_map, suffix_len-map, last_run-map, before_last_run-map, enumerate-append, before_last_run-enumerate_from, places-last_run}
+use Rattle.shapers_text.specs.Thai.{is_sara_am, is_above_base, is_am, is_above, InTwo, opened, in_parts, in_two, places_in_two, sources, characters}
 use Rattle.shapers_text.specs.ThaiRewriting.{marks_of, held}
 
 -- a SARA AM is no above-base mark
@@ -142,3 +147,57 @@ pub lengths : {X : Type 0} (two : InTwo X) (xs : List X) → Lengths two xs
 lengths two xs =
     from_end (Lengths two) (record { whole = refl; pending = λ n. refl })
     (λ xs x p. record { whole = lengths_push two xs x p; pending = λ n. lengths_push_held two xs x n p }) xs
+
+-- Nothing is lost: the result is what comes of each element, in some order; so is a text with a NIKHAHIT pending.
+pub record Kept {X : Type 0} (two : InTwo X) (xs : List X) : Type 0 where
+  pub whole : IsPermutation (flat_map (in_parts two) xs) (in_two two xs)
+  pub pending : (nikhahit : X) → IsPermutation (nikhahit ∷ flat_map (in_parts two) xs) (held two xs nikhahit)
+
+permutation_by : {X : Type 0} (xs us ys vs : List X) → xs ≡ us → ys ≡ vs → IsPermutation us vs → IsPermutation xs ys
+permutation_by xs us ys vs e f p = subst (λ zs. IsPermutation zs ys) (sym e) (subst (IsPermutation us) (sym f) p)
+
+parts_push : {X : Type 0} (two : InTwo X) (xs : List X) (x : X) (b : Bool) → is_am two x ≡ b → flat_map (in_parts two) (xs ++ x ∷ []) ≡ flat_map (in_parts two) xs ++ cond b (two.nikhahit x ∷ (two.sara_aa x ∷ [])) (x ∷ [])
+parts_push two xs x b h =
+    flat_map-append (in_parts two) xs (x ∷ []) ∙ ap (λ ys. flat_map (in_parts two) xs ++ ys) (append-nil (in_parts two x) ∙ ap (λ c. cond c (two.nikhahit x ∷ (two.sara_aa x ∷ [])) (x ∷ [])) h)
+
+kept_push : {X : Type 0} (two : InTwo X) (xs : List X) (x : X) → Kept two xs → IsPermutation (flat_map (in_parts two) (xs ++ x ∷ [])) (in_two two (xs ++ x ∷ []))
+kept_push two xs x k =
+    let flat = flat_map (in_parts two) xs in
+    let n = two.nikhahit x in
+    let s = two.sara_aa x in
+    elim (is_am two x) as (λ b. is_am two x ≡ b → IsPermutation (flat_map (in_parts two) (xs ++ x ∷ [])) (in_two two (xs ++ x ∷ []))) [
+      | true ↦ λ h.
+          permutation_by _ (flat ++ n ∷ (s ∷ [])) _ (held two xs n ++ s ∷ []) (parts_push two xs x true h) (in_two_push_am two xs x h)
+          (IsPermutation-trans _ (n ∷ (flat ++ s ∷ [])) _ (IsPermutation-middle flat n (s ∷ [])) (IsPermutation-append_left (s ∷ []) (n ∷ flat) (held two xs n) (k.pending n)))
+      | false ↦ λ h. permutation_by _ (flat ++ x ∷ []) _ (in_two two xs ++ x ∷ []) (parts_push two xs x false h) (in_two_push two xs x h) (IsPermutation-append_left (x ∷ []) flat (in_two two xs) k.whole)
+    ] refl
+
+kept_push_held : {X : Type 0} (two : InTwo X) (xs : List X) (x n : X) → Kept two xs → IsPermutation (n ∷ flat_map (in_parts two) (xs ++ x ∷ [])) (held two (xs ++ x ∷ []) n)
+kept_push_held two xs x n k =
+    let flat = flat_map (in_parts two) xs in
+    let next = in_two two (xs ++ x ∷ []) in
+    elim (is_above two x) as (λ b. is_above two x ≡ b → IsPermutation (n ∷ flat_map (in_parts two) (xs ++ x ∷ [])) (held two (xs ++ x ∷ []) n)) [
+      | true ↦ λ h.
+          permutation_by _ (n ∷ (flat ++ x ∷ [])) _ (held two xs n ++ x ∷ []) (ap (λ ys. n ∷ ys) (parts_push two xs x false (no_am two x h))) (held_push_mark two xs x n h) (IsPermutation-append_left (x ∷ []) (n ∷ flat) (held two xs n) (k.pending n))
+      | false ↦ λ h.
+          permutation_by _ _ _ (next ++ n ∷ []) refl (held_push_other two xs x n h)
+          (IsPermutation-trans _ (n ∷ next) _ (IsPermutation-cons n _ next (kept_push two xs x k)) (IsPermutation-sym (next ++ n ∷ []) (n ∷ next) (IsPermutation-to_front next n)))
+    ] refl
+
+pub kept : {X : Type 0} (two : InTwo X) (xs : List X) → Kept two xs
+kept two xs =
+    from_end (Kept two) (record { whole = IsPermutation-refl []; pending = λ n. IsPermutation-refl (n ∷ []) }) (λ xs x k. record { whole = kept_push two xs x k; pending = λ n. kept_push_held two xs x n k }) xs
+
+-- so each place has a glyph that comes of it
+pub none_lost : (us : List ℕ) (p : ℕ) → p < length us → Contains (sources us) p
+none_lost us p inside =
+    let es = enumerate_from 0 us in
+    let u = get_or us p 0 in
+    let same : 0 + p ≡ p = omega arith in
+    let among : Contains es (p, u) = subst (Contains es) (get_or-enumerate_from 0 us p (0, 0) inside ∙ ap (λ k. (k, u)) same) (Contains-get_or es p (0, 0) (omega (arith, length-enumerate_from 0 us))) in
+    let made : (y : ℕ × ℕ) → Contains (in_parts places_in_two (p, u)) y → Contains (map (λ q. q.0) (in_two places_in_two es)) y.0 =
+    λ y part. Contains-map (λ q. q.0) (in_two places_in_two es) y (Contains-permutation _ (in_two places_in_two es) y (kept places_in_two es).whole (Contains-flat_map (in_parts places_in_two) es (p, u) y among part)) in
+    elim (is_sara_am u) as (λ b. ((y : ℕ × ℕ) → Contains (cond b ((p, u + 0x1A) ∷ ((p, u - 1) ∷ [])) ((p, u) ∷ [])) y → Contains (sources us) y.0) → Contains (sources us) p) [
+      | true ↦ λ made. made (p, u + 0x1A) (0, omega arith, refl)
+      | false ↦ λ made. made (p, u) (0, omega arith, refl)
+    ] made

@@ -42,6 +42,10 @@ opened two text am = before_last_run (is_above two) text ++ (two.nikhahit am ∷
 abbrev pub in_two : {X : Type 0} → InTwo X → List X → List X
 in_two two text = opened_pieces (is_am two) (opened two) text
 
+-- what comes of one element: of a SARA AM its two parts, of another itself
+abbrev pub in_parts : {X : Type 0} → InTwo X → X → List X
+in_parts two x = if is_am two x then two.nikhahit x ∷ (two.sara_aa x ∷ []) else x ∷ []
+
 -- NIKHAHIT and SARA AA out of SARA AM: NIKHAHIT is a continuation of category Mn
 abbrev pub nikhahit : hb_glyph_info_t → hb_glyph_info_t
 nikhahit am = record am { glyph_id = am.glyph_id + 0x1A; general_category = Mn; continuation = true }

@@ -1,6 +1,7 @@
 -- What the rewriting makes of clusters and glyph flags.
-use Rattle.std.specs.Prelude.{ℕ, Bool, ◌+◌, ◌≡◌, true, false, List, ◌∷◌, ◌++◌, map, length}
-use Rattle.std.specs.List.{AllZip, suffix_len}
+use Rattle.std.specs.Prelude.{ℕ, Bool, ◌+◌, ◌≡◌, true, false, List, ◌∷◌, ◌++◌, map, flat_map, length, ◌<◌}
+use Rattle.std.specs.List.{AllZip, Contains, suffix_len}
+use Rattle.std.specs.List.Sorted.{IsPermutation}
 use Rattle.shapers_base.specs.declared.buffer.glyph.hb_glyph_info_t.{hb_glyph_info_t}
 use Rattle.shapers_base.specs.declared.buffer.level.BufferClusterLevel.{BufferClusterLevel}
 use Rattle.shapers_base.specs.declared.buffer.category.hb_unicode_general_category_t.TheVariants.{Cc}
@@ -12,27 +13,29 @@ use Rattle.shapers_clusters.specs.Steps.{pick}
 use Rattle.shapers_clusters.specs.Falls.{FlagsFall}
 use Rattle.shapers_clusters.specs.Laws.{ClustersMade}
 use Rattle.shapers_text.specs.ThaiForms.{preprocessed}
-use Rattle.shapers_text.specs.Thai.{is_sara_am, is_above_base, characters, rewritten, sources, sara_am_stretches}
+use Rattle.shapers_text.specs.Thai.{is_sara_am, is_above_base, in_parts, glyphs_in_two, characters, rewritten, sources, sara_am_stretches}
 
 -- where the NIKHAHIT of a SARA AM stands in the result, if xs is the text before it: behind what comes of the text before its marks
 abbrev pub new_place : List ℕ → ℕ
 new_place xs = length (sources (before_last_run is_above_base xs))
 
 -- What the rewriting of the characters us makes of their clusters cs: js. They are the clusters of made glyphs, each having that
--- of its source after the merges, with exact cuts. At the levels that merge, wherever the text is xs, a SARA AM and ys, all places
+-- of its source after the merges, with exact cuts; and each place of the text is the source of some glyph. At the levels that merge, wherever the text is xs, a SARA AM and ys, all places
 -- between its NIKHAHIT and where that stood before its move share one cluster.
 pub record ClustersInTwo (level : BufferClusterLevel) (us cs js : List ℕ) : Type 0 where
   pub made : ClustersMade level (sara_am_stretches level us) (sources us) cs js
+  pub none_lost : (p : ℕ) → p < length us → Contains (sources us) p
   pub cluster_law : merges level ≡ true → (xs : List ℕ) (u : ℕ) (ys : List ℕ) → us ≡ xs ++ u ∷ ys → is_sara_am u ≡ true → ShareCluster js (new_place xs) (new_place xs + suffix_len is_above_base xs)
 
 -- a glyph without what the rewriting changes
 abbrev pub unnamed : hb_glyph_info_t → hb_glyph_info_t
 unnamed g = record g { glyph_id = 0; general_category = Cc; continuation = false }
 
--- What it gives: rs. Each glyph is its source after the merges in all but character, category and continuation; so no cluster rises,
+-- What it gives: rs. But for its order it is the merged text with each SARA AM taken in two. Each glyph is its source after the merges in all but character, category and continuation; so no cluster rises,
 -- and glyph flags stay unless it fell.
 pub record InTwoHolds (level : BufferClusterLevel) (gs rs : List hb_glyph_info_t) : Type 0 where
   pub made : map unnamed rs ≡ map unnamed (pick (sources (characters gs)) (merge_all level (sara_am_stretches level (characters gs)) gs))
+  pub kept : IsPermutation (flat_map (in_parts glyphs_in_two) (merge_all level (sara_am_stretches level (characters gs)) gs)) rs
   pub in_clusters : ClustersInTwo level (characters gs) (clusters gs) (clusters rs)
   pub falls : AllZip FlagsFall (pick (sources (characters gs)) gs) rs
 

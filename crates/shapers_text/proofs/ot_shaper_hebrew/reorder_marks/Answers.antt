@@ -1,9 +1,9 @@
-use Rattle.std.proofs.Common.{◌≡◌, true, [], ◌∷◌, ◌+◌, ◌<◌, ◌∙◌, ℕ, Option, Some, None, length, sym, ap, subst, arith}
+use Rattle.std.proofs.Common.{◌≡◌, [], ◌∷◌, ◌+◌, ◌<◌, ◌∙◌, ℕ, Option, Some, None, length, sym, ap, subst, arith}
 use Rattle.std.specs.Prelude.{IfSome, swap}
 use Rattle.shapers_base.specs.Buffer.{Buffer}
-use Rattle.shapers_base.specs.Clusters.{merge, merges}
-use Rattle.shapers_base.specs.Glyph.{clusters, order_view}
-use Rattle.shapers_clusters.specs.Laws.{StepsHold, MergedStepsHold}
+use Rattle.shapers_base.specs.Clusters.{merge}
+use Rattle.shapers_base.specs.Glyph.{order_view}
+use Rattle.shapers_clusters.specs.Laws.{ReorderedHold}
 use Rattle.shapers_clusters.specs.Steps.{run_step}
 use Rattle.shapers_clusters.specs.Swaps.{run-swap_step, run-still_step}
 use Rattle.shapers_text.specs.Hebrew.{mark_step, second_of_triple}
@@ -21,7 +21,7 @@ returns-in-Some c =
     let glyphs_are : swap (merge b.level i (i + 2) b.glyphs) i (i + 1) ≡ run_step b.level (mark_step c.args.start c.args.end b.glyphs) b.glyphs = sym (run-swap_step b.level b.glyphs i inside) ∙ mark_step_is b.level c.args.start c.args.end b.glyphs (Some i) found in
     let step = c.merge_and_swap.ensures ∙ ap (λ zs. let r : Buffer = record b { glyphs = zs } in r) glyphs_are in
     let laws = mark_laws b.level c.args.start c.args.end b.glyphs within in
-    record { step = step; order = rw step (marks_view b.level c.args.start c.args.end b.glyphs within); flags = rw step laws.0; clusters = rw step laws.1 }
+    record { step = step; order = rw step (marks_view b.level c.args.start c.args.end b.glyphs within); laws = rw step laws }
 
 pub returns-in_default : goal.returns-in_default
 returns-in_default c =
@@ -32,4 +32,4 @@ returns-in_default c =
     let glyphs_are : b.glyphs ≡ run_step b.level (mark_step c.args.start c.args.end b.glyphs) b.glyphs = sym (run-still_step b.level b.glyphs) ∙ mark_step_is b.level c.args.start c.args.end b.glyphs None found in
     let laws = mark_laws b.level c.args.start c.args.end b.glyphs within in
     let order = marks_view b.level c.args.start c.args.end b.glyphs within in
-    record { step = ap (λ zs. let r : Buffer = record b { glyphs = zs } in r) glyphs_are; order = ap order_view glyphs_are ∙ order; flags = subst (λ zs. StepsHold b.level (mark_step c.args.start c.args.end b.glyphs ∷ []) b.glyphs zs) (sym glyphs_are) laws.0; clusters = subst (λ zs. merges b.level ≡ true → MergedStepsHold b.level (mark_step c.args.start c.args.end b.glyphs ∷ []) (clusters b.glyphs) (clusters zs)) (sym glyphs_are) laws.1 }
+    record { step = ap (λ zs. let r : Buffer = record b { glyphs = zs } in r) glyphs_are; order = ap order_view glyphs_are ∙ order; laws = subst (ReorderedHold b.level (mark_step c.args.start c.args.end b.glyphs ∷ []) b.glyphs) (sym glyphs_are) laws }

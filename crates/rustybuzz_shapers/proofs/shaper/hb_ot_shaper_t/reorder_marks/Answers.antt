@@ -1,9 +1,8 @@
 -- A shaper without mark reordering takes no steps.
 use Rattle.std.proofs.Common.{rules, ◌≡◌, ℕ, false, List, [], refl, sym, subst}
 use Rattle.shapers_base.specs.declared.buffer.glyph.hb_glyph_info_t.{hb_glyph_info_t}
-use Rattle.shapers_base.specs.Glyph.{clusters}
 use Rattle.shapers_clusters.specs.Steps.{Step}
-use Rattle.shapers_clusters.specs.Laws.{StepsHold, MergedStepsHold}
+use Rattle.shapers_clusters.specs.Laws.{ReorderedHold}
 use Rattle.shapers_clusters.specs.Proved.{reordered_hold}
 use Rattle.rustybuzz_shapers.specs.Shapers.{moves_marks, marks_steps}
 use Rattle.rustybuzz_shapers.specs.declared.shaper.hb_ot_shaper_t.{hb_ot_shaper_t}
@@ -27,10 +26,8 @@ returns-in-Hangul c =
     let gs = b.glyphs in
     let absent : moves_marks c.args.self ≡ false = search rules in
     let none = no_steps c.args.self absent c.args.start c.args.end gs in
-    let laws = reordered_hold b.level [] gs tt in
     record {
       answer = sym absent;
       marks = search rules;
-      flags = subst (λ (steps : List Step). StepsHold b.level steps gs gs) (sym none) laws.0;
-      clusters = λ m. subst (λ (steps : List Step). MergedStepsHold b.level steps (clusters gs) (clusters gs)) (sym none) (laws.1 m);
+      laws = subst (λ (steps : List Step). ReorderedHold b.level steps gs gs) (sym none) (reordered_hold b.level [] gs tt tt);
     }

@@ -1,0 +1,5 @@
+use Rattle.shapers_clusters.specs.Proved.{reordered_hold}
+use Rattle.shapers_clusters.proofs.reordered_law.Goals as goal
+
+pub returns : goal.returns
+returns c = reordered_hold
