@@ -1,7 +1,7 @@
 -- Steps of the walks that count circles and write them.
 use Rattle.std.proofs.Common.{◌≡◌, ◌==◌, ℕ, suc, ◌+◌, ◌-◌, ◌<◌, ◌≤◌, Bool, true, cond, List, [], ◌∷◌, ◌++◌, length, take, drop, get_or, set, refl, ap, sym, ◌∙◌, arith, length-append, length-take-le, length-drop, append_assoc}
 use Rattle.std.specs.List.{prefix_len}
-use Rattle.std.proofs.lemmas.List.{append-nil, drop-drop, drop_more, drop-take, take-take, take-append-drop, take_at, drop_at, drop_all}
+use Rattle.std.proofs.lemmas.List.{drop-drop, drop_more, drop-take, take-take, take-append-drop}
 use Rattle.std.proofs.lemmas.Bool.Decides.{nat_tests}
 use Rattle.shapers_base.specs.declared.buffer.glyph.hb_glyph_info_t.{hb_glyph_info_t}
 use Rattle.shapers_base.specs.declared.ot_shaper_syllabic.DottedCircles.{DottedCircles}
@@ -108,16 +108,6 @@ circle_written rule gs start end to place r g circle some inside room read withi
     let tail : length (drop r piece) ≡ end - start - r = length-drop r piece ∙ omega arith in
     let all : head ++ drop r piece ≡ with_circle rule piece = append_assoc (take r piece) (circle ∷ []) (drop r piece) ∙ ap (λ y. take r piece ++ y ∷ drop r piece) same ∙ ap (λ n. take n piece ++ circle_in piece rule.circle ∷ drop n piece) rephas in
     ap (λ xs. overwritten (place + 1) xs moved) left ∙ ap (overwritten (place + 1) (drop r piece)) moved_is ∙ overwritten-overwritten to (place + 1) head (drop r piece) gs (omega arith) (omega arith) ∙ ap (λ xs. overwritten to xs gs) all
-
--- a text with more glyphs behind it, moved up by their number
-pub gap_opened : (gs more : List hb_glyph_info_t) (gap : ℕ) → length more ≡ gap → let hs = gs ++ more in drop gap (overwritten gap (take (length hs - gap) hs) hs) ≡ gs
-gap_opened gs more gap size =
-    let hs = gs ++ more in
-    let whole : length hs ≡ length gs + length more = length-append gs more in
-    let kept : take (length hs - gap) hs ≡ gs = take_at gs more (length hs - gap) (omega arith) in
-    let none : drop (gap + length gs) hs ≡ [] = drop_all (gap + length gs) hs (omega arith) in
-    let front : length (take gap hs) ≡ gap = length-take-le gap hs (omega arith) in
-    ap (λ xs. drop gap (overwritten gap xs hs)) kept ∙ drop_at (take gap hs) (gs ++ drop (gap + length gs) hs) gap front ∙ ap (λ xs. gs ++ xs) none ∙ append-nil gs
 
 -- a buffer with these glyphs
 abbrev pub with_glyphs : Buffer → List hb_glyph_info_t → Buffer

@@ -23,9 +23,6 @@ drop-overwritten {X = X} to out xs i h behind =
     let at = λ (ys : List X). drop-drop (i - m) m ys ∙ ap (λ n. drop n ys) split in
     sym (at (overwritten to out xs)) ∙ ap (drop (i - m)) (drop_written to out xs h) ∙ at xs
 
-pub length-overwritten : {X : Type 0} (to : ℕ) (out xs : List X) → to + length out ≤ length xs → length (overwritten to out xs) ≡ length xs
-length-overwritten to out xs h = omega (arith, length-append (take to xs) (out ++ drop (to + length out) xs), length-append out (drop (to + length out) xs), length-take-le to xs (omega arith), length-drop (to + length out) xs)
-
 pub get_behind : {X : Type 0} (to : ℕ) (out xs : List X) (i : ℕ) (d : X) → to ≤ length xs → to + length out ≤ i → get_or (overwritten to out xs) i d ≡ get_or xs i d
 get_behind to out xs i d h behind =
     let m = to + length out in

@@ -1,9 +1,9 @@
 -- Laws of mapped and of numbered lists.
 use Rattle.std.proofs.Common.{◌≡◌, ℕ, zero, suc, ◌-◌, ◌+◌, ◌<◌, ◌≤◌, ◌||◌, Bool, true, false, cond, List, [], ◌∷◌, ◌++◌, length, map, flat_map, take, drop, reverse, refl, sym, ap, subst, ◌∙◌, arith}
-use Rattle.std.specs.List.{All, list_any, suffix_len, prefix_len, onto_first, enumerate_from, range_with_len, AllByRecursion, Contains, take-map}
+use Rattle.std.specs.List.{list_any, suffix_len, prefix_len, onto_first, enumerate_from, range_with_len, AllByRecursion, Contains, take-map}
 use Rattle.std.proofs.lemmas.List.{append_assoc, append-nil, get_or-map, length_push, reverse-append, map_push, length-map, drop-map}
-use Rattle.std.proofs.lemmas.List.Elements.{All-from_get_or, Contains-append_left, Contains-append_right}
-use Rattle.std.proofs.lemmas.List.FromFn.{length-enumerate_from, length-range_with_len, get_or-range_with_len}
+use Rattle.std.proofs.lemmas.List.Elements.{Contains-append_left, Contains-append_right}
+use Rattle.std.proofs.lemmas.List.FromFn.{length-enumerate_from}
 use Rattle.std.proofs.lemmas.List.Sums.{suffix_len-le-length}
 use Rattle.shapers_base.specs.Lists.{cut_after, last_run, before_last_run, each_after}
 
@@ -96,10 +96,18 @@ places-last_run test xs =
     ∙ ap (λ k. range_with_len k (length xs - start)) same
     ∙ ap (range_with_len start) many
 
--- what holds of all, and what is contained, in joined lists
+-- what holds of all, and what is contained, in joined and mapped lists and in ranges
 pub all-append : {X : Type 0} (P : X → Type 0) (xs ys : List X) → AllByRecursion P xs → AllByRecursion P ys → AllByRecursion P (xs ++ ys)
 all-append P [] ys h i = i
 all-append P (x ∷ xs) ys h i = (h.0, all-append P xs ys h.1 i)
+
+pub all-mapped : {X Y : Type 0} (P : X → Type 0) (Q : Y → Type 0) (f : X → Y) (xs : List X) → ((x : X) → P x → Q (f x)) → AllByRecursion P xs → AllByRecursion Q (map f xs)
+all-mapped P Q f [] g h = tt
+all-mapped P Q f (x ∷ xs) g h = (g x h.0, all-mapped P Q f xs g h.1)
+
+pub all-range : (P : ℕ → Type 0) (a k : ℕ) → ((p : ℕ) → a ≤ p → p < a + k → P p) → AllByRecursion P (range_with_len a k)
+all-range P a zero h = tt
+all-range P a (suc k) h = (h a (omega arith) (omega arith), all-range P (a + 1) k (λ p x y. h p (omega arith) (omega arith)))
 
 pub all-flat_map : {X Y : Type 0} (Q : X → Type 0) (P : Y → Type 0) (f : X → List Y) → ((x : X) → Q x → AllByRecursion P (f x)) → (xs : List X) → AllByRecursion Q xs → AllByRecursion P (flat_map f xs)
 all-flat_map Q P f each [] all = tt
@@ -124,11 +132,6 @@ Contains-each_after before (y ∷ xs) x ys =
 pub all-each_after : {X : Type 0} (m : ℕ) (before xs : List X) → length before + length xs ≤ m → AllByRecursion (λ p. length p.0 < m) (each_after before xs)
 all-each_after m before [] within = tt
 all-each_after m before (x ∷ xs) within = (omega arith, all-each_after m (before ++ x ∷ []) xs (omega (arith, length_push before x)))
-
--- the places of a range
-pub All-range : (P : ℕ → Type 0) (a n : ℕ) → ((i : ℕ) → a ≤ i → i < a + n → P i) → All P (range_with_len a n)
-All-range P a n each =
-    All-from_get_or P (range_with_len a n) 0 (λ k inside. let l : k < n = omega (arith, length-range_with_len a n) in subst P (sym (get_or-range_with_len a n k 0 l)) (each (a + k) (omega arith) (omega arith)))
 
 -- whether any element of a mapped list passes
 pub list_any-map : {X Y : Type 0} (test : Y → Bool) (f : X → Y) (xs : List X) → list_any test (map f xs) ≡ list_any (λ x. test (f x)) xs

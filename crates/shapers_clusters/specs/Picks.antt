@@ -6,6 +6,7 @@ use Rattle.std.proofs.lemmas.List.{drop_more, take_all}
 use Rattle.std.proofs.lemmas.List.Elements.{filter_map-append}
 use Rattle.std.proofs.lemmas.Option.{slice_get-map}
 use Rattle.std.proofs.lemmas.Bool.{cases_lt}
+use Rattle.shapers_base.specs.MappedLists.{all-range}
 use Rattle.shapers_clusters.specs.Steps.{pick}
 
 pub pick-within : {X : Type 0} (d : X) (p : ℕ) (ps : List ℕ) (xs : List X) → p < length xs → pick (p ∷ ps) xs ≡ get_or xs p d ∷ pick ps xs
@@ -74,8 +75,7 @@ within_picked n (q ∷ qs) ps h = elim (cases_lt q (length ps)) [
 ]
 
 pub within_range : (a k n : ℕ) → a + k ≤ n → AllByRecursion (λ p. p < n) (range_with_len a k)
-within_range a zero n h = tt
-within_range a (suc k) n h = (omega arith, within_range (a + 1) k n (omega arith))
+within_range a k n h = all-range (λ p. p < n) a k (λ p low high. omega arith)
 
 -- the places from a on, k of them, give that stretch
 pub pick-range : {X : Type 0} (a k : ℕ) (xs : List X) → a + k ≤ length xs → pick (range_with_len a k) xs ≡ take k (drop a xs)

@@ -12,17 +12,9 @@ use Rattle.shapers_base.specs.Glyph.{order_view, plain}
 use Rattle.shapers_base.specs.Clusters.{stretch_of}
 use Rattle.shapers_clusters.specs.Neighbours.{EndWithin, held}
 use Rattle.shapers_clusters.specs.Steps.{pick, Step, run_step, run_steps, moved_on, old_places, FitsStep, FitSteps, MovesInside, MovesMerged, shifted, widened}
-use Rattle.shapers_base.specs.MappedLists.{all-append}
+use Rattle.shapers_base.specs.MappedLists.{all-append, all-mapped, all-range}
 use Rattle.shapers_clusters.specs.Picks.{length-pick, pick-map, pick-append, pick-range, pick-within, some_element}
 use Rattle.shapers_clusters.specs.Moves.{order_view-run_steps, falls-run_steps, length-old_places, within-old_places}
-
-pub all-mapped : {X Y : Type 0} (P : X → Type 0) (Q : Y → Type 0) (f : X → Y) (xs : List X) → ((x : X) → P x → Q (f x)) → AllByRecursion P xs → AllByRecursion Q (map f xs)
-all-mapped P Q f [] g h = tt
-all-mapped P Q f (x ∷ xs) g h = (g x h.0, all-mapped P Q f xs g h.1)
-
-all-range : (P : ℕ → Type 0) (a k : ℕ) → ((p : ℕ) → a ≤ p → p < a + k → P p) → AllByRecursion P (range_with_len a k)
-all-range P a zero h = tt
-all-range P a (suc k) h = (h a (omega arith) (omega arith), all-range P (a + 1) k (λ p x y. h p (omega arith) (omega arith)))
 
 pick-shifted : {X : Type 0} (s e : ℕ) (ps : List ℕ) (xs : List X) → e ≤ length xs → AllByRecursion (λ p. p < e - s) ps → pick (map (λ p. s + p) ps) xs ≡ pick ps (stretch_of s e xs)
 pick-shifted s e [] xs l h = refl

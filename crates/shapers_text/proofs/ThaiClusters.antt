@@ -2,7 +2,7 @@
 use Rattle.std.proofs.Common.{◌≡◌, ℕ, ◌-◌, ◌+◌, ◌<◌, ◌≤◌, true, false, Bool, List, [], ◌∷◌, ◌++◌, length, map, refl, sym, ap, ◌∙◌, subst, arith}
 use Rattle.std.proofs.lemmas.Bool.{lt-ltb}
 use Rattle.std.specs.List.{suffix_len, range_with_len, enumerate_from, Contains}
-use Rattle.std.proofs.lemmas.List.Elements.{All-cons}
+use Rattle.std.proofs.lemmas.List.Elements.{All-cons, All-from_recursion}
 use Rattle.std.proofs.lemmas.List.FromFn.{length-range_with_len}
 use Rattle.std.proofs.lemmas.List.Sums.{suffix_len-le-length}
 use Rattle.std.proofs.lemmas.Simd.{map-map}
@@ -11,7 +11,7 @@ use Rattle.shapers_base.specs.declared.buffer.level.BufferClusterLevel.{BufferCl
 use Rattle.shapers_base.specs.Glyph.{clusters}
 use Rattle.shapers_base.specs.Clusters.{merge_all, merges}
 use Rattle.shapers_base.specs.Lists.{before_last_run, each_after}
-use Rattle.shapers_base.specs.MappedLists.{All-range, Contains-flat_map, Contains-each_after}
+use Rattle.shapers_base.specs.MappedLists.{all-range, Contains-flat_map, Contains-each_after}
 use Rattle.shapers_clusters.specs.Neighbours.{ShareCluster}
 use Rattle.shapers_clusters.specs.Made.{Made, all_standing, glyphs-standing, numbered-standing}
 use Rattle.shapers_clusters.specs.Laws.{ClustersMade}
@@ -41,7 +41,7 @@ shares level us cs js made m xs u ys split is_am =
     part_shares made m st (sources (before_last_run is_above_base xs)) (n ∷ range_with_len (n - w) w) behind
     (λ some. subst (λ vs. Contains (sara_am_stretches level vs) st) (sym split) (Contains-flat_map _ (each_after [] (xs ++ u ∷ ys)) (xs, u) st (Contains-each_after [] xs u ys) (merged (omega arith))))
     (ap sources split ∙ parts)
-    (All-cons P n (range_with_len (n - w) w) (omega arith, omega arith) (All-range P (n - w) w (λ p low high. (omega arith, omega arith))))
+    (All-cons P n (range_with_len (n - w) w) (omega arith, omega arith) (All-from_recursion P (range_with_len (n - w) w) (all-range P (n - w) w (λ p low high. (omega arith, omega arith)))))
     (new_place xs) (new_place xs + w) refl (omega arith)
 
 -- the rule makes the glyphs of the result, and their places are the sources

@@ -12,11 +12,10 @@ use Rattle.shapers_clusters.specs.FlagCalls.{map-unsafe_inside, map-unsafe_all}
 use Rattle.shapers_clusters.specs.Flagging.{unsafe_nothing, unsafe_longer, unsafe_all-append}
 use Rattle.shapers_text.specs.declared.ot_shaper_thai.forms.Action.{Action}
 use Rattle.shapers_text.specs.declared.ot_shaper_thai.forms.Base.{Base}
-use Rattle.shapers_text.specs.declared.ot_shaper_thai.forms.Consonant.TheVariants.{NotConsonant}
 use Rattle.shapers_text.specs.Thai.{characters}
 use Rattle.shapers_text.specs.ThaiForms.{mark_type, is_thai_mark, base_type, marks_above, action_of, action_after, forms_between, with_character, with_characters, with_forms, target, form_set, base_after, base_place, stretch_of_mark, mark_stretches_of_each, mark_stretches, pua_shaped, preprocessed}
 use Rattle.shapers_text.specs.ThaiLaws.{unshaped, FormsLaw}
-use Rattle.shapers_text.proofs.ThaiFormLaws.{IsBase, base_push, base_none, base_place_push, length-forms, put, shapes}
+use Rattle.shapers_text.proofs.ThaiFormLaws.{IsBase, base_push, base_place_push, length-forms, put, shapes}
 use Rattle.shapers_text.proofs.ThaiStretches.{with_glyphs}
 
 in_order_at : (before : List ℕ) (u : ℕ) (rest : List (ℕ × ℕ)) → AllByRecursion (λ st. st.0 ≤ st.1) rest → AllByRecursion (λ st. st.0 ≤ st.1) (stretch_of_mark (base_place before) (length before) u ++ rest)
@@ -148,9 +147,6 @@ pub record Shaping (has : ℕ → Bool) (start now : List hb_glyph_info_t) (i : 
   pub same_rest : blank now ≡ blank start
   pub text_is : characters now ≡ forms_between has [] (take i (characters start)) [] ++ drop i (characters start)
   pub base_is : IsBase (take i (characters start)) base
-
-pub shaping_none : (has : ℕ → Bool) (start : List hb_glyph_info_t) → Shaping has start start 0 (record { place = 0; consonant = NotConsonant; above = 0; below = 0 })
-shaping_none has start = record { same_rest = refl; text_is = refl; base_is = base_none }
 
 pub shaping_length : (has : ℕ → Bool) (start now : List hb_glyph_info_t) (i : ℕ) (base : Base) → Shaping has start now i base → length now ≡ length start
 shaping_length has start now i base s = sym (length-map now (λ g. with_character g 0)) ∙ ap length s.same_rest ∙ length-map start (λ g. with_character g 0)

@@ -3,7 +3,7 @@ use Rattle.std.proofs.Common.{◌≡◌, ℕ, ◌-◌, ◌+◌, ◌<◌, ◌≤�
 use Rattle.std.specs.List.{list_any, count_by, suffix_len, AllByRecursion, take-map}
 use Rattle.std.proofs.lemmas.List.Concat.{flat_map-append}
 use Rattle.std.proofs.lemmas.Bool.{or_parts}
-use Rattle.std.proofs.lemmas.List.{append-nil, take_all, take-take, take_more, length-take-le, length-map, get_or-map, get_or-take, take_at, length-replicate}
+use Rattle.std.proofs.lemmas.List.{append-nil, take-take, take_more, length-take-le, length-map, get_or-map, get_or-take, take_at, length-replicate}
 use Rattle.std.proofs.lemmas.List.Sums.{sum_by-cons}
 use Rattle.shapers_base.specs.declared.buffer.glyph.hb_glyph_info_t.{hb_glyph_info_t}
 use Rattle.shapers_base.specs.declared.buffer.level.BufferClusterLevel.{BufferClusterLevel}
@@ -71,9 +71,6 @@ pub record Merging (level : BufferClusterLevel) (start now : List hb_glyph_info_
   pub same_characters : characters now ≡ characters start
   pub merged : now ≡ merge_all level (sara_am_stretches level (take i (take len (characters start)))) start
 
-pub merging_none : (level : BufferClusterLevel) (start : List hb_glyph_info_t) (len : ℕ) → Merging level start start len 0
-merging_none level start len = record { same_characters = refl; merged = refl }
-
 pub merging_next : (level : BufferClusterLevel) (start now : List hb_glyph_info_t) (len i : ℕ) (g : hb_glyph_info_t) (after : List hb_glyph_info_t) → len ≤ length start → i < len → Merging level start now len i → g ≡ get_or now i g → after ≡ merge_all level (stretches_at level i g.glyph_id (marks_of now i)) now → Merging level start after len (i + 1)
 merging_next level start now len i g after within inside m at changed =
     let us = characters start in
@@ -103,12 +100,6 @@ merging_next level start now len i g after within inside m at changed =
           ∙ ap (λ sts. merge_all level sts start) (sym (stretches_push level xs u))
           ∙ ap (λ vs. merge_all level (sara_am_stretches level vs) start) (sym (take_more all i 0 some));
     }
-
-pub merging_all : (level : BufferClusterLevel) (start now : List hb_glyph_info_t) (len i : ℕ) → len ≤ length start → len ≤ i → Merging level start now len i → now ≡ merge_all level (sara_am_stretches level (take len (characters start))) start
-merging_all level start now len i within end m =
-    let us = take len (characters start) in
-    let long : length us ≤ i = omega (arith, length-take-le len (characters start) (omega (arith, length-map start (λ x. x.glyph_id)))) in
-    m.merged ∙ ap (λ vs. merge_all level (sara_am_stretches level vs) start) (take_all i us long)
 
 -- the grown text, merged, is the merged text, grown
 pub merged_grown : (level : BufferClusterLevel) (gs : List hb_glyph_info_t) (n : ℕ) → merge_all level (sara_am_stretches level (take (length gs) (characters (gs ++ replicate n default_glyph)))) (gs ++ replicate n default_glyph) ≡ merge_all level (sara_am_stretches level (characters gs)) gs ++ replicate n default_glyph
