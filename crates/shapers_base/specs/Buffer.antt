@@ -37,9 +37,13 @@ more_positions n (p ∷ ps) = (p ∷ ps) ++ replicate n default_position
 abbrev pub grown : ℕ → Buffer → Buffer
 grown n b = record b { glyphs = b.glyphs ++ replicate n default_glyph; positions = more_positions n b.positions }
 
+-- whether a flag is among these
+abbrev pub has_flag : ℕ → BufferFlags → Bool
+has_flag flag flags = bit_and flags.0 flag == flag
+
 -- whether the buffer asks for this flag
 abbrev pub asks : ℕ → Buffer → Bool
-asks flag b = bit_and b.flags.0 flag == flag
+asks flag b = has_flag flag b.flags
 
 -- an empty buffer
 abbrev pub new_buffer : ℕ → Buffer

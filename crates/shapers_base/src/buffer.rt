@@ -20,15 +20,20 @@ mod refusal;
 mod reversing;
 mod syllables;
 mod tag;
+mod walking;
 
 pub use category::hb_unicode_general_category_t;
 pub use flags::BufferFlags;
 pub use glyph::{GlyphPosition, hb_glyph_info_t};
-pub use glyph_flags::glyph_flag;
+pub use glyph_flags::{
+    glyph_flag, safe_to_insert_tatweel_in, unsafe_to_break_in, unsafe_to_concat_in,
+};
 pub use level::{BufferClusterLevel, Direction};
+pub use merging::merge_clusters_in;
 pub use refusal::ShaperError;
 pub use syllables::{Span, syllables_are_runs};
 pub use tag::{Script, hb_tag_t};
+pub use walking::{GlyphChange, GlyphWalk};
 
 /// How many characters of context a buffer keeps on each side.
 pub const CONTEXT_LENGTH: usize = 5;

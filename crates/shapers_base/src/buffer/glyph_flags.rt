@@ -1,7 +1,7 @@
 //! The glyph flags: the low three bits of a mask, which tell line breakers and the like what a
 //! change of the text at a glyph would do.
 ghost use Rattle.std.specs.Prelude.{◌≡◌, ◌<◌, ◌≤◌, ◌==◌, length, map};
-ghost use Rattle.shapers_base.specs.Buffer.{asks};
+ghost use Rattle.shapers_base.specs.Buffer.{asks, has_flag};
 ghost use Rattle.shapers_base.specs.GlyphFlags.{flagged, with_bits, unsafe_inside, unsafe_to_concat_in, tatweel_inside};
 
 use super::glyph::hb_glyph_info_t;
@@ -29,7 +29,7 @@ impl hb_buffer_t {
         requires in_range { e ≤ length self.old.glyphs }
         ensures { self.new ≡ record self.old { glyphs = unsafe_inside s e self.old.glyphs } }
     {
-        flag(&mut self.info[s..e], UNSAFE_TO_BREAK | UNSAFE_TO_CONCAT);
+        unsafe_to_break_in(&mut self.info, s, e);
     }
 
     /// Flags every place from `s` to `e` as unsafe to concatenate, where the buffer asks for that flag.
@@ -38,9 +38,7 @@ impl hb_buffer_t {
         requires in_range { e ≤ length self.old.glyphs }
         ensures { self.new ≡ record self.old { glyphs = unsafe_to_concat_in (asks 0x40 self.old) s e self.old.glyphs } }
     {
-        if self.flags.contains(BufferFlags::PRODUCE_UNSAFE_TO_CONCAT) {
-            flag_all(&mut self.info[s..e], UNSAFE_TO_CONCAT);
-        }
+        unsafe_to_concat_in(self.flags, &mut self.info, s, e);
     }
 
     /// Flags the places from `s` to `e` whose cluster isn't the least one there: safe to insert a
@@ -50,16 +48,48 @@ impl hb_buffer_t {
         requires in_range { e ≤ length self.old.glyphs }
         ensures { self.new ≡ record self.old { glyphs = tatweel_inside (asks 0x80 self.old) s e self.old.glyphs } }
     {
-        let asked = self
-            .flags
-            .contains(BufferFlags::PRODUCE_SAFE_TO_INSERT_TATWEEL);
-        let bits = if asked {
-            SAFE_TO_INSERT_TATWEEL
-        } else {
-            UNSAFE_TO_BREAK | UNSAFE_TO_CONCAT
-        };
-        flag(&mut self.info[s..e], bits);
+        safe_to_insert_tatweel_in(self.flags, &mut self.info, s, e);
     }
+}
+
+/// No break inside the stretch, over glyphs in a slice, as `hb_buffer_t::unsafe_to_break`.
+pub fn unsafe_to_break_in(glyphs: &mut [hb_glyph_info_t], s: usize, e: usize)
+    requires in_order { s ≤ e }
+    requires in_range { e ≤ length glyphs.old }
+    ensures { glyphs.new ≡ unsafe_inside s e glyphs.old }
+{
+    flag(&mut glyphs[s..e], UNSAFE_TO_BREAK | UNSAFE_TO_CONCAT);
+}
+
+/// No concatenation in the stretch, where the flags ask for that, over glyphs in a slice, as
+/// `hb_buffer_t::unsafe_to_concat`.
+pub fn unsafe_to_concat_in(flags: BufferFlags, glyphs: &mut [hb_glyph_info_t], s: usize, e: usize)
+    requires in_order { s ≤ e }
+    requires in_range { e ≤ length glyphs.old }
+    ensures { glyphs.new ≡ unsafe_to_concat_in (has_flag 0x40 flags) s e glyphs.old }
+{
+    if flags.contains(BufferFlags::PRODUCE_UNSAFE_TO_CONCAT) {
+        flag_all(&mut glyphs[s..e], UNSAFE_TO_CONCAT);
+    }
+}
+
+/// A join inside the stretch, over glyphs in a slice, as `hb_buffer_t::safe_to_insert_tatweel`.
+pub fn safe_to_insert_tatweel_in(
+    flags: BufferFlags,
+    glyphs: &mut [hb_glyph_info_t],
+    s: usize,
+    e: usize,
+)
+    requires in_order { s ≤ e }
+    requires in_range { e ≤ length glyphs.old }
+    ensures { glyphs.new ≡ tatweel_inside (has_flag 0x80 flags) s e glyphs.old }
+{
+    let bits = if flags.contains(BufferFlags::PRODUCE_SAFE_TO_INSERT_TATWEEL) {
+        SAFE_TO_INSERT_TATWEEL
+    } else {
+        UNSAFE_TO_BREAK | UNSAFE_TO_CONCAT
+    };
+    flag(&mut glyphs[s..e], bits);
 }
 
 // Adds mask bits to every glyph whose cluster isn't the least one of the stretch.
