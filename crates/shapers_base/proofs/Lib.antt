@@ -4,6 +4,7 @@ pub mod Overwriting
 pub mod MapLemmas
 mod CircleRows
 mod MapRows
+pub mod PlaceLaws
 mod Rows
 pub mod SyllabicLemmas
 pub mod SyllableLemmas

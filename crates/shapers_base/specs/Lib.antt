@@ -11,6 +11,7 @@ pub mod Lists
 pub mod Map
 pub mod MappedLists
 pub mod PieceLaws
+pub mod Places
 pub mod Planner
 pub mod Refusals
 pub mod Syllabic
