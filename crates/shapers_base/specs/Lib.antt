@@ -4,6 +4,7 @@ pub mod CircleLaws
 pub mod CircleWalk
 pub mod Circles
 pub mod Clusters
+pub mod Font
 pub mod Glyph
 pub mod GlyphFlags
 pub mod ListLaws

@@ -162,17 +162,17 @@ pub fn insert_dotted_circles<F: hb_font_t>(
     dottedcircle_position: Option<u8>,
 ) -> Result<bool, ShaperError>
     requires { buffer.old.positions ≡ [] }
-    ensures answer { let circles = circles_for (F.nominal_glyph face.now 0x25CC) broken_syllable_type
+    ensures answer { let circles = circles_for ((F.font face.now).nominal 0x25CC) broken_syllable_type
         dottedcircle_category repha_category dottedcircle_position buffer.old in
         IfOk result (λ answer. answer ≡ is_some circles) }
-    ensures ok { let circles = circles_for (F.nominal_glyph face.now 0x25CC) broken_syllable_type
+    ensures ok { let circles = circles_for ((F.font face.now).nominal 0x25CC) broken_syllable_type
         dottedcircle_category repha_category dottedcircle_position buffer.old in
         OnOk result (buffer.new ≡ record buffer.old { glyphs = circled circles buffer.old.glyphs }) }
-    ensures length { let circles = circles_for (F.nominal_glyph face.now 0x25CC) broken_syllable_type
+    ensures length { let circles = circles_for ((F.font face.now).nominal 0x25CC) broken_syllable_type
         dottedcircle_category repha_category dottedcircle_position buffer.old in
         RefusesLength buffer.old.max_len (length (circled circles buffer.old.glyphs)) result }
     ensures err { OnErr result (buffer.new ≡ buffer.old) }
-    ensures without_memory { let circles = circles_for (F.nominal_glyph face.now 0x25CC) broken_syllable_type
+    ensures without_memory { let circles = circles_for ((F.font face.now).nominal 0x25CC) broken_syllable_type
         dottedcircle_category repha_category dottedcircle_position buffer.old in
         circled circles buffer.old.glyphs ≡ buffer.old.glyphs → IsOk result }
 {
@@ -210,7 +210,7 @@ fn circles_for<F: hb_font_t>(
     repha: Option<u8>,
     auxiliary: Option<u8>,
 ) -> Option<DottedCircles>
-    ensures { result ≡ circles_for (F.nominal_glyph face.now 0x25CC) broken_kind category repha auxiliary buffer.now }
+    ensures { result ≡ circles_for ((F.font face.now).nominal 0x25CC) broken_kind category repha auxiliary buffer.now }
 {
     let forbidden = buffer
         .flags()

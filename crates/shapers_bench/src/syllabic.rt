@@ -19,13 +19,12 @@ struct Font {
 }
 
 impl hb_font_t for Font {
-    ghost nominal_glyph = { λ font c. if c == 0x25CC then font.circle else None };
-
-    ghost h_advance = { λ font glyph. pos 0 };
-
-    ghost applies = { λ font lookup glyphs zero_context. false };
-
-    ghost offers = { λ font tag. false };
+    ghost font = { λ font. record {
+        nominal = λ c. if c == 0x25CC then font.circle else None;
+        advance = λ _. pos 0;
+        applies = λ _ _ _. false;
+        offers = λ _. false;
+    } };
 
     fn get_nominal_glyph(&self, c: u32) -> Option<GlyphId> {
         if c == 0x25CC { self.circle } else { None }
