@@ -1,1 +1,20 @@
 mod Rows
+pub mod Appended
+pub mod Cuts
+pub mod Falls
+pub mod FlagCalls
+pub mod Flagging
+pub mod Halves
+pub mod Joined
+pub mod Labels
+pub mod Made
+pub mod Merging
+pub mod Moves
+pub mod Neighbours
+pub mod Permuted
+pub mod Picks
+pub mod Proved
+pub mod Sources
+pub mod Spread
+pub mod Swaps
+pub mod Widened

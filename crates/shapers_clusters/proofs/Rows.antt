@@ -4,8 +4,8 @@ use Rattle.std.specs.List.{AllByRecursion}
 use Rattle.shapers_base.specs.declared.buffer.level.BufferClusterLevel.TheVariants.{MonotoneGraphemes, Characters}
 use Rattle.shapers_clusters.specs.Joined.{joined, joined_all}
 use Rattle.shapers_clusters.specs.Steps.{pick, Step, joined_steps, old_places, MovesMerged, widened}
-use Rattle.shapers_clusters.specs.Moves.{moves_anywhere}
-use Rattle.shapers_clusters.specs.Widened.{moves-widened}
+use Rattle.shapers_clusters.proofs.Moves.{moves_anywhere}
+use Rattle.shapers_clusters.proofs.Widened.{moves-widened}
 
 -- the last two of three places merge; the merged stretch reaches back over what shares the cluster of its first place
 row_one : joined MonotoneGraphemes 1 3 (0 ∷ 1 ∷ 2 ∷ []) ≡ 0 ∷ 1 ∷ 1 ∷ []

@@ -8,17 +8,11 @@ use Rattle.shapers_base.specs.Glyph.{clusters, order_view}
 use Rattle.shapers_base.specs.Clusters.{merge, merge_all, merges, stretch_of}
 use Rattle.shapers_base.specs.GlyphFlags.{unsafe_inside, unsafe_to_concat_in, tatweel_inside}
 use Rattle.shapers_clusters.specs.Joined.{joined_all}
-use Rattle.shapers_clusters.specs.Neighbours.{EndWithin, ShareCluster}
-use Rattle.shapers_clusters.specs.Cuts.{IsMonotone, ExactCuts}
-use Rattle.shapers_clusters.specs.Steps.{pick, Step, run_steps, joined_steps, old_places, FitSteps, MovesMerged, all_first, widened}
-use Rattle.shapers_clusters.specs.Widened.{steps_along, reordered_along}
-use Rattle.shapers_clusters.specs.Halves.{ShareNone}
-use Rattle.shapers_clusters.specs.Permuted.{Permutes}
-use Rattle.shapers_clusters.specs.Falls.{FallsTo, FlagsFall}
-use Rattle.shapers_clusters.specs.FlagCalls.{FlagsAlone}
-use Rattle.shapers_clusters.specs.Made.{ShowsClusters}
+use Rattle.shapers_clusters.specs.Cuts.{EndWithin, ShareCluster, IsMonotone, ExactCuts, ShareNone}
+use Rattle.shapers_clusters.specs.Steps.{pick, Step, run_steps, joined_steps, old_places, FitSteps, MovesMerged, all_first, widened, steps_along, reordered_along, Permutes}
+use Rattle.shapers_clusters.specs.Flags.{FallsTo, FlagsFall, FlagsAlone}
+use Rattle.shapers_clusters.specs.Made.{ShowsClusters, ExactCutsBy, HeldAlong, MovesInsideOf}
 use Rattle.shapers_clusters.specs.Labels.{IsLabelled, OneLabel, OneLabelEach}
-use Rattle.shapers_clusters.specs.Sources.{ExactCutsBy, HeldAlong, MovesInsideOf}
 
 -- Merges of any stretch at any level leave the order view of the glyphs gs; the three flag calls, whatever the buffer asks for,
 -- change nothing but glyph flags.

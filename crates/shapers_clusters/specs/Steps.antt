@@ -1,11 +1,13 @@
--- Steps: what a reordering does to a list of glyphs.
-use Rattle.std.proofs.Common.{ℕ, ◌+◌, ◌-◌, ◌<◌, ◌≤◌, ◌≡◌, ◌++◌, min, max, true, List, [], map, length, slice_index}
+-- Steps: merges and moves of places.
+use Rattle.std.proofs.Common.{ℕ, ◌+◌, ◌-◌, ◌<◌, ◌≤◌, ◌≡◌, ◌++◌, min, max, true, List, [], map, length, slice_index, ◌∷◌, take, drop}
 use Rattle.std.specs.List.{fold, AllByRecursion, filter_map, flat_map, slice_get, range_with_len}
 use Rattle.shapers_base.specs.declared.buffer.glyph.hb_glyph_info_t.{hb_glyph_info_t}
 use Rattle.shapers_base.specs.declared.buffer.level.BufferClusterLevel.{BufferClusterLevel}
 use Rattle.shapers_base.specs.Clusters.{merge_all}
 use Rattle.shapers_clusters.specs.Joined.{joined_all}
-use Rattle.shapers_clusters.specs.Neighbours.{EndWithin, held}
+use Rattle.shapers_clusters.specs.Cuts.{EndWithin, held}
+use Rattle.std.specs.List.Sorted.{IsPermutation}
+use Rattle.std.specs.Prelude.{swap}
 
 -- the elements at these places, in the order of the places
 abbrev pub pick : {X : Type 0} → List ℕ → List X → List X
@@ -77,3 +79,25 @@ widened s e n step = record {
   places = range_with_len 0 s ++ (map (λ p. s + p) step.places ++ range_with_len e (n - e));
   merged_then = shifted s step.merged_then;
 }
+
+-- the step takes each of n places once
+abbrev pub Permutes : ℕ → Step → Type 0
+Permutes n step = IsPermutation (range_with_len 0 n) step.places
+
+-- The steps of neighbouring stretches, each given by its length and its steps over it, from place s on, as steps over n places.
+abbrev pub steps_along : ℕ → ℕ → List (ℕ × List Step) → List Step
+steps_along n s [] = []
+steps_along n s (piece ∷ rest) = map (widened s (s + piece.0) n) piece.1 ++ steps_along n (s + piece.0) rest
+
+-- a list whose neighbouring stretches are reordered by their steps, each for itself
+abbrev pub reordered_along : {X : Type 0} → List (ℕ × List Step) → List X → List X
+reordered_along [] xs = xs
+reordered_along (piece ∷ rest) xs = pick (old_places piece.0 piece.1) (take piece.0 xs) ++ reordered_along rest (drop piece.0 xs)
+
+-- the step of n places in which nothing moves
+abbrev pub still_step : ℕ → Step
+still_step n = record { merged_first = []; places = range_with_len 0 n; merged_then = [] }
+
+-- the step of n places in which place i and the next one merge and change places
+abbrev pub swap_step : ℕ → ℕ → Step
+swap_step n i = record { merged_first = (i, i + 2) ∷ []; places = swap (range_with_len 0 n) i (i + 1); merged_then = [] }

@@ -1,24 +1,19 @@
 -- Steps of the search for the first three marks.
 use Rattle.std.proofs.Common.{◌≡◌, ℕ, suc, ◌+◌, ◌-◌, ◌<◌, ◌≤◌, Bool, true, false, List, [], ◌∷◌, length, get_or, take, drop, set, refl, ap, sym, ◌∙◌, arith, Some, None, Option}
-use Rattle.std.specs.Prelude.{option_map}
-use Rattle.std.proofs.lemmas.List.{drop_more, get_or_read}
+use Rattle.std.specs.Prelude.{option_map, swap, IfSome, if◌then◌else◌}
+use Rattle.std.proofs.lemmas.List.{drop_more, get_or_read, take-map, drop-map}
 use Rattle.std.proofs.lemmas.List.Edits.{swap_is}
-use Rattle.shapers_base.specs.Glyph.{default_glyph}
+use Rattle.shapers_base.specs.Glyph.{default_glyph, plain, order_view}
 use Rattle.std.proofs.lemmas.Grind.{common_steps}
 use Rattle.shapers_base.specs.declared.buffer.glyph.hb_glyph_info_t.{hb_glyph_info_t}
 use Rattle.shapers_base.specs.Clusters.{stretch_of}
-use Rattle.std.specs.Prelude.{swap}
-use Rattle.std.specs.Prelude.{IfSome}
-use Rattle.std.specs.Prelude.{if◌then◌else◌}
 use Rattle.std.specs.Option.{option_map_or}
-use Rattle.std.proofs.lemmas.List.{take-map, drop-map}
 use Rattle.shapers_base.specs.declared.buffer.level.BufferClusterLevel.{BufferClusterLevel}
-use Rattle.shapers_base.specs.Glyph.{plain, order_view}
 use Rattle.shapers_clusters.specs.Laws.{ReorderedHold}
-use Rattle.shapers_clusters.specs.Permuted.{Permutes, still_permutes, swap_permutes}
-use Rattle.shapers_clusters.specs.Proved.{reordered_hold}
-use Rattle.shapers_clusters.specs.Steps.{MovesMerged, run_step}
-use Rattle.shapers_clusters.specs.Swaps.{still_moves_merged, swap_moves_merged, run-still_step, order_view-swap_step}
+use Rattle.shapers_clusters.specs.Steps.{Permutes, MovesMerged, run_step}
+use Rattle.shapers_clusters.proofs.Permuted.{still_permutes, swap_permutes}
+use Rattle.shapers_clusters.proofs.Proved.{reordered_hold}
+use Rattle.shapers_clusters.proofs.Swaps.{still_moves_merged, swap_moves_merged, run-still_step, order_view-swap_step}
 use Rattle.shapers_text.specs.Hebrew.{mark_step, step_at, marks_swapped, opens_triple, triple_place, second_of_triple}
 
 -- a stretch that isn't empty opens with the glyph at its start

@@ -12,10 +12,10 @@ use Rattle.shapers_base.specs.Glyph.{clusters}
 use Rattle.shapers_base.specs.Clusters.{merge_all, merges}
 use Rattle.shapers_base.specs.Lists.{before_last_run, each_after}
 use Rattle.shapers_base.specs.MappedLists.{all-range, Contains-flat_map, Contains-each_after}
-use Rattle.shapers_clusters.specs.Neighbours.{ShareCluster}
-use Rattle.shapers_clusters.specs.Made.{Made, all_standing, glyphs-standing, numbered-standing}
+use Rattle.shapers_clusters.specs.Cuts.{ShareCluster}
+use Rattle.shapers_clusters.proofs.Made.{Made, all_standing, glyphs-standing, numbered-standing}
 use Rattle.shapers_clusters.specs.Laws.{ClustersMade}
-use Rattle.shapers_clusters.specs.Proved.{made_hold_by, part_shares}
+use Rattle.shapers_clusters.proofs.Proved.{made_hold_by, part_shares}
 use Rattle.shapers_text.specs.Thai.{characters, is_sara_am, is_above_base, InTwo, in_two, glyphs_in_two, places_in_two, nikhahit, sara_aa, rewritten, sources, sara_am_stretches, stretches_at}
 use Rattle.shapers_text.specs.ThaiLaws.{unnamed, new_place, ClustersInTwo, InTwoLaw}
 use Rattle.shapers_text.specs.ThaiForms.{preprocessed, pua_shaped}

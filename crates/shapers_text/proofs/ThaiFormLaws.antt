@@ -14,7 +14,8 @@ use Rattle.shapers_text.specs.declared.ot_shaper_thai.forms.Mark.TheVariants.{AV
 use Rattle.shapers_text.specs.declared.ot_shaper_thai.forms.Action.{Action}
 use Rattle.shapers_text.specs.declared.ot_shaper_thai.forms.Action.TheVariants.{NOP, SD, SL, SDL, RD}
 use Rattle.shapers_text.specs.declared.ot_shaper_thai.forms.Base.{Base}
-use Rattle.shapers_text.specs.ThaiForms.{counted_base, base_after, consonant_type, mark_type, stands_above, stands_below, is_thai_mark, action_of, shaped_by, last_type, base_type, marks_above, marks_below, action_after, has_below, is_removable, form_between, forms_between, base_place, target}
+use Rattle.shapers_text.specs.ThaiWalk.{counted_base, base_after, target}
+use Rattle.shapers_text.specs.ThaiForms.{consonant_type, mark_type, stands_above, stands_below, is_thai_mark, action_of, shaped_by, last_type, base_type, marks_above, marks_below, action_after, has_below, is_removable, form_between, forms_between, base_place}
 
 -- as many forms as characters
 pub length-forms : (has : ℕ → Bool) (before us after : List ℕ) → length (forms_between has before us after) ≡ length us

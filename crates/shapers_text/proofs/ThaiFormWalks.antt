@@ -8,12 +8,13 @@ use Rattle.shapers_base.specs.Buffer.{Buffer}
 use Rattle.shapers_base.specs.Glyph.{clusters}
 use Rattle.shapers_base.specs.GlyphFlags.{unsafe_inside, unsafe_all}
 use Rattle.shapers_base.specs.Lists.{each_after}
-use Rattle.shapers_clusters.specs.FlagCalls.{map-unsafe_inside, map-unsafe_all}
-use Rattle.shapers_clusters.specs.Flagging.{unsafe_nothing, unsafe_longer, unsafe_all-append}
+use Rattle.shapers_clusters.proofs.FlagCalls.{map-unsafe_inside, map-unsafe_all}
+use Rattle.shapers_clusters.proofs.Flagging.{unsafe_nothing, unsafe_longer, unsafe_all-append}
 use Rattle.shapers_text.specs.declared.ot_shaper_thai.forms.Action.{Action}
 use Rattle.shapers_text.specs.declared.ot_shaper_thai.forms.Base.{Base}
 use Rattle.shapers_text.specs.Thai.{characters}
-use Rattle.shapers_text.specs.ThaiForms.{mark_type, is_thai_mark, base_type, marks_above, action_of, action_after, forms_between, with_character, with_characters, with_forms, target, form_set, base_after, base_place, stretch_of_mark, mark_stretches_of_each, mark_stretches, pua_shaped, preprocessed}
+use Rattle.shapers_text.specs.ThaiForms.{mark_type, is_thai_mark, base_type, marks_above, action_of, action_after, forms_between, with_character, with_characters, with_forms, base_place, stretch_of_mark, mark_stretches_of_each, mark_stretches, pua_shaped, preprocessed}
+use Rattle.shapers_text.specs.ThaiWalk.{target, form_set, base_after}
 use Rattle.shapers_text.specs.ThaiLaws.{unshaped, FormsLaw}
 use Rattle.shapers_text.proofs.ThaiFormLaws.{IsBase, base_push, base_place_push, length-forms, put, shapes}
 use Rattle.shapers_text.proofs.ThaiStretches.{with_glyphs}

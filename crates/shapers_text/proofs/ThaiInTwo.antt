@@ -14,7 +14,7 @@ use Rattle.shapers_base.specs.ListLaws.{from_end, count_push, last_pass, none_in
 use Rattle.shapers_base.specs.PieceLaws.{one_piece, opened_pieces-none, opened_pieces-append, opened_pieces-push, opened_pieces-map}
 use Rattle.shapers_base.specs.MappedLists.{Contains-map, Contains-flat_map, suffix_len-map, last_run-map, before_last_run-map, enumerate-append, before_last_run-enumerate_from, places-last_run}
 use Rattle.shapers_text.specs.Thai.{is_sara_am, is_above_base, is_am, is_above, InTwo, opened, in_parts, in_two, places_in_two, sources, characters}
-use Rattle.shapers_text.specs.ThaiRewriting.{marks_of, held}
+use Rattle.shapers_text.specs.ThaiWalk.{marks_of, held}
 
 -- a SARA AM is no above-base mark
 apart : (u : ℕ) → is_sara_am u ≡ true → is_above_base u ≡ false

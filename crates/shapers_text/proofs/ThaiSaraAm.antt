@@ -6,7 +6,7 @@ use Rattle.std.specs.List.{suffix_len}
 use Rattle.shapers_base.specs.declared.buffer.glyph.hb_glyph_info_t.{hb_glyph_info_t}
 use Rattle.shapers_base.specs.ListLaws.{none_from_count}
 use Rattle.shapers_text.specs.Thai.{is_sara_am, is_above_base, in_two, nikhahit, sara_aa, glyphs_in_two, rewritten}
-use Rattle.shapers_text.specs.ThaiRewriting.{marks_of, IsUnwritten, Written, whole_of, becomes}
+use Rattle.shapers_text.specs.ThaiWalk.{marks_of, IsUnwritten, Written, whole_of, becomes}
 use Rattle.shapers_text.proofs.ThaiInTwo.{in_two_plain, in_two_push, in_two_push_am, held_push_mark, lengths}
 
 pub take_pushed : (gs : List hb_glyph_info_t) (e : ℕ) (g : hb_glyph_info_t) → 0 < e → e ≤ length gs → g ≡ get_or gs (e - 1) g → take e gs ≡ take (e - 1) gs ++ g ∷ []

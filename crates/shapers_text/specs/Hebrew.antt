@@ -3,8 +3,7 @@ use Rattle.std.specs.Prelude.{ℕ, suc, ◌+◌, ◌-◌, ◌==◌, nat_le, Bool
 use Rattle.std.specs.Option.{option_map_or}
 use Rattle.shapers_base.specs.declared.buffer.glyph.hb_glyph_info_t.{hb_glyph_info_t}
 use Rattle.shapers_base.specs.Clusters.{stretch_of}
-use Rattle.shapers_clusters.specs.Steps.{Step}
-use Rattle.shapers_clusters.specs.Swaps.{still_step, swap_step}
+use Rattle.shapers_clusters.specs.Steps.{Step, still_step, swap_step}
 
 -- the classes of patah and qamats, of sheva and hiriq, of meteg and marks below
 abbrev pub is_patah_or_qamats : ℕ → Bool

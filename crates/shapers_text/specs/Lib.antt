@@ -1,6 +1,6 @@
-pub mod Hebrew
 pub mod Requests
+pub mod Hebrew
 pub mod Thai
 pub mod ThaiForms
 pub mod ThaiLaws
-pub mod ThaiRewriting
+pub mod ThaiWalk

@@ -21,6 +21,13 @@ is_thai_above_base u = u == 0x0E31 || (nat_le 0x0E34 u && nat_le u 0x0E37) || u 
 abbrev pub is_above_base : ℕ → Bool
 is_above_base u = is_thai_above_base (bit_and u 0xFFFFFF7F)
 
+-- NIKHAHIT and SARA AA out of SARA AM: NIKHAHIT is a continuation of category Mn
+abbrev pub nikhahit : hb_glyph_info_t → hb_glyph_info_t
+nikhahit am = record am { glyph_id = am.glyph_id + 0x1A; general_category = Mn; continuation = true }
+
+abbrev pub sara_aa : hb_glyph_info_t → hb_glyph_info_t
+sara_aa am = record am { glyph_id = am.glyph_id - 1 }
+
 -- what a text in two is made of: characters, and the NIKHAHIT and SARA AA of a SARA AM
 pub record InTwo (X : Type 0) : Type 0 where
   pub character : X → ℕ
@@ -45,13 +52,6 @@ in_two two text = opened_pieces (is_am two) (opened two) text
 -- what comes of one element: of a SARA AM its two parts, of another itself
 abbrev pub in_parts : {X : Type 0} → InTwo X → X → List X
 in_parts two x = if is_am two x then two.nikhahit x ∷ (two.sara_aa x ∷ []) else x ∷ []
-
--- NIKHAHIT and SARA AA out of SARA AM: NIKHAHIT is a continuation of category Mn
-abbrev pub nikhahit : hb_glyph_info_t → hb_glyph_info_t
-nikhahit am = record am { glyph_id = am.glyph_id + 0x1A; general_category = Mn; continuation = true }
-
-abbrev pub sara_aa : hb_glyph_info_t → hb_glyph_info_t
-sara_aa am = record am { glyph_id = am.glyph_id - 1 }
 
 -- the rule on glyphs
 abbrev pub glyphs_in_two : InTwo hb_glyph_info_t

@@ -1,9 +1,8 @@
 -- The private use forms of Thai.
-use Rattle.std.specs.Prelude.{ℕ, ◌-◌, ◌+◌, Bool, ◌||◌, ◌&&◌, ◌==◌, nat_le, true, false, List, [], ◌∷◌, ◌++◌, length, reverse, map, flat_map, take_while, count_by, find, zip, slice_index_or, slice_set, Option, None, Some, if◌then◌else◌}
+use Rattle.std.specs.Prelude.{ℕ, ◌-◌, Bool, ◌||◌, ◌&&◌, ◌==◌, nat_le, true, false, List, [], ◌∷◌, ◌++◌, length, reverse, map, flat_map, take_while, count_by, find, zip, Option, None, Some, if◌then◌else◌}
 use Rattle.std.specs.List.{list_any, suffix_len}
 use Rattle.shapers_base.specs.declared.buffer.glyph.hb_glyph_info_t.{hb_glyph_info_t}
 use Rattle.shapers_base.specs.declared.buffer.level.BufferClusterLevel.{BufferClusterLevel}
-use Rattle.shapers_base.specs.Glyph.{default_glyph}
 use Rattle.shapers_base.specs.Clusters.{merge_all}
 use Rattle.shapers_base.specs.GlyphFlags.{unsafe_all}
 use Rattle.shapers_base.specs.Lists.{last_run, before_last_run, each_after}
@@ -13,7 +12,6 @@ use Rattle.shapers_text.specs.declared.ot_shaper_thai.forms.Consonant.TheVariant
 use Rattle.shapers_text.specs.declared.ot_shaper_thai.forms.Mark.{Mark}
 use Rattle.shapers_text.specs.declared.ot_shaper_thai.forms.Mark.TheVariants.{AV, BV, T, NotMark}
 use Rattle.shapers_text.specs.declared.ot_shaper_thai.forms.Action.{Action}
-use Rattle.shapers_text.specs.declared.ot_shaper_thai.forms.Base.{Base}
 use Rattle.shapers_text.specs.declared.ot_shaper_thai.forms.Action.TheVariants.{NOP, SD, SL, SDL, RD}
 use Rattle.shapers_text.specs.declared.ot_shaper_thai.forms.PuaMapping.{PuaMapping}
 
@@ -166,30 +164,6 @@ with_characters us gs = map (λ p. with_character p.1 p.0) (zip us gs)
 -- the glyphs with their private use forms
 abbrev pub with_forms : (ℕ → Bool) → List hb_glyph_info_t → List hb_glyph_info_t
 with_forms has gs = with_characters (forms_between has [] (characters gs) []) gs
-
--- where an action acts: on the base or on the mark itself
-abbrev pub target : Action → ℕ → ℕ → ℕ
-target RD base mark = base
-target SD base mark = mark
-target SL base mark = mark
-target SDL base mark = mark
-target NOP base mark = mark
-
--- the glyphs with the glyph at this place shaped by an action
-abbrev pub form_set : (ℕ → Bool) → ℕ → Action → List hb_glyph_info_t → List hb_glyph_info_t
-form_set has place action gs =
-    let g = slice_index_or gs place default_glyph in
-    slice_set gs place (with_character g (shaped_by has g.glyph_id action))
-
--- the base and the counts after one more character, at place i
-abbrev pub counted_base : Mark → Base → ℕ → ℕ → Base
-counted_base NotMark base i u = record { place = i; consonant = consonant_type u; above = 0; below = 0 }
-counted_base AV base i u = record base { above = base.above + 1 }
-counted_base T base i u = record base { above = base.above + 1 }
-counted_base BV base i u = record base { below = base.below + 1 }
-
-abbrev pub base_after : Base → ℕ → ℕ → Base
-base_after base i u = counted_base (mark_type u) base i u
 
 -- the place of the base of what follows a text, 0 where there is none
 abbrev pub base_place : List ℕ → ℕ

@@ -8,9 +8,9 @@ use Rattle.shapers_base.specs.declared.buffer.category.hb_unicode_general_catego
 use Rattle.shapers_base.specs.Lists.{before_last_run}
 use Rattle.shapers_base.specs.Glyph.{clusters}
 use Rattle.shapers_base.specs.Clusters.{merge_all, merges}
-use Rattle.shapers_clusters.specs.Neighbours.{ShareCluster}
+use Rattle.shapers_clusters.specs.Cuts.{ShareCluster}
 use Rattle.shapers_clusters.specs.Steps.{pick}
-use Rattle.shapers_clusters.specs.Falls.{FlagsFall}
+use Rattle.shapers_clusters.specs.Flags.{FlagsFall}
 use Rattle.shapers_clusters.specs.Laws.{ClustersMade}
 use Rattle.shapers_text.specs.ThaiForms.{preprocessed}
 use Rattle.shapers_text.specs.Thai.{is_sara_am, is_above_base, in_parts, glyphs_in_two, characters, rewritten, sources, sara_am_stretches}

@@ -1,4 +1,4 @@
-use Rattle.shapers_clusters.specs.Proved.{exact_cuts_hold}
+use Rattle.shapers_clusters.proofs.Proved.{exact_cuts_hold}
 use Rattle.shapers_clusters.proofs.exact_cuts_law.Goals as goal
 
 pub returns : goal.returns

@@ -1,4 +1,4 @@
-use Rattle.shapers_clusters.specs.Proved.{halves_hold}
+use Rattle.shapers_clusters.proofs.Proved.{halves_hold}
 use Rattle.shapers_clusters.proofs.halves_law.Goals as goal
 
 pub returns : goal.returns

@@ -1,4 +1,4 @@
-use Rattle.shapers_clusters.specs.Proved.{merge_holds}
+use Rattle.shapers_clusters.proofs.Proved.{merge_holds}
 use Rattle.shapers_clusters.proofs.merge_law.Goals as goal
 
 pub returns : goal.returns

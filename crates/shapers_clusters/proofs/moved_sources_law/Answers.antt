@@ -1,4 +1,4 @@
-use Rattle.shapers_clusters.specs.Proved.{moved_sources_hold}
+use Rattle.shapers_clusters.proofs.Proved.{moved_sources_hold}
 use Rattle.shapers_clusters.proofs.moved_sources_law.Goals as goal
 
 pub returns : goal.returns

@@ -1,4 +1,4 @@
-use Rattle.shapers_clusters.specs.Proved.{reordered_hold}
+use Rattle.shapers_clusters.proofs.Proved.{reordered_hold}
 use Rattle.shapers_clusters.proofs.reordered_law.Goals as goal
 
 pub returns : goal.returns

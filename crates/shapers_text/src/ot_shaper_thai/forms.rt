@@ -4,7 +4,8 @@ ghost use Rattle.std.specs.Prelude.{◌≡◌, ℕ, ◌+◌, ◌^◌, ◌<◌, �
 ghost use Rattle.shapers_base.specs.Font.{has_nominal};
 ghost use Rattle.shapers_base.specs.GlyphFlags.{unsafe_inside, unsafe_all};
 ghost use Rattle.shapers_text.specs.Thai.{characters};
-ghost use Rattle.shapers_text.specs.ThaiForms.{consonant_type, mark_type, is_thai_mark, action_of, mappings_of, shaped_by, mark_stretches, base_after, target, form_set, with_forms, pua_shaped};
+ghost use Rattle.shapers_text.specs.ThaiForms.{consonant_type, mark_type, is_thai_mark, action_of, mappings_of, shaped_by, mark_stretches, with_forms, pua_shaped};
+ghost use Rattle.shapers_text.specs.ThaiWalk.{base_after, target, form_set};
 
 use shapers_base::buffer::{hb_buffer_t, hb_glyph_info_t};
 use shapers_base::font::hb_font_t;

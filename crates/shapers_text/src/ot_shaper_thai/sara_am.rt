@@ -4,7 +4,7 @@ ghost use Rattle.std.specs.List.{list_any};
 ghost use Rattle.shapers_base.specs.Clusters.{merge_all};
 ghost use Rattle.shapers_base.specs.Refusals.{RefusesLength};
 ghost use Rattle.shapers_text.specs.Thai.{is_sara_am, is_above_base, nikhahit, sara_aa, characters, rewritten, stretches_at, sara_am_stretches};
-ghost use Rattle.shapers_text.specs.ThaiRewriting.{marks_of, Written, IsUnwritten, whole_of};
+ghost use Rattle.shapers_text.specs.ThaiWalk.{marks_of, Written, IsUnwritten, whole_of};
 
 use shapers_base::buffer::{
     BufferClusterLevel, ShaperError, hb_buffer_t, hb_glyph_info_t, hb_unicode_general_category_t,

@@ -5,7 +5,7 @@ use Rattle.shapers_base.specs.Clusters.{merge}
 use Rattle.shapers_base.specs.Glyph.{order_view}
 use Rattle.shapers_clusters.specs.Laws.{ReorderedHold}
 use Rattle.shapers_clusters.specs.Steps.{run_step}
-use Rattle.shapers_clusters.specs.Swaps.{run-swap_step, run-still_step}
+use Rattle.shapers_clusters.proofs.Swaps.{run-swap_step, run-still_step}
 use Rattle.shapers_text.specs.Hebrew.{mark_step, second_of_triple}
 use Rattle.shapers_text.proofs.HebrewLemmas.{marks_view, mark_laws, mark_step_is}
 use Rattle.shapers_text.proofs.ot_shaper_hebrew.reorder_marks.Goals as goal

@@ -3,7 +3,7 @@ use Rattle.std.proofs.Common.{rules, ◌≡◌, ℕ, false, List, [], refl, sym,
 use Rattle.shapers_base.specs.declared.buffer.glyph.hb_glyph_info_t.{hb_glyph_info_t}
 use Rattle.shapers_clusters.specs.Steps.{Step}
 use Rattle.shapers_clusters.specs.Laws.{ReorderedHold}
-use Rattle.shapers_clusters.specs.Proved.{reordered_hold}
+use Rattle.shapers_clusters.proofs.Proved.{reordered_hold}
 use Rattle.rustybuzz_shapers.specs.Shapers.{moves_marks, marks_steps}
 use Rattle.rustybuzz_shapers.specs.declared.shaper.hb_ot_shaper_t.{hb_ot_shaper_t}
 use Rattle.rustybuzz_shapers.specs.declared.shaper.hb_ot_shaper_t.TheVariants.{Arabic, Hangul, Hebrew, Indic, Khmer, Myanmar, MyanmarZawgyi, Thai, Universal}

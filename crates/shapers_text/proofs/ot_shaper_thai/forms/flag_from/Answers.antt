@@ -1,7 +1,7 @@
 -- A stretch of one place, or none, has no flags.
 use Rattle.std.proofs.Common.{ap, sym, arith}
 use Rattle.shapers_text.proofs.ThaiStretches.{with_glyphs}
-use Rattle.shapers_clusters.specs.Flagging.{unsafe_few}
+use Rattle.shapers_clusters.proofs.Flagging.{unsafe_few}
 use Rattle.shapers_text.proofs.ot_shaper_thai.forms.flag_from.Goals as goal
 
 pub returns-else-last-base-gt1 : goal.returns-else-last-base-gt1

@@ -3,7 +3,7 @@ use Rattle.std.proofs.Common.{◌∙◌, List, None, take, sym, ap, refl, subst}
 use Rattle.shapers_base.specs.Buffer.{Buffer}
 use Rattle.shapers_base.specs.declared.buffer.glyph.hb_glyph_info_t.{hb_glyph_info_t}
 use Rattle.shapers_text.specs.Thai.{rewritten}
-use Rattle.shapers_text.specs.ThaiRewriting.{Written}
+use Rattle.shapers_text.specs.ThaiWalk.{Written}
 use Rattle.shapers_text.proofs.ThaiSaraAm.{written_none, written_all}
 use Rattle.shapers_text.proofs.ThaiStretches.{same_fields}
 use Rattle.shapers_text.proofs.ot_shaper_thai.sara_am.write_in_two.Goals as goal

@@ -1,7 +1,7 @@
 -- What is unwritten, and what is written behind it, is the whole.
 use Rattle.std.proofs.Common.{◌≡◌, None, take}
 use Rattle.shapers_text.specs.Thai.{rewritten}
-use Rattle.shapers_text.specs.ThaiRewriting.{Written}
+use Rattle.shapers_text.specs.ThaiWalk.{Written}
 use Rattle.shapers_text.proofs.ot_shaper_thai.sara_am.write_in_two.Given as goal
 
 abbrev pub invariant-loop-unwritten : goal.invariant-loop-unwritten

@@ -1,6 +1,6 @@
 -- The marks that are left; what is unwritten, and what is written behind it, is the whole.
 use Rattle.std.proofs.Common.{◌≡◌, ◌≤◌, ◌-◌, Some}
-use Rattle.shapers_text.specs.ThaiRewriting.{whole_of}
+use Rattle.shapers_text.specs.ThaiWalk.{whole_of}
 use Rattle.shapers_text.proofs.ThaiSaraAm.{MarksLeft, MarksFit}
 use Rattle.shapers_text.proofs.ot_shaper_thai.sara_am.Unwritten.write_nikhahit.Given as goal
 

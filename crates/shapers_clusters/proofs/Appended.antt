@@ -9,8 +9,9 @@ use Rattle.shapers_base.specs.declared.buffer.level.BufferClusterLevel.{BufferCl
 use Rattle.shapers_base.specs.Glyph.{clusters, default_glyph}
 use Rattle.shapers_base.specs.Clusters.{least, first_cluster, last_cluster, in_cluster, flooded, merged, merge, merge_all, merges, stretch_of}
 use Rattle.shapers_base.specs.MappedLists.{map-reverse}
-use Rattle.shapers_clusters.specs.Joined.{opening, opening-at, opening-clusters, least-le}
-use Rattle.shapers_clusters.specs.Merging.{length-merge}
+use Rattle.shapers_clusters.specs.Joined.{opening}
+use Rattle.shapers_clusters.proofs.Joined.{opening-at, opening-clusters, least-le}
+use Rattle.shapers_clusters.proofs.Merging.{length-merge}
 
 flooded-same : (c : ℕ) (gs : List hb_glyph_info_t) → flooded c c gs ≡ gs
 flooded-same c [] = refl

@@ -9,19 +9,10 @@ use Rattle.shapers_base.specs.declared.buffer.glyph.hb_glyph_info_t.{hb_glyph_in
 use Rattle.shapers_base.specs.declared.buffer.level.BufferClusterLevel.{BufferClusterLevel}
 use Rattle.shapers_base.specs.Glyph.{clusters, without_flags}
 use Rattle.shapers_base.specs.Clusters.{least, first_cluster, last_cluster, in_cluster, flooded, merged, merge, merge_all, stretch_of}
-use Rattle.shapers_clusters.specs.Joined.{least-le}
-use Rattle.shapers_clusters.specs.Merging.{merge_cases, three_parts, without_flags-twice, length-merge}
-use Rattle.shapers_clusters.specs.Appended.{least-last}
-
--- a glyph falls to another: its cluster is that or a lower one, and if it is lower, the glyph flags are gone
-abbrev pub FallsTo : hb_glyph_info_t → hb_glyph_info_t → Type 0
-FallsTo old new = (new.cluster ≤ old.cluster) × (new ≡ in_cluster new.cluster old)
-
--- the same of cluster and glyph flags alone, where other fields may change: fell, the flags are gone; kept, they are kept
-pub record FlagsFall (old new : hb_glyph_info_t) : Type 0 where
-  pub at_most : new.cluster ≤ old.cluster
-  pub fell : new.cluster < old.cluster → new.mask % 8 ≡ 0
-  pub kept : new.cluster ≡ old.cluster → new.mask % 8 ≡ old.mask % 8
+use Rattle.shapers_clusters.proofs.Joined.{least-le}
+use Rattle.shapers_clusters.proofs.Merging.{merge_cases, three_parts, without_flags-twice, length-merge}
+use Rattle.shapers_clusters.proofs.Appended.{least-last}
+use Rattle.shapers_clusters.specs.Flags.{FallsTo, FlagsFall}
 
 in_cluster-same : (g : hb_glyph_info_t) → in_cluster g.cluster g ≡ g
 in_cluster-same g = grind (arith, nat_tests)

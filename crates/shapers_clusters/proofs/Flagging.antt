@@ -11,9 +11,9 @@ use Rattle.shapers_base.specs.declared.buffer.glyph.hb_glyph_info_t.{hb_glyph_in
 use Rattle.shapers_base.specs.Glyph.{clusters}
 use Rattle.shapers_base.specs.Clusters.{least, stretch_of}
 use Rattle.shapers_base.specs.GlyphFlags.{with_bits, with_bits_off, flagged, unsafe_inside, unsafe_all}
-use Rattle.shapers_clusters.specs.FlagCalls.{map-flagged}
-use Rattle.shapers_clusters.specs.Joined.{least-le, least-among}
-use Rattle.shapers_clusters.specs.Merging.{three_parts}
+use Rattle.shapers_clusters.proofs.FlagCalls.{map-flagged}
+use Rattle.shapers_clusters.proofs.Joined.{least-le, least-among}
+use Rattle.shapers_clusters.proofs.Merging.{three_parts}
 
 -- a stretch of one place, or none, has no flags
 flagged_few : (bits : ℕ) (gs : List hb_glyph_info_t) → length gs ≤ 1 → flagged bits gs ≡ gs

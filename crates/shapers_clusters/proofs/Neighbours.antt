@@ -1,27 +1,11 @@
 -- What merges do to any clusters: none rises, neighbours that share one still do, and so do the places of a stretch.
 use Rattle.std.proofs.Common.{ℕ, zero, suc, ◌+◌, ◌-◌, ◌<◌, ◌≤◌, ◌≡◌, ◌==◌, min, max, Bool, true, false, ◌||◌, nat_lt, ◌&&◌, ◌⊎◌, inl, inr, List, [], ◌∷◌, length, get_or, slice_index, refl, sym, ◌∙◌, ap, subst, arith}
-use Rattle.std.specs.List.{AllByRecursion, list_any}
 use Rattle.std.proofs.lemmas.Bool.{cases_lt, ltb-true, eqb-true}
 use Rattle.shapers_base.specs.declared.buffer.level.BufferClusterLevel.{BufferClusterLevel}
 use Rattle.shapers_base.specs.Clusters.{merges}
 use Rattle.shapers_clusters.specs.Joined.{joined, joined_all}
-use Rattle.shapers_clusters.specs.Spread.{Spread, joined_cases}
-
--- stretches that end within n places
-abbrev pub EndWithin : ℕ → List (ℕ × ℕ) → Type 0
-EndWithin n sts = AllByRecursion (λ st. st.1 ≤ n) sts
-
--- whether some stretch holds both place p - 1 and place p
-abbrev pub held : List (ℕ × ℕ) → ℕ → Bool
-held sts p = list_any (λ st. nat_lt st.0 p && nat_lt p st.1) sts
-
--- whether places p - 1 and p are linked: they share a cluster, or some stretch holds both
-abbrev pub linked : List ℕ → List (ℕ × ℕ) → ℕ → Bool
-linked cs sts p = slice_index cs (p - 1) == slice_index cs p || held sts p
-
--- all places between p and q, and these two, share one cluster
-abbrev pub ShareCluster : List ℕ → ℕ → ℕ → Type 0
-ShareCluster cs p q = (r : ℕ) → min p q ≤ r → r ≤ max p q → slice_index cs r ≡ slice_index cs p
+use Rattle.shapers_clusters.proofs.Spread.{Spread, joined_cases}
+use Rattle.shapers_clusters.specs.Cuts.{EndWithin, held, linked, ShareCluster}
 
 pub length-joined : (level : BufferClusterLevel) (s e : ℕ) (cs : List ℕ) → e ≤ length cs → length (joined level s e cs) ≡ length cs
 length-joined level s e cs w = joined_cases (λ js. length js ≡ length cs) level s e cs w (λ _. refl) (λ js _ _ f. f.same_length)

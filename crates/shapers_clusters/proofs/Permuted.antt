@@ -9,15 +9,10 @@ use Rattle.shapers_base.specs.declared.buffer.glyph.hb_glyph_info_t.{hb_glyph_in
 use Rattle.shapers_base.specs.declared.buffer.level.BufferClusterLevel.{BufferClusterLevel}
 use Rattle.shapers_base.specs.Glyph.{plain, order_view}
 use Rattle.shapers_base.specs.MappedLists.{all-mapped}
-use Rattle.shapers_clusters.specs.Steps.{pick, Step, run_steps, moved_on, old_places, FitSteps, widened}
-use Rattle.shapers_clusters.specs.Picks.{pick-within, nothing_picked, some_element, length-pick, pick-all, within_range}
-use Rattle.shapers_clusters.specs.Moves.{order_view-run_steps, within-old_places}
-use Rattle.shapers_clusters.specs.Widened.{range-three}
-use Rattle.shapers_clusters.specs.Swaps.{still_step, swap_step}
-
--- the step takes each of n places once
-abbrev pub Permutes : ℕ → Step → Type 0
-Permutes n step = IsPermutation (range_with_len 0 n) step.places
+use Rattle.shapers_clusters.specs.Steps.{pick, Step, run_steps, moved_on, old_places, FitSteps, widened, still_step, swap_step, Permutes}
+use Rattle.shapers_clusters.proofs.Picks.{pick-within, nothing_picked, some_element, length-pick, pick-all, within_range}
+use Rattle.shapers_clusters.proofs.Moves.{order_view-run_steps, within-old_places}
+use Rattle.shapers_clusters.proofs.Widened.{range-three}
 
 pick-read : {X : Type 0} (d : X) (ps : List ℕ) (xs : List X) → AllByRecursion (λ p. p < length xs) ps → pick ps xs ≡ map (λ p. get_or xs p d) ps
 pick-read d [] xs h = refl

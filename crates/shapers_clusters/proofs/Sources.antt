@@ -1,33 +1,20 @@
 -- Made and dropped glyphs: a result that has, place by place, the clusters of listed old places, its sources.
-use Rattle.std.proofs.Common.{ℕ, ◌-◌, ◌<◌, ◌≤◌, ◌≡◌, ◌≢◌, ◌↔◌, true, min, max, List, length, get_or, slice_index, sym, ◌∙◌, ap, subst, arith}
+use Rattle.std.proofs.Common.{ℕ, ◌-◌, ◌<◌, ◌≡◌, true, List, length, get_or, sym, ◌∙◌, ap, subst, arith}
 use Rattle.std.specs.List.{AllByRecursion, AllZip}
 use Rattle.shapers_base.specs.declared.buffer.glyph.hb_glyph_info_t.{hb_glyph_info_t}
 use Rattle.shapers_base.specs.declared.buffer.level.BufferClusterLevel.{BufferClusterLevel}
 use Rattle.shapers_base.specs.Glyph.{clusters}
 use Rattle.shapers_base.specs.Clusters.{merge_all, merges}
 use Rattle.shapers_clusters.specs.Joined.{joined_all}
-use Rattle.shapers_clusters.specs.Neighbours.{EndWithin, ShareCluster, length-joined_all, share_all}
-use Rattle.shapers_clusters.specs.Cuts.{IsMonotone, SameBlock, exact_cuts, block_shares, between_equal}
-use Rattle.shapers_clusters.specs.Steps.{pick, HeldBetween}
-use Rattle.shapers_clusters.specs.Picks.{length-pick, get_or-pick, pick-map, pick-pick, AllZip-pick, within_at}
-use Rattle.shapers_clusters.specs.Falls.{FallsTo, merge_all-falls}
-use Rattle.shapers_clusters.specs.Moves.{clusters-merge_all, clusters_stay, held_share}
-
--- Exact cuts seen through sources: the clusters change exactly where the sources change from one block to another,
--- and each place has the least old cluster of its source's block.
-pub record ExactCutsBy (cs : List ℕ) (sts : List (ℕ × ℕ)) (sources after : List ℕ) : Type 0 where
-  pub as_many : length after ≡ length sources
-  pub cuts : (i : ℕ) → 0 < i → i < length sources → (slice_index after (i - 1) ≢ slice_index after i) ↔ (SameBlock cs sts (slice_index sources (i - 1)) (slice_index sources i) → ⊥)
-  pub reached : (i : ℕ) → i < length sources → (q : ℕ) × (q < length cs) × SameBlock cs sts (slice_index sources i) q × (slice_index after i ≡ slice_index cs q)
-  pub least : (i q : ℕ) → i < length sources → q < length cs → SameBlock cs sts (slice_index sources i) q → slice_index after i ≤ slice_index cs q
-
--- the stretches hold together, neighbour by neighbour, the sources of all places from i to j
-abbrev pub HeldAlong : List (ℕ × ℕ) → List ℕ → ℕ → ℕ → Type 0
-HeldAlong sts sources i j = (k : ℕ) → min i j < k → k ≤ max i j → HeldBetween sts (slice_index sources (k - 1)) (slice_index sources k)
-
--- each place takes what stood within the same merged stretches, seen through the sources that stand there
-abbrev pub MovesInsideOf : List (ℕ × ℕ) → List ℕ → List ℕ → Type 0
-MovesInsideOf sts standing places = (i : ℕ) → i < length places → HeldAlong sts standing i (slice_index places i)
+use Rattle.shapers_clusters.specs.Cuts.{EndWithin, ShareCluster, IsMonotone}
+use Rattle.shapers_clusters.proofs.Neighbours.{length-joined_all, share_all}
+use Rattle.shapers_clusters.proofs.Cuts.{exact_cuts, block_shares, between_equal}
+use Rattle.shapers_clusters.specs.Steps.{pick}
+use Rattle.shapers_clusters.proofs.Picks.{length-pick, get_or-pick, pick-map, pick-pick, AllZip-pick, within_at}
+use Rattle.shapers_clusters.specs.Flags.{FallsTo}
+use Rattle.shapers_clusters.proofs.Falls.{merge_all-falls}
+use Rattle.shapers_clusters.proofs.Moves.{clusters-merge_all, clusters_stay, held_share}
+use Rattle.shapers_clusters.specs.Made.{ExactCutsBy, HeldAlong, MovesInsideOf}
 
 pub exact_cuts_by : (level : BufferClusterLevel) → merges level ≡ true → (sts : List (ℕ × ℕ)) (cs sources : List ℕ) → EndWithin (length cs) sts → IsMonotone cs → AllByRecursion (λ p. p < length cs) sources → ExactCutsBy cs sts sources (pick sources (joined_all level sts cs))
 exact_cuts_by level m sts cs sources w mono s =

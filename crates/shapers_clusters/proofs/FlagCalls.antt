@@ -5,15 +5,11 @@ use Rattle.std.specs.Int.Bits.{bit_or, or_zero_r}
 use Rattle.std.proofs.lemmas.Nat.{or_shr}
 use Rattle.std.proofs.lemmas.List.{map-append}
 use Rattle.shapers_base.specs.declared.buffer.glyph.hb_glyph_info_t.{hb_glyph_info_t}
-use Rattle.shapers_base.specs.Glyph.{plain, without_flags, order_view, clusters}
+use Rattle.shapers_base.specs.Glyph.{plain, without_flags, clusters}
 use Rattle.shapers_base.specs.Clusters.{least, stretch_of}
 use Rattle.shapers_base.specs.GlyphFlags.{with_stretch, with_bits, with_bits_off, flagged, unsafe_inside, unsafe_to_concat_in, unsafe_all, tatweel_inside}
-use Rattle.shapers_clusters.specs.Merging.{three_parts}
-
--- nothing but glyph flags changes
-pub record FlagsAlone (gs ms : List hb_glyph_info_t) : Type 0 where
-  pub same_view : order_view ms ≡ order_view gs
-  pub same_clusters : clusters ms ≡ clusters gs
+use Rattle.shapers_clusters.proofs.Merging.{three_parts}
+use Rattle.shapers_clusters.specs.Flags.{FlagsAlone}
 
 -- bits below 8 are glyph flags
 without_flags-or : (m bits : ℕ) → bits / 8 ≡ 0 → without_flags (bit_or m bits) ≡ without_flags m

@@ -8,21 +8,25 @@ use Rattle.shapers_base.specs.declared.buffer.glyph.hb_glyph_info_t.{hb_glyph_in
 use Rattle.shapers_base.specs.declared.buffer.level.BufferClusterLevel.{BufferClusterLevel}
 use Rattle.shapers_base.specs.Glyph.{clusters}
 use Rattle.shapers_base.specs.Clusters.{merge, merge_all, merges}
-use Rattle.shapers_clusters.specs.Joined.{joined, joined_all, clusters-merge}
-use Rattle.shapers_clusters.specs.Merging.{length-merge, length-merge_all, order_view-merge}
-use Rattle.shapers_clusters.specs.Neighbours.{EndWithin, ShareCluster, share_all, joined-shares, joined_all-share, length-joined_all}
-use Rattle.shapers_clusters.specs.Cuts.{IsMonotone, ExactCuts, exact_cuts, one_exact, stays_rising, stays_falling}
-use Rattle.shapers_clusters.specs.Steps.{pick, FitsStep, MovesMerged, all_first}
-use Rattle.shapers_clusters.specs.Picks.{length-pick, within_at}
-use Rattle.shapers_clusters.specs.Falls.{merge-falls, all_flags_on, all_flags_fall}
-use Rattle.shapers_clusters.specs.Made.{ShowsClusters, Made, AreMade, are_made, same_clusters, held_in_stretch}
-use Rattle.shapers_clusters.specs.Moves.{clusters-merge_all, clusters-run_steps, order_view-run_steps, falls-run_steps, joined-merged_steps, share-moved, merge-unmerged, merge_all-unmerged, joined_all-unmerged, run_steps-unmerged, end_within-all_first, merged_fits, all-joined, all-picked, all-joined_steps}
-use Rattle.shapers_clusters.specs.Labels.{IsLabelled, joined-labelled, joined_steps-labelled}
-use Rattle.shapers_clusters.specs.Sources.{exact_cuts_by, sources_share, clusters-moved_sources, clusters-picked, falls-picked}
-use Rattle.shapers_clusters.specs.Widened.{fits-widened, moves-widened, all_fit-widened, all_moves-widened, order_view-widened, all_along, order_view-along}
-use Rattle.shapers_clusters.specs.Halves.{halves_along}
-use Rattle.shapers_clusters.specs.Permuted.{Permutes, order_view-permuted, permutes-widened, all_permute-widened}
-use Rattle.shapers_clusters.specs.FlagCalls.{unsafe_inside-alone, unsafe_to_concat_in-alone, tatweel_inside-alone}
+use Rattle.shapers_clusters.specs.Joined.{joined, joined_all}
+use Rattle.shapers_clusters.proofs.Joined.{clusters-merge}
+use Rattle.shapers_clusters.proofs.Merging.{length-merge, length-merge_all, order_view-merge}
+use Rattle.shapers_clusters.specs.Cuts.{EndWithin, ShareCluster, IsMonotone, ExactCuts}
+use Rattle.shapers_clusters.proofs.Neighbours.{share_all, joined-shares, joined_all-share, length-joined_all}
+use Rattle.shapers_clusters.proofs.Cuts.{exact_cuts, one_exact, stays_rising, stays_falling}
+use Rattle.shapers_clusters.specs.Steps.{pick, FitsStep, MovesMerged, all_first, Permutes}
+use Rattle.shapers_clusters.proofs.Picks.{length-pick, within_at}
+use Rattle.shapers_clusters.proofs.Falls.{merge-falls, all_flags_on, all_flags_fall}
+use Rattle.shapers_clusters.specs.Made.{ShowsClusters}
+use Rattle.shapers_clusters.proofs.Made.{Made, AreMade, are_made, same_clusters, held_in_stretch}
+use Rattle.shapers_clusters.proofs.Moves.{clusters-merge_all, clusters-run_steps, order_view-run_steps, falls-run_steps, joined-merged_steps, share-moved, merge-unmerged, merge_all-unmerged, joined_all-unmerged, run_steps-unmerged, end_within-all_first, merged_fits, all-joined, all-picked, all-joined_steps}
+use Rattle.shapers_clusters.specs.Labels.{IsLabelled}
+use Rattle.shapers_clusters.proofs.Labels.{joined-labelled, joined_steps-labelled}
+use Rattle.shapers_clusters.proofs.Sources.{exact_cuts_by, sources_share, clusters-moved_sources, clusters-picked, falls-picked}
+use Rattle.shapers_clusters.proofs.Widened.{fits-widened, moves-widened, all_fit-widened, all_moves-widened, order_view-widened, all_along, order_view-along}
+use Rattle.shapers_clusters.proofs.Halves.{halves_along}
+use Rattle.shapers_clusters.proofs.Permuted.{order_view-permuted, permutes-widened, all_permute-widened}
+use Rattle.shapers_clusters.proofs.FlagCalls.{unsafe_inside-alone, unsafe_to_concat_in-alone, tatweel_inside-alone}
 use Rattle.shapers_clusters.specs.Laws.{ViewLaw, HalvesLaw, MergeLaw, ExactCutsLaw, StepsLaw, PermutedLaw, ClustersLaw, MergedStepsLaw, WidenedLaw, AlongLaw, MergedStepsHold, ReorderedLaw, ClustersMade, MadeHold, MadeLaw, MovedSourcesLaw}
 
 -- stretches end within the clusters if they do within the glyphs

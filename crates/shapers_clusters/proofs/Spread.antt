@@ -5,7 +5,8 @@ use Rattle.std.proofs.lemmas.Bool.{cases_lt}
 use Rattle.std.proofs.lemmas.Bool.Decides.{nat_tests}
 use Rattle.shapers_base.specs.declared.buffer.level.BufferClusterLevel.{BufferClusterLevel}
 use Rattle.shapers_base.specs.Clusters.{least, merges, stretch_of}
-use Rattle.shapers_clusters.specs.Joined.{opening, opening-at, flood, flood-is, joined, least-le, least-among}
+use Rattle.shapers_clusters.specs.Joined.{opening, flood, joined}
+use Rattle.shapers_clusters.proofs.Joined.{opening-at, flood-is, least-le, least-among}
 
 -- A merge of s..e: all of low..high gets the least cluster m of s..e, of which `at` is a place, and the rest stays.
 -- low..high reaches as far as the clusters of the stretch's ends do.

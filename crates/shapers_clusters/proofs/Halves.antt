@@ -9,14 +9,14 @@ use Rattle.shapers_base.specs.declared.buffer.glyph.hb_glyph_info_t.{hb_glyph_in
 use Rattle.shapers_base.specs.declared.buffer.level.BufferClusterLevel.{BufferClusterLevel}
 use Rattle.shapers_base.specs.Glyph.{clusters}
 use Rattle.shapers_base.specs.Clusters.{least, first_cluster, last_cluster, in_cluster, flooded, merged, merge, merge_all, merges, stretch_of}
-use Rattle.shapers_clusters.specs.Merging.{length-merge, length-merge_all}
-use Rattle.shapers_clusters.specs.Neighbours.{EndWithin}
-use Rattle.shapers_clusters.specs.Steps.{pick, Step, run_step, run_steps, FitsStep, FitSteps, shifted, widened}
-use Rattle.shapers_clusters.specs.Picks.{length-pick, pick-map}
-use Rattle.shapers_clusters.specs.Moves.{clusters-merge_all, clusters-run_steps, all-joined, all-joined_steps, all-picked}
-use Rattle.shapers_clusters.specs.Widened.{pick-parts, fits-widened, range-append, map-range, steps_along, all_along}
-use Rattle.shapers_clusters.specs.Falls.{flooded-hit, flooded-miss}
-use Rattle.shapers_clusters.specs.Appended.{assembled, two_sides}
+use Rattle.shapers_clusters.proofs.Merging.{length-merge, length-merge_all}
+use Rattle.shapers_clusters.specs.Cuts.{EndWithin, ShareNone}
+use Rattle.shapers_clusters.specs.Steps.{pick, Step, run_step, run_steps, FitsStep, FitSteps, shifted, widened, steps_along}
+use Rattle.shapers_clusters.proofs.Picks.{length-pick, pick-map}
+use Rattle.shapers_clusters.proofs.Moves.{clusters-merge_all, clusters-run_steps, all-joined, all-joined_steps, all-picked}
+use Rattle.shapers_clusters.proofs.Widened.{pick-parts, fits-widened, range-append, map-range, all_along}
+use Rattle.shapers_clusters.proofs.Falls.{flooded-hit, flooded-miss}
+use Rattle.shapers_clusters.proofs.Appended.{assembled, two_sides}
 
 -- P holds of the cluster of each glyph
 abbrev pub Each : (ℕ → Type 0) → List hb_glyph_info_t → Type 0
@@ -176,10 +176,6 @@ run_steps-alone P level s e n [] before gs behind le a b c f p h i = refl
 run_steps-alone P level s e n (step ∷ steps) before gs behind le a b c f p h i =
     let (is, many, each) = run_step-alone P level s e n step before gs behind le a b c f.0 p h i in
     ap (run_steps level (map (widened s e n) steps)) is ∙ run_steps-alone P level s e n steps before (run_step level step gs) behind le a many c f.1 each h i
-
--- no glyph of the one list has a cluster of the other
-abbrev pub ShareNone : List hb_glyph_info_t → List hb_glyph_info_t → Type 0
-ShareNone gs hs = (i j : ℕ) → i < length gs → j < length hs → slice_index (clusters gs) i ≢ slice_index (clusters hs) j
 
 apart : (gs hs : List hb_glyph_info_t) → ShareNone gs hs → Each (λ k. Contains (clusters gs) k → ⊥) hs
 apart gs hs h =

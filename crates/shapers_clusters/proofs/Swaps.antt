@@ -12,18 +12,10 @@ use Rattle.shapers_base.specs.declared.buffer.glyph.hb_glyph_info_t.{hb_glyph_in
 use Rattle.shapers_base.specs.declared.buffer.level.BufferClusterLevel.{BufferClusterLevel}
 use Rattle.shapers_base.specs.Clusters.{merge}
 use Rattle.shapers_base.specs.Glyph.{plain, order_view, default_glyph}
-use Rattle.shapers_clusters.specs.Merging.{length-merge, order_view-merge}
-use Rattle.shapers_clusters.specs.Neighbours.{held}
-use Rattle.shapers_clusters.specs.Picks.{length-pick, get_or-pick, pick-all, within_range}
-use Rattle.shapers_clusters.specs.Steps.{pick, Step, run_step, HeldBetween, MovesMerged}
-
--- the step of n places in which nothing moves
-abbrev pub still_step : ℕ → Step
-still_step n = record { merged_first = []; places = range_with_len 0 n; merged_then = [] }
-
--- the step of n places in which place i and the next one merge and change places
-abbrev pub swap_step : ℕ → ℕ → Step
-swap_step n i = record { merged_first = (i, i + 2) ∷ []; places = swap (range_with_len 0 n) i (i + 1); merged_then = [] }
+use Rattle.shapers_clusters.proofs.Merging.{length-merge, order_view-merge}
+use Rattle.shapers_clusters.specs.Cuts.{held}
+use Rattle.shapers_clusters.proofs.Picks.{length-pick, get_or-pick, pick-all, within_range}
+use Rattle.shapers_clusters.specs.Steps.{pick, run_step, HeldBetween, MovesMerged, still_step, swap_step}
 
 -- where what stands at place k comes from
 abbrev turned : ℕ → ℕ → ℕ

@@ -10,11 +10,11 @@ use Rattle.shapers_base.specs.declared.buffer.glyph.hb_glyph_info_t.{hb_glyph_in
 use Rattle.shapers_base.specs.declared.buffer.level.BufferClusterLevel.{BufferClusterLevel}
 use Rattle.shapers_base.specs.Glyph.{order_view, plain}
 use Rattle.shapers_base.specs.Clusters.{stretch_of}
-use Rattle.shapers_clusters.specs.Neighbours.{EndWithin, held}
-use Rattle.shapers_clusters.specs.Steps.{pick, Step, run_step, run_steps, moved_on, old_places, FitsStep, FitSteps, MovesInside, MovesMerged, shifted, widened}
+use Rattle.shapers_clusters.specs.Cuts.{EndWithin, held}
+use Rattle.shapers_clusters.specs.Steps.{pick, Step, run_step, run_steps, moved_on, old_places, FitsStep, FitSteps, MovesInside, MovesMerged, shifted, widened, steps_along, reordered_along}
 use Rattle.shapers_base.specs.MappedLists.{all-append, all-mapped, all-range}
-use Rattle.shapers_clusters.specs.Picks.{length-pick, pick-map, pick-append, pick-range, pick-within, some_element}
-use Rattle.shapers_clusters.specs.Moves.{order_view-run_steps, falls-run_steps, length-old_places, within-old_places}
+use Rattle.shapers_clusters.proofs.Picks.{length-pick, pick-map, pick-append, pick-range, pick-within, some_element}
+use Rattle.shapers_clusters.proofs.Moves.{order_view-run_steps, falls-run_steps, length-old_places, within-old_places}
 
 pick-shifted : {X : Type 0} (s e : ℕ) (ps : List ℕ) (xs : List X) → e ≤ length xs → AllByRecursion (λ p. p < e - s) ps → pick (map (λ p. s + p) ps) xs ≡ pick ps (stretch_of s e xs)
 pick-shifted s e [] xs l h = refl
@@ -162,16 +162,6 @@ order_view-widened level s e steps gs h l f =
     ∙ ap (λ ps. pick ps xs) (old_places-widened s e (length gs) steps h l f)
     ∙ ap (λ n. pick (range_with_len 0 s ++ (map (λ p. s + p) olds ++ range_with_len e (n - e))) xs) (sym n)
     ∙ pick-widened s e (record { merged_first = []; places = olds; merged_then = [] }) xs h (omega arith) (within-old_places (e - s) steps)
-
--- The steps of neighbouring stretches, each given by its length and its steps over it, from place s on, as steps over n places.
-abbrev pub steps_along : ℕ → ℕ → List (ℕ × List Step) → List Step
-steps_along n s [] = []
-steps_along n s (piece ∷ rest) = map (widened s (s + piece.0) n) piece.1 ++ steps_along n (s + piece.0) rest
-
--- a list whose neighbouring stretches are reordered by their steps, each for itself
-abbrev pub reordered_along : {X : Type 0} → List (ℕ × List Step) → List X → List X
-reordered_along [] xs = xs
-reordered_along (piece ∷ rest) xs = pick (old_places piece.0 piece.1) (take piece.0 xs) ++ reordered_along rest (drop piece.0 xs)
 
 -- what they all are, if each piece's steps are so over the piece
 pub all_along : (P : ℕ → Step → Type 0) → ((s e n : ℕ) (step : Step) → s ≤ e → e ≤ n → P (e - s) step → P n (widened s e n step)) → (n s : ℕ) (pieces : List (ℕ × List Step)) → s + sum_by (λ piece. piece.0) pieces ≤ n → AllByRecursion (λ piece. AllByRecursion (P piece.0) piece.1) pieces → AllByRecursion (P n) (steps_along n s pieces)

@@ -11,12 +11,15 @@ use Rattle.shapers_base.specs.declared.buffer.glyph.hb_glyph_info_t.{hb_glyph_in
 use Rattle.shapers_base.specs.declared.buffer.level.BufferClusterLevel.{BufferClusterLevel}
 use Rattle.shapers_base.specs.Glyph.{clusters, order_view, plain}
 use Rattle.shapers_base.specs.Clusters.{merge, merged, merge_all, merges, stretch_of, least}
-use Rattle.shapers_clusters.specs.Joined.{joined, joined_all, opening, flood, clusters-merge}
-use Rattle.shapers_clusters.specs.Merging.{order_view-merge_all, length-merge_all}
-use Rattle.shapers_clusters.specs.Neighbours.{EndWithin, held, ShareCluster, length-joined_all, joined_all-linked, joined_all-reached, share_all}
+use Rattle.shapers_clusters.specs.Joined.{joined, joined_all, opening, flood}
+use Rattle.shapers_clusters.proofs.Joined.{clusters-merge}
+use Rattle.shapers_clusters.proofs.Merging.{order_view-merge_all, length-merge_all}
+use Rattle.shapers_clusters.specs.Cuts.{EndWithin, held, ShareCluster}
+use Rattle.shapers_clusters.proofs.Neighbours.{length-joined_all, joined_all-linked, joined_all-reached, share_all}
 use Rattle.shapers_clusters.specs.Steps.{pick, Step, run_step, run_steps, joined_step, joined_steps, moved_on, old_places, FitsStep, FitSteps, HeldBetween, MovesMerged, all_first}
-use Rattle.shapers_clusters.specs.Picks.{length-pick, get_or-pick, pick-map, AllZip-pick, pick-all, pick-pick, within_picked, within_range, within_at}
-use Rattle.shapers_clusters.specs.Falls.{FallsTo, all_on, all_same, merge_all-falls}
+use Rattle.shapers_clusters.proofs.Picks.{length-pick, get_or-pick, pick-map, AllZip-pick, pick-all, pick-pick, within_picked, within_range, within_at}
+use Rattle.shapers_clusters.specs.Flags.{FallsTo}
+use Rattle.shapers_clusters.proofs.Falls.{all_on, all_same, merge_all-falls}
 
 -- What holds of a list and what some steps make of it, if each step keeps it: the list moves as the steps do.
 pub followed : {X S : Type 0} (R : List X → S → Type 0) (run : S → Step → S) (ok : Step → Type 0) → ((step : Step) (xs : List X) (s : S) → ok step → R xs s → R (pick step.places xs) (run s step)) → (old : List X) (steps : List Step) (olds : List ℕ) (s : S) → AllByRecursion ok steps → AllByRecursion (λ p. p < length old) olds → R (pick olds old) s → R (pick (moved_on steps olds) old) (fold run s steps)

@@ -1,0 +1,20 @@
+-- What becomes of clusters and glyph flags, glyph by glyph.
+use Rattle.std.proofs.Common.{◌%◌, ◌<◌, ◌≤◌, ◌≡◌, List}
+use Rattle.shapers_base.specs.declared.buffer.glyph.hb_glyph_info_t.{hb_glyph_info_t}
+use Rattle.shapers_base.specs.Glyph.{clusters, order_view}
+use Rattle.shapers_base.specs.Clusters.{in_cluster}
+
+-- a glyph falls to another: its cluster is that or a lower one, and if it is lower, the glyph flags are gone
+abbrev pub FallsTo : hb_glyph_info_t → hb_glyph_info_t → Type 0
+FallsTo old new = (new.cluster ≤ old.cluster) × (new ≡ in_cluster new.cluster old)
+
+-- the same of cluster and glyph flags alone, where other fields may change: fell, the flags are gone; kept, they are kept
+pub record FlagsFall (old new : hb_glyph_info_t) : Type 0 where
+  pub at_most : new.cluster ≤ old.cluster
+  pub fell : new.cluster < old.cluster → new.mask % 8 ≡ 0
+  pub kept : new.cluster ≡ old.cluster → new.mask % 8 ≡ old.mask % 8
+
+-- nothing but glyph flags changes
+pub record FlagsAlone (gs ms : List hb_glyph_info_t) : Type 0 where
+  pub same_view : order_view ms ≡ order_view gs
+  pub same_clusters : clusters ms ≡ clusters gs

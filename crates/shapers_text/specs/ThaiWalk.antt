@@ -1,0 +1,66 @@
+-- How far the code has come in its walks over a Thai text: the forms from the start on, the rewriting from the end back.
+use Rattle.std.specs.Prelude.{ℕ, ◌+◌, Bool, List, ◌∷◌, ◌++◌, length, slice_index_or, slice_set, Option, None, Some}
+use Rattle.std.specs.List.{suffix_len}
+use Rattle.shapers_base.specs.declared.buffer.glyph.hb_glyph_info_t.{hb_glyph_info_t}
+use Rattle.shapers_base.specs.Glyph.{default_glyph}
+use Rattle.shapers_base.specs.Lists.{last_run, before_last_run}
+use Rattle.shapers_text.specs.declared.ot_shaper_thai.forms.Mark.{Mark}
+use Rattle.shapers_text.specs.declared.ot_shaper_thai.forms.Mark.TheVariants.{AV, BV, T, NotMark}
+use Rattle.shapers_text.specs.declared.ot_shaper_thai.forms.Action.{Action}
+use Rattle.shapers_text.specs.declared.ot_shaper_thai.forms.Base.{Base}
+use Rattle.shapers_text.specs.declared.ot_shaper_thai.forms.Action.TheVariants.{NOP, SD, SL, SDL, RD}
+use Rattle.shapers_text.specs.ThaiForms.{consonant_type, mark_type, shaped_by, with_character}
+use Rattle.std.proofs.Common.{◌≡◌, ◌≤◌, take, drop}
+use Rattle.shapers_text.specs.Thai.{is_above, glyphs_in_two, InTwo, in_two}
+
+-- where an action acts: on the base or on the mark itself
+abbrev pub target : Action → ℕ → ℕ → ℕ
+target RD base mark = base
+target SD base mark = mark
+target SL base mark = mark
+target SDL base mark = mark
+target NOP base mark = mark
+
+-- the glyphs with the glyph at this place shaped by an action
+abbrev pub form_set : (ℕ → Bool) → ℕ → Action → List hb_glyph_info_t → List hb_glyph_info_t
+form_set has place action gs =
+    let g = slice_index_or gs place default_glyph in
+    slice_set gs place (with_character g (shaped_by has g.glyph_id action))
+
+-- the base and the counts after one more character, at place i
+abbrev pub counted_base : Mark → Base → ℕ → ℕ → Base
+counted_base NotMark base i u = record { place = i; consonant = consonant_type u; above = 0; below = 0 }
+counted_base AV base i u = record base { above = base.above + 1 }
+counted_base T base i u = record base { above = base.above + 1 }
+counted_base BV base i u = record base { below = base.below + 1 }
+
+abbrev pub base_after : Base → ℕ → ℕ → Base
+base_after base i u = counted_base (mark_type u) base i u
+
+-- how many above-base marks stand right before place i, counted on glyphs
+abbrev pub marks_of : List hb_glyph_info_t → ℕ → ℕ
+marks_of gs i = suffix_len (is_above glyphs_in_two) (take i gs)
+
+-- what the text so far becomes: with a NIKHAHIT pending, that stands before its last above-base marks
+abbrev pub held : {X : Type 0} → InTwo X → List X → X → List X
+held two text nikhahit = in_two two (before_last_run (is_above two) text) ++ nikhahit ∷ last_run (is_above two) text
+
+-- what the text becomes on glyphs, with a NIKHAHIT pending or none
+abbrev pub becomes : List hb_glyph_info_t → Option hb_glyph_info_t → List hb_glyph_info_t
+becomes text None = in_two glyphs_in_two text
+becomes text (Some nikhahit) = held glyphs_in_two text nikhahit
+
+-- The text before `end`, and a NIKHAHIT that may be pending, is still to be written: just so many places are left, and reading is ahead.
+pub record IsUnwritten (glyphs : List hb_glyph_info_t) (end : ℕ) (pending : Option hb_glyph_info_t) (place : ℕ) : Type 0 where
+  pub room : length (becomes (take end glyphs) pending) ≡ place
+  pub ahead : end ≤ place
+  pub within : place ≤ length glyphs
+
+-- what it becomes, and what stands behind it
+abbrev pub whole_of : List hb_glyph_info_t → ℕ → Option hb_glyph_info_t → ℕ → List hb_glyph_info_t
+whole_of glyphs end pending place = becomes (take end glyphs) pending ++ drop place glyphs
+
+-- in the middle of writing the whole
+pub record Written (whole glyphs : List hb_glyph_info_t) (end : ℕ) (pending : Option hb_glyph_info_t) (place : ℕ) : Type 0 where
+  pub left : IsUnwritten glyphs end pending place
+  pub joined : whole_of glyphs end pending place ≡ whole
