@@ -1,5 +1,5 @@
 -- What steps do: to the order view, to each glyph's cluster and flags, and to the list of clusters.
-use Rattle.std.proofs.Common.{ℕ, ◌-◌, ◌<◌, ◌≤◌, ◌≡◌, inl, inr, ◌||◌, Bool, true, false, min, max, List, [], ◌∷◌, length, get_or, refl, sym, ◌∙◌, ap, subst, arith, append_assoc, if◌then◌else◌, ◌&&◌, not, nat_lt, cond, ◌++◌, map, reverse, take, drop}
+use Rattle.std.proofs.Common.{ℕ, ◌-◌, ◌<◌, ◌≤◌, ◌≡◌, inl, inr, ◌||◌, Bool, true, false, min, max, List, [], ◌∷◌, length, get_or, refl, sym, ◌∙◌, ap, subst, arith, append_assoc, if◌then◌else◌, ◌&&◌, not, nat_lt, ◌++◌, map}
 use Rattle.std.specs.List.{All, AllByRecursion, AllZip, fold, range_with_len}
 use Rattle.std.proofs.lemmas.List.{length-map, ext_get_or}
 use Rattle.std.proofs.lemmas.List.Elements.{All-from_get_or, length_all_zip}
@@ -10,9 +10,9 @@ use Rattle.std.proofs.lemmas.Bool.Decides.{nat_tests}
 use Rattle.shapers_base.specs.declared.buffer.glyph.hb_glyph_info_t.{hb_glyph_info_t}
 use Rattle.shapers_base.specs.declared.buffer.level.BufferClusterLevel.{BufferClusterLevel}
 use Rattle.shapers_base.specs.Glyph.{clusters, order_view, plain}
-use Rattle.shapers_base.specs.Clusters.{merge, merged, merge_all, merges, stretch_of, least}
-use Rattle.shapers_clusters.specs.Joined.{joined, joined_all, opening, flood}
-use Rattle.shapers_clusters.proofs.Joined.{clusters-merge}
+use Rattle.shapers_base.specs.Clusters.{merge, merged, merge_all, merges}
+use Rattle.shapers_clusters.specs.Joined.{of_cluster, joined, joined_all}
+use Rattle.shapers_clusters.proofs.Joined.{clusters-merge, clusters-of_clusters}
 use Rattle.shapers_clusters.proofs.Merging.{order_view-merge_all, length-merge_all}
 use Rattle.shapers_clusters.specs.Cuts.{EndWithin, held, ShareCluster}
 use Rattle.shapers_clusters.proofs.Neighbours.{length-joined_all, joined_all-linked, joined_all-reached, share_all}
@@ -102,9 +102,7 @@ merge_all-unmerged level m [] gs = refl
 merge_all-unmerged level m (st ∷ sts) gs = ap (merge_all level sts) (merge-unmerged level m st.0 st.1 gs) ∙ merge_all-unmerged level m sts gs
 
 joined-unmerged : (level : BufferClusterLevel) → merges level ≡ false → (s e : ℕ) (cs : List ℕ) → joined level s e cs ≡ cs
-joined-unmerged level m s e cs =
-    let middle = stretch_of s e cs in
-    ap (λ b. cond (b && not (nat_lt (e - s) 2)) (reverse (flood (opening middle) (least middle) (reverse (take s cs))) ++ (map (λ _. least middle) middle ++ flood (opening (reverse middle)) (least middle) (drop e cs))) cs) m
+joined-unmerged level m s e cs = ap clusters (merge-unmerged level m s e (map of_cluster cs)) ∙ clusters-of_clusters cs
 
 pub joined_all-unmerged : (level : BufferClusterLevel) → merges level ≡ false → (sts : List (ℕ × ℕ)) (cs : List ℕ) → joined_all level sts cs ≡ cs
 joined_all-unmerged level m [] cs = refl
