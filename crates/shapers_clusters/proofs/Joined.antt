@@ -68,7 +68,7 @@ clusters-flooded : (c m : ℕ) (gs : List hb_glyph_info_t) → clusters (flooded
 clusters-flooded c m [] = refl
 clusters-flooded c m (g ∷ gs) = grind (arith, nat_tests, cluster-in_cluster m g, clusters-flooded c m gs)
 
-clusters-put : (m : ℕ) (gs : List hb_glyph_info_t) → clusters (map (in_cluster m) gs) ≡ map (λ _. m) (clusters gs)
+pub clusters-put : (m : ℕ) (gs : List hb_glyph_info_t) → clusters (map (in_cluster m) gs) ≡ map (λ _. m) (clusters gs)
 clusters-put m [] = refl
 clusters-put m (g ∷ gs) = let h = cluster-in_cluster m g in let i = clusters-put m gs in cc
 

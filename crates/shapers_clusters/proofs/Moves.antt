@@ -112,6 +112,10 @@ pub run_steps-unmerged : (level : BufferClusterLevel) → merges level ≡ false
 run_steps-unmerged level m steps gs = followed_all (λ xs gs. gs ≡ xs) (λ gs step. run_step level step gs) (λ _. Unit {0})
     (λ step xs gs _ e. merge_all-unmerged level m step.merged_then _ ∙ ap (pick step.places) (merge_all-unmerged level m step.merged_first gs ∙ e)) (length gs) gs steps gs refl (any_steps steps) refl
 
+pub joined_steps-unmerged : (level : BufferClusterLevel) → merges level ≡ false → (steps : List Step) (cs : List ℕ) → joined_steps level steps cs ≡ pick (old_places (length cs) steps) cs
+joined_steps-unmerged level m steps cs = followed_all (λ xs cs. cs ≡ xs) (λ cs step. joined_step level step cs) (λ _. Unit {0})
+    (λ step xs cs _ e. joined_all-unmerged level m step.merged_then _ ∙ ap (pick step.places) (joined_all-unmerged level m step.merged_first cs ∙ e)) (length cs) cs steps cs refl (any_steps steps) refl
+
 -- moves between places that share a cluster leave the list of clusters as it is
 pub clusters_stay : (cs : List ℕ) (places : List ℕ) → length places ≡ length cs → AllByRecursion (λ p. p < length cs) places → ((p : ℕ) → p < length cs → get_or cs (get_or places p 0) 0 ≡ get_or cs p 0) → pick places cs ≡ cs
 clusters_stay cs places n w h =

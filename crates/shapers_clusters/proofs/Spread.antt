@@ -34,7 +34,7 @@ pub record Spread (s e : ℕ) (cs js : List ℕ) : Type 0 where
 first_part : (a b c : List ℕ) (p : ℕ) → p < length a → get_or (a ++ (b ++ c)) p 0 ≡ get_or a p 0
 first_part a b c p h = get_or_append_left a (b ++ c) 0 p h
 
-second_part : (a b c : List ℕ) (p : ℕ) → length a ≤ p → p < length a + length b → get_or (a ++ (b ++ c)) p 0 ≡ get_or b (p - length a) 0
+pub second_part : (a b c : List ℕ) (p : ℕ) → length a ≤ p → p < length a + length b → get_or (a ++ (b ++ c)) p 0 ≡ get_or b (p - length a) 0
 second_part a b c p h l = get_or-append_right a (b ++ c) (length a) p 0 refl h ∙ get_or_append_left b c 0 (p - length a) (omega arith)
 
 third_part : (a b c : List ℕ) (p : ℕ) → length a + length b ≤ p → get_or (a ++ (b ++ c)) p 0 ≡ get_or c (p - (length a + length b)) 0
@@ -108,7 +108,7 @@ right-is c m e cs l =
       edge = λ h q. f.edge (omega arith) (let i : e + f.end - e ≡ f.end = omega arith in ap (λ k. get_or (drop e cs) k 0) (sym i) ∙ behind-at e cs (e + f.end) (omega arith) ∙ q);
     }
 
-map-constant : (m : ℕ) (xs : List ℕ) (p : ℕ) → p < length xs → get_or (map (λ _. m) xs) p 0 ≡ m
+pub map-constant : (m : ℕ) (xs : List ℕ) (p : ℕ) → p < length xs → get_or (map (λ _. m) xs) p 0 ≡ m
 map-constant m [] p h = absurd (omega arith)
 map-constant m (x ∷ xs) zero h = refl
 map-constant m (x ∷ xs) (suc p) h = map-constant m xs p (omega arith)
