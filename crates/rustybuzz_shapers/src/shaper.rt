@@ -4,6 +4,7 @@ ghost use Rattle.std.specs.Prelude.{◌≡◌, ◌≤◌, [], length, false, tru
 ghost use Rattle.shapers_base.specs.Font.{has_nominal};
 ghost use Rattle.shapers_base.specs.declared.buffer.refusal.ShaperError.TheVariants.{Memory};
 ghost use Rattle.shapers_base.specs.Glyph.{clusters};
+ghost use Rattle.shapers_clusters.specs.Flags.{whole};
 ghost use Rattle.shapers_clusters.specs.Laws.{ReorderedHold};
 ghost use Rattle.shapers_text.specs.Requests.{rclt};
 ghost use Rattle.shapers_text.specs.Thai.{characters};
@@ -295,7 +296,7 @@ impl hb_ot_shaper_t {
         requires unbuilt { marks_stand self ≡ true }
         ensures answer { is_some result ≡ moves_marks self }
         ensures marks { buffer.new ≡ after_marks self start end buffer.old }
-        ensures laws { ReorderedHold buffer.old.level (marks_steps self start end buffer.old.glyphs) buffer.old.glyphs buffer.new.glyphs }
+        ensures laws { ReorderedHold whole buffer.old.level (marks_steps self start end buffer.old.glyphs) buffer.old.glyphs buffer.new.glyphs }
     {
         match self {
             Self::Hebrew => Some(ot_shaper_hebrew::reorder_marks(plan, buffer, start, end)),

@@ -1,10 +1,11 @@
 -- The definitions, computed on small texts.
 use Rattle.std.specs.Prelude.{◌≡◌, ℕ, true, false, List, [], ◌∷◌, map, length, refl}
+use Rattle.shapers_base.specs.declared.buffer.category.hb_unicode_general_category_t.TheVariants.{Mn}
 use Rattle.shapers_base.specs.declared.buffer.glyph.hb_glyph_info_t.{hb_glyph_info_t}
 use Rattle.shapers_base.specs.declared.buffer.level.BufferClusterLevel.TheVariants.{MonotoneGraphemes, MonotoneCharacters, Characters}
 use Rattle.shapers_base.specs.declared.buffer.syllables.Span.{Span}
 use Rattle.shapers_base.specs.Glyph.{default_glyph, clusters}
-use Rattle.shapers_base.specs.Clusters.{merge}
+use Rattle.shapers_base.specs.Clusters.{low, high, merge}
 use Rattle.shapers_base.specs.GlyphFlags.{unsafe_inside}
 use Rattle.shapers_base.specs.Syllables.{span_bytes, spans_cover, with_bytes, syllables}
 
@@ -37,15 +38,51 @@ falls = refl
 dips : clusters (merge MonotoneCharacters 1 4 (text (5 ∷ 5 ∷ 1 ∷ 7 ∷ 7 ∷ 5 ∷ []))) ≡ 1 ∷ 1 ∷ 1 ∷ 1 ∷ 1 ∷ 5 ∷ []
 dips = refl
 
--- at level Characters nothing merges
-stays : clusters (merge Characters 1 3 (text (0 ∷ 1 ∷ 2 ∷ 2 ∷ 3 ∷ []))) ≡ 0 ∷ 1 ∷ 2 ∷ 2 ∷ 3 ∷ []
+-- at every level: the two monotone ones merge alike, Characters doesn't
+at_characters : clusters (merge MonotoneCharacters 1 3 (text (0 ∷ 1 ∷ 2 ∷ 2 ∷ 3 ∷ []))) ≡ 0 ∷ 1 ∷ 1 ∷ 1 ∷ 3 ∷ []
+at_characters = refl
+
+at_graphemes : clusters (merge MonotoneGraphemes 2 4 (text (4 ∷ 3 ∷ 3 ∷ 2 ∷ 2 ∷ []))) ≡ 4 ∷ 2 ∷ 2 ∷ 2 ∷ 2 ∷ []
+at_graphemes = refl
+
+stays : merge Characters 1 3 (text (0 ∷ 1 ∷ 2 ∷ 2 ∷ 3 ∷ [])) ≡ text (0 ∷ 1 ∷ 2 ∷ 2 ∷ 3 ∷ [])
 stays = refl
 
--- nor do an empty stretch and one of one place
-empty_stretch : clusters (merge MonotoneGraphemes 2 2 (text (1 ∷ 3 ∷ 3 ∷ 3 ∷ []))) ≡ 1 ∷ 3 ∷ 3 ∷ 3 ∷ []
+-- both ends move over repeated clusters, as far as these go, and no further: a cluster that comes again behind another one stays
+reach : low 2 4 (text (7 ∷ 5 ∷ 5 ∷ 3 ∷ 3 ∷ 7 ∷ [])) ≡ 1
+reach = refl
+
+reach_up : high 2 4 (text (7 ∷ 5 ∷ 5 ∷ 3 ∷ 3 ∷ 7 ∷ [])) ≡ 5
+reach_up = refl
+
+reaches : clusters (merge MonotoneGraphemes 2 4 (text (7 ∷ 5 ∷ 5 ∷ 3 ∷ 3 ∷ 7 ∷ []))) ≡ 7 ∷ 3 ∷ 3 ∷ 3 ∷ 3 ∷ 7 ∷ []
+reaches = refl
+
+reached_masks : masks (merge MonotoneGraphemes 2 4 (text (7 ∷ 5 ∷ 5 ∷ 3 ∷ 3 ∷ 7 ∷ []))) ≡ 15 ∷ 8 ∷ 8 ∷ 15 ∷ 15 ∷ 15 ∷ []
+reached_masks = refl
+
+comes_again : clusters (merge MonotoneGraphemes 2 4 (text (5 ∷ 4 ∷ 5 ∷ 3 ∷ 6 ∷ 3 ∷ []))) ≡ 5 ∷ 4 ∷ 3 ∷ 3 ∷ 6 ∷ 3 ∷ []
+comes_again = refl
+
+-- the whole text; one cluster alone, where every flag stays
+whole_text : clusters (merge MonotoneGraphemes 0 3 (text (2 ∷ 1 ∷ 0 ∷ []))) ≡ 0 ∷ 0 ∷ 0 ∷ []
+whole_text = refl
+
+one_cluster : merge MonotoneGraphemes 1 3 (text (2 ∷ 2 ∷ 2 ∷ 2 ∷ [])) ≡ text (2 ∷ 2 ∷ 2 ∷ 2 ∷ [])
+one_cluster = refl
+
+-- a glyph whose fields are all set keeps them, but for its cluster and the low three bits of its mask
+abbrev full : ℕ → ℕ → hb_glyph_info_t
+full c m = record { glyph_id = 1; cluster = c; mask = m; syllable = 2; category = 3; auxiliary = 4; general_category = Mn; modified_combining_class = 5; lig_comp = 6; substituted = true; ligated = true; multiplied = true; ignorable = true; continuation = true }
+
+all_fields : merge MonotoneGraphemes 0 2 (full 4 255 ∷ full 3 255 ∷ full 3 7 ∷ full 9 7 ∷ []) ≡ full 3 248 ∷ full 3 255 ∷ full 3 7 ∷ full 9 7 ∷ []
+all_fields = refl
+
+-- an empty stretch and one of one place merge nothing: no neighbour of them changes
+empty_stretch : merge MonotoneGraphemes 3 3 (text (1 ∷ 3 ∷ 3 ∷ 3 ∷ [])) ≡ text (1 ∷ 3 ∷ 3 ∷ 3 ∷ [])
 empty_stretch = refl
 
-one_place : clusters (merge MonotoneGraphemes 1 2 (text (1 ∷ 3 ∷ 3 ∷ 3 ∷ []))) ≡ 1 ∷ 3 ∷ 3 ∷ 3 ∷ []
+one_place : merge MonotoneGraphemes 1 2 (text (1 ∷ 3 ∷ 3 ∷ 3 ∷ [])) ≡ text (1 ∷ 3 ∷ 3 ∷ 3 ∷ [])
 one_place = refl
 
 -- sixteen spans of one glyph: the serial goes from 15 to 1

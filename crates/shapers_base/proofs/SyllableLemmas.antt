@@ -3,7 +3,7 @@ use Rattle.std.proofs.Common.{◌≡◌, ℕ, suc, ◌+◌, ◌-◌, ◌≤◌, 
 use Rattle.std.proofs.lemmas.List.{length-map, take_at, drop_at, drop-drop}
 use Rattle.std.proofs.lemmas.Grind.{common_steps}
 use Rattle.shapers_base.specs.declared.buffer.glyph.hb_glyph_info_t.{hb_glyph_info_t}
-use Rattle.shapers_base.specs.GlyphFlags.{with_stretch}
+use Rattle.shapers_base.specs.Clusters.{with_stretch}
 use Rattle.shapers_base.specs.Syllables.{in_syllable, with_bytes}
 
 -- one byte for the first n glyphs, and the other bytes for the rest

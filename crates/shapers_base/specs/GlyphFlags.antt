@@ -1,12 +1,8 @@
 -- The three glyph flags: who gets which.
-use Rattle.std.specs.Prelude.{ℕ, ◌==◌, bit_or, Bool, List, [], ◌∷◌, ◌++◌, map, take, drop, if◌then◌else◌}
+use Rattle.std.specs.Prelude.{ℕ, ◌==◌, bit_or, Bool, List, [], ◌∷◌, map, if◌then◌else◌}
 use Rattle.shapers_base.specs.declared.buffer.glyph.hb_glyph_info_t.{hb_glyph_info_t}
 use Rattle.shapers_base.specs.Glyph.{clusters}
-use Rattle.shapers_base.specs.Clusters.{least, stretch_of}
-
--- the list with its stretch from s to e changed by f
-abbrev pub with_stretch : {X : Type 0} → ℕ → ℕ → (List X → List X) → List X → List X
-with_stretch s e f xs = take s xs ++ (f (stretch_of s e xs) ++ drop e xs)
+use Rattle.shapers_base.specs.Clusters.{least, with_stretch}
 
 -- the glyph with these mask bits besides its own
 abbrev pub with_bits : ℕ → hb_glyph_info_t → hb_glyph_info_t

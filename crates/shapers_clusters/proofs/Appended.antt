@@ -7,11 +7,11 @@ use Rattle.std.proofs.lemmas.Bool.Decides.{nat_tests}
 use Rattle.shapers_base.specs.declared.buffer.glyph.hb_glyph_info_t.{hb_glyph_info_t}
 use Rattle.shapers_base.specs.declared.buffer.level.BufferClusterLevel.{BufferClusterLevel}
 use Rattle.shapers_base.specs.Glyph.{clusters, default_glyph}
-use Rattle.shapers_base.specs.Clusters.{least, first_cluster, last_cluster, in_cluster, flooded, merged, merge, merge_all, merges, stretch_of}
+use Rattle.shapers_base.specs.Clusters.{least, first_cluster, last_cluster, in_cluster, flooded, merge, merge_all, merges, stretch_of}
 use Rattle.shapers_base.specs.MappedLists.{map-reverse}
-use Rattle.shapers_clusters.specs.Joined.{opening}
-use Rattle.shapers_clusters.proofs.Joined.{opening-at, opening-clusters, least-le}
+use Rattle.shapers_clusters.proofs.Joined.{opening, opening-at, opening-clusters, least-le}
 use Rattle.shapers_clusters.proofs.Merging.{length-merge}
+use Rattle.shapers_base.proofs.ClusterLemmas.{flood_merged, merge_is}
 
 flooded-same : (c : ℕ) (gs : List hb_glyph_info_t) → flooded c c gs ≡ gs
 flooded-same c [] = refl
@@ -52,7 +52,7 @@ assembled-appended front middle rest n h =
     ∙ ap (λ l. a ++ l) (sym (append_assoc b (flooded (last_cluster middle) m rest) (replicate n default_glyph)))
     ∙ sym (append_assoc a (b ++ flooded (last_cluster middle) m rest) (replicate n default_glyph))
 
-merged-appended : (s e n : ℕ) (gs : List hb_glyph_info_t) → 1 < e - s → e ≤ length gs → merged s e (gs ++ replicate n default_glyph) ≡ merged s e gs ++ replicate n default_glyph
+merged-appended : (s e n : ℕ) (gs : List hb_glyph_info_t) → 1 < e - s → e ≤ length gs → flood_merged s e (gs ++ replicate n default_glyph) ≡ flood_merged s e gs ++ replicate n default_glyph
 merged-appended s e n gs h l =
     let r = replicate n default_glyph in
     let front : take s (gs ++ r) ≡ take s gs = take-append-le s gs r (omega arith) in
@@ -71,7 +71,10 @@ two_sides n false R x y v w here there = here
 -- glyphs appended behind the end of the stretch stay as they are
 pub merge-appended : (level : BufferClusterLevel) (s e n : ℕ) (gs : List hb_glyph_info_t) → e ≤ length gs → merge level s e (gs ++ replicate n default_glyph) ≡ merge level s e gs ++ replicate n default_glyph
 merge-appended level s e n gs l =
-    two_sides (e - s) (merges level) (λ x y. x ≡ y ++ replicate n default_glyph) _ _ _ _ refl (λ h. merged-appended s e n gs h l)
+    let r = replicate n default_glyph in
+    merge_is level s e (gs ++ r)
+    ∙ two_sides (e - s) (merges level) (λ x y. x ≡ y ++ r) (flood_merged s e (gs ++ r)) (gs ++ r) (flood_merged s e gs) gs refl (λ h. merged-appended s e n gs h l)
+    ∙ ap (λ l. l ++ r) (sym (merge_is level s e gs))
 
 pub merge_all-appended : (level : BufferClusterLevel) (n : ℕ) (sts : List (ℕ × ℕ)) (gs : List hb_glyph_info_t) → AllByRecursion (λ st. st.1 ≤ length gs) sts → merge_all level sts (gs ++ replicate n default_glyph) ≡ merge_all level sts gs ++ replicate n default_glyph
 merge_all-appended level n [] gs h = refl

@@ -8,11 +8,12 @@ use Rattle.std.proofs.lemmas.Bool.Decides.{nat_tests}
 use Rattle.shapers_base.specs.declared.buffer.glyph.hb_glyph_info_t.{hb_glyph_info_t}
 use Rattle.shapers_base.specs.declared.buffer.level.BufferClusterLevel.{BufferClusterLevel}
 use Rattle.shapers_base.specs.Glyph.{clusters, without_flags}
-use Rattle.shapers_base.specs.Clusters.{least, first_cluster, last_cluster, in_cluster, flooded, merged, merge, merge_all, stretch_of}
+use Rattle.shapers_base.specs.Clusters.{least, first_cluster, last_cluster, in_cluster, flooded, merge, merge_all, stretch_of}
 use Rattle.shapers_clusters.proofs.Joined.{least-le}
-use Rattle.shapers_clusters.proofs.Merging.{merge_cases, three_parts, without_flags-twice, length-merge}
+use Rattle.shapers_clusters.proofs.Merging.{merge_cases, without_flags-twice, length-merge}
 use Rattle.shapers_clusters.proofs.Appended.{least-last}
 use Rattle.shapers_clusters.specs.Flags.{FallsTo, FlagsFall}
+use Rattle.shapers_base.proofs.ClusterLemmas.{flood_merged, three_parts}
 
 in_cluster-same : (g : hb_glyph_info_t) → in_cluster g.cluster g ≡ g
 in_cluster-same g = grind (arith, nat_tests)
@@ -113,12 +114,12 @@ least-first : (gs : List hb_glyph_info_t) → 0 < length gs → least (clusters 
 least-first [] h = omega arith
 least-first (g ∷ gs) h = least-le (clusters (g ∷ gs)) 0 (omega arith)
 
-merged-falls : (s e : ℕ) (gs : List hb_glyph_info_t) → 1 < e - s → e ≤ length gs → AllZip FallsTo gs (merged s e gs)
+merged-falls : (s e : ℕ) (gs : List hb_glyph_info_t) → 1 < e - s → e ≤ length gs → AllZip FallsTo gs (flood_merged s e gs)
 merged-falls s e gs h l =
     let middle = stretch_of s e gs in
     let m = least (clusters middle) in
     let n : length middle ≡ e - s = omega (arith, length-take (e - s) (drop s gs), length-drop s gs) in
-    let P : List hb_glyph_info_t → Type 0 = λ xs. AllZip FallsTo xs (merged s e gs) in
+    let P : List hb_glyph_info_t → Type 0 = λ xs. AllZip FallsTo xs (flood_merged s e gs) in
     let Q : List hb_glyph_info_t → Type 0 = λ xs. AllZip FallsTo xs (reverse (flooded (first_cluster middle) m (reverse (take s gs)))) in
     subst P (three_parts s e gs (omega arith)) (all_append FallsTo (take s gs) _ _ _
     (subst Q (reverse-reverse (take s gs)) (all_reverse FallsTo (reverse (take s gs)) _ (all_flooded (first_cluster middle) m (reverse (take s gs)) (least-first middle (omega arith)))))

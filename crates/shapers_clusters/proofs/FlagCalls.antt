@@ -6,10 +6,10 @@ use Rattle.std.proofs.lemmas.Nat.{or_shr}
 use Rattle.std.proofs.lemmas.List.{map-append}
 use Rattle.shapers_base.specs.declared.buffer.glyph.hb_glyph_info_t.{hb_glyph_info_t}
 use Rattle.shapers_base.specs.Glyph.{plain, without_flags, clusters}
-use Rattle.shapers_base.specs.Clusters.{least, stretch_of}
-use Rattle.shapers_base.specs.GlyphFlags.{with_stretch, with_bits, with_bits_off, flagged, unsafe_inside, unsafe_to_concat_in, unsafe_all, tatweel_inside}
-use Rattle.shapers_clusters.proofs.Merging.{three_parts}
+use Rattle.shapers_base.specs.Clusters.{with_stretch, least, stretch_of}
+use Rattle.shapers_base.specs.GlyphFlags.{with_bits, with_bits_off, flagged, unsafe_inside, unsafe_to_concat_in, unsafe_all, tatweel_inside}
 use Rattle.shapers_clusters.specs.Flags.{FlagsAlone}
+use Rattle.shapers_base.proofs.ClusterLemmas.{three_parts}
 
 -- bits below 8 are glyph flags
 without_flags-or : (m bits : ℕ) → bits / 8 ≡ 0 → without_flags (bit_or m bits) ≡ without_flags m

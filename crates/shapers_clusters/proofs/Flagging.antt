@@ -13,7 +13,7 @@ use Rattle.shapers_base.specs.Clusters.{least, stretch_of}
 use Rattle.shapers_base.specs.GlyphFlags.{with_bits, with_bits_off, flagged, unsafe_inside, unsafe_all}
 use Rattle.shapers_clusters.proofs.FlagCalls.{map-flagged}
 use Rattle.shapers_clusters.proofs.Joined.{least-le, least-among}
-use Rattle.shapers_clusters.proofs.Merging.{three_parts}
+use Rattle.shapers_base.proofs.ClusterLemmas.{three_parts}
 
 -- a stretch of one place, or none, has no flags
 flagged_few : (bits : ℕ) (gs : List hb_glyph_info_t) → length gs ≤ 1 → flagged bits gs ≡ gs

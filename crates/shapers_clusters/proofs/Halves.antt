@@ -8,7 +8,7 @@ use Rattle.std.proofs.lemmas.Bool.{cases_eq}
 use Rattle.shapers_base.specs.declared.buffer.glyph.hb_glyph_info_t.{hb_glyph_info_t}
 use Rattle.shapers_base.specs.declared.buffer.level.BufferClusterLevel.{BufferClusterLevel}
 use Rattle.shapers_base.specs.Glyph.{clusters}
-use Rattle.shapers_base.specs.Clusters.{least, first_cluster, last_cluster, in_cluster, flooded, merged, merge, merge_all, merges, stretch_of}
+use Rattle.shapers_base.specs.Clusters.{least, first_cluster, last_cluster, in_cluster, flooded, merge, merge_all, merges, stretch_of}
 use Rattle.shapers_clusters.proofs.Merging.{length-merge, length-merge_all}
 use Rattle.shapers_clusters.specs.Cuts.{EndWithin, ShareNone}
 use Rattle.shapers_clusters.specs.Steps.{pick, Step, run_step, run_steps, FitsStep, FitSteps, shifted, widened, steps_along}
@@ -17,6 +17,7 @@ use Rattle.shapers_clusters.proofs.Moves.{clusters-merge_all, clusters-run_steps
 use Rattle.shapers_clusters.proofs.Widened.{pick-parts, fits-widened, range-append, map-range, all_along}
 use Rattle.shapers_clusters.proofs.Falls.{flooded-hit, flooded-miss}
 use Rattle.shapers_clusters.proofs.Appended.{assembled, two_sides}
+use Rattle.shapers_base.proofs.ClusterLemmas.{flood_merged, merge_is}
 
 -- P holds of the cluster of each glyph
 abbrev pub Each : (ℕ → Type 0) → List hb_glyph_info_t → Type 0
@@ -84,7 +85,9 @@ assembled-before P hs front middle rest l p h =
 
 -- a merge of glyphs whose clusters don't occur behind them, or not before them
 merge-behind : (P : ℕ → Type 0) (level : BufferClusterLevel) (s e : ℕ) (gs hs : List hb_glyph_info_t) → e ≤ length gs → Each P gs → Each (λ k. P k → ⊥) hs → merge level s e (gs ++ hs) ≡ merge level s e gs ++ hs
-merge-behind P level s e gs hs l p h = two_sides (e - s) (merges level) (λ x y. x ≡ y ++ hs) _ _ _ _ refl (λ two.
+merge-behind P level s e gs hs l p h =
+    merge_is level s e (gs ++ hs)
+    ∙ two_sides (e - s) (merges level) (λ x y. x ≡ y ++ hs) (flood_merged s e (gs ++ hs)) (gs ++ hs) (flood_merged s e gs) gs refl (λ two.
     let front : take s (gs ++ hs) ≡ take s gs = take-append-le s gs hs (omega arith) in
     let middle : stretch_of s e (gs ++ hs) ≡ stretch_of s e gs = ap (take (e - s)) (drop-append-le s gs hs (omega arith)) ∙ take-append-le (e - s) (drop s gs) hs (omega (arith, length-drop s gs)) in
     let rest : drop e (gs ++ hs) ≡ drop e gs ++ hs = drop-append-le e gs hs l in
@@ -92,6 +95,7 @@ merge-behind P level s e gs hs l p h = two_sides (e - s) (merges level) (λ x y.
     ∙ ap (λ x. assembled (take s gs) x (drop e (gs ++ hs))) middle
     ∙ ap (λ x. assembled (take s gs) (stretch_of s e gs) x) rest
     ∙ assembled-behind P (take s gs) (stretch_of s e gs) (drop e gs) hs (omega (arith, length-take (e - s) (drop s gs), length-drop s gs)) (each-take P (e - s) (drop s gs) (each-drop P s gs p)) h)
+    ∙ ap (λ l. l ++ hs) (sym (merge_is level s e gs))
 
 take-past : {X : Type 0} (a k : ℕ) (xs ys : List X) → length xs ≡ a → take (a + k) (xs ++ ys) ≡ xs ++ take k ys
 take-past a k xs ys e =
@@ -107,8 +111,9 @@ merge-before P level a s e hs gs rest n l p h =
     let i : (a + e) - (a + s) ≡ e - s = omega arith in
     let ts = gs ++ rest in
     let ws = hs ++ (gs ++ rest) in
-    ap (λ k. if merges level && not (nat_lt k 2) then merged (a + s) (a + e) ws else ws) i
-    ∙ two_sides (e - s) (merges level) (λ x y. x ≡ hs ++ y) _ _ _ _ refl (λ two.
+    merge_is level (a + s) (a + e) ws
+    ∙ ap (λ k. if merges level && not (nat_lt k 2) then flood_merged (a + s) (a + e) ws else ws) i
+    ∙ two_sides (e - s) (merges level) (λ x y. x ≡ hs ++ y) (flood_merged (a + s) (a + e) ws) ws (flood_merged s e ts) ts refl (λ two.
     let front : take (a + s) ws ≡ hs ++ take s ts = take-past a s hs ts n in
     let middle : stretch_of (a + s) (a + e) ws ≡ stretch_of s e ts = ap (λ k. take k (drop (a + s) ws)) i ∙ ap (take (e - s)) (drop-past a s hs ts n) in
     let behind : drop (a + e) ws ≡ drop e ts = drop-past a e hs ts n in
@@ -118,6 +123,7 @@ merge-before P level a s e hs gs rest n l p h =
     ∙ ap (λ x. assembled (hs ++ take s ts) x (drop (a + e) ws)) middle
     ∙ ap (λ x. assembled (hs ++ take s ts) (stretch_of s e ts) x) behind
     ∙ assembled-before P hs (take s ts) (stretch_of s e ts) (drop e ts) (omega (arith, ap length inside, length-take (e - s) (drop s gs), length-drop s gs)) (subst Q (sym inside) (each-take P (e - s) (drop s gs) (each-drop P s gs p))) h)
+    ∙ ap (λ l. hs ++ l) (sym (merge_is level s e ts))
 
 each_of : (P : ℕ → Type 0) (gs : List hb_glyph_info_t) → All P (clusters gs) → Each P gs
 each_of P [] h = tt

@@ -1,5 +1,5 @@
 -- The merge rule over clusters alone.
-use Rattle.std.proofs.Common.{ℕ, zero, suc, ◌-◌, ◌<◌, ◌≤◌, ◌≡◌, ◌≢◌, min, Bool, true, false, if◌then◌else◌, nat_lt, not, ◌&&◌, inl, inr, List, [], ◌∷◌, ◌++◌, map, length, get_or, reverse, take, drop, fold, refl, sym, subst, arith}
+use Rattle.std.proofs.Common.{ℕ, zero, suc, ◌-◌, ◌==◌, ◌<◌, ◌≤◌, ◌≡◌, ◌≢◌, min, Bool, true, false, if◌then◌else◌, nat_lt, not, ◌&&◌, inl, inr, List, [], ◌∷◌, ◌++◌, map, length, get_or, reverse, take, drop, fold, refl, sym, subst, ap, ◌∙◌, arith}
 use Rattle.std.proofs.lemmas.List.{map-append, take-map, drop-map}
 use Rattle.std.proofs.lemmas.Bool.{cases_lt, cases_eq}
 use Rattle.std.proofs.lemmas.Bool.Decides.{nat_tests}
@@ -7,8 +7,26 @@ use Rattle.shapers_base.specs.declared.buffer.glyph.hb_glyph_info_t.{hb_glyph_in
 use Rattle.shapers_base.specs.declared.buffer.level.BufferClusterLevel.{BufferClusterLevel}
 use Rattle.shapers_base.specs.Glyph.{clusters}
 use Rattle.shapers_base.specs.MappedLists.{map-reverse}
-use Rattle.shapers_base.specs.Clusters.{least, first_cluster, in_cluster, flooded, merged, merge, merges, stretch_of}
-use Rattle.shapers_clusters.specs.Joined.{opening, flood, joined}
+use Rattle.shapers_base.specs.Clusters.{least, first_cluster, in_cluster, flooded, merge, merges, stretch_of}
+use Rattle.shapers_base.proofs.ClusterLemmas.{flood_merged, merge_is}
+use Rattle.shapers_clusters.specs.Joined.{of_cluster, joined}
+
+-- the first of a list of numbers, 0 where there is none
+abbrev pub opening : List ℕ → ℕ
+opening [] = 0
+opening (c ∷ cs) = c
+
+-- the numbers c that open the list, made m
+abbrev pub flood : ℕ → ℕ → List ℕ → List ℕ
+flood c m [] = []
+flood c m (x ∷ xs) = if x == c then m ∷ flood c m xs else x ∷ xs
+
+-- a stretch of some places joined: its least cluster floods the neighbours on both sides
+abbrev pub spreading : ℕ → ℕ → List ℕ → List ℕ
+spreading s e cs =
+    let middle = stretch_of s e cs in
+    let m = least middle in
+    reverse (flood (opening middle) m (reverse (take s cs))) ++ (map (λ _. m) middle ++ flood (opening (reverse middle)) m (drop e cs))
 
 -- the least of a list is at most each of it, and is one of it
 fold_min-start : (c : ℕ) (cs : List ℕ) → fold min c cs ≤ c
@@ -50,7 +68,7 @@ clusters-flooded : (c m : ℕ) (gs : List hb_glyph_info_t) → clusters (flooded
 clusters-flooded c m [] = refl
 clusters-flooded c m (g ∷ gs) = grind (arith, nat_tests, cluster-in_cluster m g, clusters-flooded c m gs)
 
-clusters-put : (m : ℕ) (gs : List hb_glyph_info_t) → clusters (map (in_cluster m) gs) ≡ map (λ _. m) (clusters gs)
+pub clusters-put : (m : ℕ) (gs : List hb_glyph_info_t) → clusters (map (in_cluster m) gs) ≡ map (λ _. m) (clusters gs)
 clusters-put m [] = refl
 clusters-put m (g ∷ gs) = let h = cluster-in_cluster m g in let i = clusters-put m gs in cc
 
@@ -58,12 +76,22 @@ map-if : {X Y : Type 0} (f : X → Y) (b : Bool) (x y : X) (z w : Y) → f x ≡
 map-if f true x y z w h i = h
 map-if f false x y z w h i = i
 
-clusters-merged : (s e : ℕ) (gs : List hb_glyph_info_t) → clusters (merged s e gs) ≡ (let middle = stretch_of s e (clusters gs) in let m = least middle in reverse (flood (opening middle) m (reverse (take s (clusters gs)))) ++ (map (λ _. m) middle ++ flood (opening (reverse middle)) m (drop e (clusters gs))))
+clusters-merged : (s e : ℕ) (gs : List hb_glyph_info_t) → clusters (flood_merged s e gs) ≡ (let middle = stretch_of s e (clusters gs) in let m = least middle in reverse (flood (opening middle) m (reverse (take s (clusters gs)))) ++ (map (λ _. m) middle ++ flood (opening (reverse middle)) m (drop e (clusters gs))))
 clusters-merged s e gs = simp (map-append, map-reverse, clusters-flooded, clusters-put, take-map, drop-map, opening-clusters)
+
+clusters-flood : (level : BufferClusterLevel) (s e : ℕ) (gs : List hb_glyph_info_t) → clusters (merge level s e gs) ≡ (if merges level && not (nat_lt (e - s) 2) then spreading s e (clusters gs) else clusters gs)
+clusters-flood level s e gs = ap clusters (merge_is level s e gs) ∙ map-if clusters (merges level && not (nat_lt (e - s) 2)) (flood_merged s e gs) gs _ _ (clusters-merged s e gs) refl
+
+pub clusters-of_clusters : (cs : List ℕ) → clusters (map of_cluster cs) ≡ cs
+clusters-of_clusters [] = refl
+clusters-of_clusters (c ∷ cs) = ap (λ l. c ∷ l) (clusters-of_clusters cs)
+
+pub joined_is : (level : BufferClusterLevel) (s e : ℕ) (cs : List ℕ) → joined level s e cs ≡ (if merges level && not (nat_lt (e - s) 2) then spreading s e cs else cs)
+joined_is level s e cs = clusters-flood level s e (map of_cluster cs) ∙ ap (λ cs. if merges level && not (nat_lt (e - s) 2) then spreading s e cs else cs) (clusters-of_clusters cs)
 
 -- the clusters of merged glyphs are the joined clusters
 pub clusters-merge : (level : BufferClusterLevel) (s e : ℕ) (gs : List hb_glyph_info_t) → clusters (merge level s e gs) ≡ joined level s e (clusters gs)
-clusters-merge level s e gs = map-if clusters (merges level && not (nat_lt (e - s) 2)) (merged s e gs) gs _ _ (clusters-merged s e gs) refl
+clusters-merge level s e gs = clusters-flood level s e gs ∙ sym (joined_is level s e (clusters gs))
 
 -- how far a flood reaches
 pub record Flood (c m : ℕ) (xs ys : List ℕ) : Type 0 where

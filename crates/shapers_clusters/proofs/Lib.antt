@@ -1,5 +1,6 @@
 mod Rows
 pub mod Appended
+pub mod Bounds
 pub mod Cuts
 pub mod Falls
 pub mod FlagCalls
@@ -17,4 +18,5 @@ pub mod Proved
 pub mod Sources
 pub mod Spread
 pub mod Swaps
+pub mod Views
 pub mod Widened

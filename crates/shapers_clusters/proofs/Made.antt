@@ -8,9 +8,9 @@ use Rattle.shapers_base.specs.Glyph.{default_glyph, clusters}
 use Rattle.shapers_clusters.specs.Steps.{pick}
 use Rattle.shapers_clusters.proofs.Picks.{pick-within}
 use Rattle.shapers_clusters.proofs.Moves.{held_by}
-use Rattle.shapers_clusters.specs.Flags.{FlagsFall}
+use Rattle.shapers_clusters.specs.Flags.{FlagsFall, ShowsClusters}
 use Rattle.shapers_clusters.proofs.Falls.{flags_kept}
-use Rattle.shapers_clusters.specs.Made.{HeldAlong, ShowsClusters}
+use Rattle.shapers_clusters.specs.Made.{HeldAlong}
 
 -- what two texts of the same view share
 pub record SameClusters (xs ys : List hb_glyph_info_t) : Type 0 where

@@ -1,27 +1,28 @@
 -- Lengths, order views and single places through the merge rule.
-use Rattle.std.proofs.Common.{ℕ, ◌+◌, ◌-◌, ◌<◌, ◌≤◌, ◌≡◌, ◌==◌, Bool, true, false, if◌then◌else◌, nat_lt, not, ◌&&◌, List, [], ◌∷◌, ◌++◌, map, length, take, drop, refl, sym, ◌∙◌, ap, subst, arith, length-append, length-take, length-drop}
-use Rattle.std.proofs.lemmas.List.{length-reverse, length-map, map-append, reverse-reverse, take-append-drop, drop-drop}
+use Rattle.std.proofs.Common.{ℕ, ◌-◌, ◌<◌, ◌≤◌, ◌≡◌, ◌==◌, Bool, true, false, if◌then◌else◌, nat_lt, not, ◌&&◌, List, [], ◌∷◌, ◌++◌, map, length, take, drop, refl, sym, ◌∙◌, ap, subst, arith, length-append, length-take, length-drop}
+use Rattle.std.proofs.lemmas.List.{length-reverse, length-map, map-append, reverse-reverse}
 use Rattle.std.proofs.lemmas.Bool.Decides.{nat_tests}
 use Rattle.std.specs.List.{AllByRecursion}
 use Rattle.shapers_base.specs.declared.buffer.glyph.hb_glyph_info_t.{hb_glyph_info_t}
 use Rattle.shapers_base.specs.declared.buffer.level.BufferClusterLevel.{BufferClusterLevel}
 use Rattle.shapers_base.specs.Glyph.{plain, without_flags, order_view}
 use Rattle.shapers_base.specs.MappedLists.{map-reverse}
-use Rattle.shapers_base.specs.Clusters.{in_cluster, flooded, merged, merge, merge_all, merges, stretch_of}
+use Rattle.shapers_base.specs.Clusters.{in_cluster, flooded, merge, merge_all, merges, stretch_of}
+use Rattle.shapers_base.proofs.ClusterLemmas.{flood_merged, merge_is, three_parts}
 
 -- a stretch of at least two places merges, or nothing changes
 two_cases : (n : ℕ) (a : Bool) {X : Type 0} (P : X → Type 0) (x y : X) → P y → (1 < n → P x) → P (if a && not (nat_lt n 2) then x else y)
 two_cases n true P x y here there = grind (arith, nat_tests)
 two_cases n false P x y here there = here
 
-pub merge_cases : (P : List hb_glyph_info_t → Type 0) (level : BufferClusterLevel) (s e : ℕ) (gs : List hb_glyph_info_t) → P gs → (1 < e - s → P (merged s e gs)) → P (merge level s e gs)
-merge_cases P level s e gs here there = two_cases (e - s) (merges level) P (merged s e gs) gs here there
+pub merge_cases : (P : List hb_glyph_info_t → Type 0) (level : BufferClusterLevel) (s e : ℕ) (gs : List hb_glyph_info_t) → P gs → (1 < e - s → P (flood_merged s e gs)) → P (merge level s e gs)
+merge_cases P level s e gs here there = subst P (sym (merge_is level s e gs)) (two_cases (e - s) (merges level) P (flood_merged s e gs) gs here there)
 
 pub length-flooded : (c m : ℕ) (gs : List hb_glyph_info_t) → length (flooded c m gs) ≡ length gs
 length-flooded c m [] = refl
 length-flooded c m (g ∷ gs) = grind (arith, nat_tests, length-flooded c m gs)
 
-length-merged : (s e : ℕ) (gs : List hb_glyph_info_t) → s ≤ e → e ≤ length gs → length (merged s e gs) ≡ length gs
+length-merged : (s e : ℕ) (gs : List hb_glyph_info_t) → s ≤ e → e ≤ length gs → length (flood_merged s e gs) ≡ length gs
 length-merged s e gs h l = simp (length-append, length-reverse, length-map, length-flooded, length-take, length-drop) (omega arith)
 
 pub length-merge : (level : BufferClusterLevel) (s e : ℕ) (gs : List hb_glyph_info_t) → e ≤ length gs → length (merge level s e gs) ≡ length gs
@@ -48,14 +49,7 @@ order_view-put : (m : ℕ) (gs : List hb_glyph_info_t) → order_view (map (in_c
 order_view-put m [] = refl
 order_view-put m (g ∷ gs) = let h = plain-in_cluster m g in let i = order_view-put m gs in cc
 
--- a list is its front, a stretch and what is behind it
-pub three_parts : {X : Type 0} (s e : ℕ) (xs : List X) → s ≤ e → take s xs ++ (stretch_of s e xs ++ drop e xs) ≡ xs
-three_parts s e xs h =
-    let n : s + (e - s) ≡ e = omega arith in
-    let behind : drop e xs ≡ drop (e - s) (drop s xs) = ap (λ k. drop k xs) (sym n) ∙ sym (drop-drop (e - s) s xs) in
-    ap (λ l. take s xs ++ (stretch_of s e xs ++ l)) behind ∙ ap (λ l. take s xs ++ l) (take-append-drop (e - s) (drop s xs)) ∙ take-append-drop s xs
-
-order_view-merged : (s e : ℕ) (gs : List hb_glyph_info_t) → s ≤ e → order_view (merged s e gs) ≡ order_view gs
+order_view-merged : (s e : ℕ) (gs : List hb_glyph_info_t) → s ≤ e → order_view (flood_merged s e gs) ≡ order_view gs
 order_view-merged s e gs h =
     simp (map-append, map-reverse, order_view-flooded, order_view-put, reverse-reverse)
     (sym (map-append plain (take s gs) (stretch_of s e gs ++ drop e gs) ∙ ap (λ l. order_view (take s gs) ++ l) (map-append plain (stretch_of s e gs) (drop e gs))) ∙ ap order_view (three_parts s e gs h))

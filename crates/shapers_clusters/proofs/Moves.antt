@@ -1,5 +1,5 @@
 -- What steps do: to the order view, to each glyph's cluster and flags, and to the list of clusters.
-use Rattle.std.proofs.Common.{ℕ, ◌-◌, ◌<◌, ◌≤◌, ◌≡◌, inl, inr, ◌||◌, Bool, true, false, min, max, List, [], ◌∷◌, length, get_or, refl, sym, ◌∙◌, ap, subst, arith, append_assoc, if◌then◌else◌, ◌&&◌, not, nat_lt, cond, ◌++◌, map, reverse, take, drop}
+use Rattle.std.proofs.Common.{ℕ, ◌-◌, ◌<◌, ◌≤◌, ◌≡◌, inl, inr, ◌||◌, Bool, true, false, min, max, List, [], ◌∷◌, length, get_or, refl, sym, ◌∙◌, ap, subst, arith, append_assoc, if◌then◌else◌, ◌&&◌, not, nat_lt, ◌++◌, map}
 use Rattle.std.specs.List.{All, AllByRecursion, AllZip, fold, range_with_len}
 use Rattle.std.proofs.lemmas.List.{length-map, ext_get_or}
 use Rattle.std.proofs.lemmas.List.Elements.{All-from_get_or, length_all_zip}
@@ -10,9 +10,9 @@ use Rattle.std.proofs.lemmas.Bool.Decides.{nat_tests}
 use Rattle.shapers_base.specs.declared.buffer.glyph.hb_glyph_info_t.{hb_glyph_info_t}
 use Rattle.shapers_base.specs.declared.buffer.level.BufferClusterLevel.{BufferClusterLevel}
 use Rattle.shapers_base.specs.Glyph.{clusters, order_view, plain}
-use Rattle.shapers_base.specs.Clusters.{merge, merged, merge_all, merges, stretch_of, least}
-use Rattle.shapers_clusters.specs.Joined.{joined, joined_all, opening, flood}
-use Rattle.shapers_clusters.proofs.Joined.{clusters-merge}
+use Rattle.shapers_base.specs.Clusters.{merge, merged, merge_all, merges}
+use Rattle.shapers_clusters.specs.Joined.{of_cluster, joined, joined_all}
+use Rattle.shapers_clusters.proofs.Joined.{clusters-merge, clusters-of_clusters}
 use Rattle.shapers_clusters.proofs.Merging.{order_view-merge_all, length-merge_all}
 use Rattle.shapers_clusters.specs.Cuts.{EndWithin, held, ShareCluster}
 use Rattle.shapers_clusters.proofs.Neighbours.{length-joined_all, joined_all-linked, joined_all-reached, share_all}
@@ -102,9 +102,7 @@ merge_all-unmerged level m [] gs = refl
 merge_all-unmerged level m (st ∷ sts) gs = ap (merge_all level sts) (merge-unmerged level m st.0 st.1 gs) ∙ merge_all-unmerged level m sts gs
 
 joined-unmerged : (level : BufferClusterLevel) → merges level ≡ false → (s e : ℕ) (cs : List ℕ) → joined level s e cs ≡ cs
-joined-unmerged level m s e cs =
-    let middle = stretch_of s e cs in
-    ap (λ b. cond (b && not (nat_lt (e - s) 2)) (reverse (flood (opening middle) (least middle) (reverse (take s cs))) ++ (map (λ _. least middle) middle ++ flood (opening (reverse middle)) (least middle) (drop e cs))) cs) m
+joined-unmerged level m s e cs = ap clusters (merge-unmerged level m s e (map of_cluster cs)) ∙ clusters-of_clusters cs
 
 pub joined_all-unmerged : (level : BufferClusterLevel) → merges level ≡ false → (sts : List (ℕ × ℕ)) (cs : List ℕ) → joined_all level sts cs ≡ cs
 joined_all-unmerged level m [] cs = refl
@@ -113,6 +111,10 @@ joined_all-unmerged level m (st ∷ sts) cs = ap (joined_all level sts) (joined-
 pub run_steps-unmerged : (level : BufferClusterLevel) → merges level ≡ false → (steps : List Step) (gs : List hb_glyph_info_t) → run_steps level steps gs ≡ pick (old_places (length gs) steps) gs
 run_steps-unmerged level m steps gs = followed_all (λ xs gs. gs ≡ xs) (λ gs step. run_step level step gs) (λ _. Unit {0})
     (λ step xs gs _ e. merge_all-unmerged level m step.merged_then _ ∙ ap (pick step.places) (merge_all-unmerged level m step.merged_first gs ∙ e)) (length gs) gs steps gs refl (any_steps steps) refl
+
+pub joined_steps-unmerged : (level : BufferClusterLevel) → merges level ≡ false → (steps : List Step) (cs : List ℕ) → joined_steps level steps cs ≡ pick (old_places (length cs) steps) cs
+joined_steps-unmerged level m steps cs = followed_all (λ xs cs. cs ≡ xs) (λ cs step. joined_step level step cs) (λ _. Unit {0})
+    (λ step xs cs _ e. joined_all-unmerged level m step.merged_then _ ∙ ap (pick step.places) (joined_all-unmerged level m step.merged_first cs ∙ e)) (length cs) cs steps cs refl (any_steps steps) refl
 
 -- moves between places that share a cluster leave the list of clusters as it is
 pub clusters_stay : (cs : List ℕ) (places : List ℕ) → length places ≡ length cs → AllByRecursion (λ p. p < length cs) places → ((p : ℕ) → p < length cs → get_or cs (get_or places p 0) 0 ≡ get_or cs p 0) → pick places cs ≡ cs

@@ -1,5 +1,6 @@
 -- The laws, proved; other crates cite these with arguments.
 use Rattle.std.proofs.Common.{ℕ, ◌+◌, ◌-◌, map, true, ◌<◌, ◌≤◌, ◌≡◌, inl, inr, List, [], ◌∷◌, ◌++◌, length, get_or, slice_index, refl, sym, ◌∙◌, ap, subst, arith, length-append}
+use Rattle.std.specs.List.Sorted.{IsPermutation}
 use Rattle.std.specs.List.{All, AllByRecursion, Contains}
 use Rattle.std.proofs.lemmas.Bool.{cases_lt}
 use Rattle.std.proofs.lemmas.List.{length-map}
@@ -12,14 +13,16 @@ use Rattle.shapers_clusters.specs.Joined.{joined, joined_all}
 use Rattle.shapers_clusters.proofs.Joined.{clusters-merge}
 use Rattle.shapers_clusters.proofs.Merging.{length-merge, length-merge_all, order_view-merge}
 use Rattle.shapers_clusters.specs.Cuts.{EndWithin, ShareCluster, IsMonotone, ExactCuts}
-use Rattle.shapers_clusters.proofs.Neighbours.{share_all, joined-shares, joined_all-share, length-joined_all}
+use Rattle.shapers_clusters.proofs.Neighbours.{share_all, joined_all-share, length-joined_all}
 use Rattle.shapers_clusters.proofs.Cuts.{exact_cuts, one_exact, stays_rising, stays_falling}
-use Rattle.shapers_clusters.specs.Steps.{pick, FitsStep, MovesMerged, all_first, Permutes}
+use Rattle.shapers_clusters.specs.Steps.{pick, Step, run_steps, joined_steps, old_places, FitsStep, FitSteps, MovesMerged, all_first, Permutes}
 use Rattle.shapers_clusters.proofs.Picks.{length-pick, within_at}
 use Rattle.shapers_clusters.proofs.Falls.{merge-falls, all_flags_on, all_flags_fall}
-use Rattle.shapers_clusters.specs.Made.{ShowsClusters}
+use Rattle.shapers_clusters.specs.Flags.{ShowsClusters, whole, seen}
+use Rattle.shapers_clusters.proofs.Bounds.{merge-before, merge-behind, merge-inside}
+use Rattle.shapers_clusters.proofs.Views.{whole_hides, seen-same, seen-run_steps, seen-permuted}
 use Rattle.shapers_clusters.proofs.Made.{Made, AreMade, are_made, same_clusters, held_in_stretch}
-use Rattle.shapers_clusters.proofs.Moves.{clusters-merge_all, clusters-run_steps, order_view-run_steps, falls-run_steps, joined-merged_steps, share-moved, merge-unmerged, merge_all-unmerged, joined_all-unmerged, run_steps-unmerged, end_within-all_first, merged_fits, all-joined, all-picked, all-joined_steps}
+use Rattle.shapers_clusters.proofs.Moves.{clusters-merge_all, clusters-run_steps, order_view-run_steps, falls-run_steps, joined-merged_steps, share-moved, merge-unmerged, merge_all-unmerged, joined_all-unmerged, run_steps-unmerged, joined_steps-unmerged, end_within-all_first, merged_fits, all-joined, all-picked, all-joined_steps}
 use Rattle.shapers_clusters.specs.Labels.{IsLabelled}
 use Rattle.shapers_clusters.proofs.Labels.{joined-labelled, joined_steps-labelled}
 use Rattle.shapers_clusters.proofs.Sources.{exact_cuts_by, sources_share, clusters-moved_sources, clusters-picked, falls-picked}
@@ -27,7 +30,7 @@ use Rattle.shapers_clusters.proofs.Widened.{fits-widened, moves-widened, all_fit
 use Rattle.shapers_clusters.proofs.Halves.{halves_along}
 use Rattle.shapers_clusters.proofs.Permuted.{order_view-permuted, permutes-widened, all_permute-widened}
 use Rattle.shapers_clusters.proofs.FlagCalls.{unsafe_inside-alone, unsafe_to_concat_in-alone, tatweel_inside-alone}
-use Rattle.shapers_clusters.specs.Laws.{ViewLaw, HalvesLaw, MergeLaw, ExactCutsLaw, StepsLaw, PermutedLaw, ClustersLaw, MergedStepsLaw, WidenedLaw, AlongLaw, MergedStepsHold, ReorderedLaw, ClustersMade, MadeHold, MadeLaw, MovedSourcesLaw}
+use Rattle.shapers_clusters.specs.Laws.{ViewLaw, HalvesLaw, MergeLaw, ExactCutsLaw, StepsLaw, PermutedLaw, ClustersLaw, MergedStepsLaw, WidenedLaw, AlongLaw, ClustersHold, ClustersReordered, ClustersReorderedLaw, SeenStepsLaw, ReorderedHold, ReorderedLaw, ClustersMade, MadeHold, MadeLaw, MovedSourcesLaw}
 
 -- stretches end within the clusters if they do within the glyphs
 ends : (sts : List (ℕ × ℕ)) (gs : List hb_glyph_info_t) → EndWithin (length gs) sts → EndWithin (length (clusters gs)) sts
@@ -53,7 +56,9 @@ merge_holds level s e gs l =
       same_view = order_view-merge level s e gs;
       falls = merge-falls level s e gs l;
       old_clusters = all (All (Contains cs)) (all-joined (Contains cs) level ((s, e) ∷ []) cs (le, tt) (All-contains_itself cs));
-      stretch = λ m p q a b c d. all (λ js. get_or js p 0 ≡ get_or js q 0) (joined-shares level s e cs le m p q a b c d);
+      before = merge-before level s e gs l;
+      behind = merge-behind level s e gs l;
+      inside = λ m h p from to. merge-inside level s e gs l m h p from to;
       neighbours = λ p q pl ql h. all (λ js. ShareCluster js p q) (joined_all-share level ((s, e) ∷ []) cs (le, tt) p q (omega arith) (omega arith) h);
       labels = λ ls i o. all (λ js. IsLabelled js ls) (joined-labelled level s e cs ls le i o);
       unmerged = λ m. merge-unmerged level m s e gs;
@@ -85,7 +90,7 @@ permuted_hold level steps gs f h = order_view-permuted level steps gs f h
 pub clusters_hold : ClustersLaw
 clusters_hold level steps cs f =
     let all = all-joined_steps (Contains cs) level (length cs) steps cs refl f (All-contains_itself cs) in
-    record { same_length = all.0; old_clusters = all.1; labels = λ ls i o. joined_steps-labelled level steps cs ls f i o }
+    record { same_length = all.0; old_clusters = all.1; labels = λ ls i o. joined_steps-labelled level steps cs ls f i o; unmerged = λ m. joined_steps-unmerged level m steps cs }
 
 pub merged_steps_hold : MergedStepsLaw
 merged_steps_hold level steps cs m f =
@@ -97,16 +102,40 @@ merged_steps_hold level steps cs m f =
       exact = λ mono. subst P (sym is) (exact_cuts level m (all_first steps) cs (end_within-all_first (length cs) steps f) mono);
     }
 
+pub clusters_reordered : ClustersReorderedLaw
+clusters_reordered level steps cs moves = record { at_all_levels = clusters_hold level steps cs (merged_fits (length cs) steps moves); where_merging = λ m. merged_steps_hold level steps cs m moves }
+
+pub seen_steps_hold : SeenStepsLaw
+seen_steps_hold view hides level steps gs ms f same =
+    let holds = steps_hold level steps gs f in
+    let rs = run_steps level steps gs in
+    let P : ℕ → Type 0 = λ n. FitSteps n steps in
+    let c = same_clusters view hides.shows (run_steps level steps gs) ms same in
+    let is : clusters ms ≡ joined_steps level steps (clusters gs) = c.clusters_are ∙ holds.clusters_are in
+    record {
+      result = same;
+      same_length = sym (length-map ms view) ∙ ap length same ∙ length-map rs view ∙ holds.same_length;
+      moved_view = seen-same view ms rs same ∙ seen-run_steps view hides level steps gs;
+      falls = all_flags_on (pick (old_places (length gs) steps) gs) rs ms (all_flags_fall (pick (old_places (length gs) steps) gs) rs holds.falls) c.flags_stay;
+      clusters_are = is;
+      in_clusters = subst (ClustersHold level steps (clusters gs)) (sym is) (clusters_hold level steps (clusters gs) (subst P (sym (length-map gs (λ g. g.cluster))) f));
+      unmerged = λ m. same ∙ ap (map view) (holds.unmerged m);
+    }
+
 pub reordered_hold : ReorderedLaw
-reordered_hold level steps gs moves permutes =
+reordered_hold view hides level steps gs ms moves permutes same =
     let fits = merged_fits (length gs) steps moves in
-    let holds = steps_hold level steps gs fits in
+    let holds = seen_steps_hold view hides level steps gs ms fits same in
     let P : ℕ → Type 0 = λ n. AllByRecursion (MovesMerged n) steps in
     record {
-      kept = order_view-permuted level steps gs fits permutes;
+      kept = subst (IsPermutation (seen view gs)) (sym (seen-same view ms (run_steps level steps gs) same)) (seen-permuted view hides level steps gs fits permutes);
       glyphs = holds;
-      in_clusters = λ m. subst (MergedStepsHold level steps (clusters gs)) (sym holds.clusters_are) (merged_steps_hold level steps (clusters gs) m (subst P (sym (length-map gs (λ g. g.cluster))) moves));
+      in_clusters = subst (ClustersReordered level steps (clusters gs)) (sym holds.clusters_are) (clusters_reordered level steps (clusters gs) (subst P (sym (length-map gs (λ g. g.cluster))) moves));
     }
+
+-- the same of the steps' own result, all of whose fields show
+pub reordered_whole : (level : BufferClusterLevel) (steps : List Step) (gs : List hb_glyph_info_t) → AllByRecursion (MovesMerged (length gs)) steps → AllByRecursion (Permutes (length gs)) steps → ReorderedHold whole level steps gs (run_steps level steps gs)
+reordered_whole level steps gs moves permutes = reordered_hold whole whole_hides level steps gs (run_steps level steps gs) moves permutes refl
 
 pub widened_holds : WidenedLaw
 widened_holds level s e steps gs h l f = record {

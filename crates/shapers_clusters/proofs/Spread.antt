@@ -5,8 +5,8 @@ use Rattle.std.proofs.lemmas.Bool.{cases_lt}
 use Rattle.std.proofs.lemmas.Bool.Decides.{nat_tests}
 use Rattle.shapers_base.specs.declared.buffer.level.BufferClusterLevel.{BufferClusterLevel}
 use Rattle.shapers_base.specs.Clusters.{least, merges, stretch_of}
-use Rattle.shapers_clusters.specs.Joined.{opening, flood, joined}
-use Rattle.shapers_clusters.proofs.Joined.{opening-at, flood-is, least-le, least-among}
+use Rattle.shapers_clusters.specs.Joined.{joined}
+use Rattle.shapers_clusters.proofs.Joined.{opening, flood, spreading, joined_is, opening-at, flood-is, least-le, least-among}
 
 -- A merge of s..e: all of low..high gets the least cluster m of s..e, of which `at` is a place, and the rest stays.
 -- low..high reaches as far as the clusters of the stretch's ends do.
@@ -34,7 +34,7 @@ pub record Spread (s e : ℕ) (cs js : List ℕ) : Type 0 where
 first_part : (a b c : List ℕ) (p : ℕ) → p < length a → get_or (a ++ (b ++ c)) p 0 ≡ get_or a p 0
 first_part a b c p h = get_or_append_left a (b ++ c) 0 p h
 
-second_part : (a b c : List ℕ) (p : ℕ) → length a ≤ p → p < length a + length b → get_or (a ++ (b ++ c)) p 0 ≡ get_or b (p - length a) 0
+pub second_part : (a b c : List ℕ) (p : ℕ) → length a ≤ p → p < length a + length b → get_or (a ++ (b ++ c)) p 0 ≡ get_or b (p - length a) 0
 second_part a b c p h l = get_or-append_right a (b ++ c) (length a) p 0 refl h ∙ get_or_append_left b c 0 (p - length a) (omega arith)
 
 third_part : (a b c : List ℕ) (p : ℕ) → length a + length b ≤ p → get_or (a ++ (b ++ c)) p 0 ≡ get_or c (p - (length a + length b)) 0
@@ -108,7 +108,7 @@ right-is c m e cs l =
       edge = λ h q. f.edge (omega arith) (let i : e + f.end - e ≡ f.end = omega arith in ap (λ k. get_or (drop e cs) k 0) (sym i) ∙ behind-at e cs (e + f.end) (omega arith) ∙ q);
     }
 
-map-constant : (m : ℕ) (xs : List ℕ) (p : ℕ) → p < length xs → get_or (map (λ _. m) xs) p 0 ≡ m
+pub map-constant : (m : ℕ) (xs : List ℕ) (p : ℕ) → p < length xs → get_or (map (λ _. m) xs) p 0 ≡ m
 map-constant m [] p h = absurd (omega arith)
 map-constant m (x ∷ xs) zero h = refl
 map-constant m (x ∷ xs) (suc p) h = map-constant m xs p (omega arith)
@@ -118,13 +118,6 @@ stretch-at s e cs k h = get_or-take (e - s) (drop s cs) k 0 h ∙ get_or-drop s 
 
 length-stretch : (s e : ℕ) (cs : List ℕ) → e ≤ length cs → length (stretch_of s e cs) ≡ e - s
 length-stretch s e cs h = omega (arith, length-take (e - s) (drop s cs), length-drop s cs)
-
--- the clusters after one merge of a stretch of some places
-abbrev pub spreading : ℕ → ℕ → List ℕ → List ℕ
-spreading s e cs =
-    let middle = stretch_of s e cs in
-    let m = least middle in
-    reverse (flood (opening middle) m (reverse (take s cs))) ++ (map (λ _. m) middle ++ flood (opening (reverse middle)) m (drop e cs))
 
 spread_from : (m s e : ℕ) (cs middle ls rs : List ℕ) (at : ℕ) → s < e → e ≤ length cs → length middle ≡ e - s → s ≤ at → at < e → get_or cs at 0 ≡ m → ((p : ℕ) → s ≤ p → p < e → m ≤ get_or cs p 0) → Left (get_or cs s 0) m s cs ls → Right (get_or cs (e - 1) 0) m e cs rs → Spread s e cs (ls ++ (map (λ _. m) middle ++ rs))
 spread_from m s e cs middle ls rs at h w n at_from at_to at_is least_is l r =
@@ -183,4 +176,4 @@ two_cases n false P x y here there = here (inl refl)
 -- a merge does nothing, or spreads
 pub joined_cases : (P : List ℕ → Type 0) (level : BufferClusterLevel) (s e : ℕ) (cs : List ℕ) → e ≤ length cs → ((merges level ≡ false) ⊎ (e - s < 2) → P cs) → ((js : List ℕ) → merges level ≡ true → 1 < e - s → Spread s e cs js → P js) → P (joined level s e cs)
 joined_cases P level s e cs w here there =
-    two_cases (e - s) (merges level) P (spreading s e cs) cs here (λ a h. there (spreading s e cs) a h (spread s e cs h w))
+    subst P (sym (joined_is level s e cs)) (two_cases (e - s) (merges level) P (spreading s e cs) cs here (λ a h. there (spreading s e cs) a h (spread s e cs h w)))

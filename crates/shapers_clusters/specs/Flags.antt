@@ -1,7 +1,7 @@
--- What becomes of clusters and glyph flags, glyph by glyph.
-use Rattle.std.proofs.Common.{◌%◌, ◌<◌, ◌≤◌, ◌≡◌, List}
+-- What becomes of clusters and glyph flags, glyph by glyph; views of glyphs.
+use Rattle.std.proofs.Common.{◌%◌, ◌<◌, ◌≤◌, ◌≡◌, List, map}
 use Rattle.shapers_base.specs.declared.buffer.glyph.hb_glyph_info_t.{hb_glyph_info_t}
-use Rattle.shapers_base.specs.Glyph.{clusters, order_view}
+use Rattle.shapers_base.specs.Glyph.{clusters, order_view, plain}
 use Rattle.shapers_base.specs.Clusters.{in_cluster}
 
 -- a glyph falls to another: its cluster is that or a lower one, and if it is lower, the glyph flags are gone
@@ -18,3 +18,21 @@ pub record FlagsFall (old new : hb_glyph_info_t) : Type 0 where
 pub record FlagsAlone (gs ms : List hb_glyph_info_t) : Type 0 where
   pub same_view : order_view ms ≡ order_view gs
   pub same_clusters : clusters ms ≡ clusters gs
+
+-- a view of glyphs that shows their clusters and glyph flags
+pub record ShowsClusters (view : hb_glyph_info_t → hb_glyph_info_t) : Type 0 where
+  pub cluster : (g : hb_glyph_info_t) → (view g).cluster ≡ g.cluster
+  pub flags : (g : hb_glyph_info_t) → (view g).mask % 8 ≡ g.mask % 8
+
+-- besides, what else it shows hangs on neither: it hides some other fields, or none
+pub record HidesFields (view : hb_glyph_info_t → hb_glyph_info_t) : Type 0 where
+  pub shows : ShowsClusters view
+  pub apart : (g : hb_glyph_info_t) → plain (view (plain g)) ≡ plain (view g)
+
+-- the view that hides nothing
+abbrev pub whole : hb_glyph_info_t → hb_glyph_info_t
+whole g = g
+
+-- the order view of what the view shows
+abbrev pub seen : (hb_glyph_info_t → hb_glyph_info_t) → List hb_glyph_info_t → List hb_glyph_info_t
+seen view gs = map (λ g. plain (view g)) gs

@@ -1,24 +1,17 @@
 -- The merge rule over clusters alone.
-use Rattle.std.proofs.Common.{ℕ, ◌-◌, ◌==◌, if◌then◌else◌, nat_lt, not, ◌&&◌, List, [], ◌∷◌, ◌++◌, map, reverse, take, drop}
+use Rattle.std.specs.Prelude.{ℕ, List, [], ◌∷◌, map}
+use Rattle.shapers_base.specs.declared.buffer.glyph.hb_glyph_info_t.{hb_glyph_info_t}
 use Rattle.shapers_base.specs.declared.buffer.level.BufferClusterLevel.{BufferClusterLevel}
-use Rattle.shapers_base.specs.Clusters.{least, merges, stretch_of}
+use Rattle.shapers_base.specs.Glyph.{default_glyph, clusters}
+use Rattle.shapers_base.specs.Clusters.{merge}
 
--- the first of a list of numbers, 0 where there is none
-abbrev pub opening : List ℕ → ℕ
-opening [] = 0
-opening (c ∷ cs) = c
+-- a glyph of which only the cluster counts
+abbrev pub of_cluster : ℕ → hb_glyph_info_t
+of_cluster c = record default_glyph { cluster = c }
 
--- the numbers c that open the list, made m
-abbrev pub flood : ℕ → ℕ → List ℕ → List ℕ
-flood c m [] = []
-flood c m (x ∷ xs) = if x == c then m ∷ flood c m xs else x ∷ xs
-
--- the merge rule over clusters alone
+-- the merge rule over clusters alone: those that glyphs of these clusters get
 abbrev pub joined : BufferClusterLevel → ℕ → ℕ → List ℕ → List ℕ
-joined level s e cs =
-    let middle = stretch_of s e cs in
-    let m = least middle in
-    if merges level && not (nat_lt (e - s) 2) then reverse (flood (opening middle) m (reverse (take s cs))) ++ (map (λ _. m) middle ++ flood (opening (reverse middle)) m (drop e cs)) else cs
+joined level s e cs = clusters (merge level s e (map of_cluster cs))
 
 -- the stretches joined one after another
 abbrev pub joined_all : BufferClusterLevel → List (ℕ × ℕ) → List ℕ → List ℕ

@@ -5,13 +5,13 @@ use Rattle.std.specs.List.{sum_by, All, AllByRecursion, AllZip, Contains}
 use Rattle.shapers_base.specs.declared.buffer.glyph.hb_glyph_info_t.{hb_glyph_info_t}
 use Rattle.shapers_base.specs.declared.buffer.level.BufferClusterLevel.{BufferClusterLevel}
 use Rattle.shapers_base.specs.Glyph.{clusters, order_view}
-use Rattle.shapers_base.specs.Clusters.{merge, merge_all, merges, stretch_of}
+use Rattle.shapers_base.specs.Clusters.{least, low, high, merge, merge_all, merges, stretch_of}
 use Rattle.shapers_base.specs.GlyphFlags.{unsafe_inside, unsafe_to_concat_in, tatweel_inside}
 use Rattle.shapers_clusters.specs.Joined.{joined_all}
 use Rattle.shapers_clusters.specs.Cuts.{EndWithin, ShareCluster, IsMonotone, ExactCuts, ShareNone}
 use Rattle.shapers_clusters.specs.Steps.{pick, Step, run_steps, joined_steps, old_places, FitSteps, MovesMerged, all_first, widened, steps_along, reordered_along, Permutes}
-use Rattle.shapers_clusters.specs.Flags.{FallsTo, FlagsFall, FlagsAlone}
-use Rattle.shapers_clusters.specs.Made.{ShowsClusters, ExactCutsBy, HeldAlong, MovesInsideOf}
+use Rattle.shapers_clusters.specs.Flags.{FallsTo, FlagsFall, FlagsAlone, ShowsClusters, HidesFields, seen}
+use Rattle.shapers_clusters.specs.Made.{ExactCutsBy, HeldAlong, MovesInsideOf}
 use Rattle.shapers_clusters.specs.Labels.{IsLabelled, OneLabel, OneLabelEach}
 
 -- Merges of any stretch at any level leave the order view of the glyphs gs; the three flag calls, whatever the buffer asks for,
@@ -26,14 +26,17 @@ abbrev pub ViewLaw : Type 0
 ViewLaw = (s e : ℕ) (gs : List hb_glyph_info_t) → s ≤ e → ViewStays s e gs
 
 -- What one merge of s..e makes of the glyphs gs: ms. Nothing but clusters and glyph flags changes. No cluster rises, and a
--- glyph keeps its flags unless its cluster fell. Every cluster is one that was there. The places of the stretch share one
--- cluster, and neighbours that shared one still do. Labels that the stretch and the clusters respect are still respected.
+-- glyph keeps its flags unless its cluster fell. Every cluster is one that was there. Before low and from high on the glyphs stay;
+-- all between, which holds the stretch, have its least cluster. Neighbours that shared a cluster still do. Labels that the stretch
+-- and the clusters respect are still respected.
 pub record MergeHolds (level : BufferClusterLevel) (s e : ℕ) (gs ms : List hb_glyph_info_t) : Type 0 where
   pub same_length : length ms ≡ length gs
   pub same_view : order_view ms ≡ order_view gs
   pub falls : AllZip FallsTo gs ms
   pub old_clusters : All (Contains (clusters gs)) (clusters ms)
-  pub stretch : merges level ≡ true → (p q : ℕ) → s ≤ p → p < e → s ≤ q → q < e → slice_index (clusters ms) p ≡ slice_index (clusters ms) q
+  pub before : take (low s e gs) ms ≡ take (low s e gs) gs
+  pub behind : drop (high s e gs) ms ≡ drop (high s e gs) gs
+  pub inside : merges level ≡ true → 1 < e - s → (p : ℕ) → low s e gs ≤ p → p < high s e gs → slice_index (clusters ms) p ≡ least (clusters (stretch_of s e gs))
   pub neighbours : (p q : ℕ) → p < length gs → q < length gs → ShareCluster (clusters gs) p q → ShareCluster (clusters ms) p q
   pub labels : (ls : List ℕ) → IsLabelled (clusters gs) ls → OneLabel ls (s, e) → IsLabelled (clusters ms) ls
   pub unmerged : merges level ≡ false → ms ≡ gs
@@ -64,11 +67,12 @@ abbrev pub PermutedLaw : Type 0
 PermutedLaw = (level : BufferClusterLevel) (steps : List Step) (gs : List hb_glyph_info_t) → FitSteps (length gs) steps → AllByRecursion (Permutes (length gs)) steps → IsPermutation (order_view gs) (order_view (run_steps level steps gs))
 
 -- What any steps make of the clusters cs: js. Every cluster is one that was there. Labels that each stretch respects as it merges
--- are respected in the end.
+-- are respected in the end. Where the level merges nothing, clusters only move.
 pub record ClustersHold (level : BufferClusterLevel) (steps : List Step) (cs js : List ℕ) : Type 0 where
   pub same_length : length js ≡ length cs
   pub old_clusters : All (Contains cs) js
   pub labels : (ls : List ℕ) → IsLabelled cs ls → OneLabelEach steps ls → IsLabelled js (pick (old_places (length cs) steps) ls)
+  pub unmerged : merges level ≡ false → js ≡ pick (old_places (length cs) steps) cs
 
 abbrev pub ClustersLaw : Type 0
 ClustersLaw = (level : BufferClusterLevel) (steps : List Step) (cs : List ℕ) → FitSteps (length cs) steps → ClustersHold level steps cs (joined_steps level steps cs)
@@ -83,15 +87,39 @@ pub record MergedStepsHold (level : BufferClusterLevel) (steps : List Step) (cs 
 abbrev pub MergedStepsLaw : Type 0
 MergedStepsLaw = (level : BufferClusterLevel) (steps : List Step) (cs : List ℕ) → merges level ≡ true → AllByRecursion (MovesMerged (length cs)) steps → MergedStepsHold level steps cs (joined_steps level steps cs)
 
--- What a hook that only reorders promises, by steps that move only inside what they merged first and take each place once: of the
--- glyphs gs no one is lost, and the laws of steps hold.
-pub record ReorderedHold (level : BufferClusterLevel) (steps : List Step) (gs ms : List hb_glyph_info_t) : Type 0 where
-  pub kept : IsPermutation (order_view gs) (order_view ms)
-  pub glyphs : StepsHold level steps gs ms
-  pub in_clusters : merges level ≡ true → MergedStepsHold level steps (clusters gs) (clusters ms)
+-- What steps that move only inside what they merged first make of the clusters, at every level. Of a hook of which only the
+-- clusters are known, this is the law.
+pub record ClustersReordered (level : BufferClusterLevel) (steps : List Step) (cs js : List ℕ) : Type 0 where
+  pub at_all_levels : ClustersHold level steps cs js
+  pub where_merging : merges level ≡ true → MergedStepsHold level steps cs js
+
+abbrev pub ClustersReorderedLaw : Type 0
+ClustersReorderedLaw = (level : BufferClusterLevel) (steps : List Step) (cs : List ℕ) → AllByRecursion (MovesMerged (length cs)) steps → ClustersReordered level steps cs (joined_steps level steps cs)
+
+-- What a hook makes of the glyphs gs that takes steps and besides changes other fields: ms. Through a view that hides these it is
+-- the steps' result; so through it each glyph, followed from its old place, keeps all but cluster and glyph flags. No cluster
+-- rises, and glyph flags stay unless it fell. The clusters are what the steps make of the old ones.
+pub record SeenStepsHold (view : hb_glyph_info_t → hb_glyph_info_t) (level : BufferClusterLevel) (steps : List Step) (gs ms : List hb_glyph_info_t) : Type 0 where
+  pub result : map view ms ≡ map view (run_steps level steps gs)
+  pub same_length : length ms ≡ length gs
+  pub moved_view : seen view ms ≡ pick (old_places (length gs) steps) (seen view gs)
+  pub falls : AllZip FlagsFall (pick (old_places (length gs) steps) gs) ms
+  pub clusters_are : clusters ms ≡ joined_steps level steps (clusters gs)
+  pub in_clusters : ClustersHold level steps (clusters gs) (clusters ms)
+  pub unmerged : merges level ≡ false → map view ms ≡ map view (pick (old_places (length gs) steps) gs)
+
+abbrev pub SeenStepsLaw : Type 0
+SeenStepsLaw = (view : hb_glyph_info_t → hb_glyph_info_t) → HidesFields view → (level : BufferClusterLevel) (steps : List Step) (gs ms : List hb_glyph_info_t) → FitSteps (length gs) steps → map view ms ≡ map view (run_steps level steps gs) → SeenStepsHold view level steps gs ms
+
+-- What a hook that reorders promises, whatever fields it changes that the view hides, by steps that move only inside what they
+-- merged first and take each place once: of the glyphs gs no one is lost, and the laws of steps hold.
+pub record ReorderedHold (view : hb_glyph_info_t → hb_glyph_info_t) (level : BufferClusterLevel) (steps : List Step) (gs ms : List hb_glyph_info_t) : Type 0 where
+  pub kept : IsPermutation (seen view gs) (seen view ms)
+  pub glyphs : SeenStepsHold view level steps gs ms
+  pub in_clusters : ClustersReordered level steps (clusters gs) (clusters ms)
 
 abbrev pub ReorderedLaw : Type 0
-ReorderedLaw = (level : BufferClusterLevel) (steps : List Step) (gs : List hb_glyph_info_t) → AllByRecursion (MovesMerged (length gs)) steps → AllByRecursion (Permutes (length gs)) steps → ReorderedHold level steps gs (run_steps level steps gs)
+ReorderedLaw = (view : hb_glyph_info_t → hb_glyph_info_t) → HidesFields view → (level : BufferClusterLevel) (steps : List Step) (gs ms : List hb_glyph_info_t) → AllByRecursion (MovesMerged (length gs)) steps → AllByRecursion (Permutes (length gs)) steps → map view ms ≡ map view (run_steps level steps gs) → ReorderedHold view level steps gs ms
 
 -- Steps over the stretch s..e are steps over all places: they fit, they move only inside what they merged first, and take each place once, if they did,
 -- and their order view is that of the stretch, reordered, between what stood before and behind it.

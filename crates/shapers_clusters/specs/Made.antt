@@ -1,13 +1,7 @@
 -- Made and dropped glyphs, each with its source.
-use Rattle.std.proofs.Common.{ℕ, ◌-◌, ◌%◌, ◌<◌, ◌≤◌, ◌≡◌, List, length, ◌≢◌, ◌↔◌, min, max, slice_index}
-use Rattle.shapers_base.specs.declared.buffer.glyph.hb_glyph_info_t.{hb_glyph_info_t}
+use Rattle.std.proofs.Common.{ℕ, ◌-◌, ◌<◌, ◌≤◌, ◌≡◌, List, length, ◌≢◌, ◌↔◌, min, max, slice_index}
 use Rattle.shapers_clusters.specs.Cuts.{SameBlock}
 use Rattle.shapers_clusters.specs.Steps.{HeldBetween}
-
--- a view of glyphs that shows their clusters and glyph flags
-pub record ShowsClusters (view : hb_glyph_info_t → hb_glyph_info_t) : Type 0 where
-  pub cluster : (g : hb_glyph_info_t) → (view g).cluster ≡ g.cluster
-  pub flags : (g : hb_glyph_info_t) → (view g).mask % 8 ≡ g.mask % 8
 
 -- Exact cuts seen through sources: the clusters change exactly where the sources change from one block to another,
 -- and each place has the least old cluster of its source's block.

@@ -2,7 +2,7 @@
 //! contract of a function without a body.
 #![tactic(auto)]
 
-ghost use Rattle.shapers_clusters.specs.Laws.{ViewLaw, MergeLaw, ExactCutsLaw, StepsLaw, PermutedLaw, ClustersLaw, MergedStepsLaw, ReorderedLaw, WidenedLaw, AlongLaw, HalvesLaw, MadeLaw, MovedSourcesLaw};
+ghost use Rattle.shapers_clusters.specs.Laws.{ViewLaw, MergeLaw, ExactCutsLaw, StepsLaw, PermutedLaw, ClustersLaw, MergedStepsLaw, ClustersReorderedLaw, SeenStepsLaw, ReorderedLaw, WidenedLaw, AlongLaw, HalvesLaw, MadeLaw, MovedSourcesLaw};
 
 /// Merges leave the order view; the three flag calls change nothing but glyph flags.
 pub fn view_law()
@@ -40,7 +40,18 @@ pub fn merged_steps_law()
     ensures { MergedStepsLaw }
 {}
 
-/// What a hook that only reorders promises: no glyph is lost, flags, exact cuts and the cluster law.
+/// What a hook that reorders makes of the clusters: none is new, labels, exact cuts and the cluster law.
+pub fn clusters_reordered_law()
+    ensures { ClustersReorderedLaw }
+{}
+
+/// The laws of steps through a view that hides what else a hook changes.
+pub fn seen_steps_law()
+    ensures { SeenStepsLaw }
+{}
+
+/// What a hook that reorders promises, whatever else it changes: no glyph is lost, flags, clusters, exact
+/// cuts and the cluster law.
 pub fn reordered_law()
     ensures { ReorderedLaw }
 {}

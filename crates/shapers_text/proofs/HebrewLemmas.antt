@@ -9,10 +9,11 @@ use Rattle.shapers_base.specs.declared.buffer.glyph.hb_glyph_info_t.{hb_glyph_in
 use Rattle.shapers_base.specs.Clusters.{stretch_of}
 use Rattle.std.specs.Option.{option_map_or}
 use Rattle.shapers_base.specs.declared.buffer.level.BufferClusterLevel.{BufferClusterLevel}
+use Rattle.shapers_clusters.specs.Flags.{whole}
 use Rattle.shapers_clusters.specs.Laws.{ReorderedHold}
 use Rattle.shapers_clusters.specs.Steps.{Permutes, MovesMerged, run_step}
 use Rattle.shapers_clusters.proofs.Permuted.{still_permutes, swap_permutes}
-use Rattle.shapers_clusters.proofs.Proved.{reordered_hold}
+use Rattle.shapers_clusters.proofs.Proved.{reordered_whole}
 use Rattle.shapers_clusters.proofs.Swaps.{still_moves_merged, swap_moves_merged, run-still_step, order_view-swap_step}
 use Rattle.shapers_text.specs.Hebrew.{mark_step, step_at, marks_swapped, opens_triple, triple_place, second_of_triple}
 
@@ -135,8 +136,8 @@ marks_view level start end gs within =
     marks_view_at level gs (second_of_triple start end gs) within ∙ ap (λ o. option_map_or (λ i. swap (order_view gs) i (i + 1)) o (order_view gs)) (sym (second_plain start end gs))
 
 -- what the step leaves, by the laws
-pub mark_laws : (level : BufferClusterLevel) (start end : ℕ) (gs : List hb_glyph_info_t) → IfSome (second_of_triple start end gs) (λ i. i + 1 < length gs) → ReorderedHold level (mark_step start end gs ∷ []) gs (run_step level (mark_step start end gs) gs)
-mark_laws level start end gs within = reordered_hold level (mark_step start end gs ∷ []) gs (mark_moves_merged start end gs within, tt) (mark_permutes start end gs within, tt)
+pub mark_laws : (level : BufferClusterLevel) (start end : ℕ) (gs : List hb_glyph_info_t) → IfSome (second_of_triple start end gs) (λ i. i + 1 < length gs) → ReorderedHold whole level (mark_step start end gs ∷ []) gs (run_step level (mark_step start end gs) gs)
+mark_laws level start end gs within = reordered_whole level (mark_step start end gs ∷ []) gs (mark_moves_merged start end gs within, tt) (mark_permutes start end gs within, tt)
 
 -- the step is the one that the search found
 pub mark_step_is : (level : BufferClusterLevel) (start end : ℕ) (gs : List hb_glyph_info_t) (o : Option ℕ) → o ≡ second_of_triple start end gs → run_step level (step_at (length gs) o) gs ≡ run_step level (mark_step start end gs) gs

@@ -1,6 +1,6 @@
 //! The buffer backwards.
 ghost use Rattle.std.specs.Prelude.{◌≡◌, ◌<◌, ◌≤◌, length, reverse};
-ghost use Rattle.shapers_base.specs.GlyphFlags.{with_stretch};
+ghost use Rattle.shapers_base.specs.Clusters.{with_stretch};
 
 use super::hb_buffer_t;
 

@@ -1,6 +1,6 @@
 //! Syllables in the buffer: longest runs of glyphs of equal syllable bytes.
 ghost use Rattle.std.specs.Prelude.{◌≡◌, ◌==◌, ◌+◌, ◌<◌, ◌≤◌, All, is_ok, OnOk, OnErr, IfErr, IsTrue, length, drop, map};
-ghost use Rattle.shapers_base.specs.GlyphFlags.{with_stretch};
+ghost use Rattle.shapers_base.specs.Clusters.{with_stretch};
 ghost use Rattle.shapers_base.specs.SyllableLaws.{SyllablesAreRuns};
 ghost use Rattle.shapers_base.specs.Syllables.{first_syllable_len, spans_cover, with_spans, with_bytes, span_bytes, has_byte, in_syllable, unknown_syllable};
 ghost use Rattle.shapers_base.specs.declared.buffer.refusal.ShaperError.TheVariants.{SpansDontCover};

@@ -1,6 +1,6 @@
 //! Changes and walks of the glyphs in place, over the slice that the buffer keeps them in.
 ghost use Rattle.std.specs.Prelude.{◌≡◌, ◌<◌, ◌≤◌, List, length, map};
-ghost use Rattle.shapers_base.specs.GlyphFlags.{with_stretch};
+ghost use Rattle.shapers_base.specs.Clusters.{with_stretch};
 
 use super::glyph::hb_glyph_info_t;
 use super::hb_buffer_t;

@@ -3,6 +3,7 @@ use Rattle.std.specs.Prelude.{IfSome, swap}
 use Rattle.shapers_base.specs.Buffer.{Buffer}
 use Rattle.shapers_base.specs.Clusters.{merge}
 use Rattle.shapers_base.specs.Glyph.{order_view}
+use Rattle.shapers_clusters.specs.Flags.{whole}
 use Rattle.shapers_clusters.specs.Laws.{ReorderedHold}
 use Rattle.shapers_clusters.specs.Steps.{run_step}
 use Rattle.shapers_clusters.proofs.Swaps.{run-swap_step, run-still_step}
@@ -32,4 +33,4 @@ returns-in_default c =
     let glyphs_are : b.glyphs ≡ run_step b.level (mark_step c.args.start c.args.end b.glyphs) b.glyphs = sym (run-still_step b.level b.glyphs) ∙ mark_step_is b.level c.args.start c.args.end b.glyphs None found in
     let laws = mark_laws b.level c.args.start c.args.end b.glyphs within in
     let order = marks_view b.level c.args.start c.args.end b.glyphs within in
-    record { step = ap (λ zs. let r : Buffer = record b { glyphs = zs } in r) glyphs_are; order = ap order_view glyphs_are ∙ order; laws = subst (ReorderedHold b.level (mark_step c.args.start c.args.end b.glyphs ∷ []) b.glyphs) (sym glyphs_are) laws }
+    record { step = ap (λ zs. let r : Buffer = record b { glyphs = zs } in r) glyphs_are; order = ap order_view glyphs_are ∙ order; laws = subst (ReorderedHold whole b.level (mark_step c.args.start c.args.end b.glyphs ∷ []) b.glyphs) (sym glyphs_are) laws }

@@ -2,8 +2,9 @@
 use Rattle.std.proofs.Common.{rules, ◌≡◌, ℕ, false, List, [], refl, sym, subst}
 use Rattle.shapers_base.specs.declared.buffer.glyph.hb_glyph_info_t.{hb_glyph_info_t}
 use Rattle.shapers_clusters.specs.Steps.{Step}
+use Rattle.shapers_clusters.specs.Flags.{whole}
 use Rattle.shapers_clusters.specs.Laws.{ReorderedHold}
-use Rattle.shapers_clusters.proofs.Proved.{reordered_hold}
+use Rattle.shapers_clusters.proofs.Proved.{reordered_whole}
 use Rattle.rustybuzz_shapers.specs.Shapers.{moves_marks, marks_steps}
 use Rattle.rustybuzz_shapers.specs.declared.shaper.hb_ot_shaper_t.{hb_ot_shaper_t}
 use Rattle.rustybuzz_shapers.specs.declared.shaper.hb_ot_shaper_t.TheVariants.{Arabic, Hangul, Hebrew, Indic, Khmer, Myanmar, MyanmarZawgyi, Thai, Universal}
@@ -29,5 +30,5 @@ returns-in-Hangul c =
     record {
       answer = sym absent;
       marks = search rules;
-      laws = subst (λ (steps : List Step). ReorderedHold b.level steps gs gs) (sym none) (reordered_hold b.level [] gs tt tt);
+      laws = subst (λ (steps : List Step). ReorderedHold whole b.level steps gs gs) (sym none) (reordered_whole b.level [] gs tt tt);
     }
