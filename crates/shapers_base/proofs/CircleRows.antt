@@ -22,12 +22,12 @@ shown gs = map (λ g. let row : ℕ × ℕ × ℕ × ℕ = (g.cluster, g.categor
 abbrev circled_text : ℕ → Option ℕ → Option ℕ → Buffer → List hb_glyph_info_t
 circled_text k repha place b = circled (circles_for (Some (record { 0 = 7 })) k 11 repha place b) b.glyphs
 
--- sixteen syllables of one glyph, the first and the last one broken: as the serial wraps, their bytes are equal, and one circle opens
+-- sixteen syllables of one glyph, the first and the last one broken: as the serial wraps, their bytes are equal, and two circles open
 abbrev sixteen : List hb_glyph_info_t
 sixteen = map (λ byte. glyph 0 1 byte) (0x14 ∷ 0x20 ∷ 0x30 ∷ 0x40 ∷ 0x50 ∷ 0x60 ∷ 0x70 ∷ 0x80 ∷ 0x90 ∷ 0xA0 ∷ 0xB0 ∷ 0xC0 ∷ 0xD0 ∷ 0xE0 ∷ 0xF0 ∷ 0x14 ∷ [])
 
-one_circle : length (circled_text 4 None None (broken_text sixteen)) ≡ 17
-one_circle = refl
+two_circles : length (circled_text 4 None None (broken_text sixteen)) ≡ 18
+two_circles = refl
 
 -- a repha stays in front of the circle, which takes cluster, mask and syllable byte of the first glyph
 repha_in_front : shown (circled_text 4 (Some 14) (Some 14) (broken_text (glyph 0 14 0x14 ∷ glyph 1 1 0x14 ∷ []))) ≡ (0, 14, 0, 0x14) ∷ (0, 11, 14, 0x14) ∷ (1, 1, 0, 0x14) ∷ []
@@ -41,12 +41,12 @@ no_repha = refl
 rephas_alone : shown (circled_text 4 (Some 14) None (broken_text (glyph 0 14 0x14 ∷ glyph 1 14 0x20 ∷ []))) ≡ (0, 14, 0, 0x14) ∷ (0, 11, 0, 0x14) ∷ (1, 14, 0, 0x20) ∷ []
 rephas_alone = refl
 
--- a syllable of another kind between two broken ones of equal bytes doesn't count, one of another byte does
-by_last_broken : map (λ g. g.category) (circled_text 4 None None (broken_text (map (λ byte. glyph 0 1 byte) (0x14 ∷ 0x20 ∷ 0x14 ∷ 0x24 ∷ 0x14 ∷ [])))) ≡ 11 ∷ 1 ∷ 1 ∷ 1 ∷ 11 ∷ 1 ∷ 11 ∷ 1 ∷ []
-by_last_broken = refl
+-- each broken syllable opens one, whatever the bytes of those before it
+each_opens_one : map (λ g. g.category) (circled_text 4 None None (broken_text (map (λ byte. glyph 0 1 byte) (0x14 ∷ 0x20 ∷ 0x14 ∷ 0x24 ∷ 0x14 ∷ [])))) ≡ 11 ∷ 1 ∷ 1 ∷ 11 ∷ 1 ∷ 11 ∷ 1 ∷ 11 ∷ 1 ∷ []
+each_opens_one = refl
 
--- the first broken syllable opens no circle where its byte is 0
-byte_zero : map (λ g. g.category) (circled_text 0 None None (broken_text (map (λ byte. glyph 0 1 byte) (0 ∷ 0x10 ∷ [])))) ≡ 1 ∷ 11 ∷ 1 ∷ []
+-- byte 0 is of kind 0
+byte_zero : map (λ g. g.category) (circled_text 0 None None (broken_text (map (λ byte. glyph 0 1 byte) (0 ∷ 0x10 ∷ [])))) ≡ 11 ∷ 1 ∷ 11 ∷ 1 ∷ []
 byte_zero = refl
 
 -- no circle where no syllable is broken, where the caller forbids circles and where the font has none

@@ -1,6 +1,5 @@
-pub mod CircleLemmas
+pub mod CircleLaws
 pub mod ClusterLemmas
-pub mod Overwriting
 pub mod MapLemmas
 mod CircleRows
 mod MapRows

@@ -1,9 +1,9 @@
 pub mod Buffer
 pub mod Category
 pub mod CircleLaws
-pub mod CircleWalk
 pub mod Circles
 pub mod Clusters
+pub mod FirstBroken
 pub mod Glyph
 pub mod GlyphFlags
 pub mod ListLaws

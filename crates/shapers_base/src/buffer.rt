@@ -17,6 +17,7 @@ mod level;
 mod merging;
 pub mod modified_combining_class;
 mod refusal;
+mod replacing;
 mod reversing;
 mod syllables;
 mod tag;

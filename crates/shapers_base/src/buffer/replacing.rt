@@ -1,0 +1,24 @@
+//! Other glyphs for the buffer's.
+ghost use Rattle.std.specs.Prelude.{◌≡◌, [], length, OnOk, OnErr};
+ghost use Rattle.shapers_base.specs.Refusals.{RefusesLength};
+
+use super::glyph::hb_glyph_info_t;
+use super::hb_buffer_t;
+use super::refusal::ShaperError;
+
+impl hb_buffer_t {
+    /// Puts these glyphs in the place of the buffer's, which has no positions. Refuses by their
+    /// number, whatever the buffer held.
+    pub fn replace_glyphs(&mut self, glyphs: Vec<hb_glyph_info_t>) -> Result<(), ShaperError>
+        requires { self.old.positions ≡ [] }
+        ensures ok { OnOk result (self.new ≡ record self.old { glyphs = glyphs.items }) }
+        ensures length { RefusesLength self.old.max_len (length glyphs.items) result }
+        ensures err { OnErr result (self.new ≡ self.old) }
+    {
+        if glyphs.len() > self.max_len {
+            return Err(ShaperError::TooLong);
+        }
+        self.info = glyphs;
+        Ok(())
+    }
+}
