@@ -5,4 +5,5 @@ mod CircleRows
 mod MapRows
 mod Rows
 pub mod SyllabicLemmas
+mod SyllabicRows
 pub mod SyllableLemmas
