@@ -15,8 +15,8 @@ use Rattle.shapers_base.specs.Clusters.{stretch_of}
 use Rattle.shapers_base.specs.Circles.{is_of_kind, rephas_len, circle_in, with_circle, with_circles, circled_syllable, count_of_kind}
 use Rattle.shapers_base.specs.CircleLaws.{unmarked, marked, no_marks, marks_in, circle_marks, circles_of, CirclesCanBeErased, CirclesKeepClusters}
 use Rattle.shapers_base.specs.FirstBroken.{IsFirstBroken, is_of_other_kind}
-use Rattle.shapers_base.specs.MappedLists.{Contains-map}
-use Rattle.shapers_base.specs.SyllableLaws.{syllables_are_runs}
+use Rattle.shapers_base.proofs.MappedLists.{Contains-map}
+use Rattle.shapers_base.proofs.SyllableLaws.{syllables_are_runs}
 
 abbrev Pieces : Type 0
 Pieces = List (List hb_glyph_info_t)

@@ -1,9 +1,13 @@
 pub mod CircleLaws
-pub mod ClusterLemmas
-pub mod MapLemmas
 mod CircleRows
+pub mod ClusterLemmas
+pub mod ListLaws
+pub mod MapLemmas
 mod MapRows
+pub mod MappedLists
+pub mod PieceLaws
 mod Rows
 pub mod SyllabicLemmas
 mod SyllabicRows
+pub mod SyllableLaws
 pub mod SyllableLemmas

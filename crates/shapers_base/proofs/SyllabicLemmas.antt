@@ -7,7 +7,8 @@ use Rattle.shapers_base.specs.Clusters.{least}
 use Rattle.shapers_base.specs.Glyph.{clusters}
 use Rattle.shapers_base.specs.GlyphFlags.{flagged, unsafe_inside, with_bits_off}
 use Rattle.shapers_base.specs.Syllables.{syllables, first_syllable_len}
-use Rattle.shapers_base.specs.SyllableLaws.{OpensWithSyllable, syllables_are_runs}
+use Rattle.shapers_base.specs.SyllableLaws.{OpensWithSyllable}
+use Rattle.shapers_base.proofs.SyllableLaws.{syllables_are_runs}
 
 -- a text that isn't empty opens with its first syllable
 pub opens_with_syllable : (gs : List hb_glyph_info_t) → 0 < length gs → OpensWithSyllable gs

@@ -6,11 +6,8 @@ pub mod Clusters
 pub mod FirstBroken
 pub mod Glyph
 pub mod GlyphFlags
-pub mod ListLaws
 pub mod Lists
 pub mod Map
-pub mod MappedLists
-pub mod PieceLaws
 pub mod Planner
 pub mod Refusals
 pub mod Syllabic

@@ -5,8 +5,8 @@ use Rattle.std.proofs.lemmas.List.{map-append, append_assoc, append-nil, reverse
 use Rattle.std.proofs.lemmas.List.Concat.{flat_map-append}
 use Rattle.std.proofs.lemmas.Grind.{reverse_onto}
 use Rattle.shapers_base.specs.Lists.{cut_after, opened_back, opened_pieces}
-use Rattle.shapers_base.specs.ListLaws.{last_pass, last_of, cut_after-append, cut_after_none, none_pushed, none_before_push}
-use Rattle.shapers_base.specs.MappedLists.{map-reverse, cut_after-map}
+use Rattle.shapers_base.proofs.ListLaws.{last_pass, last_of, cut_after-append, cut_after_none, none_pushed, none_before_push}
+use Rattle.shapers_base.proofs.MappedLists.{map-reverse, cut_after-map}
 
 -- a piece, by its last
 opened_push : {X : Type 0} (test : X → Bool) (rule : List X → X → List X) (xs : List X) (x : X) → opened_back test rule (reverse (xs ++ x ∷ [])) ≡ cond (test x) (rule xs x) (xs ++ x ∷ [])
