@@ -7,10 +7,10 @@ use Rattle.shapers_base.specs.declared.buffer.glyph.hb_glyph_info_t.{hb_glyph_in
 use Rattle.shapers_base.specs.SyllableLaws.{OpensWithSyllable, SyllablesAreRuns}
 use Rattle.shapers_base.specs.Syllables.{syllables, with_opening, first_syllable_len, has_byte}
 
-with_opening_same : (g h : hb_glyph_info_t) (piece : List hb_glyph_info_t) (pieces : List (List hb_glyph_info_t)) → (h.syllable == g.syllable) ≡ true → with_opening g ((h ∷ piece) ∷ pieces) ≡ (g ∷ (h ∷ piece)) ∷ pieces
+pub with_opening_same : (g h : hb_glyph_info_t) (piece : List hb_glyph_info_t) (pieces : List (List hb_glyph_info_t)) → (h.syllable == g.syllable) ≡ true → with_opening g ((h ∷ piece) ∷ pieces) ≡ (g ∷ (h ∷ piece)) ∷ pieces
 with_opening_same g h piece pieces test = rw test refl
 
-with_opening_other : (g h : hb_glyph_info_t) (piece : List hb_glyph_info_t) (pieces : List (List hb_glyph_info_t)) → (h.syllable == g.syllable) ≡ false → with_opening g ((h ∷ piece) ∷ pieces) ≡ (g ∷ []) ∷ ((h ∷ piece) ∷ pieces)
+pub with_opening_other : (g h : hb_glyph_info_t) (piece : List hb_glyph_info_t) (pieces : List (List hb_glyph_info_t)) → (h.syllable == g.syllable) ≡ false → with_opening g ((h ∷ piece) ∷ pieces) ≡ (g ∷ []) ∷ ((h ∷ piece) ∷ pieces)
 with_opening_other g h piece pieces test = rw test refl
 
 -- one glyph more in front of a text: of its first syllable's byte or of another
