@@ -11,7 +11,7 @@ use Rattle.std.proofs.lemmas.List.Sorted.{All-permutation}
 use Rattle.std.proofs.lemmas.Option.{slice_get-get_or}
 use Rattle.std.proofs.lemmas.Bool.Decides.{nat_tests}
 use Rattle.std.proofs.lemmas.List.{length-replicate}
-use Rattle.shapers_base.specs.Places.{onto_places, without_last_zeros, with_place, place_at, listed, pick, Permutes, PlacesAreWritten}
+use Rattle.shapers_base.specs.Places.{onto_places, without_last_zeros, with_place, place_at, listed, pick, ListsEachOnce, PlacesAreWritten}
 use Rattle.shapers_base.specs.Clusters.{stretch_of}
 
 -- zeros at the end don't count
@@ -111,7 +111,7 @@ range_within s e n h l = let P : ℕ → Type 0 = λ p. p < n in All-from_get_or
     let short : i < e - s = omega (arith, length-range_with_len s (e - s)) in
     omega (arith, get_or-range_with_len s (e - s) i 0 short))
 
-pub listed_within : (s e n : ℕ) (places : List ℕ) → s ≤ e → e ≤ n → Permutes s e places → All (λ p. p < n) (listed s e places)
+pub listed_within : (s e n : ℕ) (places : List ℕ) → s ≤ e → e ≤ n → ListsEachOnce s e places → All (λ p. p < n) (listed s e places)
 listed_within s e n places h l each = let P : ℕ → Type 0 = λ p. p < n in All-permutation P (range_with_len s (e - s)) (listed s e places) each (range_within s e n h l)
 
 -- one more glyph picked

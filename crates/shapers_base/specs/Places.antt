@@ -1,7 +1,7 @@
 -- The placement list: for each place of a syllable that is to be reordered, the place whose glyph comes there.
 use Rattle.std.specs.Prelude.{ℕ, suc, ◌-◌, ◌==◌, ◌≡◌, List, [], ◌∷◌, ◌++◌, map, replicate, slice_index, slice_set, IsPermutation, if◌then◌else◌}
 use Rattle.std.specs.List.{filter_map, range_with_len, slice_get}
-use Rattle.shapers_base.specs.GlyphFlags.{with_stretch}
+use Rattle.shapers_base.specs.Clusters.{with_stretch}
 
 -- the elements at these places, in the order of the places
 abbrev pub pick : {X : Type 0} → List ℕ → List X → List X
@@ -29,8 +29,8 @@ abbrev pub listed : ℕ → ℕ → List ℕ → List ℕ
 listed s e places = map (place_at places) (range_with_len s (e - s))
 
 -- what the list says from s to e is each place from s to e once
-abbrev pub Permutes : ℕ → ℕ → List ℕ → Type 0
-Permutes s e places = IsPermutation (range_with_len s (e - s)) (listed s e places)
+abbrev pub ListsEachOnce : ℕ → ℕ → List ℕ → Type 0
+ListsEachOnce s e places = IsPermutation (range_with_len s (e - s)) (listed s e places)
 
 -- each place from s to e with what stood at the place listed for it
 abbrev pub placed : {X : Type 0} → ℕ → ℕ → List ℕ → List X → List X

@@ -3,7 +3,8 @@ use Rattle.std.proofs.Common.{ℕ, ◌+◌, ◌-◌, ◌≡◌, ◌≤◌, [], �
 use Rattle.std.specs.List.{AllByRecursion}
 use Rattle.shapers_base.specs.declared.buffer.level.BufferClusterLevel.TheVariants.{MonotoneGraphemes, Characters}
 use Rattle.shapers_clusters.specs.Joined.{joined, joined_all}
-use Rattle.shapers_clusters.specs.Steps.{pick, Step, joined_steps, old_places, MovesMerged, widened}
+use Rattle.shapers_base.specs.Places.{pick}
+use Rattle.shapers_clusters.specs.Steps.{Step, joined_steps, old_places, MovesMerged, widened}
 use Rattle.shapers_clusters.proofs.Moves.{moves_anywhere}
 use Rattle.shapers_clusters.proofs.Widened.{moves-widened}
 

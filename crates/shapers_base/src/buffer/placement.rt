@@ -2,9 +2,8 @@
 //! there, and then the syllable is written once. Its room grows with the buffer, so that a
 //! reordering takes no memory.
 ghost use Rattle.std.specs.Prelude.{◌≡◌, ◌<◌, ◌≤◌, All, IsOkUnless, OnOk, length};
-ghost use Rattle.shapers_base.specs.Clusters.{stretch_of};
-ghost use Rattle.shapers_base.specs.GlyphFlags.{with_stretch};
-ghost use Rattle.shapers_base.specs.Places.{Permutes, PlacesAreWritten, pick, place_at, placed, with_place, without_last_zeros};
+ghost use Rattle.shapers_base.specs.Clusters.{stretch_of, with_stretch};
+ghost use Rattle.shapers_base.specs.Places.{ListsEachOnce, PlacesAreWritten, pick, place_at, placed, with_place, without_last_zeros};
 ghost use Rattle.shapers_base.specs.declared.buffer.refusal.ShaperError.TheVariants.{Memory};
 
 use super::glyph::hb_glyph_info_t;
@@ -33,7 +32,7 @@ impl hb_buffer_t {
     pub fn apply(&mut self, start: usize, end: usize)
         requires in_order { start ≤ end }
         requires in_range { end ≤ length self.old.glyphs }
-        requires permutes { Permutes start end self.old.places }
+        requires permutes { ListsEachOnce start end self.old.places }
         ensures { self.new ≡ record self.old { glyphs = placed start end self.old.places self.old.glyphs } }
     {
         reorder(&mut self.info, &self.places, &mut self.spare, start, end);

@@ -2,8 +2,7 @@ use Rattle.std.proofs.Common.{◌≡◌, ◌≤◌, ◌<◌, ◌++◌, ◌∙◌
 use Rattle.std.proofs.lemmas.List.{take_at}
 use Rattle.std.specs.List.{All}
 use Rattle.shapers_base.specs.Buffer.{Buffer}
-use Rattle.shapers_base.specs.Clusters.{stretch_of}
-use Rattle.shapers_base.specs.GlyphFlags.{with_stretch}
+use Rattle.shapers_base.specs.Clusters.{stretch_of, with_stretch}
 use Rattle.shapers_base.specs.Places.{listed, pick, placed}
 use Rattle.shapers_base.specs.contracts.buffer.hb_buffer_t.{the_view}
 use Rattle.shapers_base.specs.declared.buffer.glyph.hb_glyph_info_t.{hb_glyph_info_t}
