@@ -1,3 +1,4 @@
+pub mod Hooks
 pub mod Pauses
-pub mod Shapers
+pub mod Records
 pub mod Standing

@@ -1,14 +1,11 @@
 //! The shapers behind one enum, a method a hook. Where a shaper lacks a hook, its method answers None
 //! and changes nothing.
-ghost use Rattle.std.specs.Prelude.{◌≡◌, ◌≤◌, [], length, false, true, None, Ok, IfOk, IsOk, IsNone, is_some, IsOkUnless, OnOk, OnErr};
-ghost use Rattle.shapers_base.specs.Font.{has_nominal};
+ghost use Rattle.std.specs.Prelude.{◌≡◌, ◌≤◌, [], length, IfOk, IsOk, IsNone, is_some, IsOkUnless, OnOk, OnErr};
 ghost use Rattle.shapers_base.specs.declared.buffer.refusal.ShaperError.TheVariants.{Memory};
-ghost use Rattle.shapers_base.specs.Glyph.{clusters};
-ghost use Rattle.shapers_clusters.specs.Flags.{whole};
-ghost use Rattle.shapers_clusters.specs.Laws.{ReorderedHold};
 ghost use Rattle.shapers_text.specs.Requests.{rclt};
-ghost use Rattle.shapers_text.specs.Thai.{characters};
-ghost use Rattle.rustybuzz_shapers.specs.Shapers.{normalizes, wants_gpos_script, zeroes_marks, places_marks, collected, overridden, asked, if_there, keeps_data, postprocesses, compose_stands, composed_by, decomposes, masks_glyphs, moves_marks, marks_stand, after_marks, marks_steps, preprocess_answer, preprocess_stands, after_preprocess, ClustersPreprocessed, RefusesPreprocess};
+ghost use Rattle.rustybuzz_shapers.specs.Hooks.{CanAsk, Composed, DataCreated, Decomposed, MasksSet, MarksKeep, MarksReordered, Postprocessed, Preprocessed, PreprocessKeeps, preprocess_answer, RefusesPostprocess, RefusesPreprocess};
+ghost use Rattle.rustybuzz_shapers.specs.Records.{asked, collected, if_there, normalizes, overridden, places_marks, wants_gpos_script, zeroes_marks};
+ghost use Rattle.rustybuzz_shapers.specs.Standing.{is_there, standing};
 
 use shapers_base::buffer::{ShaperError, hb_buffer_t, hb_tag_t};
 use shapers_base::font::{Tables, hb_font_t};
@@ -158,21 +155,23 @@ impl hb_ot_shaper_t {
         }
     }
 
-    /// What the shaper keeps in the plan. It isn't built yet for the shapers that keep something.
-    pub fn create_data(self, _plan: &hb_ot_shape_plan_t) -> Option<PlanData>
-        requires unbuilt { keeps_data self ≡ false }
-        ensures { result ≡ None }
+    /// What the shaper keeps in the plan.
+    pub fn create_data(self, plan: &hb_ot_shape_plan_t) -> Option<PlanData>
+        requires { CanAsk self Hook.CreateData }
+        ensures { DataCreated self plan.now result }
     {
         match self {
             Self::Hebrew | Self::Myanmar | Self::MyanmarZawgyi | Self::Thai => None,
-            _ => unreachable!(),
+            Self::Arabic | Self::Hangul | Self::Indic | Self::Khmer | Self::Universal => {
+                unreachable!()
+            }
         }
     }
 
     /// Rewrites a text before its characters become glyphs. Thai puts each SARA AM in two, and then,
     /// where GSUB doesn't have the script Thai, gives marks and bases their private use forms; it
     /// refuses as a growth does. For Indic and the universal shaper the caller runs the vowel
-    /// constraints. For Hangul it isn't built yet.
+    /// constraints.
     pub fn preprocess_text<F: hb_font_t>(
         self,
         plan: &hb_ot_shape_plan_t,
@@ -180,10 +179,10 @@ impl hb_ot_shaper_t {
         buffer: &mut hb_buffer_t,
     ) -> Result<Option<Preprocess>, ShaperError>
         requires without_positions { buffer.old.positions ≡ [] }
-        requires unbuilt { preprocess_stands self ≡ true }
+        requires settled { CanAsk self Hook.PreprocessText }
         ensures answer { IfOk result (λ answer. answer ≡ preprocess_answer self) }
-        ensures ok { OnOk result (buffer.new ≡ after_preprocess self plan.now.script plan.now.ot_map.found (has_nominal (F.font face.now)) buffer.old) }
-        ensures clusters { OnOk result (ClustersPreprocessed self buffer.old.level (characters buffer.old.glyphs) (clusters buffer.old.glyphs) (clusters buffer.new.glyphs)) }
+        ensures ok { OnOk result (Preprocessed self plan.now (F.font face.now) buffer.old buffer.new) }
+        ensures laws { OnOk result (PreprocessKeeps self buffer.old buffer.new) }
         ensures refusal { RefusesPreprocess self buffer.old result }
         ensures err { OnErr result (buffer.new ≡ buffer.old) }
     {
@@ -200,17 +199,19 @@ impl hb_ot_shaper_t {
         }
     }
 
-    /// Rewrites the glyphs after positioning. Only Arabic has it, and there it isn't built yet.
+    /// Rewrites the glyphs after positioning.
     pub fn postprocess_glyphs<F: hb_font_t>(
         self,
-        _plan: &hb_ot_shape_plan_t,
-        _face: &F,
-        _buffer: &mut hb_buffer_t,
+        plan: &hb_ot_shape_plan_t,
+        face: &F,
+        buffer: &mut hb_buffer_t,
     ) -> Result<Option<()>, ShaperError>
-        requires with_positions { length _buffer.old.positions ≡ length _buffer.old.glyphs }
-        requires unbuilt { postprocesses self ≡ false }
-        ensures answer { result ≡ Ok None }
-        ensures unchanged { _buffer.new ≡ _buffer.old }
+        requires with_positions { length buffer.old.positions ≡ length buffer.old.glyphs }
+        requires settled { CanAsk self Hook.PostprocessGlyphs }
+        ensures answer { IfOk result (λ answer. is_some answer ≡ is_there (standing self Hook.PostprocessGlyphs)) }
+        ensures ok { OnOk result (Postprocessed self plan.now (F.font face.now) buffer.old buffer.new) }
+        ensures refusal { RefusesPostprocess self buffer.old result }
+        ensures err { OnErr result (buffer.new ≡ buffer.old) }
     {
         match self {
             Self::Arabic => unreachable!(),
@@ -226,8 +227,7 @@ impl hb_ot_shaper_t {
     }
 
     /// The character that two characters compose to for this shaper: for Hebrew also, where GPOS
-    /// places no marks, the form of a letter and a point. It isn't built yet for Indic, Khmer and the
-    /// universal shaper.
+    /// places no marks, the form of a letter and a point.
     pub fn compose<T: Tables>(
         self,
         plan: &hb_ot_shape_plan_t,
@@ -235,8 +235,8 @@ impl hb_ot_shaper_t {
         a: char,
         b: char,
     ) -> Option<Option<char>>
-        requires unbuilt { compose_stands self ≡ true }
-        ensures { result ≡ composed_by self ((T.tables tables.now).composed a b) plan.now.has_gpos_mark a b }
+        requires { CanAsk self Hook.Compose }
+        ensures { Composed self plan.now (T.tables tables.now) a b result }
     {
         match self {
             Self::Hebrew => Some(ot_shaper_hebrew::compose(plan, tables, a, b)),
@@ -245,44 +245,54 @@ impl hb_ot_shaper_t {
         }
     }
 
-    /// The two characters that a character decomposes to for this shaper. It isn't built yet for the
-    /// shapers that have it.
+    /// The two characters that a character decomposes to for this shaper.
     pub fn decompose<T: Tables>(
         self,
-        _plan: &hb_ot_shape_plan_t,
-        _tables: &T,
-        _ab: char,
+        plan: &hb_ot_shape_plan_t,
+        tables: &T,
+        ab: char,
     ) -> Option<Option<(char, char)>>
-        requires unbuilt { decomposes self ≡ false }
-        ensures { result ≡ None }
+        requires { CanAsk self Hook.Decompose }
+        ensures { Decomposed self plan.now (T.tables tables.now) ab result }
     {
         match self {
             Self::Indic | Self::Khmer => unreachable!(),
-            _ => None,
+            Self::Arabic
+            | Self::Hangul
+            | Self::Hebrew
+            | Self::Myanmar
+            | Self::MyanmarZawgyi
+            | Self::Thai
+            | Self::Universal => None,
         }
     }
 
-    /// Sets the masks of the glyphs. It isn't built yet for the shapers that have it.
+    /// Sets the masks of the glyphs. It can't refuse and takes no memory.
     pub fn setup_masks<F: hb_font_t, T: Tables>(
         self,
-        _plan: &hb_ot_shape_plan_t,
-        _face: &F,
-        _tables: &T,
-        _buffer: &mut hb_buffer_t,
+        plan: &hb_ot_shape_plan_t,
+        face: &F,
+        tables: &T,
+        buffer: &mut hb_buffer_t,
     ) -> Option<()>
-        requires without_positions { _buffer.old.positions ≡ [] }
-        requires unbuilt { masks_glyphs self ≡ false }
-        ensures answer { result ≡ None }
-        ensures unchanged { _buffer.new ≡ _buffer.old }
+        requires without_positions { buffer.old.positions ≡ [] }
+        requires settled { CanAsk self Hook.SetupMasks }
+        ensures answer { is_some result ≡ is_there (standing self Hook.SetupMasks) }
+        ensures masks { MasksSet self plan.now (T.tables tables.now) buffer.old buffer.new }
     {
         match self {
             Self::Hebrew | Self::MyanmarZawgyi | Self::Thai => None,
-            _ => unreachable!(),
+            Self::Arabic
+            | Self::Hangul
+            | Self::Indic
+            | Self::Khmer
+            | Self::Myanmar
+            | Self::Universal => unreachable!(),
         }
     }
 
     /// Reorders the marks from `start` to `end`: for Hebrew, at the first three neighbours of its
-    /// classes, the last two merge and change places. It isn't built yet for Arabic.
+    /// classes, the last two merge and change places. It can't refuse and takes no memory.
     pub fn reorder_marks(
         self,
         plan: &hb_ot_shape_plan_t,
@@ -293,10 +303,10 @@ impl hb_ot_shaper_t {
         requires without_positions { buffer.old.positions ≡ [] }
         requires in_order { start ≤ end }
         requires in_range { end ≤ length buffer.old.glyphs }
-        requires unbuilt { marks_stand self ≡ true }
-        ensures answer { is_some result ≡ moves_marks self }
-        ensures marks { buffer.new ≡ after_marks self start end buffer.old }
-        ensures laws { ReorderedHold whole buffer.old.level (marks_steps self start end buffer.old.glyphs) buffer.old.glyphs buffer.new.glyphs }
+        requires settled { CanAsk self Hook.ReorderMarks }
+        ensures answer { is_some result ≡ is_there (standing self Hook.ReorderMarks) }
+        ensures marks { MarksReordered self start end buffer.old buffer.new }
+        ensures laws { MarksKeep self start end buffer.old buffer.new }
     {
         match self {
             Self::Hebrew => Some(ot_shaper_hebrew::reorder_marks(plan, buffer, start, end)),

@@ -12,12 +12,12 @@ use Rattle.shapers_clusters.specs.Flags.{FlagsAlone}
 use Rattle.shapers_base.proofs.ClusterLemmas.{three_parts}
 
 -- bits below 8 are glyph flags
-without_flags-or : (m bits : ℕ) → bits / 8 ≡ 0 → without_flags (bit_or m bits) ≡ without_flags m
+pub without_flags-or : (m bits : ℕ) → bits / 8 ≡ 0 → without_flags (bit_or m bits) ≡ without_flags m
 without_flags-or m bits low =
     let same : bit_or m bits / 8 ≡ m / 8 = or_shr m bits 3 ∙ ap (bit_or (m / 8)) low ∙ or_zero_r (m / 8) in
     omega (arith, same)
 
-plain-with_bits : (bits : ℕ) (g : hb_glyph_info_t) → bits / 8 ≡ 0 → plain (with_bits bits g) ≡ plain g
+pub plain-with_bits : (bits : ℕ) (g : hb_glyph_info_t) → bits / 8 ≡ 0 → plain (with_bits bits g) ≡ plain g
 plain-with_bits bits g low = ap (λ (m : ℕ). record g { cluster = 0; mask = m }) (without_flags-or g.mask bits low)
 
 -- what is read of glyphs by f, where these mask bits don't show in it

@@ -5,6 +5,7 @@ pub mod ThaiClusters
 pub mod ThaiFormLaws
 pub mod ThaiFormWalks
 pub mod ThaiInTwo
+pub mod ThaiKept
 pub mod ThaiRows
 pub mod ThaiSaraAm
 pub mod ThaiStretches

@@ -8,7 +8,7 @@ use Rattle.shapers_base.specs.Buffer.{Buffer}
 use Rattle.shapers_base.specs.Glyph.{clusters}
 use Rattle.shapers_base.specs.GlyphFlags.{unsafe_inside, unsafe_all}
 use Rattle.shapers_base.specs.Lists.{each_after}
-use Rattle.shapers_clusters.proofs.FlagCalls.{map-unsafe_inside, map-unsafe_all}
+use Rattle.shapers_clusters.proofs.FlagCalls.{map-unsafe_inside, map-unsafe_all, without_flags-or}
 use Rattle.shapers_clusters.proofs.Flagging.{unsafe_nothing, unsafe_longer, unsafe_all-append}
 use Rattle.shapers_text.specs.declared.ot_shaper_thai.forms.Action.{Action}
 use Rattle.shapers_text.specs.declared.ot_shaper_thai.forms.Base.{Base}
@@ -210,17 +210,17 @@ shaping_step has start mid now i base base' g inside s at changed counted =
     (shaping_next has start.glyphs mid.glyphs now.glyphs i base g inside s at (ap (λ (b : Buffer). b.glyphs) changed))
 
 -- the forms change characters and masks alone
-unshaped_forms : (us : List ℕ) (gs : List hb_glyph_info_t) → length us ≡ length gs → map unshaped (with_characters us gs) ≡ map unshaped gs
+pub unshaped_forms : (us : List ℕ) (gs : List hb_glyph_info_t) → length us ≡ length gs → map unshaped (with_characters us gs) ≡ map unshaped gs
 unshaped_forms [] [] same = refl
 unshaped_forms [] (g ∷ gs) same = absurd (omega arith)
 unshaped_forms (u ∷ us) [] same = absurd (omega arith)
 unshaped_forms (u ∷ us) (g ∷ gs) same = ap (λ xs. unshaped g ∷ xs) (unshaped_forms us gs (omega arith))
 
-unshaped-pua : (has : ℕ → Bool) (gs : List hb_glyph_info_t) → map unshaped (pua_shaped has gs) ≡ map unshaped gs
+pub unshaped-pua : (has : ℕ → Bool) (gs : List hb_glyph_info_t) → map unshaped (pua_shaped has gs) ≡ map unshaped gs
 unshaped-pua has gs =
     let flags = unsafe_all (mark_stretches (characters gs)) gs in
     unshaped_forms (forms_between has [] (characters flags) []) flags (length-forms has [] (characters flags) [] ∙ length-map flags (λ g. g.glyph_id))
-    ∙ map-unsafe_all unshaped (λ g. refl) (mark_stretches (characters gs)) gs (in_order (each_after [] (characters gs)))
+    ∙ map-unsafe_all unshaped (λ g. ap (λ (m : ℕ). let r : hb_glyph_info_t = record g { glyph_id = 0; mask = m } in r) (without_flags-or g.mask 3 refl)) (mark_stretches (characters gs)) gs (in_order (each_after [] (characters gs)))
 
 pub forms_hold : FormsLaw
 forms_hold has level gs = record {

@@ -3,10 +3,13 @@ use Rattle.std.specs.Prelude.{ℕ, ◌-◌, Bool, ◌||◌, ◌&&◌, ◌==◌, 
 use Rattle.std.specs.List.{list_any, suffix_len}
 use Rattle.shapers_base.specs.declared.buffer.glyph.hb_glyph_info_t.{hb_glyph_info_t}
 use Rattle.shapers_base.specs.declared.buffer.level.BufferClusterLevel.{BufferClusterLevel}
+use Rattle.shapers_base.specs.declared.plan.hb_ot_shape_plan_t.{hb_ot_shape_plan_t}
+use Rattle.shapers_base.specs.Buffer.{Buffer}
+use Rattle.shapers_base.specs.Font.{Font, has_nominal}
 use Rattle.shapers_base.specs.Clusters.{merge_all}
 use Rattle.shapers_base.specs.GlyphFlags.{unsafe_all}
 use Rattle.shapers_base.specs.Lists.{last_run, before_last_run, each_after}
-use Rattle.shapers_text.specs.Thai.{characters, rewritten, sara_am_stretches}
+use Rattle.shapers_text.specs.Thai.{characters, rewritten, sara_am_stretches, wants_forms}
 use Rattle.shapers_text.specs.declared.ot_shaper_thai.forms.Consonant.{Consonant}
 use Rattle.shapers_text.specs.declared.ot_shaper_thai.forms.Consonant.TheVariants.{NC, AC, RC, DC, NotConsonant}
 use Rattle.shapers_text.specs.declared.ot_shaper_thai.forms.Mark.{Mark}
@@ -188,3 +191,11 @@ abbrev pub preprocessed : Bool → (ℕ → Bool) → BufferClusterLevel → Lis
 preprocessed forms has level gs =
     let text = rewritten (merge_all level (sara_am_stretches level (characters gs)) gs) in
     if forms then pua_shaped has text else text
+
+-- whether a plan asks for the forms: its script is Thai, and GSUB doesn't have it
+abbrev pub asks_for_forms : hb_ot_shape_plan_t → Bool
+asks_for_forms plan = wants_forms plan.script plan.ot_map.found
+
+-- the whole hook on a buffer
+abbrev pub preprocessed_in_thai : hb_ot_shape_plan_t → Font → Buffer → Buffer
+preprocessed_in_thai plan font b = record b { glyphs = preprocessed (asks_for_forms plan) (has_nominal font) b.level b.glyphs }

@@ -6,7 +6,7 @@ use Rattle.shapers_base.specs.declared.buffer.glyph.hb_glyph_info_t.{hb_glyph_in
 use Rattle.shapers_base.specs.declared.buffer.level.BufferClusterLevel.{BufferClusterLevel}
 use Rattle.shapers_base.specs.declared.buffer.category.hb_unicode_general_category_t.TheVariants.{Cc}
 use Rattle.shapers_base.specs.Lists.{before_last_run}
-use Rattle.shapers_base.specs.Glyph.{clusters}
+use Rattle.shapers_base.specs.Glyph.{clusters, plain, without_flags}
 use Rattle.shapers_base.specs.Clusters.{merge_all, merges}
 use Rattle.shapers_clusters.specs.Cuts.{ShareCluster}
 use Rattle.shapers_base.specs.Places.{pick}
@@ -44,12 +44,22 @@ InTwoLaw = (level : BufferClusterLevel) (gs : List hb_glyph_info_t) → InTwoHol
 
 -- a glyph without what the private use forms change
 abbrev pub unshaped : hb_glyph_info_t → hb_glyph_info_t
-unshaped g = record g { glyph_id = 0; mask = 0 }
+unshaped g = record g { glyph_id = 0; mask = without_flags g.mask }
 
--- The forms change characters and masks alone; so clusters are those of the rewriting.
+-- The forms change characters and glyph flags alone; so clusters are those of the rewriting.
 pub record FormsHold (plain shaped : List hb_glyph_info_t) : Type 0 where
   pub rest_stays : map unshaped shaped ≡ map unshaped plain
   pub clusters_stay : clusters shaped ≡ clusters plain
 
 abbrev pub FormsLaw : Type 0
 FormsLaw = (has : ℕ → Bool) (level : BufferClusterLevel) (gs : List hb_glyph_info_t) → FormsHold (preprocessed false has level gs) (preprocessed true has level gs)
+
+-- the order view, and without the characters, which the forms change
+abbrev pub kept_view : Bool → hb_glyph_info_t → hb_glyph_info_t
+kept_view false g = plain g
+kept_view true g = record (plain g) { glyph_id = 0 }
+
+-- No glyph is lost, and none made but the two parts of each SARA AM: the order view is the old one with each SARA AM taken in two,
+-- in some order; where the private use forms follow, but for the characters.
+abbrev pub KeptInTwo : Bool → List hb_glyph_info_t → List hb_glyph_info_t → Type 0
+KeptInTwo forms gs rs = IsPermutation (map (kept_view forms) (flat_map (in_parts glyphs_in_two) gs)) (map (kept_view forms) rs)

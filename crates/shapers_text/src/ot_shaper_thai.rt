@@ -2,12 +2,11 @@
 //! forms.
 ghost use Rattle.std.specs.Prelude.{◌≡◌, ℕ, [], length, false, is_some, IsOk, OnOk, OnErr};
 ghost use Rattle.std.specs.List.{list_any};
-ghost use Rattle.shapers_base.specs.Font.{has_nominal};
 ghost use Rattle.shapers_base.specs.Glyph.{clusters};
 ghost use Rattle.shapers_base.specs.Refusals.{RefusesLength};
-ghost use Rattle.shapers_text.specs.Thai.{is_sara_am, characters, rewritten, is_thai, wants_forms};
-ghost use Rattle.shapers_text.specs.ThaiForms.{preprocessed};
-ghost use Rattle.shapers_text.specs.ThaiLaws.{ClustersInTwo, InTwoLaw, FormsLaw};
+ghost use Rattle.shapers_text.specs.Thai.{is_sara_am, characters, rewritten, is_thai};
+ghost use Rattle.shapers_text.specs.ThaiForms.{asks_for_forms, preprocessed_in_thai};
+ghost use Rattle.shapers_text.specs.ThaiLaws.{ClustersInTwo, KeptInTwo, InTwoLaw, FormsLaw};
 
 use shapers_base::buffer::{Script, ShaperError, hb_buffer_t};
 use shapers_base::font::hb_font_t;
@@ -34,8 +33,10 @@ pub fn preprocess_text<F: hb_font_t>(
     buffer: &mut hb_buffer_t,
 ) -> Result<(), ShaperError>
     requires { buffer.old.positions ≡ [] }
-    ensures ok { OnOk result (buffer.new ≡ record buffer.old { glyphs = preprocessed (wants_forms plan.now.script plan.now.ot_map.found) (has_nominal (F.font face.now)) buffer.old.level buffer.old.glyphs }) }
-    ensures clusters { OnOk result (ClustersInTwo buffer.old.level (characters buffer.old.glyphs) (clusters buffer.old.glyphs) (clusters buffer.new.glyphs)) }
+    ensures ok { OnOk result (buffer.new ≡ preprocessed_in_thai plan.now (F.font face.now) buffer.old) }
+    ensures clusters { OnOk result (let us = characters buffer.old.glyphs in
+        ClustersInTwo buffer.old.level us (clusters buffer.old.glyphs) (clusters buffer.new.glyphs)) }
+    ensures kept { OnOk result (KeptInTwo (asks_for_forms plan.now) buffer.old.glyphs buffer.new.glyphs) }
     ensures length { RefusesLength buffer.old.max_len (length (rewritten buffer.old.glyphs)) result }
     ensures err { OnErr result (buffer.new ≡ buffer.old) }
     ensures without { list_any (λ g. is_sara_am g.glyph_id) buffer.old.glyphs ≡ false → IsOk result }
@@ -49,7 +50,7 @@ pub fn preprocess_text<F: hb_font_t>(
 
 // Whether the plan asks for private use forms.
 fn wants_forms(plan: &hb_ot_shape_plan_t) -> bool
-    ensures { result ≡ wants_forms plan.now.script plan.now.ot_map.found }
+    ensures { result ≡ asks_for_forms plan.now }
 {
     is_thai(plan.script) && !plan.ot_map.found_script(TableIndex::GSUB)
 }

@@ -1,8 +1,10 @@
--- The laws of clusters, from the two equations.
+-- The laws of clusters, and that no glyph is lost, from the two equations.
 use Rattle.std.proofs.Common.{ap}
 use Rattle.shapers_base.specs.Font.{has_nominal}
 use Rattle.shapers_base.specs.Buffer.{Buffer}
 use Rattle.shapers_text.proofs.ThaiClusters.{plain_in_two, shaped_in_two}
+use Rattle.shapers_text.specs.ThaiForms.{asks_for_forms}
+use Rattle.shapers_text.proofs.ThaiKept.{plain_kept, shaped_kept}
 use Rattle.shapers_text.proofs.ot_shaper_thai.preprocess_text.Goals as goal
 
 pub returns-then-wants_forms-clause-clusters : goal.returns-then-wants_forms-clause-clusters
@@ -14,3 +16,13 @@ pub returns-else-wants_forms-clause-clusters : goal.returns-else-wants_forms-cla
 returns-else-wants_forms-clause-clusters g c =
     let b = c.args.buffer.now in
     plain_in_two b.level b.glyphs _ (ap (λ (x : Buffer). x.glyphs) c.in_ok-rewrite_sara_am.ensures.ok)
+
+pub returns-then-wants_forms-clause-kept : goal.returns-then-wants_forms-clause-kept
+returns-then-wants_forms-clause-kept g c =
+    let b = c.args.buffer.now in
+    shaped_kept (asks_for_forms c.args.plan.now) c.if-wants_forms.ensures (has_nominal (g.F.hb_font_t.font c.args.face.now)) b.level b.glyphs _ _ (ap (λ (x : Buffer). x.glyphs) c.in_ok-rewrite_sara_am.ensures.ok) (ap (λ (x : Buffer). x.glyphs) c.do_pua_shaping.ensures)
+
+pub returns-else-wants_forms-clause-kept : goal.returns-else-wants_forms-clause-kept
+returns-else-wants_forms-clause-kept g c =
+    let b = c.args.buffer.now in
+    plain_kept (asks_for_forms c.args.plan.now) c.if-wants_forms.ensures b.level b.glyphs _ (ap (λ (x : Buffer). x.glyphs) c.in_ok-rewrite_sara_am.ensures.ok)

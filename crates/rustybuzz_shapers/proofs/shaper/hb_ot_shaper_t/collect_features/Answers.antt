@@ -1,5 +1,5 @@
 use Rattle.std.proofs.Common.{ap, sym, ◌∙◌}
-use Rattle.rustybuzz_shapers.specs.Shapers.{asked, collected}
+use Rattle.rustybuzz_shapers.specs.Records.{asked, collected}
 use Rattle.shapers_text.specs.Requests.{rclt}
 use Rattle.rustybuzz_shapers.proofs.shaper.hb_ot_shaper_t.collect_features.Goals as goal
 

@@ -1,0 +1,175 @@
+-- What each hook does, shaper by shaper. Where a shaper lacks a hook, nothing changes and the answer is None.
+use Rattle.std.specs.Prelude.{ℕ, Bool, true, false, List, [], ◌∷◌, ◌≡◌, length, Option, None, Some, Result, IsOk}
+use Rattle.std.specs.List.{list_any}
+use Rattle.shapers_base.specs.Buffer.{Buffer}
+use Rattle.shapers_base.specs.Font.{CharacterTables, Font, has_nominal}
+use Rattle.shapers_base.specs.Glyph.{clusters}
+use Rattle.shapers_base.specs.Refusals.{RefusesLength}
+use Rattle.shapers_base.specs.declared.buffer.refusal.ShaperError.{ShaperError}
+use Rattle.shapers_base.specs.declared.plan.hb_ot_shape_plan_t.{hb_ot_shape_plan_t}
+use Rattle.shapers_base.specs.declared.plan.PlanData.{PlanData}
+use Rattle.shapers_base.specs.declared.plan.Preprocess.{Preprocess}
+use Rattle.shapers_base.specs.declared.plan.Preprocess.TheVariants.{Done, CallerRunsVowelConstraints}
+use Rattle.shapers_clusters.specs.Flags.{whole}
+use Rattle.shapers_clusters.specs.Laws.{ReorderedHold}
+use Rattle.shapers_clusters.specs.Steps.{run_step}
+use Rattle.shapers_text.specs.Hebrew.{composed_in_hebrew, mark_step}
+use Rattle.shapers_text.specs.Thai.{characters, is_sara_am, rewritten, wants_forms}
+use Rattle.shapers_text.specs.ThaiForms.{preprocessed}
+use Rattle.shapers_text.specs.ThaiLaws.{ClustersInTwo, KeptInTwo}
+use Rattle.rustybuzz_shapers.specs.Standing.{is_settled, standing}
+use Rattle.rustybuzz_shapers.specs.declared.shaper.hb_ot_shaper_t.{hb_ot_shaper_t}
+use Rattle.rustybuzz_shapers.specs.declared.shaper.hb_ot_shaper_t.TheVariants.{Arabic, Hangul, Hebrew, Indic, Khmer, Myanmar, MyanmarZawgyi, Thai, Universal}
+use Rattle.rustybuzz_shapers.specs.declared.shaper.standing.Hook.{Hook}
+
+-- whether the hook may be asked: it is there, or lacks and says so
+abbrev pub CanAsk : hb_ot_shaper_t → Hook → Type 0
+CanAsk shaper hook = is_settled (standing shaper hook) ≡ true
+
+-- of a hook that isn't built nothing can be said, since it can't be asked
+abbrev pub Unbuilt : Type 0
+Unbuilt = ⊥
+
+-- what the shaper keeps in the plan
+abbrev pub DataCreated : hb_ot_shaper_t → hb_ot_shape_plan_t → Option PlanData → Type 0
+DataCreated Arabic plan answer = Unbuilt
+DataCreated Hangul plan answer = Unbuilt
+DataCreated Hebrew plan answer = answer ≡ None
+DataCreated Indic plan answer = Unbuilt
+DataCreated Khmer plan answer = Unbuilt
+DataCreated Myanmar plan answer = answer ≡ None
+DataCreated MyanmarZawgyi plan answer = answer ≡ None
+DataCreated Thai plan answer = answer ≡ None
+DataCreated Universal plan answer = Unbuilt
+
+-- what preprocessing answers
+abbrev pub preprocess_answer : hb_ot_shaper_t → Option Preprocess
+preprocess_answer Arabic = None
+preprocess_answer Hangul = Some Done
+preprocess_answer Hebrew = None
+preprocess_answer Indic = Some CallerRunsVowelConstraints
+preprocess_answer Khmer = None
+preprocess_answer Myanmar = None
+preprocess_answer MyanmarZawgyi = None
+preprocess_answer Thai = Some Done
+preprocess_answer Universal = Some CallerRunsVowelConstraints
+
+-- the buffer before and after preprocessing
+abbrev pub Preprocessed : hb_ot_shaper_t → hb_ot_shape_plan_t → Font → Buffer → Buffer → Type 0
+Preprocessed Arabic plan font old new = new ≡ old
+Preprocessed Hangul plan font old new = Unbuilt
+Preprocessed Hebrew plan font old new = new ≡ old
+Preprocessed Indic plan font old new = new ≡ old
+Preprocessed Khmer plan font old new = new ≡ old
+Preprocessed Myanmar plan font old new = new ≡ old
+Preprocessed MyanmarZawgyi plan font old new = new ≡ old
+Preprocessed Thai plan font old new = new ≡ record old { glyphs = preprocessed (wants_forms plan.script plan.ot_map.found) (has_nominal font) old.level old.glyphs }
+Preprocessed Universal plan font old new = new ≡ old
+
+-- the laws of its clusters, and that no glyph is lost
+abbrev pub PreprocessKeeps : hb_ot_shaper_t → Buffer → Buffer → Type 0
+PreprocessKeeps Arabic old new = new ≡ old
+PreprocessKeeps Hangul old new = Unbuilt
+PreprocessKeeps Hebrew old new = new ≡ old
+PreprocessKeeps Indic old new = new ≡ old
+PreprocessKeeps Khmer old new = new ≡ old
+PreprocessKeeps Myanmar old new = new ≡ old
+PreprocessKeeps MyanmarZawgyi old new = new ≡ old
+PreprocessKeeps Thai old new = ClustersInTwo old.level (characters old.glyphs) (clusters old.glyphs) (clusters new.glyphs) × KeptInTwo old.glyphs new.glyphs
+PreprocessKeeps Universal old new = new ≡ old
+
+-- when it refuses: Thai as a growth does, and never without a SARA AM; the others never
+abbrev pub RefusesPreprocess : {T : Type 0} → hb_ot_shaper_t → Buffer → Result T ShaperError → Type 0
+RefusesPreprocess Arabic old r = IsOk r
+RefusesPreprocess Hangul old r = Unbuilt
+RefusesPreprocess Hebrew old r = IsOk r
+RefusesPreprocess Indic old r = IsOk r
+RefusesPreprocess Khmer old r = IsOk r
+RefusesPreprocess Myanmar old r = IsOk r
+RefusesPreprocess MyanmarZawgyi old r = IsOk r
+RefusesPreprocess Thai old r = RefusesLength old.max_len (length (rewritten old.glyphs)) r × (list_any (λ g. is_sara_am g.glyph_id) old.glyphs ≡ false → IsOk r)
+RefusesPreprocess Universal old r = IsOk r
+
+-- the buffer before and after postprocessing
+abbrev pub Postprocessed : hb_ot_shaper_t → hb_ot_shape_plan_t → Font → Buffer → Buffer → Type 0
+Postprocessed Arabic plan font old new = Unbuilt
+Postprocessed Hangul plan font old new = new ≡ old
+Postprocessed Hebrew plan font old new = new ≡ old
+Postprocessed Indic plan font old new = new ≡ old
+Postprocessed Khmer plan font old new = new ≡ old
+Postprocessed Myanmar plan font old new = new ≡ old
+Postprocessed MyanmarZawgyi plan font old new = new ≡ old
+Postprocessed Thai plan font old new = new ≡ old
+Postprocessed Universal plan font old new = new ≡ old
+
+-- when it refuses
+abbrev pub RefusesPostprocess : {T : Type 0} → hb_ot_shaper_t → Buffer → Result T ShaperError → Type 0
+RefusesPostprocess Arabic old r = Unbuilt
+RefusesPostprocess Hangul old r = IsOk r
+RefusesPostprocess Hebrew old r = IsOk r
+RefusesPostprocess Indic old r = IsOk r
+RefusesPostprocess Khmer old r = IsOk r
+RefusesPostprocess Myanmar old r = IsOk r
+RefusesPostprocess MyanmarZawgyi old r = IsOk r
+RefusesPostprocess Thai old r = IsOk r
+RefusesPostprocess Universal old r = IsOk r
+
+-- what two characters compose to
+abbrev pub Composed : hb_ot_shaper_t → hb_ot_shape_plan_t → CharacterTables → ℕ → ℕ → Option (Option ℕ) → Type 0
+Composed Arabic plan tables a b answer = answer ≡ None
+Composed Hangul plan tables a b answer = answer ≡ None
+Composed Hebrew plan tables a b answer = answer ≡ Some (composed_in_hebrew (tables.composed a b) plan.has_gpos_mark a b)
+Composed Indic plan tables a b answer = Unbuilt
+Composed Khmer plan tables a b answer = Unbuilt
+Composed Myanmar plan tables a b answer = answer ≡ None
+Composed MyanmarZawgyi plan tables a b answer = answer ≡ None
+Composed Thai plan tables a b answer = answer ≡ None
+Composed Universal plan tables a b answer = Unbuilt
+
+-- what a character decomposes to
+abbrev pub Decomposed : hb_ot_shaper_t → hb_ot_shape_plan_t → CharacterTables → ℕ → Option (Option (ℕ × ℕ)) → Type 0
+Decomposed Arabic plan tables ab answer = answer ≡ None
+Decomposed Hangul plan tables ab answer = answer ≡ None
+Decomposed Hebrew plan tables ab answer = answer ≡ None
+Decomposed Indic plan tables ab answer = Unbuilt
+Decomposed Khmer plan tables ab answer = Unbuilt
+Decomposed Myanmar plan tables ab answer = answer ≡ None
+Decomposed MyanmarZawgyi plan tables ab answer = answer ≡ None
+Decomposed Thai plan tables ab answer = answer ≡ None
+Decomposed Universal plan tables ab answer = answer ≡ None
+
+-- the buffer before and after masks are set
+abbrev pub MasksSet : hb_ot_shaper_t → hb_ot_shape_plan_t → CharacterTables → Buffer → Buffer → Type 0
+MasksSet Arabic plan tables old new = Unbuilt
+MasksSet Hangul plan tables old new = Unbuilt
+MasksSet Hebrew plan tables old new = new ≡ old
+MasksSet Indic plan tables old new = Unbuilt
+MasksSet Khmer plan tables old new = Unbuilt
+MasksSet Myanmar plan tables old new = Unbuilt
+MasksSet MyanmarZawgyi plan tables old new = new ≡ old
+MasksSet Thai plan tables old new = new ≡ old
+MasksSet Universal plan tables old new = Unbuilt
+
+-- the buffer before and after the marks from start to end are reordered
+abbrev pub MarksReordered : hb_ot_shaper_t → ℕ → ℕ → Buffer → Buffer → Type 0
+MarksReordered Arabic start end old new = Unbuilt
+MarksReordered Hangul start end old new = new ≡ old
+MarksReordered Hebrew start end old new = new ≡ record old { glyphs = run_step old.level (mark_step start end old.glyphs) old.glyphs }
+MarksReordered Indic start end old new = new ≡ old
+MarksReordered Khmer start end old new = new ≡ old
+MarksReordered Myanmar start end old new = new ≡ old
+MarksReordered MyanmarZawgyi start end old new = new ≡ old
+MarksReordered Thai start end old new = new ≡ old
+MarksReordered Universal start end old new = new ≡ old
+
+-- that no mark is lost, exact cuts, the cluster law and the flag law
+abbrev pub MarksKeep : hb_ot_shaper_t → ℕ → ℕ → Buffer → Buffer → Type 0
+MarksKeep Arabic start end old new = Unbuilt
+MarksKeep Hangul start end old new = new ≡ old
+MarksKeep Hebrew start end old new = ReorderedHold whole old.level (mark_step start end old.glyphs ∷ []) old.glyphs new.glyphs
+MarksKeep Indic start end old new = new ≡ old
+MarksKeep Khmer start end old new = new ≡ old
+MarksKeep Myanmar start end old new = new ≡ old
+MarksKeep MyanmarZawgyi start end old new = new ≡ old
+MarksKeep Thai start end old new = new ≡ old
+MarksKeep Universal start end old new = new ≡ old
