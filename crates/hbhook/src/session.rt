@@ -1,5 +1,7 @@
 //! Carries out the lines.
 mod hooks;
+#[cfg(test)]
+mod tests;
 
 use crate::command::{Command, GlyphField, Setting, Side};
 use crate::fault::LineFault;

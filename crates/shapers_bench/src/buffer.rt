@@ -2,7 +2,8 @@
 ghost use Rattle.std.specs.Prelude.{◌≡◌, ◌≤◌, [], length, IfOk};
 
 use shapers_base::buffer::{
-    BufferClusterLevel, GlyphPosition, ShaperError, Span, glyph_flag, hb_buffer_t, hb_glyph_info_t,
+    BufferClusterLevel, BufferFlags, Direction, GlyphPosition, Script, ShaperError, Span,
+    glyph_flag, hb_buffer_t, hb_glyph_info_t,
 };
 use std::alloc::Global;
 use std::process::Abort;
@@ -12,7 +13,7 @@ use std::test::Fail;
 fn text(alloc: Global, clusters: &[u32], mask: u32) -> Result<hb_buffer_t, ShaperError>
     ensures { IfOk result (λ b. b.positions ≡ []) }
 {
-    let mut buffer = hb_buffer_t::new(alloc, 100);
+    let mut buffer = hb_buffer_t::new(alloc, 10_000);
     for cluster in clusters {
         buffer.push(hb_glyph_info_t {
             cluster: *cluster,
@@ -135,6 +136,61 @@ fn grows_and_copies(rt: HostRuntime) -> Result<(), Fail> {
     expect(&rt, &copy, &[0, 0, 7], &[0, 0, 0]);
     assert_eq!(rt; copy.positions_len(), 3);
     assert_eq!(rt; copy.position(0).x_advance, 7);
+    Ok(())
+}
+
+// There is memory for as many glyphs as a long text has, and for none.
+#[test]
+fn has_memory_for_long_texts(rt: HostRuntime) -> Result<(), Fail> {
+    let alloc = rt.alloc();
+    let clusters: Vec<u32> = (0..3000).collect(alloc)?;
+    let mut buffer = text(alloc, &clusters, 8)?;
+    assert_eq!(rt; buffer.len(), 3000);
+    buffer.grow(0)?;
+    assert_eq!(rt; buffer.len(), 3000);
+    buffer.grow(2000)?;
+    assert_eq!(rt; buffer.len(), 5000);
+    for (place, glyph) in buffer.glyphs().iter().enumerate() {
+        let (cluster, mask) = if place < 3000 { (place, 8) } else { (0, 0) };
+        assert_eq!(rt; (glyph.cluster as usize, glyph.mask), (cluster, mask));
+    }
+    buffer.set_max_len(5000);
+    buffer.grow(0)?;
+    assert_eq!(rt; buffer.copy()?.glyphs(), buffer.glyphs());
+    hb_buffer_t::new(alloc, 0).grow(0)?;
+    assert_eq!(rt; hb_buffer_t::new(alloc, 0).copy()?.len(), 0);
+    Ok(())
+}
+
+// A copy has every field of what it copies.
+#[test]
+fn copies_every_field(rt: HostRuntime) -> Result<(), Fail> {
+    let mut buffer = text(rt.alloc(), &[3, 2, 1], 8)?;
+    let mut positions = Vec::new(rt.alloc());
+    positions.resize(buffer.len(), GlyphPosition::ZERO)?;
+    assert!(rt; buffer.set_positions(positions));
+    buffer.set_direction(Direction::RightToLeft);
+    buffer.set_script(Some(Script(*b"Thai")));
+    buffer.set_cluster_level(BufferClusterLevel::Characters);
+    buffer.set_flags(BufferFlags::PRODUCE_UNSAFE_TO_CONCAT);
+    buffer.set_pre_context(&['a', 'b']);
+    buffer.set_post_context(&['c', 'd', 'e', 'f', 'g']);
+    buffer.set_has_broken_syllable(true);
+    buffer.set_has_stch(true);
+    let mut copy = buffer.copy()?;
+    assert_eq!(rt; copy.glyphs(), buffer.glyphs());
+    assert_eq!(rt; copy.positions_len(), 3);
+    assert_eq!(rt; copy.direction(), Direction::RightToLeft);
+    assert_eq!(rt; copy.script(), Some(Script(*b"Thai")));
+    assert_eq!(rt; copy.cluster_level(), BufferClusterLevel::Characters);
+    assert_eq!(rt; copy.flags(), BufferFlags::PRODUCE_UNSAFE_TO_CONCAT);
+    assert_eq!(rt; copy.pre_context(), buffer.pre_context());
+    assert_eq!(rt; copy.post_context(), buffer.post_context());
+    assert!(rt; copy.has_broken_syllable());
+    assert!(rt; copy.has_stch());
+    assert_eq!(rt; copy.max_len(), 10_000);
+    copy.truncate(0);
+    assert_eq!(rt; buffer.len(), 3);
     Ok(())
 }
 

@@ -5,6 +5,8 @@
 #[cfg(test)]
 mod buffer;
 #[cfg(test)]
+mod circles;
+#[cfg(test)]
 mod feature_lists;
 #[cfg(test)]
 mod planner;

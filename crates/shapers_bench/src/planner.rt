@@ -31,6 +31,31 @@ fn plans_in_order(rt: HostRuntime) -> Result<(), Fail> {
     Ok(())
 }
 
+// There is memory for an empty list and for many requests.
+#[test]
+fn has_memory_for_many_requests(rt: HostRuntime) -> Result<(), Fail> {
+    let mut planner = hb_ot_shape_planner_t::new(rt.alloc(), None);
+    planner.add_requests(&[])?;
+    assert_eq!(rt; planner.requests().len(), 0);
+    let tag = hb_tag_t(*b"rphf");
+    for value in 0..1000 {
+        planner.add_feature(tag, F_NONE, value)?;
+        planner.enable_feature(tag, F_NONE, value)?;
+        planner.disable_feature(tag)?;
+        planner.add_gsub_pause(Some(Pause::RecordRphf))?;
+    }
+    assert_eq!(rt; planner.requests().len(), 4000);
+    let more = vec![in rt.alloc(); Request::Pause(None); 3000]?;
+    planner.add_requests(&more)?;
+    planner.add_requests(&[])?;
+    assert_eq!(rt; planner.requests().len(), 7000);
+    assert_eq!(rt;
+        planner.requests()[3996],
+        Request::Feature(tag, F_NONE, 999)
+    );
+    Ok(())
+}
+
 #[test]
 fn numbers_the_flags(rt: HostRuntime) {
     let flags = [

@@ -1,5 +1,9 @@
 //! The records of the shapers, and hooks that aren't there.
-use rustybuzz_shapers::buffer::{Script, hb_buffer_t, hb_tag_t, hb_unicode_general_category_t};
+ghost use Rattle.std.specs.Prelude.{◌≡◌, [], IfOk};
+
+use rustybuzz_shapers::buffer::{
+    Script, ShaperError, hb_buffer_t, hb_glyph_info_t, hb_tag_t, hb_unicode_general_category_t,
+};
 use rustybuzz_shapers::font::{GlyphId, Tables, hb_font_t};
 use rustybuzz_shapers::map::hb_ot_map_t;
 use rustybuzz_shapers::plan::{
@@ -172,5 +176,36 @@ fn leaves_vowel_constraints_to_the_caller(rt: HostRuntime) -> Result<(), Fail> {
     let mut buffer = hb_buffer_t::new(rt.alloc(), 10);
     let answer = THAI_SHAPER.preprocess_text(&plan, &Nothing, &mut buffer);
     assert_eq!(rt; answer, Ok(Some(Preprocess::Done)));
+    Ok(())
+}
+
+// A buffer of one character so many times.
+fn repeated(alloc: Global, character: u32, count: u32) -> Result<hb_buffer_t, ShaperError>
+    ensures { IfOk result (λ b. b.positions ≡ []) }
+{
+    let mut buffer = hb_buffer_t::new(alloc, 6000);
+    for cluster in 0..count {
+        buffer.push(hb_glyph_info_t {
+            glyph_id: character,
+            cluster,
+            ..hb_glyph_info_t::DEFAULT
+        })?;
+    }
+    Ok(buffer)
+}
+
+// There is memory for many SARA AM, and for a text without one.
+#[test]
+fn has_memory_for_many_sara_am(rt: HostRuntime) -> Result<(), Fail> {
+    let Some(plan) = plan(rt.alloc(), *b"Thai") else {
+        assert!(rt; false, "an empty map");
+        return Ok(());
+    };
+    for (character, count, glyphs) in [(0x0E33, 2, 4), (0x0E33, 3000, 6000), (0x0E01, 3000, 3000)] {
+        let mut buffer = repeated(rt.alloc(), character, count)?;
+        let answer = THAI_SHAPER.preprocess_text(&plan, &Nothing, &mut buffer);
+        assert_eq!(rt; answer, Ok(Some(Preprocess::Done)));
+        assert_eq!(rt; buffer.len(), glyphs);
+    }
     Ok(())
 }
