@@ -2,7 +2,7 @@
 use Rattle.std.specs.Prelude.{ℕ, Bool, true, false, List, [], ◌∷◌, ◌≡◌, length, Option, None, Some, Result, IsOk}
 use Rattle.std.specs.List.{list_any}
 use Rattle.shapers_base.specs.Buffer.{Buffer}
-use Rattle.shapers_base.specs.Font.{CharacterTables, Font, has_nominal}
+use Rattle.shapers_base.specs.Font.{CharacterTables, Font}
 use Rattle.shapers_base.specs.Glyph.{clusters}
 use Rattle.shapers_base.specs.Refusals.{RefusesLength}
 use Rattle.shapers_base.specs.declared.buffer.refusal.ShaperError.{ShaperError}
@@ -14,8 +14,8 @@ use Rattle.shapers_clusters.specs.Flags.{whole}
 use Rattle.shapers_clusters.specs.Laws.{ReorderedHold}
 use Rattle.shapers_clusters.specs.Steps.{run_step}
 use Rattle.shapers_text.specs.Hebrew.{composed_in_hebrew, mark_step}
-use Rattle.shapers_text.specs.Thai.{characters, is_sara_am, rewritten, wants_forms}
-use Rattle.shapers_text.specs.ThaiForms.{preprocessed}
+use Rattle.shapers_text.specs.Thai.{characters, is_sara_am, rewritten}
+use Rattle.shapers_text.specs.ThaiForms.{asks_for_forms, preprocessed_in_thai}
 use Rattle.shapers_text.specs.ThaiLaws.{ClustersInTwo, KeptInTwo}
 use Rattle.rustybuzz_shapers.specs.Standing.{is_settled, standing}
 use Rattle.rustybuzz_shapers.specs.declared.shaper.hb_ot_shaper_t.{hb_ot_shaper_t}
@@ -63,20 +63,20 @@ Preprocessed Indic plan font old new = new ≡ old
 Preprocessed Khmer plan font old new = new ≡ old
 Preprocessed Myanmar plan font old new = new ≡ old
 Preprocessed MyanmarZawgyi plan font old new = new ≡ old
-Preprocessed Thai plan font old new = new ≡ record old { glyphs = preprocessed (wants_forms plan.script plan.ot_map.found) (has_nominal font) old.level old.glyphs }
+Preprocessed Thai plan font old new = new ≡ preprocessed_in_thai plan font old
 Preprocessed Universal plan font old new = new ≡ old
 
 -- the laws of its clusters, and that no glyph is lost
-abbrev pub PreprocessKeeps : hb_ot_shaper_t → Buffer → Buffer → Type 0
-PreprocessKeeps Arabic old new = new ≡ old
-PreprocessKeeps Hangul old new = Unbuilt
-PreprocessKeeps Hebrew old new = new ≡ old
-PreprocessKeeps Indic old new = new ≡ old
-PreprocessKeeps Khmer old new = new ≡ old
-PreprocessKeeps Myanmar old new = new ≡ old
-PreprocessKeeps MyanmarZawgyi old new = new ≡ old
-PreprocessKeeps Thai old new = ClustersInTwo old.level (characters old.glyphs) (clusters old.glyphs) (clusters new.glyphs) × KeptInTwo old.glyphs new.glyphs
-PreprocessKeeps Universal old new = new ≡ old
+abbrev pub PreprocessKeeps : hb_ot_shaper_t → hb_ot_shape_plan_t → Buffer → Buffer → Type 0
+PreprocessKeeps Arabic plan old new = new ≡ old
+PreprocessKeeps Hangul plan old new = Unbuilt
+PreprocessKeeps Hebrew plan old new = new ≡ old
+PreprocessKeeps Indic plan old new = new ≡ old
+PreprocessKeeps Khmer plan old new = new ≡ old
+PreprocessKeeps Myanmar plan old new = new ≡ old
+PreprocessKeeps MyanmarZawgyi plan old new = new ≡ old
+PreprocessKeeps Thai plan old new = ClustersInTwo old.level (characters old.glyphs) (clusters old.glyphs) (clusters new.glyphs) × KeptInTwo (asks_for_forms plan) old.glyphs new.glyphs
+PreprocessKeeps Universal plan old new = new ≡ old
 
 -- when it refuses: Thai as a growth does, and never without a SARA AM; the others never
 abbrev pub RefusesPreprocess : {T : Type 0} → hb_ot_shaper_t → Buffer → Result T ShaperError → Type 0

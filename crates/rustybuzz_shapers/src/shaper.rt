@@ -14,7 +14,7 @@ use shapers_base::plan::{hb_ot_shape_plan_t, hb_ot_shape_planner_t};
 mod pauses;
 mod standing;
 
-pub use pauses::run_pause;
+pub use pauses::{pause_standing, run_pause};
 pub use standing::{Hook, Hooks, Standing};
 pub use shapers_base::plan::{NormalizationMode, Pause, PlanData, Preprocess, ZeroWidthMarks};
 use shapers_indic::ot_shaper_indic;
@@ -182,7 +182,7 @@ impl hb_ot_shaper_t {
         requires settled { CanAsk self Hook.PreprocessText }
         ensures answer { IfOk result (λ answer. answer ≡ preprocess_answer self) }
         ensures ok { OnOk result (Preprocessed self plan.now (F.font face.now) buffer.old buffer.new) }
-        ensures laws { OnOk result (PreprocessKeeps self buffer.old buffer.new) }
+        ensures laws { OnOk result (PreprocessKeeps self plan.now buffer.old buffer.new) }
         ensures refusal { RefusesPreprocess self buffer.old result }
         ensures err { OnErr result (buffer.new ≡ buffer.old) }
     {

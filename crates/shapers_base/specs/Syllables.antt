@@ -1,9 +1,9 @@
 -- Syllables: longest runs of equal syllable bytes, and the spans that set them.
-use Rattle.std.specs.Prelude.{ℕ, suc, ◌+◌, ◌*◌, ◌%◌, ◌==◌, nat_lt, Bool, ◌&&◌, ◌||◌, List, [], ◌∷◌, ◌++◌, length, position, replicate, sum_by, Option, option_map, if◌then◌else◌}
+use Rattle.std.specs.Prelude.{ℕ, suc, ◌+◌, ◌*◌, ◌%◌, ◌==◌, nat_lt, Bool, ◌&&◌, ◌||◌, List, [], ◌∷◌, ◌++◌, length, position, replicate, sum_by, None, Option, option_map, Some, if◌then◌else◌}
 use Rattle.std.specs.List.{list_all, list_any, prefix_len}
 use Rattle.shapers_base.specs.declared.buffer.glyph.hb_glyph_info_t.{hb_glyph_info_t}
 use Rattle.shapers_base.specs.declared.buffer.refusal.ShaperError.{ShaperError}
-use Rattle.shapers_base.specs.declared.buffer.refusal.ShaperError.TheVariants.{UnknownSyllable}
+use Rattle.shapers_base.specs.declared.buffer.refusal.ShaperError.TheVariants.{SpansDontCover, UnknownSyllable}
 use Rattle.shapers_base.specs.declared.buffer.syllables.Span.{Span}
 use Rattle.shapers_base.specs.Buffer.{Buffer}
 
@@ -70,6 +70,10 @@ with_bytes (g ∷ gs) (byte ∷ bytes) = in_syllable byte g ∷ with_bytes gs by
 -- whether no span is empty and the lengths add up to n
 abbrev pub spans_cover : ℕ → List Span → Bool
 spans_cover n spans = list_all (λ span. nat_lt 0 span.len) spans && (sum_by (λ span. span.len) spans == n)
+
+-- the refusal that they give where they don't
+abbrev pub spans_refusal : List Span → Buffer → Option ShaperError
+spans_refusal spans b = if spans_cover (length b.glyphs) spans then None else Some SpansDontCover
 
 -- the buffer with the spans' bytes; where a span has the broken kind, with its mark
 abbrev pub with_spans : List Span → ℕ → Buffer → Buffer

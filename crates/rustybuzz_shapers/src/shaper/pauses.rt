@@ -1,8 +1,8 @@
 //! The pauses behind one dispatcher.
-ghost use Rattle.std.specs.Prelude.{◌≡◌, ◌≤◌, [], true, false, All, IfOk, IfErr, OnOk, OnErr, is_ok};
-ghost use Rattle.shapers_base.specs.declared.buffer.refusal.ShaperError.TheVariants.{SpansDontCover};
-ghost use Rattle.rustybuzz_shapers.specs.Pauses.{pause_stands, pause_fits, after_pause};
+ghost use Rattle.std.specs.Prelude.{◌≡◌, ◌≤◌, [], All, IfOk, OnOk, OnErr};
+ghost use Rattle.rustybuzz_shapers.specs.Pauses.{CanPause, PauseAnswers, Paused, pause_standing, RefusesPause};
 
+use super::standing::Standing;
 use shapers_base::buffer::{ShaperError, Span, hb_buffer_t};
 use shapers_base::font::hb_font_t;
 use shapers_base::ot_shaper_syllabic::{
@@ -11,24 +11,45 @@ use shapers_base::ot_shaper_syllabic::{
 };
 use shapers_base::plan::{Pause, hb_ot_shape_plan_t};
 
+/// Whether a pause is built.
+pub fn pause_standing(pause: Pause) -> Standing
+    ensures { result ≡ pause_standing pause }
+{
+    match pause {
+        Pause::SetupSyllablesIndic
+        | Pause::SetupSyllablesKhmer
+        | Pause::SetupSyllablesMyanmar
+        | Pause::SyllabicClearVar
+        | Pause::ClearSubstitutionFlags
+        | Pause::ArabicFallbackShape => Standing::Has,
+        Pause::SetupSyllablesUse
+        | Pause::InitialReordering
+        | Pause::ReorderKhmer
+        | Pause::ReorderMyanmar
+        | Pause::ReorderUse
+        | Pause::FinalReordering
+        | Pause::RecordStch
+        | Pause::RecordRphf
+        | Pause::RecordPref => Standing::WillHave,
+    }
+}
+
 /// Does what a shaper does between two stages of substitution, and answers whether dotted circles
-/// were wanted, which none of the pauses that are built asks. Spans are read by the pauses that set
-/// syllables alone: those refuse with `SpansDontCover`, and the buffer is as it was. The reordering
-/// and recording pauses and the universal shaper's set-up aren't built yet.
+/// were wanted. Spans are read by the pauses that set syllables alone: those refuse with
+/// `SpansDontCover` where a span is empty or they don't add up, and the buffer is as it was.
 pub fn run_pause<F: hb_font_t>(
     pause: Pause,
-    _plan: &hb_ot_shape_plan_t,
-    _face: &F,
+    plan: &hb_ot_shape_plan_t,
+    face: &F,
     spans: &[Span],
     buffer: &mut hb_buffer_t,
 ) -> Result<bool, ShaperError>
     requires without_positions { buffer.old.positions ≡ [] }
     requires kinds { All (λ span. span.kind ≤ 15) spans.now }
-    requires unbuilt { pause_stands pause ≡ true }
-    ensures answer { IfOk result (λ circles. circles ≡ false) }
-    ensures ok { OnOk result (buffer.new ≡ after_pause pause spans.now buffer.old) }
-    ensures fits { is_ok result ≡ pause_fits pause spans.now buffer.old }
-    ensures refusal { IfErr result (λ e. e ≡ SpansDontCover) }
+    requires settled { CanPause pause }
+    ensures answer { IfOk result (PauseAnswers pause (F.font face.now) buffer.old) }
+    ensures ok { OnOk result (Paused pause plan.now (F.font face.now) spans.now buffer.old buffer.new) }
+    ensures refusal { RefusesPause pause spans.now buffer.old result }
     ensures err { OnErr result (buffer.new ≡ buffer.old) }
 {
     match pause {
