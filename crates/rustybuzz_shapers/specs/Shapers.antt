@@ -17,6 +17,8 @@ use Rattle.shapers_base.specs.declared.plan.record.NormalizationMode.{Normalizat
 use Rattle.shapers_base.specs.declared.plan.record.NormalizationMode.TheVariants as mode
 use Rattle.shapers_base.specs.declared.plan.record.ZeroWidthMarks.{ZeroWidthMarks}
 use Rattle.shapers_base.specs.declared.plan.record.ZeroWidthMarks.TheVariants as zeroing
+use Rattle.shapers_clusters.specs.Flags.{whole}
+use Rattle.shapers_clusters.specs.Laws.{ReorderedHold}
 use Rattle.shapers_clusters.specs.Steps.{Step, run_step}
 use Rattle.shapers_text.specs.Hebrew.{composed_in_hebrew, mark_step}
 use Rattle.shapers_text.specs.Requests.{arabic_list, is_arabic, hangul_list, hangul_overrides}
@@ -150,6 +152,10 @@ after_marks _ start end b = b
 abbrev pub marks_steps : hb_ot_shaper_t → ℕ → ℕ → List hb_glyph_info_t → List Step
 marks_steps Hebrew start end gs = mark_step start end gs ∷ []
 marks_steps _ start end gs = []
+
+-- what reordering marks promises, of the buffer before and after it: no glyph is lost, and the laws of clusters and flags hold
+abbrev pub MarksOrdered : hb_ot_shaper_t → ℕ → ℕ → Buffer → Buffer → Type 0
+MarksOrdered shaper start end old new = ReorderedHold whole old.level (marks_steps shaper start end old.glyphs) old.glyphs new.glyphs
 
 -- what preprocessing answers, if the shaper has it
 abbrev pub preprocess_answer : hb_ot_shaper_t → Option Preprocess

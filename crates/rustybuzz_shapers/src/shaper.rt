@@ -3,11 +3,9 @@
 ghost use Rattle.std.specs.Prelude.{◌≡◌, ◌≤◌, [], length, false, true, None, Ok, IfOk, IsOk, IsNone, is_some, IsOkUnless, OnOk, OnErr};
 ghost use Rattle.shapers_base.specs.declared.buffer.refusal.ShaperError.TheVariants.{Memory};
 ghost use Rattle.shapers_base.specs.Glyph.{clusters};
-ghost use Rattle.shapers_clusters.specs.Flags.{whole};
-ghost use Rattle.shapers_clusters.specs.Laws.{ReorderedHold};
 ghost use Rattle.shapers_text.specs.Requests.{rclt};
 ghost use Rattle.shapers_text.specs.Thai.{characters};
-ghost use Rattle.rustybuzz_shapers.specs.Shapers.{normalizes, wants_gpos_script, zeroes_marks, places_marks, collected, overridden, asked, if_there, keeps_data, postprocesses, compose_stands, composed_by, decomposes, masks_glyphs, moves_marks, marks_stand, after_marks, marks_steps, preprocess_answer, preprocess_stands, after_preprocess, ClustersPreprocessed, RefusesPreprocess};
+ghost use Rattle.rustybuzz_shapers.specs.Shapers.{normalizes, wants_gpos_script, zeroes_marks, places_marks, collected, overridden, asked, if_there, keeps_data, postprocesses, compose_stands, composed_by, decomposes, masks_glyphs, moves_marks, marks_stand, after_marks, MarksOrdered, preprocess_answer, preprocess_stands, after_preprocess, ClustersPreprocessed, RefusesPreprocess};
 
 use shapers_base::buffer::{ShaperError, hb_buffer_t, hb_tag_t};
 use shapers_base::font::{Tables, hb_font_t};
@@ -293,7 +291,7 @@ impl hb_ot_shaper_t {
         requires unbuilt { marks_stand self ≡ true }
         ensures answer { is_some result ≡ moves_marks self }
         ensures marks { buffer.new ≡ after_marks self start end buffer.old }
-        ensures laws { ReorderedHold whole buffer.old.level (marks_steps self start end buffer.old.glyphs) buffer.old.glyphs buffer.new.glyphs }
+        ensures laws { MarksOrdered self start end buffer.old buffer.new }
     {
         match self {
             Self::Hebrew => Some(ot_shaper_hebrew::reorder_marks(plan, buffer, start, end)),

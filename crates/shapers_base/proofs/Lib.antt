@@ -1,3 +1,4 @@
+pub mod CircleClusters
 pub mod CircleLemmas
 pub mod ClusterLemmas
 pub mod Overwriting

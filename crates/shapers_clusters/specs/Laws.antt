@@ -6,16 +6,16 @@ use Rattle.shapers_base.specs.declared.buffer.glyph.hb_glyph_info_t.{hb_glyph_in
 use Rattle.shapers_base.specs.declared.buffer.level.BufferClusterLevel.{BufferClusterLevel}
 use Rattle.shapers_base.specs.Glyph.{clusters, order_view}
 use Rattle.shapers_base.specs.Clusters.{least, low, high, merge, merge_all, merges, stretch_of}
-use Rattle.shapers_base.specs.GlyphFlags.{unsafe_inside, unsafe_to_concat_in, tatweel_inside}
+use Rattle.shapers_base.specs.GlyphFlags.{unsafe_inside, unsafe_to_concat_in, tatweel_inside, FlagCall, flags_called}
 use Rattle.shapers_clusters.specs.Joined.{joined_all}
 use Rattle.shapers_clusters.specs.Cuts.{EndWithin, ShareCluster, IsMonotone, ExactCuts, ShareNone}
 use Rattle.shapers_clusters.specs.Steps.{pick, Step, run_steps, joined_steps, old_places, FitSteps, MovesMerged, all_first, widened, steps_along, reordered_along, Permutes}
-use Rattle.shapers_clusters.specs.Flags.{FallsTo, FlagsFall, FlagsAlone, ShowsClusters, HidesFields, seen}
+use Rattle.shapers_clusters.specs.Flags.{FallsTo, FlagsFall, FlagsAlone, InOrder, ShowsClusters, HidesFields, seen}
 use Rattle.shapers_clusters.specs.Made.{ExactCutsBy, HeldAlong, MovesInsideOf}
 use Rattle.shapers_clusters.specs.Labels.{IsLabelled, OneLabel, OneLabelEach}
 
 -- Merges of any stretch at any level leave the order view of the glyphs gs; the three flag calls, whatever the buffer asks for,
--- change nothing but glyph flags.
+-- change nothing but glyph flags, and take none away.
 pub record ViewStays (s e : ℕ) (gs : List hb_glyph_info_t) : Type 0 where
   pub merging : (level : BufferClusterLevel) → order_view (merge level s e gs) ≡ order_view gs
   pub breaking : FlagsAlone gs (unsafe_inside s e gs)
@@ -24,6 +24,10 @@ pub record ViewStays (s e : ℕ) (gs : List hb_glyph_info_t) : Type 0 where
 
 abbrev pub ViewLaw : Type 0
 ViewLaw = (s e : ℕ) (gs : List hb_glyph_info_t) → s ≤ e → ViewStays s e gs
+
+-- Any list of flag calls, of all three kinds mixed, whatever the buffer asks for: nothing but glyph flags changes, and none is lost.
+abbrev pub FlagCallsLaw : Type 0
+FlagCallsLaw = (concat tatweel : Bool) (calls : List FlagCall) (gs : List hb_glyph_info_t) → AllByRecursion InOrder calls → FlagsAlone gs (flags_called concat tatweel calls gs)
 
 -- What one merge of s..e makes of the glyphs gs: ms. Nothing but clusters and glyph flags changes. No cluster rises, and a
 -- glyph keeps its flags unless its cluster fell. Every cluster is one that was there. Before low and from high on the glyphs stay;
