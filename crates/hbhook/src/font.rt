@@ -55,13 +55,12 @@ impl hb_font_t for LineFont {
     ghost use Rattle.std.specs.BTreeMap.{get};
     ghost use Rattle.hbhook.specs.Font.{some_applies};
 
-    ghost nominal_glyph = { λ font c. get nat_cmp font.glyphs c };
-
-    ghost h_advance = { λ font glyph. unwrap_or (get nat_cmp font.advances glyph.0) (pos 0) };
-
-    ghost applies = { λ font lookup glyphs _. some_applies font.applied.items lookup glyphs };
-
-    ghost offers = { λ _ _. false };
+    ghost font = { λ font. record {
+        nominal = λ c. get nat_cmp font.glyphs c;
+        advance = λ glyph. unwrap_or (get nat_cmp font.advances glyph.0) (pos 0);
+        applies = λ lookup glyphs _. some_applies font.applied.items lookup glyphs;
+        offers = λ _. false;
+    } };
 
     fn get_nominal_glyph(&self, c: u32) -> Option<GlyphId> {
         self.glyphs.get(&c).copied()

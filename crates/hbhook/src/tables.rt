@@ -77,17 +77,14 @@ fn entry(tables: &LineTables, c: u32) -> CharacterEntry
 impl Tables for LineTables {
     ghost use Rattle.hbhook.specs.Tables.{entry_of, whole_of, parts_of};
 
-    ghost joining = { λ tables c. (entry_of tables.entries c).joining_type };
-
-    ghost general = { λ tables c. (entry_of tables.entries c).general_category };
-
-    ghost indic = { λ tables c. let entry = entry_of tables.entries c in (entry.indic_category, entry.indic_position) };
-
-    ghost universal = { λ tables c. (entry_of tables.entries c).universal_category };
-
-    ghost composed = { λ tables a b. whole_of tables.pairs.items a b };
-
-    ghost decomposed = { λ tables whole. parts_of tables.pairs.items whole };
+    ghost tables = { λ tables. record {
+        joining = λ c. (entry_of tables.entries c).joining_type;
+        general = λ c. (entry_of tables.entries c).general_category;
+        indic = λ c. let entry = entry_of tables.entries c in (entry.indic_category, entry.indic_position);
+        universal = λ c. (entry_of tables.entries c).universal_category;
+        composed = λ a b. whole_of tables.pairs.items a b;
+        decomposed = λ whole. parts_of tables.pairs.items whole;
+    } };
 
     fn joining_type(&self, c: char) -> hb_arabic_joining_type_t {
         entry(self, u32::from(c)).joining_type

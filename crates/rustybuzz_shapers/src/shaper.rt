@@ -1,6 +1,7 @@
 //! The shapers behind one enum, a method a hook. Where a shaper lacks a hook, its method answers None
 //! and changes nothing.
 ghost use Rattle.std.specs.Prelude.{◌≡◌, ◌≤◌, [], length, false, true, None, Ok, IfOk, IsOk, IsNone, is_some, IsOkUnless, OnOk, OnErr};
+ghost use Rattle.shapers_base.specs.Font.{has_nominal};
 ghost use Rattle.shapers_base.specs.declared.buffer.refusal.ShaperError.TheVariants.{Memory};
 ghost use Rattle.shapers_base.specs.Glyph.{clusters};
 ghost use Rattle.shapers_text.specs.Requests.{rclt};
@@ -12,8 +13,10 @@ use shapers_base::font::{Tables, hb_font_t};
 use shapers_base::plan::{hb_ot_shape_plan_t, hb_ot_shape_planner_t};
 
 mod pauses;
+mod standing;
 
 pub use pauses::run_pause;
+pub use standing::{Hook, Hooks, Standing};
 pub use shapers_base::plan::{NormalizationMode, Pause, PlanData, Preprocess, ZeroWidthMarks};
 use shapers_indic::ot_shaper_indic;
 use shapers_regroup::{ot_shaper_khmer, ot_shaper_myanmar, ot_shaper_use};
@@ -116,11 +119,11 @@ impl hb_ot_shaper_t {
         face: &F,
         planner: &mut hb_ot_shape_planner_t,
     ) -> Result<Option<()>, ShaperError>
-        ensures answer { IfOk result (λ answer. answer ≡ if_there (collected self planner.old.script (F.offers face.now rclt))) }
-        ensures ok { OnOk result (planner.new ≡ asked (collected self planner.old.script (F.offers face.now rclt)) planner.old) }
+        ensures answer { IfOk result (λ answer. answer ≡ if_there (collected self planner.old.script ((F.font face.now).offers rclt))) }
+        ensures ok { OnOk result (planner.new ≡ asked (collected self planner.old.script ((F.font face.now).offers rclt)) planner.old) }
         ensures refusal { IsOkUnless result Memory }
         ensures err { OnErr result (planner.new ≡ planner.old) }
-        ensures absent { IsNone (collected self planner.old.script (F.offers face.now rclt)) → IsOk result }
+        ensures absent { IsNone (collected self planner.old.script ((F.font face.now).offers rclt)) → IsOk result }
     {
         match self {
             Self::Arabic => Ok(Some(ot_shaper_arabic::collect_features(face, planner)?)),
@@ -177,7 +180,7 @@ impl hb_ot_shaper_t {
         requires without_positions { buffer.old.positions ≡ [] }
         requires unbuilt { preprocess_stands self ≡ true }
         ensures answer { IfOk result (λ answer. answer ≡ preprocess_answer self) }
-        ensures ok { OnOk result (buffer.new ≡ after_preprocess self plan.now.script plan.now.ot_map.found (λ c. is_some (F.nominal_glyph face.now c)) buffer.old) }
+        ensures ok { OnOk result (buffer.new ≡ after_preprocess self plan.now.script plan.now.ot_map.found (has_nominal (F.font face.now)) buffer.old) }
         ensures clusters { OnOk result (ClustersPreprocessed self buffer.old.level (characters buffer.old.glyphs) (clusters buffer.old.glyphs) (clusters buffer.new.glyphs)) }
         ensures refusal { RefusesPreprocess self buffer.old result }
         ensures err { OnErr result (buffer.new ≡ buffer.old) }
@@ -231,7 +234,7 @@ impl hb_ot_shaper_t {
         b: char,
     ) -> Option<Option<char>>
         requires unbuilt { compose_stands self ≡ true }
-        ensures { result ≡ composed_by self (T.composed tables.now a b) plan.now.has_gpos_mark a b }
+        ensures { result ≡ composed_by self ((T.tables tables.now).composed a b) plan.now.has_gpos_mark a b }
     {
         match self {
             Self::Hebrew => Some(ot_shaper_hebrew::compose(plan, tables, a, b)),

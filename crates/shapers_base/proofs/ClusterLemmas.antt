@@ -10,7 +10,7 @@ use Rattle.std.proofs.lemmas.Bool.Decides.{nat_tests}
 use Rattle.shapers_base.specs.declared.buffer.glyph.hb_glyph_info_t.{hb_glyph_info_t}
 use Rattle.shapers_base.specs.Glyph.{clusters, default_glyph}
 use Rattle.shapers_base.specs.declared.buffer.level.BufferClusterLevel.{BufferClusterLevel}
-use Rattle.shapers_base.specs.MappedLists.{map-reverse}
+use Rattle.shapers_base.proofs.MappedLists.{map-reverse}
 use Rattle.shapers_base.specs.Clusters.{least, first_cluster, last_cluster, has_cluster, in_cluster, flooded, merged, merge, merges, stretch_of, with_stretch}
 
 -- the least so far, and then of the rest

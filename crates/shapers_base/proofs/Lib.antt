@@ -1,10 +1,14 @@
-pub mod CircleClusters
-pub mod CircleLemmas
-pub mod ClusterLemmas
-pub mod Overwriting
-pub mod MapLemmas
+pub mod CircleLaws
 mod CircleRows
+pub mod ClusterLemmas
+pub mod ListLaws
+pub mod MapLemmas
 mod MapRows
+pub mod MappedLists
+pub mod PieceLaws
+pub mod PlaceLaws
 mod Rows
 pub mod SyllabicLemmas
+mod SyllabicRows
+pub mod SyllableLaws
 pub mod SyllableLemmas

@@ -7,7 +7,7 @@ use Rattle.shapers_base.specs.Clusters.{with_stretch}
 use Rattle.shapers_base.specs.Syllables.{in_syllable, with_bytes}
 
 -- one byte for the first n glyphs, and the other bytes for the rest
-with_bytes-replicate : (n byte : ℕ) (gs : List hb_glyph_info_t) (bytes : List ℕ) → n ≤ length gs → with_bytes gs (replicate n byte ++ bytes) ≡ map (in_syllable byte) (take n gs) ++ with_bytes (drop n gs) bytes
+pub with_bytes-replicate : (n byte : ℕ) (gs : List hb_glyph_info_t) (bytes : List ℕ) → n ≤ length gs → with_bytes gs (replicate n byte ++ bytes) ≡ map (in_syllable byte) (take n gs) ++ with_bytes (drop n gs) bytes
 with_bytes-replicate zero byte gs bytes h = refl
 with_bytes-replicate (suc n) byte [] bytes h = absurd (omega arith)
 with_bytes-replicate (suc n) byte (g ∷ gs) bytes h = ap (λ xs. in_syllable byte g ∷ xs) (with_bytes-replicate n byte gs bytes (omega arith))

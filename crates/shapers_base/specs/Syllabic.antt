@@ -1,14 +1,27 @@
 -- What the shapers of syllabic scripts do to the whole text.
-use Rattle.std.specs.Prelude.{false}
+use Rattle.std.specs.Prelude.{ℕ, List, map, false}
 use Rattle.std.specs.List.{flat_map}
 use Rattle.shapers_base.specs.declared.buffer.glyph.hb_glyph_info_t.{hb_glyph_info_t}
+use Rattle.shapers_base.specs.declared.buffer.syllables.Span.{Span}
 use Rattle.shapers_base.specs.Buffer.{Buffer}
 use Rattle.shapers_base.specs.GlyphFlags.{flagged}
-use Rattle.shapers_base.specs.Syllables.{syllables}
+use Rattle.shapers_base.specs.Syllables.{syllables, in_syllable, span_bytes, with_bytes}
 
--- the buffer with the inside of each syllable unsafe to break and to concatenate
+-- the glyphs with the inside of each syllable unsafe to break and to concatenate
+abbrev pub unsafe_syllables : List hb_glyph_info_t → List hb_glyph_info_t
+unsafe_syllables gs = flat_map (flagged 3) (syllables gs)
+
+-- so for the buffer
 abbrev pub with_unsafe_syllables : Buffer → Buffer
-with_unsafe_syllables b = record b { glyphs = flat_map (flagged 3) (syllables b.glyphs) }
+with_unsafe_syllables b = record b { glyphs = unsafe_syllables b.glyphs }
+
+-- the glyphs cut into these spans, with the inside of each syllable unsafe
+abbrev pub unsafe_spans : List Span → List hb_glyph_info_t → List hb_glyph_info_t
+unsafe_spans spans gs = unsafe_syllables (with_bytes gs (span_bytes 0 spans))
+
+-- the glyphs as one syllable of this byte, its inside unsafe
+abbrev pub in_unsafe_syllable : ℕ → List hb_glyph_info_t → List hb_glyph_info_t
+in_unsafe_syllable byte gs = flagged 3 (map (in_syllable byte) gs)
 
 -- the glyph without the mark that a lookup substituted it
 abbrev pub unsubstituted : hb_glyph_info_t → hb_glyph_info_t

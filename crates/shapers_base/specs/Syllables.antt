@@ -1,7 +1,9 @@
 -- Syllables: longest runs of equal syllable bytes, and the spans that set them.
-use Rattle.std.specs.Prelude.{ℕ, suc, ◌+◌, ◌*◌, ◌%◌, ◌==◌, nat_lt, Bool, ◌&&◌, ◌||◌, List, [], ◌∷◌, ◌++◌, replicate, sum_by, if◌then◌else◌}
+use Rattle.std.specs.Prelude.{ℕ, suc, ◌+◌, ◌*◌, ◌%◌, ◌==◌, nat_lt, Bool, ◌&&◌, ◌||◌, List, [], ◌∷◌, ◌++◌, length, position, replicate, sum_by, Option, option_map, if◌then◌else◌}
 use Rattle.std.specs.List.{list_all, list_any, prefix_len}
 use Rattle.shapers_base.specs.declared.buffer.glyph.hb_glyph_info_t.{hb_glyph_info_t}
+use Rattle.shapers_base.specs.declared.buffer.refusal.ShaperError.{ShaperError}
+use Rattle.shapers_base.specs.declared.buffer.refusal.ShaperError.TheVariants.{UnknownSyllable}
 use Rattle.shapers_base.specs.declared.buffer.syllables.Span.{Span}
 use Rattle.shapers_base.specs.Buffer.{Buffer}
 
@@ -25,9 +27,26 @@ abbrev pub syllables : List hb_glyph_info_t → List (List hb_glyph_info_t)
 syllables [] = []
 syllables (g ∷ gs) = with_opening g (syllables gs)
 
+-- the places of pieces that follow one another from place s on: start and end of each
+abbrev pub places_from : {X : Type 0} → ℕ → List (List X) → List (ℕ × ℕ)
+places_from s [] = []
+places_from s (piece ∷ pieces) = (s, s + length piece) ∷ places_from (s + length piece) pieces
+
+-- the places of the syllables: start and end of each
+abbrev pub syllable_places : List hb_glyph_info_t → List (ℕ × ℕ)
+syllable_places gs = places_from 0 (syllables gs)
+
 -- the kind of a syllable byte: its low four bits
 abbrev pub kind_of : ℕ → ℕ
 kind_of byte = byte % 16
+
+-- the first place of the first syllable of unknown kind, one above the last known: the first place of such a kind
+abbrev pub unknown_syllable : ℕ → List hb_glyph_info_t → Option ℕ
+unknown_syllable last gs = position (λ g. nat_lt last (kind_of g.syllable)) gs
+
+-- the refusal that it gives, if there is one
+abbrev pub unknown_refusal : ℕ → List hb_glyph_info_t → Option ShaperError
+unknown_refusal last gs = option_map (λ place. UnknownSyllable place) (unknown_syllable last gs)
 
 -- the byte of the span at place i of the list: serial 1 to 15 and then 1 again, times 16, and the kind
 abbrev pub span_byte : ℕ → Span → ℕ

@@ -5,6 +5,7 @@ ghost use Rattle.shapers_base.specs.Refusals.{RefusesLength};
 ghost use Rattle.shapers_base.specs.declared.buffer.refusal.ShaperError.TheVariants.{Memory};
 
 use arrayvec::ArrayVec;
+use placement::make_room;
 use std::alloc::Global;
 use std::marker::Model;
 
@@ -16,7 +17,9 @@ mod glyph_flags;
 mod level;
 mod merging;
 pub mod modified_combining_class;
+mod placement;
 mod refusal;
+mod replacing;
 mod reversing;
 mod syllables;
 mod tag;
@@ -53,16 +56,21 @@ pub struct hb_buffer_t {
     has_broken_syllable: bool,
     has_stch: bool,
     max_len: usize,
+    // for each glyph at least one place, and room for one glyph, so that a reordering takes no memory
+    places: Vec<usize>,
+    spare: Vec<hb_glyph_info_t>,
 }
 
 impl Model for hb_buffer_t {
+    ghost use Rattle.std.specs.Prelude.{length};
     ghost use Rattle.shapers_base.specs.Buffer.{Buffer, IsBuffer};
+    ghost use Rattle.shapers_base.specs.Places.{without_last_zeros};
 
     ghost Value = { Buffer };
 
-    ghost view = { λ b. record { glyphs = b.info.items; positions = b.pos.items; direction = b.direction; script = b.script; level = b.cluster_level; flags = b.flags; before = b.pre_context.items; after = b.post_context.items; broken = b.has_broken_syllable; stch = b.has_stch; max_len = b.max_len } };
+    ghost view = { λ b. record { glyphs = b.info.items; positions = b.pos.items; direction = b.direction; script = b.script; level = b.cluster_level; flags = b.flags; before = b.pre_context.items; after = b.post_context.items; broken = b.has_broken_syllable; stch = b.has_stch; max_len = b.max_len; places = without_last_zeros b.places.items } };
 
-    ghost invariant = { λ b. IsBuffer (record { glyphs = b.info.items; positions = b.pos.items; direction = b.direction; script = b.script; level = b.cluster_level; flags = b.flags; before = b.pre_context.items; after = b.post_context.items; broken = b.has_broken_syllable; stch = b.has_stch; max_len = b.max_len }) };
+    ghost invariant = { λ b. IsBuffer (record { glyphs = b.info.items; positions = b.pos.items; direction = b.direction; script = b.script; level = b.cluster_level; flags = b.flags; before = b.pre_context.items; after = b.post_context.items; broken = b.has_broken_syllable; stch = b.has_stch; max_len = b.max_len; places = without_last_zeros b.places.items }) (length b.places.items) (length b.spare.items) };
 }
 
 impl hb_buffer_t {
@@ -82,6 +90,8 @@ impl hb_buffer_t {
             has_broken_syllable: false,
             has_stch: false,
             max_len,
+            places: Vec::new(alloc),
+            spare: Vec::new(alloc),
         }
     }
 
@@ -138,6 +148,7 @@ impl hb_buffer_t {
         if self.info.len() == self.max_len {
             return Err(ShaperError::TooLong);
         }
+        make_room(&mut self.places, &mut self.spare, self.info.len() + 1)?;
         self.info.push(glyph).map_err(|_| ShaperError::Memory)?;
         Ok(())
     }
@@ -152,6 +163,7 @@ impl hb_buffer_t {
             return Err(ShaperError::TooLong);
         }
         let len = self.info.len() + n;
+        make_room(&mut self.places, &mut self.spare, len)?;
         self.info.reserve(n)?;
         if !self.pos.is_empty() {
             self.pos.resize(len, GlyphPosition::ZERO)?;
@@ -187,6 +199,8 @@ impl hb_buffer_t {
             has_broken_syllable: self.has_broken_syllable,
             has_stch: self.has_stch,
             max_len: self.max_len,
+            places: Vec::from_slice(alloc, self.places.as_slice())?,
+            spare: Vec::from_slice(alloc, self.info.as_slice())?,
         })
     }
 }

@@ -220,13 +220,12 @@ impl hb_font_t for Font {
     ghost use Rattle.std.specs.Prelude.{None, pos, false, codes, nat_eq, ◌&&◌};
     ghost use Rattle.std.specs.Cmp.Lexicographic.{pointwise};
 
-    ghost nominal_glyph = { λ _ _. None };
-
-    ghost h_advance = { λ _ _. pos 0 };
-
-    ghost applies = { λ _ _ _ _. false };
-
-    ghost offers = { λ font tag. font.rclt && pointwise nat_eq tag.0 (codes "rclt") };
+    ghost font = { λ font. record {
+        nominal = λ _. None;
+        advance = λ _. pos 0;
+        applies = λ _ _ _. false;
+        offers = λ tag. font.rclt && pointwise nat_eq tag.0 (codes "rclt");
+    } };
 
     fn get_nominal_glyph(&self, _c: u32) -> Option<GlyphId> {
         None

@@ -20,13 +20,12 @@ struct Nothing;
 impl hb_font_t for Nothing {
     ghost use Rattle.std.specs.Prelude.{None, pos, false};
 
-    ghost nominal_glyph = { λ _ _. None };
-
-    ghost h_advance = { λ _ _. pos 0 };
-
-    ghost applies = { λ _ _ _ _. false };
-
-    ghost offers = { λ _ _. false };
+    ghost font = { λ _. record {
+        nominal = λ _. None;
+        advance = λ _. pos 0;
+        applies = λ _ _ _. false;
+        offers = λ _. false;
+    } };
 
     fn get_nominal_glyph(&self, _c: u32) -> Option<GlyphId> {
         None
@@ -54,17 +53,14 @@ impl Tables for Nothing {
     ghost use Rattle.shapers_base.specs.declared.buffer.category.hb_unicode_general_category_t.TheVariants.{Cn};
     ghost use Rattle.shapers_base.specs.declared.plan.joining.hb_arabic_joining_type_t.TheVariants.{U};
 
-    ghost joining = { λ _ _. U };
-
-    ghost general = { λ _ _. Cn };
-
-    ghost indic = { λ _ _. (0, 14) };
-
-    ghost universal = { λ _ _. 0 };
-
-    ghost composed = { λ _ _ _. None };
-
-    ghost decomposed = { λ _ _. None };
+    ghost tables = { λ _. record {
+        joining = λ _. U;
+        general = λ _. Cn;
+        indic = λ _. (0, 14);
+        universal = λ _. 0;
+        composed = λ _ _. None;
+        decomposed = λ _. None;
+    } };
 
     fn joining_type(&self, _c: char) -> hb_arabic_joining_type_t {
         hb_arabic_joining_type_t::U

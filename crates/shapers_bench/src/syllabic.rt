@@ -19,13 +19,12 @@ struct Font {
 }
 
 impl hb_font_t for Font {
-    ghost nominal_glyph = { λ font c. if c == 0x25CC then font.circle else None };
-
-    ghost h_advance = { λ font glyph. pos 0 };
-
-    ghost applies = { λ font lookup glyphs zero_context. false };
-
-    ghost offers = { λ font tag. false };
+    ghost font = { λ font. record {
+        nominal = λ c. if c == 0x25CC then font.circle else None;
+        advance = λ _. pos 0;
+        applies = λ _ _ _. false;
+        offers = λ _. false;
+    } };
 
     fn get_nominal_glyph(&self, c: u32) -> Option<GlyphId> {
         if c == 0x25CC { self.circle } else { None }
@@ -85,21 +84,24 @@ fn sixteen_syllables(alloc: Global) -> Result<hb_buffer_t, ShaperError>
 }
 
 #[test]
-fn opens_one_circle_as_the_serial_wraps(rt: HostRuntime) -> Result<(), Fail> {
+fn opens_a_circle_for_each_broken_syllable(rt: HostRuntime) -> Result<(), Fail> {
     let font = Font {
         circle: Some(GlyphId(7)),
     };
     let mut buffer = sixteen_syllables(rt.alloc())?;
     assert!(rt; buffer.len() == 16);
-    buffer.set_max_len(17);
+    assert_eq!(rt; buffer.get(0).syllable, 0x14);
+    assert_eq!(rt; buffer.get(15).syllable, 0x14);
     assert_eq!(rt;
         insert_dotted_circles(&font, &mut buffer, 4, 11, Some(14), Some(14)),
         Ok(true)
     );
-    assert!(rt; buffer.len() == 17);
-    assert_eq!(rt; buffer.get(0).glyph_id, 7);
-    for i in 1..17 {
-        assert_eq!(rt; buffer.get(i).category, 1, "at {i}");
+    assert!(rt; buffer.len() == 18);
+    for i in 0..18 {
+        let is_circle = i == 0 || i == 16;
+        let category = if is_circle { 11 } else { 1 };
+        assert_eq!(rt; buffer.get(i).category, category, "at {i}");
+        assert_eq!(rt; buffer.get(i).glyph_id == 7, is_circle, "at {i}");
     }
     Ok(())
 }
@@ -111,7 +113,7 @@ fn refuses_circles_beyond_max_len(rt: HostRuntime) -> Result<(), Fail> {
     };
     let mut buffer = sixteen_syllables(rt.alloc())?;
     assert!(rt; buffer.len() == 16);
-    buffer.set_max_len(16);
+    buffer.set_max_len(17);
     let refused = insert_dotted_circles(&font, &mut buffer, 4, 11, None, None);
     assert_eq!(rt; refused, Err(ShaperError::TooLong));
     assert_eq!(rt; buffer.len(), 16);

@@ -8,7 +8,7 @@ use Rattle.shapers_base.specs.declared.buffer.glyph.hb_glyph_info_t.{hb_glyph_in
 use Rattle.shapers_base.specs.declared.buffer.level.BufferClusterLevel.{BufferClusterLevel}
 use Rattle.shapers_base.specs.Glyph.{clusters, default_glyph}
 use Rattle.shapers_base.specs.Clusters.{least, first_cluster, last_cluster, in_cluster, flooded, merge, merge_all, merges, stretch_of}
-use Rattle.shapers_base.specs.MappedLists.{map-reverse}
+use Rattle.shapers_base.proofs.MappedLists.{map-reverse}
 use Rattle.shapers_clusters.proofs.Joined.{opening, opening-at, opening-clusters, least-le}
 use Rattle.shapers_clusters.proofs.Merging.{length-merge}
 use Rattle.shapers_base.proofs.ClusterLemmas.{flood_merged, merge_is}

@@ -11,7 +11,8 @@ use Rattle.shapers_base.specs.Glyph.{clusters}
 use Rattle.shapers_base.specs.Clusters.{least, first_cluster, last_cluster, in_cluster, flooded, merge, merge_all, merges, stretch_of}
 use Rattle.shapers_clusters.proofs.Merging.{length-merge, length-merge_all}
 use Rattle.shapers_clusters.specs.Cuts.{EndWithin, ShareNone}
-use Rattle.shapers_clusters.specs.Steps.{pick, Step, run_step, run_steps, FitsStep, FitSteps, shifted, widened, steps_along}
+use Rattle.shapers_base.specs.Places.{pick}
+use Rattle.shapers_clusters.specs.Steps.{Step, run_step, run_steps, FitsStep, FitSteps, shifted, widened, steps_along}
 use Rattle.shapers_clusters.proofs.Picks.{length-pick, pick-map}
 use Rattle.shapers_clusters.proofs.Moves.{clusters-merge_all, clusters-run_steps, all-joined, all-joined_steps, all-picked}
 use Rattle.shapers_clusters.proofs.Widened.{pick-parts, fits-widened, range-append, map-range, all_along}

@@ -6,7 +6,7 @@ use Rattle.std.proofs.lemmas.Bool.Decides.{nat_tests}
 use Rattle.shapers_base.specs.declared.buffer.glyph.hb_glyph_info_t.{hb_glyph_info_t}
 use Rattle.shapers_base.specs.declared.buffer.level.BufferClusterLevel.{BufferClusterLevel}
 use Rattle.shapers_base.specs.Glyph.{clusters}
-use Rattle.shapers_base.specs.MappedLists.{map-reverse}
+use Rattle.shapers_base.proofs.MappedLists.{map-reverse}
 use Rattle.shapers_base.specs.Clusters.{least, first_cluster, in_cluster, flooded, merge, merges, stretch_of}
 use Rattle.shapers_base.proofs.ClusterLemmas.{flood_merged, merge_is}
 use Rattle.shapers_clusters.specs.Joined.{of_cluster, joined}

@@ -7,7 +7,8 @@ use Rattle.shapers_clusters.specs.Joined.{joined, joined_all}
 use Rattle.shapers_clusters.proofs.Spread.{Spread, joined_cases}
 use Rattle.shapers_clusters.specs.Cuts.{EndWithin}
 use Rattle.shapers_clusters.proofs.Neighbours.{end_within_joined}
-use Rattle.shapers_clusters.specs.Steps.{pick, Step, joined_step, joined_steps, moved_on, old_places, FitsStep, FitSteps}
+use Rattle.shapers_base.specs.Places.{pick}
+use Rattle.shapers_clusters.specs.Steps.{Step, joined_step, joined_steps, moved_on, old_places, FitsStep, FitSteps}
 use Rattle.shapers_clusters.proofs.Picks.{length-pick, get_or-pick, pick-all, pick-pick, within_picked, within_range, within_at}
 use Rattle.shapers_clusters.proofs.Moves.{stepped}
 use Rattle.shapers_clusters.specs.Labels.{IsLabelled, OneLabel, OneLabelEach}

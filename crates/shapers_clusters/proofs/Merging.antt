@@ -6,7 +6,7 @@ use Rattle.std.specs.List.{AllByRecursion}
 use Rattle.shapers_base.specs.declared.buffer.glyph.hb_glyph_info_t.{hb_glyph_info_t}
 use Rattle.shapers_base.specs.declared.buffer.level.BufferClusterLevel.{BufferClusterLevel}
 use Rattle.shapers_base.specs.Glyph.{plain, without_flags, order_view}
-use Rattle.shapers_base.specs.MappedLists.{map-reverse}
+use Rattle.shapers_base.proofs.MappedLists.{map-reverse}
 use Rattle.shapers_base.specs.Clusters.{in_cluster, flooded, merge, merge_all, merges, stretch_of}
 use Rattle.shapers_base.proofs.ClusterLemmas.{flood_merged, merge_is, three_parts}
 

@@ -16,7 +16,8 @@ use Rattle.shapers_clusters.proofs.Joined.{clusters-merge, clusters-of_clusters}
 use Rattle.shapers_clusters.proofs.Merging.{order_view-merge_all, length-merge_all}
 use Rattle.shapers_clusters.specs.Cuts.{EndWithin, held, ShareCluster}
 use Rattle.shapers_clusters.proofs.Neighbours.{length-joined_all, joined_all-linked, joined_all-reached, share_all}
-use Rattle.shapers_clusters.specs.Steps.{pick, Step, run_step, run_steps, joined_step, joined_steps, moved_on, old_places, FitsStep, FitSteps, HeldBetween, MovesMerged, all_first}
+use Rattle.shapers_base.specs.Places.{pick}
+use Rattle.shapers_clusters.specs.Steps.{Step, run_step, run_steps, joined_step, joined_steps, moved_on, old_places, FitsStep, FitSteps, HeldBetween, MovesMerged, all_first}
 use Rattle.shapers_clusters.proofs.Picks.{length-pick, get_or-pick, pick-map, AllZip-pick, pick-all, pick-pick, within_picked, within_range, within_at}
 use Rattle.shapers_clusters.specs.Flags.{FallsTo}
 use Rattle.shapers_clusters.proofs.Falls.{all_on, all_same, merge_all-falls}

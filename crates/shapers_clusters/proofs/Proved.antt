@@ -15,7 +15,8 @@ use Rattle.shapers_clusters.proofs.Merging.{length-merge, length-merge_all, orde
 use Rattle.shapers_clusters.specs.Cuts.{EndWithin, ShareCluster, IsMonotone, ExactCuts}
 use Rattle.shapers_clusters.proofs.Neighbours.{share_all, joined_all-share, length-joined_all}
 use Rattle.shapers_clusters.proofs.Cuts.{exact_cuts, one_exact, stays_rising, stays_falling}
-use Rattle.shapers_clusters.specs.Steps.{pick, Step, run_steps, joined_steps, old_places, FitsStep, FitSteps, MovesMerged, all_first, Permutes}
+use Rattle.shapers_base.specs.Places.{pick}
+use Rattle.shapers_clusters.specs.Steps.{Step, run_steps, joined_steps, old_places, FitsStep, FitSteps, MovesMerged, all_first, Permutes}
 use Rattle.shapers_clusters.proofs.Picks.{length-pick, within_at}
 use Rattle.shapers_clusters.proofs.Falls.{merge-falls, all_flags_on, all_flags_fall}
 use Rattle.shapers_clusters.specs.Flags.{ShowsClusters, whole, seen}

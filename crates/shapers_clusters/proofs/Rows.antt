@@ -7,7 +7,8 @@ use Rattle.shapers_base.specs.Glyph.{default_glyph}
 use Rattle.shapers_clusters.specs.Cuts.{held, linked}
 use Rattle.shapers_clusters.specs.Flags.{bit_at, seen, whole}
 use Rattle.shapers_clusters.specs.Joined.{joined, joined_all}
-use Rattle.shapers_clusters.specs.Steps.{pick, Step, joined_steps, old_places, MovesMerged, all_first, shifted, widened, still_step, swap_step, steps_along, reordered_along}
+use Rattle.shapers_base.specs.Places.{pick}
+use Rattle.shapers_clusters.specs.Steps.{Step, joined_steps, old_places, MovesMerged, all_first, shifted, widened, still_step, swap_step, steps_along, reordered_along}
 use Rattle.shapers_clusters.proofs.Moves.{moves_anywhere}
 use Rattle.shapers_clusters.proofs.Widened.{moves-widened}
 

@@ -9,7 +9,7 @@ use Rattle.shapers_clusters.specs.Joined.{joined_all}
 use Rattle.shapers_clusters.specs.Cuts.{EndWithin, ShareCluster, IsMonotone}
 use Rattle.shapers_clusters.proofs.Neighbours.{length-joined_all, share_all}
 use Rattle.shapers_clusters.proofs.Cuts.{exact_cuts, block_shares, between_equal}
-use Rattle.shapers_clusters.specs.Steps.{pick}
+use Rattle.shapers_base.specs.Places.{pick}
 use Rattle.shapers_clusters.proofs.Picks.{length-pick, get_or-pick, pick-map, pick-pick, AllZip-pick, within_at}
 use Rattle.shapers_clusters.specs.Flags.{FallsTo}
 use Rattle.shapers_clusters.proofs.Falls.{merge_all-falls}

@@ -15,7 +15,8 @@ use Rattle.shapers_base.specs.Glyph.{plain, order_view, default_glyph}
 use Rattle.shapers_clusters.proofs.Merging.{length-merge, order_view-merge}
 use Rattle.shapers_clusters.specs.Cuts.{held}
 use Rattle.shapers_clusters.proofs.Picks.{length-pick, get_or-pick, pick-all, within_range}
-use Rattle.shapers_clusters.specs.Steps.{pick, run_step, HeldBetween, MovesMerged, still_step, swap_step}
+use Rattle.shapers_base.specs.Places.{pick}
+use Rattle.shapers_clusters.specs.Steps.{run_step, HeldBetween, MovesMerged, still_step, swap_step}
 
 -- where what stands at place k comes from
 abbrev turned : ℕ → ℕ → ℕ

@@ -6,7 +6,8 @@ use Rattle.std.proofs.lemmas.List.Sorted.{IsPermutation-map}
 use Rattle.shapers_base.specs.declared.buffer.glyph.hb_glyph_info_t.{hb_glyph_info_t}
 use Rattle.shapers_base.specs.declared.buffer.level.BufferClusterLevel.{BufferClusterLevel}
 use Rattle.shapers_base.specs.Glyph.{order_view, plain}
-use Rattle.shapers_clusters.specs.Steps.{pick, Step, run_steps, old_places, FitSteps, Permutes}
+use Rattle.shapers_base.specs.Places.{pick}
+use Rattle.shapers_clusters.specs.Steps.{Step, run_steps, old_places, FitSteps, Permutes}
 use Rattle.shapers_clusters.specs.Flags.{HidesFields, whole, seen}
 use Rattle.shapers_clusters.proofs.Merging.{without_flags-twice}
 use Rattle.shapers_clusters.proofs.Picks.{pick-map}

@@ -11,8 +11,9 @@ use Rattle.shapers_base.specs.declared.buffer.level.BufferClusterLevel.{BufferCl
 use Rattle.shapers_base.specs.Glyph.{order_view, plain}
 use Rattle.shapers_base.specs.Clusters.{stretch_of}
 use Rattle.shapers_clusters.specs.Cuts.{EndWithin, held}
-use Rattle.shapers_clusters.specs.Steps.{pick, Step, run_step, run_steps, moved_on, old_places, FitsStep, FitSteps, MovesInside, MovesMerged, shifted, widened, steps_along, reordered_along}
-use Rattle.shapers_base.specs.MappedLists.{all-append, all-mapped, all-range}
+use Rattle.shapers_base.specs.Places.{pick}
+use Rattle.shapers_clusters.specs.Steps.{Step, run_step, run_steps, moved_on, old_places, FitsStep, FitSteps, MovesInside, MovesMerged, shifted, widened, steps_along, reordered_along}
+use Rattle.shapers_base.proofs.MappedLists.{all-append, all-mapped, all-range}
 use Rattle.shapers_clusters.proofs.Picks.{length-pick, pick-map, pick-append, pick-range, pick-within, some_element}
 use Rattle.shapers_clusters.proofs.Moves.{order_view-run_steps, falls-run_steps, length-old_places, within-old_places}
 

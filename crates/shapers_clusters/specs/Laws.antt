@@ -9,7 +9,8 @@ use Rattle.shapers_base.specs.Clusters.{least, low, high, merge, merge_all, merg
 use Rattle.shapers_base.specs.GlyphFlags.{unsafe_inside, unsafe_to_concat_in, tatweel_inside, FlagCall, flags_called}
 use Rattle.shapers_clusters.specs.Joined.{joined_all}
 use Rattle.shapers_clusters.specs.Cuts.{EndWithin, ShareCluster, IsMonotone, ExactCuts, ShareNone}
-use Rattle.shapers_clusters.specs.Steps.{pick, Step, run_steps, joined_steps, old_places, FitSteps, MovesMerged, all_first, widened, steps_along, reordered_along, Permutes}
+use Rattle.shapers_base.specs.Places.{pick}
+use Rattle.shapers_clusters.specs.Steps.{Step, run_steps, joined_steps, old_places, FitSteps, MovesMerged, all_first, widened, steps_along, reordered_along, Permutes}
 use Rattle.shapers_clusters.specs.Flags.{FallsTo, FlagsFall, FlagsAlone, InOrder, ShowsClusters, HidesFields, seen}
 use Rattle.shapers_clusters.specs.Made.{ExactCutsBy, HeldAlong, MovesInsideOf}
 use Rattle.shapers_clusters.specs.Labels.{IsLabelled, OneLabel, OneLabelEach}

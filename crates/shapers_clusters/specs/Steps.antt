@@ -1,17 +1,14 @@
 -- Steps: merges and moves of places.
 use Rattle.std.proofs.Common.{ℕ, ◌+◌, ◌-◌, ◌<◌, ◌≤◌, ◌≡◌, ◌++◌, min, max, true, List, [], map, length, slice_index, ◌∷◌, take, drop}
-use Rattle.std.specs.List.{fold, AllByRecursion, filter_map, flat_map, slice_get, range_with_len}
+use Rattle.std.specs.List.{fold, AllByRecursion, flat_map, range_with_len}
 use Rattle.shapers_base.specs.declared.buffer.glyph.hb_glyph_info_t.{hb_glyph_info_t}
 use Rattle.shapers_base.specs.declared.buffer.level.BufferClusterLevel.{BufferClusterLevel}
+use Rattle.shapers_base.specs.Places.{pick}
 use Rattle.shapers_base.specs.Clusters.{merge_all}
 use Rattle.shapers_clusters.specs.Joined.{joined_all}
 use Rattle.shapers_clusters.specs.Cuts.{EndWithin, held}
 use Rattle.std.specs.List.Sorted.{IsPermutation}
 use Rattle.std.specs.Prelude.{swap}
-
--- the elements at these places, in the order of the places
-abbrev pub pick : {X : Type 0} → List ℕ → List X → List X
-pick places xs = filter_map (slice_get xs) places
 
 -- One step: some stretches merge, then the glyph of the listed old place comes to each place, then some stretches merge.
 pub record Step : Type 0 where

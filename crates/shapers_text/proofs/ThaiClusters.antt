@@ -11,7 +11,7 @@ use Rattle.shapers_base.specs.declared.buffer.level.BufferClusterLevel.{BufferCl
 use Rattle.shapers_base.specs.Glyph.{clusters}
 use Rattle.shapers_base.specs.Clusters.{merge_all, merges}
 use Rattle.shapers_base.specs.Lists.{before_last_run, each_after}
-use Rattle.shapers_base.specs.MappedLists.{all-range, Contains-flat_map, Contains-each_after}
+use Rattle.shapers_base.proofs.MappedLists.{all-range, Contains-flat_map, Contains-each_after}
 use Rattle.shapers_clusters.specs.Cuts.{ShareCluster}
 use Rattle.shapers_clusters.proofs.Made.{Made, all_standing, glyphs-standing, numbered-standing}
 use Rattle.shapers_clusters.specs.Laws.{ClustersMade}

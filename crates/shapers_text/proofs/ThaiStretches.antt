@@ -12,8 +12,8 @@ use Rattle.shapers_base.specs.declared.buffer.glyph.GlyphPosition.{GlyphPosition
 use Rattle.shapers_base.specs.Buffer.{Buffer, grown, more_positions}
 use Rattle.shapers_base.specs.Clusters.{merge_all}
 use Rattle.shapers_base.specs.Lists.{each_after}
-use Rattle.shapers_base.specs.MappedLists.{all-flat_map, all-each_after, each_after-push, list_any-map}
-use Rattle.shapers_base.specs.ListLaws.{none_from_count}
+use Rattle.shapers_base.proofs.MappedLists.{all-flat_map, all-each_after, each_after-push, list_any-map}
+use Rattle.shapers_base.proofs.ListLaws.{none_from_count}
 use Rattle.shapers_clusters.proofs.Merging.{length-merge_all, merge_all-append, map-merge_all}
 use Rattle.shapers_clusters.proofs.Appended.{merge_all-appended}
 use Rattle.shapers_text.specs.Thai.{characters, is_sara_am, is_above_base, glyphs_in_two, rewritten, stretch_of_sara_am, stretches_at, stretches_of_each, sara_am_stretches, joins_before}

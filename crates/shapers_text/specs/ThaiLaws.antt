@@ -9,7 +9,7 @@ use Rattle.shapers_base.specs.Lists.{before_last_run}
 use Rattle.shapers_base.specs.Glyph.{clusters}
 use Rattle.shapers_base.specs.Clusters.{merge_all, merges}
 use Rattle.shapers_clusters.specs.Cuts.{ShareCluster}
-use Rattle.shapers_clusters.specs.Steps.{pick}
+use Rattle.shapers_base.specs.Places.{pick}
 use Rattle.shapers_clusters.specs.Flags.{FlagsFall}
 use Rattle.shapers_clusters.specs.Laws.{ClustersMade}
 use Rattle.shapers_text.specs.ThaiForms.{preprocessed}

@@ -43,7 +43,7 @@ pub fn collect_features<F: hb_font_t>(
     face: &F,
     planner: &mut hb_ot_shape_planner_t,
 ) -> Result<(), ShaperError>
-    ensures ok { OnOk result (planner.new ≡ with_requests (arabic_list (is_arabic planner.old.script) (F.offers face.now rclt)) planner.old) }
+    ensures ok { OnOk result (planner.new ≡ with_requests (arabic_list (is_arabic planner.old.script) ((F.font face.now).offers rclt)) planner.old) }
     ensures refusal { IsOkUnless result Memory }
     ensures err { OnErr result (planner.new ≡ planner.old) }
 {

@@ -64,7 +64,7 @@ fn is_triple(a: hb_glyph_info_t, b: hb_glyph_info_t, c: hb_glyph_info_t) -> bool
 /// The composition of two characters: the table's, or else, where GPOS places no marks, the Hebrew
 /// presentation form of a letter and a point.
 pub fn compose<T: Tables>(plan: &hb_ot_shape_plan_t, tables: &T, a: char, b: char) -> Option<char>
-    ensures { result ≡ composed_in_hebrew (T.composed tables.now a b) plan.now.has_gpos_mark a b }
+    ensures { result ≡ composed_in_hebrew ((T.tables tables.now).composed a b) plan.now.has_gpos_mark a b }
 {
     match tables.compose(a, b) {
         Some(composed) => Some(composed),

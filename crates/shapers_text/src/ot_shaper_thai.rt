@@ -2,6 +2,7 @@
 //! forms.
 ghost use Rattle.std.specs.Prelude.{◌≡◌, ℕ, [], length, false, is_some, IsOk, OnOk, OnErr};
 ghost use Rattle.std.specs.List.{list_any};
+ghost use Rattle.shapers_base.specs.Font.{has_nominal};
 ghost use Rattle.shapers_base.specs.Glyph.{clusters};
 ghost use Rattle.shapers_base.specs.Refusals.{RefusesLength};
 ghost use Rattle.shapers_text.specs.Thai.{is_sara_am, characters, rewritten, is_thai, wants_forms};
@@ -33,7 +34,7 @@ pub fn preprocess_text<F: hb_font_t>(
     buffer: &mut hb_buffer_t,
 ) -> Result<(), ShaperError>
     requires { buffer.old.positions ≡ [] }
-    ensures ok { OnOk result (buffer.new ≡ record buffer.old { glyphs = preprocessed (wants_forms plan.now.script plan.now.ot_map.found) (λ c. is_some (F.nominal_glyph face.now c)) buffer.old.level buffer.old.glyphs }) }
+    ensures ok { OnOk result (buffer.new ≡ record buffer.old { glyphs = preprocessed (wants_forms plan.now.script plan.now.ot_map.found) (has_nominal (F.font face.now)) buffer.old.level buffer.old.glyphs }) }
     ensures clusters { OnOk result (ClustersInTwo buffer.old.level (characters buffer.old.glyphs) (clusters buffer.old.glyphs) (clusters buffer.new.glyphs)) }
     ensures length { RefusesLength buffer.old.max_len (length (rewritten buffer.old.glyphs)) result }
     ensures err { OnErr result (buffer.new ≡ buffer.old) }

@@ -102,7 +102,8 @@ impl hb_buffer_t {
 
     /// The text before the buffer's, nearest character first: at most five.
     pub fn pre_context(&self) -> &[char]
-        ensures { result.now ≡ self.now.before }
+        ensures chars { result.now ≡ self.now.before }
+        ensures at_most_five { length self.now.before ≤ 5 }
     {
         self.pre_context.as_slice()
     }
@@ -116,7 +117,8 @@ impl hb_buffer_t {
 
     /// The text after the buffer's, nearest character first: at most five.
     pub fn post_context(&self) -> &[char]
-        ensures { result.now ≡ self.now.after }
+        ensures chars { result.now ≡ self.now.after }
+        ensures at_most_five { length self.now.after ≤ 5 }
     {
         self.post_context.as_slice()
     }

@@ -2,7 +2,7 @@
 ghost use Rattle.std.specs.Prelude.{◌≡◌, ◌==◌, ◌+◌, ◌<◌, ◌≤◌, All, is_ok, OnOk, OnErr, IfErr, IsTrue, length, drop, map};
 ghost use Rattle.shapers_base.specs.Clusters.{with_stretch};
 ghost use Rattle.shapers_base.specs.SyllableLaws.{SyllablesAreRuns};
-ghost use Rattle.shapers_base.specs.Syllables.{first_syllable_len, spans_cover, with_spans, with_bytes, span_bytes, has_byte, in_syllable};
+ghost use Rattle.shapers_base.specs.Syllables.{first_syllable_len, spans_cover, with_spans, with_bytes, span_bytes, has_byte, in_syllable, unknown_syllable};
 ghost use Rattle.shapers_base.specs.declared.buffer.refusal.ShaperError.TheVariants.{SpansDontCover};
 ghost use Rattle.std.specs.List.{prefix_len, list_any};
 
@@ -26,6 +26,13 @@ impl hb_buffer_t {
     {
         let byte = self.info[s].syllable;
         s + 1 + run_len(&self.info[s + 1..], byte)
+    }
+
+    /// The first place of the first syllable whose kind is above `last_kind`: one of unknown kind.
+    pub fn unknown_syllable(&self, last_kind: u8) -> Option<usize>
+        ensures { result ≡ unknown_syllable last_kind self.now.glyphs }
+    {
+        first_above(&self.info, last_kind)
     }
 
     /// Gives each place the syllable byte of the span that covers it, and sets the mark of a broken
@@ -58,6 +65,15 @@ fn run_len(glyphs: &[hb_glyph_info_t], byte: u8) -> usize
         .iter()
         .take_while(|glyph| glyph.syllable == byte)
         .count()
+}
+
+// The first place whose kind is above this one.
+fn first_above(glyphs: &[hb_glyph_info_t], last_kind: u8) -> Option<usize>
+    ensures { result ≡ unknown_syllable last_kind glyphs.now }
+{
+    glyphs
+        .iter()
+        .position(|glyph| glyph.syllable % 16 > last_kind)
 }
 
 // Whether a span is of this kind.

@@ -73,7 +73,7 @@ impl hb_ot_shape_planner_t {
 
     /// Whether the font has a feature by this tag.
     pub fn has_feature<F: hb_font_t>(&self, face: &F, tag: hb_tag_t) -> bool
-        ensures { result ≡ F.offers face.now tag }
+        ensures { result ≡ (F.font face.now).offers tag }
     {
         face.has_feature(tag)
     }

@@ -1,6 +1,7 @@
 //! The private use forms of Thai, for fonts whose GSUB table doesn't know the script: marks that
 //! would touch are shifted, and a descender that is in the way is left out. (The Thai note.)
 ghost use Rattle.std.specs.Prelude.{◌≡◌, ℕ, ◌+◌, ◌^◌, ◌<◌, ◌≤◌, ◌==◌, [], ◌∷◌, ◌++◌, true, false, length, take, find, is_some, slice_index_or, slice_set};
+ghost use Rattle.shapers_base.specs.Font.{has_nominal};
 ghost use Rattle.shapers_base.specs.GlyphFlags.{unsafe_inside, unsafe_all};
 ghost use Rattle.shapers_text.specs.Thai.{characters};
 ghost use Rattle.shapers_text.specs.ThaiForms.{consonant_type, mark_type, is_thai_mark, action_of, mappings_of, shaped_by, mark_stretches, with_forms, pua_shaped};
@@ -153,7 +154,7 @@ fn find_mapping(mappings: &[PuaMapping], u: u32) -> Option<PuaMapping>
 
 // The first form of a character that the font has, else the character itself.
 fn pua_shape<F: hb_font_t>(u: u32, action: Action, face: &F) -> u32
-    ensures { result ≡ shaped_by (λ c. is_some (F.nominal_glyph face.now c)) u action }
+    ensures { result ≡ shaped_by (has_nominal (F.font face.now)) u action }
 {
     match find_mapping(get_mappings(action), u) {
         None => u,
@@ -250,7 +251,7 @@ impl Base {
 // Gives the glyph at `place` its form.
 fn set_form<F: hb_font_t>(face: &F, buffer: &mut hb_buffer_t, place: usize, action: Action)
     requires { place < length buffer.old.glyphs }
-    ensures { buffer.new ≡ record buffer.old { glyphs = form_set (λ c. is_some (F.nominal_glyph face.now c)) place action buffer.old.glyphs } }
+    ensures { buffer.new ≡ record buffer.old { glyphs = form_set (has_nominal (F.font face.now)) place action buffer.old.glyphs } }
 {
     let glyph = buffer.get(place);
     let glyph_id = pua_shape(glyph.glyph_id, action, face);
@@ -261,7 +262,7 @@ fn set_form<F: hb_font_t>(face: &F, buffer: &mut hb_buffer_t, place: usize, acti
 fn act_as<F: hb_font_t>(face: &F, buffer: &mut hb_buffer_t, base: Base, i: usize, mark: Mark)
     requires place { base.place < length buffer.old.glyphs }
     requires in_range { i < length buffer.old.glyphs }
-    ensures { buffer.new ≡ record buffer.old { glyphs = form_set (λ c. is_some (F.nominal_glyph face.now c)) (target (action_of base.consonant mark base.above base.below) base.place i) (action_of base.consonant mark base.above base.below) buffer.old.glyphs } }
+    ensures { buffer.new ≡ record buffer.old { glyphs = form_set (has_nominal (F.font face.now)) (target (action_of base.consonant mark base.above base.below) base.place i) (action_of base.consonant mark base.above base.below) buffer.old.glyphs } }
 {
     let action = get_action(base.consonant, mark, base.above, base.below);
     match action {
@@ -275,7 +276,7 @@ fn act_as<F: hb_font_t>(face: &F, buffer: &mut hb_buffer_t, base: Base, i: usize
 fn act<F: hb_font_t>(face: &F, buffer: &mut hb_buffer_t, base: Base, i: usize, u: u32)
     requires place { base.place < length buffer.old.glyphs }
     requires in_range { i < length buffer.old.glyphs }
-    ensures { buffer.new ≡ record buffer.old { glyphs = form_set (λ c. is_some (F.nominal_glyph face.now c)) (target (action_of base.consonant (mark_type u) base.above base.below) base.place i) (action_of base.consonant (mark_type u) base.above base.below) buffer.old.glyphs } }
+    ensures { buffer.new ≡ record buffer.old { glyphs = form_set (has_nominal (F.font face.now)) (target (action_of base.consonant (mark_type u) base.above base.below) base.place i) (action_of base.consonant (mark_type u) base.above base.below) buffer.old.glyphs } }
 {
     match get_mark_type(u) {
         Mark::NotMark => {}
@@ -285,7 +286,7 @@ fn act<F: hb_font_t>(face: &F, buffer: &mut hb_buffer_t, base: Base, i: usize, u
 
 // Gives each mark, or its base, its form.
 fn shape_marks<F: hb_font_t>(face: &F, buffer: &mut hb_buffer_t)
-    ensures { buffer.new ≡ record buffer.old { glyphs = with_forms (λ c. is_some (F.nominal_glyph face.now c)) buffer.old.glyphs } }
+    ensures { buffer.new ≡ record buffer.old { glyphs = with_forms (has_nominal (F.font face.now)) buffer.old.glyphs } }
 {
     let mut base = Base::NONE;
     for i in 0..buffer.len() {
@@ -297,7 +298,7 @@ fn shape_marks<F: hb_font_t>(face: &F, buffer: &mut hb_buffer_t)
 
 /// Gives the marks of a Thai text, and bases with descenders, their private use forms.
 pub fn do_pua_shaping<F: hb_font_t>(face: &F, buffer: &mut hb_buffer_t)
-    ensures { buffer.new ≡ record buffer.old { glyphs = pua_shaped (λ c. is_some (F.nominal_glyph face.now c)) buffer.old.glyphs } }
+    ensures { buffer.new ≡ record buffer.old { glyphs = pua_shaped (has_nominal (F.font face.now)) buffer.old.glyphs } }
 {
     flag_marks(buffer);
     shape_marks(face, buffer);

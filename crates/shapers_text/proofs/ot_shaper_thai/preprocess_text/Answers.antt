@@ -1,5 +1,6 @@
 -- The laws of clusters, from the two equations.
-use Rattle.std.proofs.Common.{ap, is_some}
+use Rattle.std.proofs.Common.{ap}
+use Rattle.shapers_base.specs.Font.{has_nominal}
 use Rattle.shapers_base.specs.Buffer.{Buffer}
 use Rattle.shapers_text.proofs.ThaiClusters.{plain_in_two, shaped_in_two}
 use Rattle.shapers_text.proofs.ot_shaper_thai.preprocess_text.Goals as goal
@@ -7,7 +8,7 @@ use Rattle.shapers_text.proofs.ot_shaper_thai.preprocess_text.Goals as goal
 pub returns-then-wants_forms-clause-clusters : goal.returns-then-wants_forms-clause-clusters
 returns-then-wants_forms-clause-clusters g c =
     let b = c.args.buffer.now in
-    shaped_in_two (λ u. is_some (g.F.hb_font_t.nominal_glyph c.args.face.now u)) b.level b.glyphs _ _ (ap (λ (x : Buffer). x.glyphs) c.in_ok-rewrite_sara_am.ensures.ok) (ap (λ (x : Buffer). x.glyphs) c.do_pua_shaping.ensures)
+    shaped_in_two (has_nominal (g.F.hb_font_t.font c.args.face.now)) b.level b.glyphs _ _ (ap (λ (x : Buffer). x.glyphs) c.in_ok-rewrite_sara_am.ensures.ok) (ap (λ (x : Buffer). x.glyphs) c.do_pua_shaping.ensures)
 
 pub returns-else-wants_forms-clause-clusters : goal.returns-else-wants_forms-clause-clusters
 returns-else-wants_forms-clause-clusters g c =

@@ -1,4 +1,4 @@
-use Rattle.shapers_base.specs.SyllableLaws.{syllables_are_runs}
+use Rattle.shapers_base.proofs.SyllableLaws.{syllables_are_runs}
 use Rattle.shapers_base.proofs.buffer.syllables.syllables_are_runs.Goals as goal
 
 pub returns : goal.returns

@@ -1,5 +1,6 @@
 -- One more place of the walk, and the end.
-use Rattle.std.proofs.Common.{is_some, ◌∙◌, ap, arith}
+use Rattle.std.proofs.Common.{◌∙◌, ap, arith}
+use Rattle.shapers_base.specs.Font.{has_nominal}
 use Rattle.shapers_text.proofs.ThaiStretches.{with_glyphs, same_fields}
 use Rattle.shapers_text.proofs.ThaiFormWalks.{shaping_step, shaping_all}
 use Rattle.shapers_text.proofs.ot_shaper_thai.forms.shape_marks.Goals as goal
@@ -10,10 +11,10 @@ loop-i-preserved g c =
     let start = c.args.buffer.now in
     record {
       fields = same_fields start l.buffer c.act.new.buffer _ l.invariant.fields c.act.ensures;
-      walk = shaping_step (λ v. is_some (g.F.hb_font_t.nominal_glyph c.args.face.now v)) start l.buffer c.act.new.buffer l.i l.base c.after-base.result c.get-u.result (omega (arith, c.len-i-end.ensures.length)) l.invariant.walk c.get-u.ensures c.act.ensures c.after-base.ensures;
+      walk = shaping_step (has_nominal (g.F.hb_font_t.font c.args.face.now)) start l.buffer c.act.new.buffer l.i l.base c.after-base.result c.get-u.result (omega (arith, c.len-i-end.ensures.length)) l.invariant.walk c.get-u.ensures c.act.ensures c.after-base.ensures;
     }
 
 pub returns : goal.returns
 returns g c =
     let l = c.loop-i in
-    l.invariant.fields ∙ ap (with_glyphs c.args.buffer.now) (shaping_all (λ v. is_some (g.F.hb_font_t.nominal_glyph c.args.face.now v)) c.args.buffer.now.glyphs l.buffer.glyphs l.i l.base (omega (arith, c.len-i-end.ensures.length)) l.invariant.walk)
+    l.invariant.fields ∙ ap (with_glyphs c.args.buffer.now) (shaping_all (has_nominal (g.F.hb_font_t.font c.args.face.now)) c.args.buffer.now.glyphs l.buffer.glyphs l.i l.base (omega (arith, c.len-i-end.ensures.length)) l.invariant.walk)

@@ -1,0 +1,156 @@
+//! Which shaper has which hook, said once.
+ghost use Rattle.std.specs.Prelude.{◌≡◌};
+
+use super::hb_ot_shaper_t;
+use Standing::{Has, Lacks, WillHave};
+
+/// A hook of the shapers.
+#[derive(Clone, Copy, Debug, PartialEq, Eq)]
+pub enum Hook {
+    CollectFeatures,
+    OverrideFeatures,
+    CreateData,
+    PreprocessText,
+    PostprocessGlyphs,
+    Compose,
+    Decompose,
+    SetupMasks,
+    ReorderMarks,
+}
+
+/// How a shaper stands to a hook.
+#[derive(Clone, Copy, Debug, PartialEq, Eq)]
+pub enum Standing {
+    /// It lacks it: the hook's method answers None and changes nothing.
+    Lacks,
+    /// It has it.
+    Has,
+    /// It will have it; until then the hook can't be asked.
+    WillHave,
+}
+
+/// How a shaper stands to each hook.
+#[derive(Clone, Copy, Debug)]
+pub struct Hooks {
+    pub collect_features: Standing,
+    pub override_features: Standing,
+    pub create_data: Standing,
+    pub preprocess_text: Standing,
+    pub postprocess_glyphs: Standing,
+    pub compose: Standing,
+    pub decompose: Standing,
+    pub setup_masks: Standing,
+    pub reorder_marks: Standing,
+}
+
+impl Standing {
+    ghost use Rattle.rustybuzz_shapers.specs.Standing.{is_settled};
+
+    /// Whether the hook may be asked: it is there, or lacks for good.
+    pub fn is_settled(self) -> bool
+        ensures { result ≡ is_settled self }
+    {
+        match self {
+            Lacks | Has => true,
+            WillHave => false,
+        }
+    }
+}
+
+impl hb_ot_shaper_t {
+    ghost use Rattle.rustybuzz_shapers.specs.Standing.{hooks_of, standing};
+
+    /// How the shaper stands to a hook.
+    pub fn standing(self, hook: Hook) -> Standing
+        ensures { result ≡ standing self hook }
+    {
+        let hooks = self.hooks();
+        match hook {
+            Hook::CollectFeatures => hooks.collect_features,
+            Hook::OverrideFeatures => hooks.override_features,
+            Hook::CreateData => hooks.create_data,
+            Hook::PreprocessText => hooks.preprocess_text,
+            Hook::PostprocessGlyphs => hooks.postprocess_glyphs,
+            Hook::Compose => hooks.compose,
+            Hook::Decompose => hooks.decompose,
+            Hook::SetupMasks => hooks.setup_masks,
+            Hook::ReorderMarks => hooks.reorder_marks,
+        }
+    }
+
+    /// How the shaper stands to each hook.
+    pub fn hooks(self) -> Hooks
+        ensures { result ≡ hooks_of self }
+    {
+        match self {
+            Self::Arabic => Hooks {
+                collect_features: Has,
+                create_data: WillHave,
+                postprocess_glyphs: WillHave,
+                setup_masks: WillHave,
+                reorder_marks: WillHave,
+                ..NO_HOOKS
+            },
+            Self::Hangul => Hooks {
+                collect_features: Has,
+                override_features: Has,
+                create_data: WillHave,
+                preprocess_text: WillHave,
+                setup_masks: WillHave,
+                ..NO_HOOKS
+            },
+            Self::Hebrew => Hooks {
+                compose: Has,
+                reorder_marks: Has,
+                ..NO_HOOKS
+            },
+            Self::Indic => Hooks {
+                preprocess_text: Has,
+                ..KHMER_HOOKS
+            },
+            Self::Khmer => KHMER_HOOKS,
+            Self::Myanmar => Hooks {
+                collect_features: Has,
+                setup_masks: WillHave,
+                ..NO_HOOKS
+            },
+            Self::MyanmarZawgyi => NO_HOOKS,
+            Self::Thai => Hooks {
+                preprocess_text: Has,
+                ..NO_HOOKS
+            },
+            Self::Universal => Hooks {
+                collect_features: Has,
+                create_data: WillHave,
+                preprocess_text: Has,
+                compose: WillHave,
+                setup_masks: WillHave,
+                ..NO_HOOKS
+            },
+        }
+    }
+}
+
+// No hook at all.
+const NO_HOOKS: Hooks = Hooks {
+    collect_features: Lacks,
+    override_features: Lacks,
+    create_data: Lacks,
+    preprocess_text: Lacks,
+    postprocess_glyphs: Lacks,
+    compose: Lacks,
+    decompose: Lacks,
+    setup_masks: Lacks,
+    reorder_marks: Lacks,
+};
+
+// The hooks of Khmer, which Indic has too.
+const KHMER_HOOKS: Hooks = Hooks {
+    collect_features: Has,
+    override_features: Has,
+    create_data: WillHave,
+    compose: WillHave,
+    decompose: WillHave,
+    setup_masks: WillHave,
+    ..NO_HOOKS
+};

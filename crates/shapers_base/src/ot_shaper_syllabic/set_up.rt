@@ -1,0 +1,120 @@
+//! Cutting a text into syllables.
+ghost use Rattle.std.specs.Prelude.{◌≡◌, ◌==◌, ◌≤◌, All, IfErr, IsTrue, OnErr, OnOk, is_ok, length, map};
+ghost use Rattle.std.specs.List.{list_any};
+ghost use Rattle.shapers_base.specs.Clusters.{with_stretch};
+ghost use Rattle.shapers_base.specs.GlyphFlags.{flagged};
+ghost use Rattle.shapers_base.specs.Syllabic.{in_unsafe_syllable, unsafe_spans, with_unsafe_syllables};
+ghost use Rattle.shapers_base.specs.Syllables.{in_syllable, spans_cover, with_spans};
+ghost use Rattle.shapers_base.specs.declared.buffer.refusal.ShaperError.TheVariants.{SpansDontCover};
+
+use crate::buffer::{
+    GlyphWalk, ShaperError, Span, hb_buffer_t, hb_glyph_info_t, unsafe_to_break_in,
+};
+
+/// Cuts the text into the syllables of these spans, marks whether one is of the broken kind, and
+/// flags the inside of each syllable as unsafe to break. Refuses with `SpansDontCover` where a span
+/// is empty or the lengths don't add up to the buffer's. It takes no memory.
+pub fn set_up_syllables(
+    spans: &[Span],
+    broken_kind: u8,
+    buffer: &mut hb_buffer_t,
+) -> Result<(), ShaperError>
+    requires { All (λ span. span.kind ≤ 15) spans.now }
+    ensures cover { is_ok result ≡ spans_cover (length buffer.old.glyphs) spans.now }
+    ensures ok { let cut = with_spans spans.now broken_kind buffer.old in
+        OnOk result (buffer.new ≡ with_unsafe_syllables cut) }
+    ensures refusal { IfErr result (λ e. e ≡ SpansDontCover) }
+    ensures err { OnErr result (buffer.new ≡ buffer.old) }
+{
+    if !cover(buffer.len(), spans) {
+        return Err(ShaperError::SpansDontCover);
+    }
+    buffer.walk(&mut SetUp { spans });
+    if has_kind(spans, broken_kind) {
+        buffer.set_has_broken_syllable(true);
+    }
+    Ok(())
+}
+
+// The spans that a text is cut into.
+#[derive(Clone, Copy)]
+struct SetUp<'a> {
+    spans: &'a [Span],
+}
+
+impl<'a> GlyphWalk for SetUp<'a> {
+    ghost use Rattle.std.specs.Prelude.{◌≡◌, ◌≤◌, All, IsTrue, length};
+    ghost use Rattle.shapers_base.specs.Syllabic.{unsafe_spans};
+    ghost use Rattle.shapers_base.specs.Syllables.{spans_cover};
+
+    ghost can_walk = { λ walk glyphs. IsTrue (spans_cover (length glyphs) walk.spans.now) × All (λ span. span.kind ≤ 15) walk.spans.now };
+
+    ghost walks = { λ walk _ old new. new ≡ unsafe_spans walk.spans.now old };
+
+    fn walk(&mut self, glyphs: &mut [hb_glyph_info_t]) {
+        set_up_spans(glyphs, self.spans);
+    }
+}
+
+// Gives each place the byte of the span that covers it, and flags the inside of each span.
+fn set_up_spans(glyphs: &mut [hb_glyph_info_t], spans: &[Span])
+    requires covered { IsTrue (spans_cover (length glyphs.old) spans.now) }
+    requires kinds { All (λ span. span.kind ≤ 15) spans.now }
+    ensures { glyphs.new ≡ unsafe_spans spans.now glyphs.old }
+{
+    let mut start = 0;
+    for (i, span) in spans.iter().enumerate() {
+        let serial = (i % 15 + 1) as u8;
+        let end = start + span.len;
+        set_up_span_in(glyphs, start, end, serial * 16 + span.kind);
+        start = end;
+    }
+}
+
+// Makes one syllable of the glyphs from `s` to `e`.
+fn set_up_span_in(glyphs: &mut [hb_glyph_info_t], s: usize, e: usize, byte: u8)
+    requires in_order { s ≤ e }
+    requires in_range { e ≤ length glyphs.old }
+    ensures { glyphs.new ≡ with_stretch s e (in_unsafe_syllable byte) glyphs.old }
+{
+    set_up_span(&mut glyphs[s..e], byte);
+}
+
+// Makes one syllable of these glyphs: gives them this byte, and flags its inside.
+fn set_up_span(glyphs: &mut [hb_glyph_info_t], byte: u8)
+    ensures { glyphs.new ≡ in_unsafe_syllable byte glyphs.old }
+{
+    set_syllable(glyphs, byte);
+    let len = glyphs.len();
+    unsafe_to_break_in(glyphs, 0, len);
+}
+
+// Gives all these glyphs one syllable byte.
+fn set_syllable(glyphs: &mut [hb_glyph_info_t], byte: u8)
+    ensures { glyphs.new ≡ map (in_syllable byte) glyphs.old }
+{
+    for glyph in glyphs.iter_mut() {
+        glyph.syllable = byte;
+    }
+}
+
+// Whether a span is of this kind.
+fn has_kind(spans: &[Span], kind: u8) -> bool
+    ensures { result ≡ list_any (λ span. span.kind == kind) spans.now }
+{
+    spans.iter().any(|span| span.kind == kind)
+}
+
+// Whether no span is empty and the lengths add up to `len`.
+fn cover(len: usize, spans: &[Span]) -> bool
+    ensures { result ≡ spans_cover len spans.now }
+{
+    let mut rest = len;
+    for span in spans {
+        if span.len == 0 || span.len > rest {
+            return false;
+        }
+        rest -= span.len;
+    }
+    rest == 0
+}
