@@ -6,7 +6,7 @@ use Rattle.shapers_base.specs.declared.buffer.level.BufferClusterLevel.TheVarian
 use Rattle.shapers_base.specs.declared.buffer.syllables.Span.{Span}
 use Rattle.shapers_base.specs.Glyph.{default_glyph, clusters}
 use Rattle.shapers_base.specs.Clusters.{low, high, merge}
-use Rattle.shapers_base.specs.GlyphFlags.{unsafe_inside}
+use Rattle.shapers_base.specs.GlyphFlags.{unsafe_inside, FlagCall, UnsafeToBreak, UnsafeToConcat, SafeToInsertTatweel, flags_called}
 use Rattle.shapers_base.specs.Syllables.{span_bytes, spans_cover, with_bytes, syllables}
 
 -- a text of these clusters, where every mask is 15
@@ -106,6 +106,19 @@ covers = refl
 -- the flags inside a stretch leave its least cluster out
 flags_inside : masks (unsafe_inside 1 4 (map (λ c. let g : hb_glyph_info_t = record default_glyph { cluster = c } in g) (0 ∷ 1 ∷ 1 ∷ 2 ∷ 3 ∷ []))) ≡ 0 ∷ 0 ∷ 0 ∷ 3 ∷ 0 ∷ []
 flags_inside = refl
+
+-- calls of all three kinds one after another: bits add up; what the buffer doesn't ask for gives none, or no break in place of a join
+abbrev some_calls : List FlagCall
+some_calls = UnsafeToBreak 0 3 ∷ UnsafeToConcat 1 4 ∷ SafeToInsertTatweel 2 5 ∷ []
+
+abbrev unflagged : List ℕ → List hb_glyph_info_t
+unflagged cs = map (λ c. let g : hb_glyph_info_t = record default_glyph { cluster = c } in g) cs
+
+all_asked : masks (flags_called true true some_calls (unflagged (0 ∷ 1 ∷ 1 ∷ 2 ∷ 3 ∷ []))) ≡ 0 ∷ 3 ∷ 3 ∷ 6 ∷ 4 ∷ []
+all_asked = refl
+
+none_asked : masks (flags_called false false some_calls (unflagged (0 ∷ 1 ∷ 1 ∷ 2 ∷ 3 ∷ []))) ≡ 0 ∷ 3 ∷ 3 ∷ 3 ∷ 3 ∷ []
+none_asked = refl
 
 -- syllables are cut between different bytes
 three_syllables : map (λ gs. length gs) (syllables (with_bytes (text (0 ∷ 1 ∷ 2 ∷ 3 ∷ 4 ∷ [])) (16 ∷ 16 ∷ 32 ∷ 16 ∷ 16 ∷ []))) ≡ 2 ∷ 1 ∷ 2 ∷ []

@@ -59,7 +59,7 @@ pub all_same : (gs : List hb_glyph_info_t) → AllZip FallsTo gs gs
 all_same [] = tt
 all_same (g ∷ gs) = (falls-same g, all_same gs)
 
-all_over : {X Y Z : Type 0} (R : X → Y → Type 0) (S : Y → Z → Type 0) (T : X → Z → Type 0) → ((x : X) (y : Y) (z : Z) → R x y → S y z → T x z) → (xs : List X) (ys : List Y) (zs : List Z) → AllZip R xs ys → AllZip S ys zs → AllZip T xs zs
+pub all_over : {X Y Z : Type 0} (R : X → Y → Type 0) (S : Y → Z → Type 0) (T : X → Z → Type 0) → ((x : X) (y : Y) (z : Z) → R x y → S y z → T x z) → (xs : List X) (ys : List Y) (zs : List Z) → AllZip R xs ys → AllZip S ys zs → AllZip T xs zs
 all_over R S T f [] [] [] h i = tt
 all_over R S T f [] [] (z ∷ zs) h i = absurd i
 all_over R S T f [] (y ∷ ys) zs h i = absurd h
@@ -76,7 +76,7 @@ all_weaker R S f (x ∷ xs) (y ∷ ys) h = (f x y h.0, all_weaker R S f xs ys h.
 pub all_on : (xs ys zs : List hb_glyph_info_t) → AllZip FallsTo xs ys → AllZip FallsTo ys zs → AllZip FallsTo xs zs
 all_on xs ys zs h i = all_over FallsTo FallsTo FallsTo falls_on xs ys zs h i
 
-all_append : {X : Type 0} (R : X → X → Type 0) (xs ys zs ws : List X) → AllZip R xs ys → AllZip R zs ws → AllZip R (xs ++ zs) (ys ++ ws)
+pub all_append : {X : Type 0} (R : X → X → Type 0) (xs ys zs ws : List X) → AllZip R xs ys → AllZip R zs ws → AllZip R (xs ++ zs) (ys ++ ws)
 all_append R [] [] zs ws h i = i
 all_append R [] (y ∷ ys) zs ws h i = absurd h
 all_append R (x ∷ xs) [] zs ws h i = absurd h

@@ -1,14 +1,15 @@
 -- What stays through the three flag calls.
-use Rattle.std.proofs.Common.{ℕ, ◌/◌, ◌≤◌, ◌≡◌, ◌==◌, Bool, true, false, if◌then◌else◌, List, [], ◌∷◌, ◌++◌, map, take, drop, refl, sym, ◌∙◌, ap, arith}
-use Rattle.std.specs.List.{AllByRecursion}
+use Rattle.std.proofs.Common.{ℕ, ◌/◌, ◌%◌, ◌^◌, subst, ◌≤◌, ◌≡◌, ◌==◌, Bool, true, false, if◌then◌else◌, List, [], ◌∷◌, ◌++◌, map, take, drop, refl, sym, ◌∙◌, ap, arith}
+use Rattle.std.specs.List.{AllByRecursion, AllZip}
 use Rattle.std.specs.Int.Bits.{bit_or, or_zero_r}
-use Rattle.std.proofs.lemmas.Nat.{or_shr}
+use Rattle.std.proofs.lemmas.Nat.{or_shr, or_mod, le_or_l}
 use Rattle.std.proofs.lemmas.List.{map-append}
 use Rattle.shapers_base.specs.declared.buffer.glyph.hb_glyph_info_t.{hb_glyph_info_t}
 use Rattle.shapers_base.specs.Glyph.{plain, without_flags, clusters}
 use Rattle.shapers_base.specs.Clusters.{with_stretch, least, stretch_of}
-use Rattle.shapers_base.specs.GlyphFlags.{with_bits, with_bits_off, flagged, unsafe_inside, unsafe_to_concat_in, unsafe_all, tatweel_inside}
-use Rattle.shapers_clusters.specs.Flags.{FlagsAlone}
+use Rattle.shapers_base.specs.GlyphFlags.{with_bits, with_bits_off, flagged, unsafe_inside, unsafe_to_concat_in, unsafe_all, tatweel_inside, FlagCall, UnsafeToBreak, UnsafeToConcat, SafeToInsertTatweel, flag_called, flags_called}
+use Rattle.shapers_clusters.specs.Flags.{FlagsAlone, bit_at, KeepsBits, InOrder}
+use Rattle.shapers_clusters.proofs.Falls.{all_append, all_over}
 use Rattle.shapers_base.proofs.ClusterLemmas.{three_parts}
 
 -- bits below 8 are glyph flags
@@ -59,18 +60,87 @@ pub map-tatweel_inside : {Y : Type 0} (f : hb_glyph_info_t → Y) → ((bits : �
 map-tatweel_inside f keeps true s e gs h = map-with_stretch f s e (flagged 4) gs h (map-flagged f 4 (λ g. keeps 4 g refl))
 map-tatweel_inside f keeps false s e gs h = map-unsafe_inside f (λ g. keeps 3 g refl) s e gs h
 
+-- no bit is lost
+keeps-same : (gs : List hb_glyph_info_t) → AllZip KeepsBits gs gs
+keeps-same [] = tt
+keeps-same (g ∷ gs) = ((λ k. omega arith), keeps-same gs)
+
+pub keeps-with_bits : (bits : ℕ) (g : hb_glyph_info_t) → KeepsBits g (with_bits bits g)
+keeps-with_bits bits g k =
+    let a = g.mask / 2 ^ k in
+    let b = bits / 2 ^ k in
+    let is : bit_or g.mask bits / 2 ^ k % 2 ≡ bit_or (g.mask / 2 ^ k % 2) (bits / 2 ^ k % 2) = ap (λ x. x % 2) (or_shr g.mask bits k) ∙ or_mod a b 1 in
+    let grown = le_or_l (a % 2) (b % 2) in
+    subst (λ x. bit_at k g.mask ≤ x) (sym is) grown
+
+keeps-flagged_off : (bits m : ℕ) (gs : List hb_glyph_info_t) → AllZip KeepsBits gs (map (with_bits_off bits m) gs)
+keeps-flagged_off bits m [] = tt
+keeps-flagged_off bits m (g ∷ gs) = (elim (g.cluster == m) as (λ b. KeepsBits g (if b then g else with_bits bits g)) [ true ↦ λ k. omega arith | false ↦ keeps-with_bits bits g ], keeps-flagged_off bits m gs)
+
+keeps-bits : (bits : ℕ) (gs : List hb_glyph_info_t) → AllZip KeepsBits gs (map (with_bits bits) gs)
+keeps-bits bits [] = tt
+keeps-bits bits (g ∷ gs) = (keeps-with_bits bits g, keeps-bits bits gs)
+
+keeps-with_stretch : (s e : ℕ) (change : List hb_glyph_info_t → List hb_glyph_info_t) (gs : List hb_glyph_info_t) → s ≤ e → ((xs : List hb_glyph_info_t) → AllZip KeepsBits xs (change xs)) → AllZip KeepsBits gs (with_stretch s e change gs)
+keeps-with_stretch s e change gs h keeps =
+    subst (λ xs. AllZip KeepsBits xs (with_stretch s e change gs)) (three_parts s e gs h)
+    (all_append KeepsBits (take s gs) (take s gs) (stretch_of s e gs ++ drop e gs) (change (stretch_of s e gs) ++ drop e gs) (keeps-same (take s gs))
+    (all_append KeepsBits (stretch_of s e gs) (change (stretch_of s e gs)) (drop e gs) (drop e gs) (keeps (stretch_of s e gs)) (keeps-same (drop e gs))))
+
+keeps-flagged : (bits : ℕ) (gs : List hb_glyph_info_t) → AllZip KeepsBits gs (flagged bits gs)
+keeps-flagged bits gs = keeps-flagged_off bits (least (clusters gs)) gs
+
 -- so nothing but glyph flags changes
 pub unsafe_inside-alone : (s e : ℕ) (gs : List hb_glyph_info_t) → s ≤ e → FlagsAlone gs (unsafe_inside s e gs)
-unsafe_inside-alone s e gs h = record { same_view = map-unsafe_inside plain (λ g. plain-with_bits 3 g refl) s e gs h; same_clusters = map-unsafe_inside (λ g. g.cluster) (λ g. refl) s e gs h }
+unsafe_inside-alone s e gs h = record { same_view = map-unsafe_inside plain (λ g. plain-with_bits 3 g refl) s e gs h; same_clusters = map-unsafe_inside (λ g. g.cluster) (λ g. refl) s e gs h; none_lost = keeps-with_stretch s e (flagged 3) gs h (keeps-flagged 3) }
 
 pub unsafe_to_concat_in-alone : (asked : Bool) (s e : ℕ) (gs : List hb_glyph_info_t) → s ≤ e → FlagsAlone gs (unsafe_to_concat_in asked s e gs)
 unsafe_to_concat_in-alone asked s e gs h = record {
   same_view = map-unsafe_to_concat_in plain (λ g. plain-with_bits 2 g refl) asked s e gs h;
   same_clusters = map-unsafe_to_concat_in (λ g. g.cluster) (λ g. refl) asked s e gs h;
+  none_lost = elim asked as (λ b. AllZip KeepsBits gs (unsafe_to_concat_in b s e gs)) [ true ↦ keeps-with_stretch s e (map (with_bits 2)) gs h (keeps-bits 2) | false ↦ keeps-same gs ];
 }
 
 pub tatweel_inside-alone : (asked : Bool) (s e : ℕ) (gs : List hb_glyph_info_t) → s ≤ e → FlagsAlone gs (tatweel_inside asked s e gs)
 tatweel_inside-alone asked s e gs h = record {
   same_view = map-tatweel_inside plain (λ bits g low. plain-with_bits bits g low) asked s e gs h;
   same_clusters = map-tatweel_inside (λ g. g.cluster) (λ _ _ _. refl) asked s e gs h;
+  none_lost = keeps-with_stretch s e (flagged (if asked then 4 else 3)) gs h (keeps-flagged (if asked then 4 else 3));
 }
+
+-- one call, and any list of calls
+pub flag_called-alone : (concat tatweel : Bool) (call : FlagCall) (gs : List hb_glyph_info_t) → InOrder call → FlagsAlone gs (flag_called concat tatweel call gs)
+flag_called-alone concat tatweel (UnsafeToBreak s e) gs h = unsafe_inside-alone s e gs h
+flag_called-alone concat tatweel (UnsafeToConcat s e) gs h = unsafe_to_concat_in-alone concat s e gs h
+flag_called-alone concat tatweel (SafeToInsertTatweel s e) gs h = tatweel_inside-alone tatweel s e gs h
+
+le_on : (a b c : ℕ) → a ≤ b → b ≤ c → a ≤ c
+le_on a b c h i = omega arith
+
+keeps_on : (x y z : hb_glyph_info_t) → KeepsBits x y → KeepsBits y z → KeepsBits x z
+keeps_on x y z f g k = le_on (bit_at k x.mask) (bit_at k y.mask) (bit_at k z.mask) (f k) (g k)
+
+pub alone_on : (xs ys zs : List hb_glyph_info_t) → FlagsAlone xs ys → FlagsAlone ys zs → FlagsAlone xs zs
+alone_on xs ys zs f g = record { same_view = g.same_view ∙ f.same_view; same_clusters = g.same_clusters ∙ f.same_clusters; none_lost = all_over KeepsBits KeepsBits KeepsBits keeps_on xs ys zs f.none_lost g.none_lost }
+
+pub flags_called-alone : (concat tatweel : Bool) (calls : List FlagCall) (gs : List hb_glyph_info_t) → AllByRecursion InOrder calls → FlagsAlone gs (flags_called concat tatweel calls gs)
+flags_called-alone concat tatweel [] gs h = record { same_view = refl; same_clusters = refl; none_lost = keeps-same gs }
+flags_called-alone concat tatweel (call ∷ calls) gs h =
+    let once = flag_called concat tatweel call gs in
+    alone_on gs once (flags_called concat tatweel calls once) (flag_called-alone concat tatweel call gs h.0) (flags_called-alone concat tatweel calls once h.1)
+
+-- calls in two lists, one list after the other; breaks alone
+pub flags_called-append : (concat tatweel : Bool) (xs ys : List FlagCall) (gs : List hb_glyph_info_t) → flags_called concat tatweel (xs ++ ys) gs ≡ flags_called concat tatweel ys (flags_called concat tatweel xs gs)
+flags_called-append concat tatweel [] ys gs = refl
+flags_called-append concat tatweel (x ∷ xs) ys gs = flags_called-append concat tatweel xs ys (flag_called concat tatweel x gs)
+
+pub flags_called-breaks : (concat tatweel : Bool) (sts : List (ℕ × ℕ)) (gs : List hb_glyph_info_t) → flags_called concat tatweel (map (λ st. UnsafeToBreak st.0 st.1) sts) gs ≡ unsafe_all sts gs
+flags_called-breaks concat tatweel [] gs = refl
+flags_called-breaks concat tatweel (st ∷ sts) gs = flags_called-breaks concat tatweel sts (unsafe_inside st.0 st.1 gs)
+
+-- what is read of glyphs that no flag bits show in stays through any calls
+pub map-flags_called : {Y : Type 0} (f : hb_glyph_info_t → Y) → ((bits : ℕ) (g : hb_glyph_info_t) → bits / 8 ≡ 0 → f (with_bits bits g) ≡ f g) → (concat tatweel : Bool) (calls : List FlagCall) (gs : List hb_glyph_info_t) → AllByRecursion InOrder calls → map f (flags_called concat tatweel calls gs) ≡ map f gs
+map-flags_called f keeps concat tatweel [] gs h = refl
+map-flags_called f keeps concat tatweel (UnsafeToBreak s e ∷ calls) gs h = map-flags_called f keeps concat tatweel calls (unsafe_inside s e gs) h.1 ∙ map-unsafe_inside f (λ g. keeps 3 g refl) s e gs h.0
+map-flags_called f keeps concat tatweel (UnsafeToConcat s e ∷ calls) gs h = map-flags_called f keeps concat tatweel calls (unsafe_to_concat_in concat s e gs) h.1 ∙ map-unsafe_to_concat_in f (λ g. keeps 2 g refl) concat s e gs h.0
+map-flags_called f keeps concat tatweel (SafeToInsertTatweel s e ∷ calls) gs h = map-flags_called f keeps concat tatweel calls (tatweel_inside tatweel s e gs) h.1 ∙ map-tatweel_inside f keeps tatweel s e gs h.0

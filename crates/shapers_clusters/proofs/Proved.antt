@@ -30,8 +30,8 @@ use Rattle.shapers_clusters.proofs.Sources.{exact_cuts_by, sources_share, cluste
 use Rattle.shapers_clusters.proofs.Widened.{fits-widened, moves-widened, all_fit-widened, all_moves-widened, order_view-widened, all_along, order_view-along}
 use Rattle.shapers_clusters.proofs.Halves.{halves_along}
 use Rattle.shapers_clusters.proofs.Permuted.{order_view-permuted, permutes-widened, all_permute-widened}
-use Rattle.shapers_clusters.proofs.FlagCalls.{unsafe_inside-alone, unsafe_to_concat_in-alone, tatweel_inside-alone}
-use Rattle.shapers_clusters.specs.Laws.{ViewLaw, HalvesLaw, MergeLaw, ExactCutsLaw, StepsLaw, PermutedLaw, ClustersLaw, MergedStepsLaw, WidenedLaw, AlongLaw, ClustersHold, ClustersReordered, ClustersReorderedLaw, SeenStepsLaw, ReorderedHold, ReorderedLaw, ClustersMade, MadeHold, MadeLaw, MovedSourcesLaw}
+use Rattle.shapers_clusters.proofs.FlagCalls.{unsafe_inside-alone, unsafe_to_concat_in-alone, tatweel_inside-alone, flags_called-alone}
+use Rattle.shapers_clusters.specs.Laws.{ViewLaw, FlagCallsLaw, HalvesLaw, MergeLaw, ExactCutsLaw, StepsLaw, PermutedLaw, ClustersLaw, MergedStepsLaw, WidenedLaw, AlongLaw, ClustersHold, ClustersReordered, ClustersReorderedLaw, SeenStepsLaw, ReorderedHold, ReorderedLaw, ClustersMade, MadeHold, MadeLaw, MovedSourcesLaw}
 
 -- stretches end within the clusters if they do within the glyphs
 ends : (sts : List (ℕ × ℕ)) (gs : List hb_glyph_info_t) → EndWithin (length gs) sts → EndWithin (length (clusters gs)) sts
@@ -44,6 +44,9 @@ view_stays s e gs h = record {
   concatenating = λ asked. unsafe_to_concat_in-alone asked s e gs h;
   joining = λ asked. tatweel_inside-alone asked s e gs h;
 }
+
+pub flag_calls_alone : FlagCallsLaw
+flag_calls_alone concat tatweel calls gs h = flags_called-alone concat tatweel calls gs h
 
 pub merge_holds : MergeLaw
 merge_holds level s e gs l =

@@ -1,10 +1,14 @@
 -- Rows computed: what the definitions give for small lists of clusters.
-use Rattle.std.proofs.Common.{ℕ, ◌+◌, ◌-◌, ◌≡◌, ◌≤◌, [], ◌∷◌, refl, arith, subst}
+use Rattle.std.proofs.Common.{ℕ, true, false, map, ◌%◌, ◌+◌, ◌-◌, ◌≡◌, ◌≤◌, [], ◌∷◌, refl, arith, subst}
 use Rattle.std.specs.List.{AllByRecursion}
 use Rattle.shapers_base.specs.declared.buffer.level.BufferClusterLevel.TheVariants.{MonotoneGraphemes, Characters}
+use Rattle.shapers_base.specs.declared.buffer.glyph.hb_glyph_info_t.{hb_glyph_info_t}
+use Rattle.shapers_base.specs.Glyph.{default_glyph}
+use Rattle.shapers_clusters.specs.Cuts.{held, linked}
+use Rattle.shapers_clusters.specs.Flags.{bit_at, seen, whole}
 use Rattle.shapers_clusters.specs.Joined.{joined, joined_all}
 use Rattle.shapers_base.specs.Places.{pick}
-use Rattle.shapers_clusters.specs.Steps.{Step, joined_steps, old_places, MovesMerged, widened}
+use Rattle.shapers_clusters.specs.Steps.{Step, joined_steps, old_places, MovesMerged, all_first, shifted, widened, still_step, swap_step, steps_along, reordered_along}
 use Rattle.shapers_clusters.proofs.Moves.{moves_anywhere}
 use Rattle.shapers_clusters.proofs.Widened.{moves-widened}
 
@@ -52,6 +56,54 @@ row_unmerged_moves = refl
 -- a move merged only afterwards can leave falling clusters that no old block had: here 3 comes before 2
 row_late : joined_steps MonotoneGraphemes (record { merged_first = []; places = 1 ∷ 0 ∷ 2 ∷ []; merged_then = (0, 1) ∷ [] } ∷ []) (5 ∷ 4 ∷ 3 ∷ []) ≡ 4 ∷ 5 ∷ 3 ∷ []
 row_late = refl
+
+-- stretches hold the neighbours inside them, not those at their borders; equal clusters link neighbours too
+row_held : map (held ((1, 3) ∷ [])) (1 ∷ 2 ∷ 3 ∷ []) ≡ false ∷ true ∷ false ∷ []
+row_held = refl
+
+row_linked : map (linked (0 ∷ 0 ∷ 1 ∷ 2 ∷ []) ((1, 3) ∷ [])) (1 ∷ 2 ∷ 3 ∷ []) ≡ true ∷ true ∷ false ∷ []
+row_linked = refl
+
+-- places may come again or not at all; behind the end there is nothing
+row_pick : pick {X = ℕ} (2 ∷ 0 ∷ 0 ∷ 3 ∷ []) (5 ∷ 6 ∷ 7 ∷ []) ≡ 7 ∷ 5 ∷ 5 ∷ []
+row_pick = refl
+
+-- the smallest steps, and steps of a part as steps of the whole
+row_still : still_step 3 ≡ record { merged_first = []; places = 0 ∷ 1 ∷ 2 ∷ []; merged_then = [] }
+row_still = refl
+
+row_swap : swap_step 4 1 ≡ record { merged_first = (1, 3) ∷ []; places = 0 ∷ 2 ∷ 1 ∷ 3 ∷ []; merged_then = [] }
+row_swap = refl
+
+row_shifted : shifted 2 ((0, 1) ∷ (3, 5) ∷ []) ≡ (2, 3) ∷ (5, 7) ∷ []
+row_shifted = refl
+
+row_along : steps_along 5 0 ((1, []) ∷ (2, swap_two ∷ []) ∷ []) ≡ record { merged_first = (1, 3) ∷ []; places = 0 ∷ 2 ∷ 1 ∷ 3 ∷ 4 ∷ []; merged_then = [] } ∷ []
+unfolding swap_two
+row_along = refl
+
+row_reordered : reordered_along {X = ℕ} ((1, []) ∷ (2, swap_two ∷ []) ∷ []) (5 ∷ 6 ∷ 7 ∷ 8 ∷ []) ≡ 5 ∷ 7 ∷ 6 ∷ 8 ∷ []
+unfolding swap_two
+row_reordered = refl
+
+row_first : all_first (swap_step 4 1 ∷ still_step 4 ∷ swap_step 4 0 ∷ []) ≡ (1, 3) ∷ (0, 2) ∷ []
+row_first = refl
+
+-- bits of a mask, from the lowest on
+row_bits : map (λ k. bit_at k 13) (0 ∷ 1 ∷ 2 ∷ 3 ∷ 4 ∷ []) ≡ 1 ∷ 0 ∷ 1 ∷ 1 ∷ 0 ∷ []
+row_bits = refl
+
+-- what shows, through a view that hides masks and categories, of a glyph's number and class, but neither cluster nor glyph flags
+a_glyph : ℕ → ℕ → ℕ → hb_glyph_info_t
+a_glyph c m k = record default_glyph { glyph_id = 65; cluster = c; mask = m; category = k; modified_combining_class = 7 }
+
+row_seen : seen (λ g. record g { mask = g.mask % 8; category = 0 }) (a_glyph 4 255 3 ∷ []) ≡ a_glyph 0 0 0 ∷ []
+unfolding a_glyph
+row_seen = refl
+
+row_whole : seen whole (a_glyph 4 255 3 ∷ []) ≡ a_glyph 0 248 3 ∷ []
+unfolding a_glyph
+row_whole = refl
 
 -- a hook that merges and swaps the places i + 1 and i + 2 of n: all laws of merged steps hold of it
 swap_moves : MovesMerged 2 swap_two

@@ -39,7 +39,9 @@ SameBlock cs sts p q = (r : ℕ) → min p q < r → r ≤ max p q → linked cs
 pub record ExactCuts (cs : List ℕ) (sts : List (ℕ × ℕ)) (after : List ℕ) : Type 0 where
   pub same_length : length after ≡ length cs
   pub cuts : (p : ℕ) → 0 < p → p < length cs → (slice_index after (p - 1) ≢ slice_index after p) ↔ (linked cs sts p ≡ false)
-  pub reached : (p : ℕ) → p < length cs → (q : ℕ) × (q < length cs) × SameBlock cs sts p q × (slice_index after p ≡ slice_index cs q)
+  pub reached : (p : ℕ) →
+      p < length cs →
+      (q : ℕ) × (q < length cs) × SameBlock cs sts p q × (slice_index after p ≡ slice_index cs q)
   pub least : (p q : ℕ) → p < length cs → q < length cs → SameBlock cs sts p q → slice_index after p ≤ slice_index cs q
 
 -- no glyph of the one list has a cluster of the other

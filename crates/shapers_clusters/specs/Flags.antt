@@ -1,8 +1,10 @@
 -- What becomes of clusters and glyph flags, glyph by glyph; views of glyphs.
-use Rattle.std.proofs.Common.{◌%◌, ◌<◌, ◌≤◌, ◌≡◌, List, map}
+use Rattle.std.proofs.Common.{ℕ, ◌/◌, ◌%◌, ◌^◌, ◌<◌, ◌≤◌, ◌≡◌, List, map}
+use Rattle.std.specs.List.{AllZip}
 use Rattle.shapers_base.specs.declared.buffer.glyph.hb_glyph_info_t.{hb_glyph_info_t}
 use Rattle.shapers_base.specs.Glyph.{clusters, order_view, plain}
 use Rattle.shapers_base.specs.Clusters.{in_cluster}
+use Rattle.shapers_base.specs.GlyphFlags.{FlagCall, UnsafeToBreak, UnsafeToConcat, SafeToInsertTatweel}
 
 -- a glyph falls to another: its cluster is that or a lower one, and if it is lower, the glyph flags are gone
 abbrev pub FallsTo : hb_glyph_info_t → hb_glyph_info_t → Type 0
@@ -14,10 +16,24 @@ pub record FlagsFall (old new : hb_glyph_info_t) : Type 0 where
   pub fell : new.cluster < old.cluster → new.mask % 8 ≡ 0
   pub kept : new.cluster ≡ old.cluster → new.mask % 8 ≡ old.mask % 8
 
--- nothing but glyph flags changes
+-- bit k of a number, and that no bit of the glyph's mask is lost
+abbrev pub bit_at : ℕ → ℕ → ℕ
+bit_at k m = m / 2 ^ k % 2
+
+abbrev pub KeepsBits : hb_glyph_info_t → hb_glyph_info_t → Type 0
+KeepsBits old new = (k : ℕ) → bit_at k old.mask ≤ bit_at k new.mask
+
+-- nothing but glyph flags changes, and none is lost
 pub record FlagsAlone (gs ms : List hb_glyph_info_t) : Type 0 where
   pub same_view : order_view ms ≡ order_view gs
   pub same_clusters : clusters ms ≡ clusters gs
+  pub none_lost : AllZip KeepsBits gs ms
+
+-- a flag call's stretch doesn't end before it begins
+abbrev pub InOrder : FlagCall → Type 0
+InOrder (UnsafeToBreak s e) = s ≤ e
+InOrder (UnsafeToConcat s e) = s ≤ e
+InOrder (SafeToInsertTatweel s e) = s ≤ e
 
 -- a view of glyphs that shows their clusters and glyph flags
 pub record ShowsClusters (view : hb_glyph_info_t → hb_glyph_info_t) : Type 0 where

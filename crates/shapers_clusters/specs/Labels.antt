@@ -7,7 +7,9 @@ use Rattle.shapers_clusters.specs.Steps.{Step}
 -- labels, one a place, where places of equal cluster have equal labels
 pub record IsLabelled (cs ls : List ℕ) : Type 0 where
   pub as_many : length ls ≡ length cs
-  pub agree : (p q : ℕ) → p < length cs → q < length cs → slice_index cs p ≡ slice_index cs q → slice_index ls p ≡ slice_index ls q
+  pub agree : (p q : ℕ) →
+      p < length cs → q < length cs → slice_index cs p ≡ slice_index cs q →
+      slice_index ls p ≡ slice_index ls q
 
 -- all places of a stretch have equal labels
 abbrev pub OneLabel : List ℕ → ℕ × ℕ → Type 0

@@ -7,9 +7,15 @@ use Rattle.shapers_clusters.specs.Steps.{HeldBetween}
 -- and each place has the least old cluster of its source's block.
 pub record ExactCutsBy (cs : List ℕ) (sts : List (ℕ × ℕ)) (sources after : List ℕ) : Type 0 where
   pub as_many : length after ≡ length sources
-  pub cuts : (i : ℕ) → 0 < i → i < length sources → (slice_index after (i - 1) ≢ slice_index after i) ↔ (SameBlock cs sts (slice_index sources (i - 1)) (slice_index sources i) → ⊥)
-  pub reached : (i : ℕ) → i < length sources → (q : ℕ) × (q < length cs) × SameBlock cs sts (slice_index sources i) q × (slice_index after i ≡ slice_index cs q)
-  pub least : (i q : ℕ) → i < length sources → q < length cs → SameBlock cs sts (slice_index sources i) q → slice_index after i ≤ slice_index cs q
+  pub cuts : (i : ℕ) →
+      0 < i → i < length sources →
+      (slice_index after (i - 1) ≢ slice_index after i) ↔ (SameBlock cs sts (slice_index sources (i - 1)) (slice_index sources i) → ⊥)
+  pub reached : (i : ℕ) →
+      i < length sources →
+      (q : ℕ) × (q < length cs) × SameBlock cs sts (slice_index sources i) q × (slice_index after i ≡ slice_index cs q)
+  pub least : (i q : ℕ) →
+      i < length sources → q < length cs → SameBlock cs sts (slice_index sources i) q →
+      slice_index after i ≤ slice_index cs q
 
 -- the stretches hold together, neighbour by neighbour, the sources of all places from i to j
 abbrev pub HeldAlong : List (ℕ × ℕ) → List ℕ → ℕ → ℕ → Type 0

@@ -1,6 +1,6 @@
 -- Steps: merges and moves of places.
 use Rattle.std.proofs.Common.{ℕ, ◌+◌, ◌-◌, ◌<◌, ◌≤◌, ◌≡◌, ◌++◌, min, max, true, List, [], map, length, slice_index, ◌∷◌, take, drop}
-use Rattle.std.specs.List.{fold, AllByRecursion, filter_map, flat_map, slice_get, range_with_len}
+use Rattle.std.specs.List.{fold, AllByRecursion, flat_map, range_with_len}
 use Rattle.shapers_base.specs.declared.buffer.glyph.hb_glyph_info_t.{hb_glyph_info_t}
 use Rattle.shapers_base.specs.declared.buffer.level.BufferClusterLevel.{BufferClusterLevel}
 use Rattle.shapers_base.specs.Places.{pick}

@@ -2,11 +2,16 @@
 //! contract of a function without a body.
 #![tactic(auto)]
 
-ghost use Rattle.shapers_clusters.specs.Laws.{ViewLaw, MergeLaw, ExactCutsLaw, StepsLaw, PermutedLaw, ClustersLaw, MergedStepsLaw, ClustersReorderedLaw, SeenStepsLaw, ReorderedLaw, WidenedLaw, AlongLaw, HalvesLaw, MadeLaw, MovedSourcesLaw};
+ghost use Rattle.shapers_clusters.specs.Laws.{ViewLaw, FlagCallsLaw, MergeLaw, ExactCutsLaw, StepsLaw, PermutedLaw, ClustersLaw, MergedStepsLaw, ClustersReorderedLaw, SeenStepsLaw, ReorderedLaw, WidenedLaw, AlongLaw, HalvesLaw, MadeLaw, MovedSourcesLaw};
 
 /// Merges leave the order view; the three flag calls change nothing but glyph flags.
 pub fn view_law()
     ensures { ViewLaw }
+{}
+
+/// Flag calls of all three kinds, one after another, change nothing but glyph flags and take none away.
+pub fn flag_calls_law()
+    ensures { FlagCallsLaw }
 {}
 
 /// What one merge of clusters does to any glyphs.

@@ -2,7 +2,10 @@
 use Rattle.std.specs.Prelude.{ℕ, suc, ◌+◌, ◌-◌, ◌==◌, nat_le, Bool, false, not, ◌&&◌, ◌||◌, List, [], ◌∷◌, length, swap, find, Option, None, Some, option_map, if◌then◌else◌}
 use Rattle.std.specs.Option.{option_map_or}
 use Rattle.shapers_base.specs.declared.buffer.glyph.hb_glyph_info_t.{hb_glyph_info_t}
+use Rattle.shapers_base.specs.Buffer.{Buffer}
 use Rattle.shapers_base.specs.Clusters.{stretch_of}
+use Rattle.shapers_clusters.specs.Flags.{whole}
+use Rattle.shapers_clusters.specs.Laws.{ReorderedHold}
 use Rattle.shapers_clusters.specs.Steps.{Step, still_step, swap_step}
 
 -- the classes of patah and qamats, of sheva and hiriq, of meteg and marks below
@@ -40,6 +43,10 @@ step_at n (Some i) = swap_step n i
 
 abbrev pub mark_step : ℕ → ℕ → List hb_glyph_info_t → Step
 mark_step start end gs = step_at (length gs) (second_of_triple start end gs)
+
+-- what the reordering promises, of the buffer before and after it: no glyph is lost, and the laws of clusters and flags hold
+abbrev pub MarksReordered : ℕ → ℕ → Buffer → Buffer → Type 0
+MarksReordered start end old new = ReorderedHold whole old.level (mark_step start end old.glyphs ∷ []) old.glyphs new.glyphs
 
 -- a letter, a point, and the form that they compose to
 abbrev pub pairs : List (ℕ × ℕ × ℕ)

@@ -2,10 +2,8 @@
 ghost use Rattle.std.specs.Prelude.{◌≡◌, ◌==◌, ◌&&◌, ◌≤◌, ◌∷◌, [], find, length, option_map, swap, ◌+◌, ◌^◌, ◌<◌, IfSome, true};
 ghost use Rattle.shapers_base.specs.Clusters.{merge};
 ghost use Rattle.shapers_base.specs.Glyph.{order_view};
-ghost use Rattle.shapers_clusters.specs.Flags.{whole};
-ghost use Rattle.shapers_clusters.specs.Laws.{ReorderedHold};
 ghost use Rattle.shapers_clusters.specs.Steps.{run_step};
-ghost use Rattle.shapers_text.specs.Hebrew.{mark_step, marks_swapped, second_of_triple, opens_triple, hebrew_form, composed_in_hebrew, lacks_dagesh, is_in_dagesh_row, pairs};
+ghost use Rattle.shapers_text.specs.Hebrew.{mark_step, marks_swapped, MarksReordered, second_of_triple, opens_triple, hebrew_form, composed_in_hebrew, lacks_dagesh, is_in_dagesh_row, pairs};
 
 use shapers_base::buffer::modified_combining_class::{BELOW, CCC10, CCC14, CCC17, CCC18, CCC22};
 use shapers_base::buffer::{hb_buffer_t, hb_glyph_info_t};
@@ -20,7 +18,7 @@ pub fn reorder_marks(_plan: &hb_ot_shape_plan_t, buffer: &mut hb_buffer_t, start
     requires in_range { end ≤ length buffer.old.glyphs }
     ensures step { buffer.new ≡ record buffer.old { glyphs = run_step buffer.old.level (mark_step start end buffer.old.glyphs) buffer.old.glyphs } }
     ensures order { order_view buffer.new.glyphs ≡ marks_swapped start end (order_view buffer.old.glyphs) }
-    ensures laws { ReorderedHold whole buffer.old.level (mark_step start end buffer.old.glyphs ∷ []) buffer.old.glyphs buffer.new.glyphs }
+    ensures laws { MarksReordered start end buffer.old buffer.new }
 {
     if let Some(i) = find_triple(buffer, start, end) {
         merge_and_swap(buffer, i);
