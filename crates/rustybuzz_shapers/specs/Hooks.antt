@@ -10,9 +10,8 @@ use Rattle.shapers_base.specs.declared.plan.hb_ot_shape_plan_t.{hb_ot_shape_plan
 use Rattle.shapers_base.specs.declared.plan.PlanData.{PlanData}
 use Rattle.shapers_base.specs.declared.plan.Preprocess.{Preprocess}
 use Rattle.shapers_base.specs.declared.plan.Preprocess.TheVariants.{Done, CallerRunsVowelConstraints}
-use Rattle.shapers_clusters.specs.Flags.{whole}
-use Rattle.shapers_clusters.specs.Laws.{ReorderedHold}
 use Rattle.shapers_clusters.specs.Steps.{run_step}
+use Rattle.shapers_text.specs.Hebrew as hebrew
 use Rattle.shapers_text.specs.Hebrew.{composed_in_hebrew, mark_step}
 use Rattle.shapers_text.specs.Thai.{characters, is_sara_am, rewritten}
 use Rattle.shapers_text.specs.ThaiForms.{asks_for_forms, preprocessed_in_thai}
@@ -166,7 +165,7 @@ MarksReordered Universal start end old new = new ≡ old
 abbrev pub MarksKeep : hb_ot_shaper_t → ℕ → ℕ → Buffer → Buffer → Type 0
 MarksKeep Arabic start end old new = Unbuilt
 MarksKeep Hangul start end old new = new ≡ old
-MarksKeep Hebrew start end old new = ReorderedHold whole old.level (mark_step start end old.glyphs ∷ []) old.glyphs new.glyphs
+MarksKeep Hebrew start end old new = hebrew.MarksReordered start end old new
 MarksKeep Indic start end old new = new ≡ old
 MarksKeep Khmer start end old new = new ≡ old
 MarksKeep Myanmar start end old new = new ≡ old

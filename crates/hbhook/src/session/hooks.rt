@@ -1,12 +1,14 @@
 //! The lines `run NAME ..`: the conditions of a call are asked before the call is made.
 ghost use Rattle.std.specs.Prelude.{◌≡◌, ◌≤◌, ◌↔◌, [], is_ok, All, IsTrue, OnOk};
-ghost use Rattle.rustybuzz_shapers.specs.Shapers.{preprocess_stands, postprocesses, compose_stands, decomposes, masks_glyphs, marks_stand};
-ghost use Rattle.rustybuzz_shapers.specs.Pauses.{pause_stands};
+ghost use Rattle.rustybuzz_shapers.specs.Hooks.{CanAsk};
+ghost use Rattle.rustybuzz_shapers.specs.Pauses.{CanPause};
 
 use super::Session;
 use crate::command::HookCall;
 use crate::fault::LineFault;
-use rustybuzz_shapers::shaper::{Pause, Preprocess, hb_ot_shaper_t, run_pause};
+use rustybuzz_shapers::shaper::{
+    Hook, Pause, Preprocess, hb_ot_shaper_t, pause_standing, run_pause,
+};
 use shapers_base::buffer::Span;
 
 impl Session {
@@ -28,7 +30,7 @@ impl Session {
     // The hook before normalization.
     fn preprocess(&mut self, shaper: hb_ot_shaper_t) -> Result<(), LineFault> {
         self.check_no_positions()?;
-        check(has_preprocess(shaper))?;
+        check_hook(shaper, Hook::PreprocessText)?;
         let plan = self.settings.plan()?;
         let answer = shaper.preprocess_text(&plan, &self.settings.font, &mut self.buffer)?;
         match answer {
@@ -41,7 +43,7 @@ impl Session {
     // The hook that sets masks.
     fn set_masks(&mut self, shaper: hb_ot_shaper_t) -> Result<(), LineFault> {
         self.check_no_positions()?;
-        check(!needs_masks(shaper))?;
+        check_hook(shaper, Hook::SetupMasks)?;
         let plan = self.settings.plan()?;
         let (font, tables) = (&self.settings.font, &self.settings.tables);
         let answer = shaper.setup_masks(&plan, font, tables, &mut self.buffer);
@@ -51,7 +53,7 @@ impl Session {
     // The hook after positioning.
     fn postprocess(&mut self, shaper: hb_ot_shaper_t) -> Result<(), LineFault> {
         check(self.buffer.positions_len() == self.buffer.len())?;
-        check(!needs_postprocess(shaper))?;
+        check_hook(shaper, Hook::PostprocessGlyphs)?;
         let plan = self.settings.plan()?;
         let answer = shaper.postprocess_glyphs(&plan, &self.settings.font, &mut self.buffer)?;
         self.answer_if_absent(answer)
@@ -66,7 +68,7 @@ impl Session {
     ) -> Result<(), LineFault> {
         self.check_no_positions()?;
         check(start <= end && end <= self.buffer.len())?;
-        check(has_marks(shaper))?;
+        check_hook(shaper, Hook::ReorderMarks)?;
         let plan = self.settings.plan()?;
         let answer = shaper.reorder_marks(&plan, &mut self.buffer, start, end);
         self.answer_if_absent(answer)
@@ -74,7 +76,7 @@ impl Session {
 
     // The hook that composes two characters.
     fn compose(&mut self, shaper: hb_ot_shaper_t, a: char, b: char) -> Result<(), LineFault> {
-        check(has_compose(shaper))?;
+        check_hook(shaper, Hook::Compose)?;
         let plan = self.settings.plan()?;
         match shaper.compose(&plan, &self.settings.tables, a, b) {
             Some(Some(ab)) => Ok(writeln!(self.answers, "{:04x}", u32::from(ab))?),
@@ -85,7 +87,7 @@ impl Session {
 
     // The hook that decomposes a character.
     fn decompose(&mut self, shaper: hb_ot_shaper_t, ab: char) -> Result<(), LineFault> {
-        check(!needs_decompose(shaper))?;
+        check_hook(shaper, Hook::Decompose)?;
         let plan = self.settings.plan()?;
         match shaper.decompose(&plan, &self.settings.tables, ab) {
             Some(Some((a, b))) => {
@@ -100,7 +102,8 @@ impl Session {
     // A pause, which reads the spans so far.
     fn pause(&mut self, pause: Pause) -> Result<(), LineFault> {
         self.check_no_positions()?;
-        check(has_pause(pause) && kinds_fit(self.settings.spans.as_slice()))?;
+        check_pause(pause)?;
+        check(kinds_fit(self.settings.spans.as_slice()))?;
         let plan = self.settings.plan()?;
         let (font, spans) = (&self.settings.font, self.settings.spans.as_slice());
         run_pause(pause, &plan, font, spans, &mut self.buffer)?;
@@ -140,67 +143,18 @@ fn check(holds: bool) -> Result<(), LineFault>
     }
 }
 
-// Whether the shaper's preprocessing is built, or there is none to build.
-fn has_preprocess(shaper: hb_ot_shaper_t) -> bool
-    ensures { result ≡ preprocess_stands shaper }
+// That a hook may be asked: a line that needs one that isn't built yet doesn't read.
+fn check_hook(shaper: hb_ot_shaper_t, hook: Hook) -> Result<(), LineFault>
+    ensures { OnOk result (CanAsk shaper hook) }
 {
-    !matches!(shaper, hb_ot_shaper_t::Hangul)
+    check(shaper.standing(hook).is_settled())
 }
 
-// Whether the shaper sets masks, which isn't built yet.
-fn needs_masks(shaper: hb_ot_shaper_t) -> bool
-    ensures { result ≡ masks_glyphs shaper }
+// That a pause may be run.
+fn check_pause(pause: Pause) -> Result<(), LineFault>
+    ensures { OnOk result (CanPause pause) }
 {
-    use hb_ot_shaper_t::{Hebrew, MyanmarZawgyi, Thai};
-    !matches!(shaper, Hebrew | MyanmarZawgyi | Thai)
-}
-
-// Whether the shaper rewrites glyphs after positioning, which isn't built yet.
-fn needs_postprocess(shaper: hb_ot_shaper_t) -> bool
-    ensures { result ≡ postprocesses shaper }
-{
-    matches!(shaper, hb_ot_shaper_t::Arabic)
-}
-
-// Whether the shaper's reordering of marks is built, or there is none to build.
-fn has_marks(shaper: hb_ot_shaper_t) -> bool
-    ensures { result ≡ marks_stand shaper }
-{
-    !matches!(shaper, hb_ot_shaper_t::Arabic)
-}
-
-// Whether the shaper's composing is built, or there is none to build.
-fn has_compose(shaper: hb_ot_shaper_t) -> bool
-    ensures { result ≡ compose_stands shaper }
-{
-    use hb_ot_shaper_t::{Indic, Khmer, Universal};
-    !matches!(shaper, Indic | Khmer | Universal)
-}
-
-// Whether the shaper decomposes, which isn't built yet.
-fn needs_decompose(shaper: hb_ot_shaper_t) -> bool
-    ensures { result ≡ decomposes shaper }
-{
-    matches!(shaper, hb_ot_shaper_t::Indic | hb_ot_shaper_t::Khmer)
-}
-
-// Whether the pause is built.
-fn has_pause(pause: Pause) -> bool
-    ensures { result ≡ pause_stands pause }
-{
-    use Pause::{
-        ArabicFallbackShape, ClearSubstitutionFlags, SetupSyllablesIndic, SetupSyllablesKhmer,
-        SetupSyllablesMyanmar, SyllabicClearVar,
-    };
-    matches!(
-        pause,
-        SetupSyllablesIndic
-            | SetupSyllablesKhmer
-            | SetupSyllablesMyanmar
-            | SyllabicClearVar
-            | ClearSubstitutionFlags
-            | ArabicFallbackShape
-    )
+    check(pause_standing(pause).is_settled())
 }
 
 // Whether the kind of each span fits the four bits that it has.

@@ -1,9 +1,9 @@
 //! Syllables in the buffer: longest runs of glyphs of equal syllable bytes.
 ghost use Rattle.std.specs.Prelude.{◌≡◌, ◌==◌, ◌+◌, ◌<◌, ◌≤◌, All, is_ok, OnOk, OnErr, IfErr, IsTrue, length, drop, map};
 ghost use Rattle.shapers_base.specs.Clusters.{with_stretch};
+ghost use Rattle.shapers_base.specs.Refusals.{RefusesInput};
 ghost use Rattle.shapers_base.specs.SyllableLaws.{SyllablesAreRuns};
-ghost use Rattle.shapers_base.specs.Syllables.{first_syllable_len, spans_cover, with_spans, with_bytes, span_bytes, has_byte, in_syllable, unknown_syllable};
-ghost use Rattle.shapers_base.specs.declared.buffer.refusal.ShaperError.TheVariants.{SpansDontCover};
+ghost use Rattle.shapers_base.specs.Syllables.{first_syllable_len, spans_cover, spans_refusal, with_spans, with_bytes, span_bytes, has_byte, in_syllable, unknown_syllable};
 ghost use Rattle.std.specs.List.{prefix_len, list_any};
 
 use super::glyph::hb_glyph_info_t;
@@ -40,9 +40,8 @@ impl hb_buffer_t {
     /// empty or the lengths don't add up to the buffer's. It takes no memory.
     pub fn set_spans(&mut self, spans: &[Span], broken_kind: u8) -> Result<(), ShaperError>
         requires { All (λ span. span.kind ≤ 15) spans.now }
-        ensures cover { is_ok result ≡ spans_cover (length self.old.glyphs) spans.now }
+        ensures refusal { RefusesInput (spans_refusal spans.now self.old) result }
         ensures ok { OnOk result (self.new ≡ with_spans spans.now broken_kind self.old) }
-        ensures refusal { IfErr result (λ e. e ≡ SpansDontCover) }
         ensures err { OnErr result (self.new ≡ self.old) }
     {
         if !cover(self.info.len(), spans) {

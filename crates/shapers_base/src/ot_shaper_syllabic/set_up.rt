@@ -4,8 +4,8 @@ ghost use Rattle.std.specs.List.{list_any};
 ghost use Rattle.shapers_base.specs.Clusters.{with_stretch};
 ghost use Rattle.shapers_base.specs.GlyphFlags.{flagged};
 ghost use Rattle.shapers_base.specs.Syllabic.{in_unsafe_syllable, unsafe_spans, with_unsafe_syllables};
-ghost use Rattle.shapers_base.specs.Syllables.{in_syllable, spans_cover, with_spans};
-ghost use Rattle.shapers_base.specs.declared.buffer.refusal.ShaperError.TheVariants.{SpansDontCover};
+ghost use Rattle.shapers_base.specs.Refusals.{RefusesInput};
+ghost use Rattle.shapers_base.specs.Syllables.{in_syllable, spans_cover, spans_refusal, with_spans};
 
 use crate::buffer::{
     GlyphWalk, ShaperError, Span, hb_buffer_t, hb_glyph_info_t, unsafe_to_break_in,
@@ -20,10 +20,9 @@ pub fn set_up_syllables(
     buffer: &mut hb_buffer_t,
 ) -> Result<(), ShaperError>
     requires { All (λ span. span.kind ≤ 15) spans.now }
-    ensures cover { is_ok result ≡ spans_cover (length buffer.old.glyphs) spans.now }
+    ensures refusal { RefusesInput (spans_refusal spans.now buffer.old) result }
     ensures ok { let cut = with_spans spans.now broken_kind buffer.old in
         OnOk result (buffer.new ≡ with_unsafe_syllables cut) }
-    ensures refusal { IfErr result (λ e. e ≡ SpansDontCover) }
     ensures err { OnErr result (buffer.new ≡ buffer.old) }
 {
     if !cover(buffer.len(), spans) {
