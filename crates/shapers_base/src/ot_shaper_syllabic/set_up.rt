@@ -42,11 +42,10 @@ struct SetUp<'a> {
 }
 
 impl<'a> GlyphWalk for SetUp<'a> {
-    ghost use Rattle.std.specs.Prelude.{◌≡◌, ◌≤◌, All, IsTrue, length};
-    ghost use Rattle.shapers_base.specs.Syllabic.{unsafe_spans};
-    ghost use Rattle.shapers_base.specs.Syllables.{spans_cover};
+    ghost use Rattle.std.specs.Prelude.{◌≡◌};
+    ghost use Rattle.shapers_base.specs.Syllabic.{CanCut, unsafe_spans};
 
-    ghost can_walk = { λ walk glyphs. IsTrue (spans_cover (length glyphs) walk.spans.now) × All (λ span. span.kind ≤ 15) walk.spans.now };
+    ghost can_walk = { λ walk glyphs. CanCut walk.spans.now glyphs };
 
     ghost walks = { λ walk _ old new. new ≡ unsafe_spans walk.spans.now old };
 
