@@ -1,9 +1,9 @@
 -- What dotted circles add to a text, and that nothing else changes.
 use Rattle.std.specs.Prelude.{◌≡◌, ◌==◌, ℕ, suc, ◌+◌, ◌-◌, ◌<◌, ◌≤◌, Bool, true, false, not, cond, List, [], ◌∷◌, ◌++◌, take, drop, length, map, Option, Some, None, count_by, filter, All, Contains, refl, if◌then◌else◌}
 use Rattle.std.specs.List.{flat_map, prefix_len}
-use Rattle.std.proofs.Common.{ap, sym, subst, ◌∙◌, arith, get_or, length-append, length-drop, length-take-le, append_assoc}
+use Rattle.std.proofs.Common.{ap, sym, subst, ◌∙◌, arith, get_or, length-append, length-drop, length-take-le}
 use Rattle.std.proofs.lemmas.Bool.Decides.{nat_tests}
-use Rattle.std.proofs.lemmas.List.{drop-drop, drop_all, drop_more, take_all, length-map, map-append, take_at, drop_at, take-append-drop}
+use Rattle.std.proofs.lemmas.List.{drop-drop, drop_all, drop_more, take_all, length-map, take_at, drop_at, take-append-drop}
 use Rattle.std.proofs.lemmas.List.Elements.{All-append, All-cons, All-head, All-take, All-drop, All-map, All-weaker, All-contains_itself}
 use Rattle.std.proofs.lemmas.List.Sums.{prefix_len-le-length, prefix_len_stops, sum_by-cons}
 use Rattle.shapers_base.specs.declared.buffer.glyph.hb_glyph_info_t.{hb_glyph_info_t}
@@ -11,9 +11,8 @@ use Rattle.shapers_base.specs.declared.ot_shaper_syllabic.circles.DottedCircles.
 use Rattle.shapers_base.specs.Buffer.{Buffer}
 use Rattle.shapers_base.specs.Glyph.{clusters, default_glyph}
 use Rattle.shapers_base.specs.Syllables.{syllables, with_opening, first_syllable_len, kind_of}
-use Rattle.shapers_base.specs.Clusters.{stretch_of}
 use Rattle.shapers_base.specs.Circles.{is_of_kind, rephas_len, circle_in, with_circle, with_circles, circled_syllable, count_of_kind}
-use Rattle.shapers_base.specs.CircleLaws.{unmarked, marked, no_marks, marks_in, circle_marks, circles_of, CirclesCanBeErased, CirclesKeepClusters}
+use Rattle.shapers_base.specs.CircleLaws.{unmarked, marked, no_marks, marks_in, CirclesCanBeErased, CirclesKeepClusters}
 use Rattle.shapers_base.specs.FirstBroken.{IsFirstBroken, is_of_other_kind}
 use Rattle.shapers_base.proofs.MappedLists.{Contains-map}
 use Rattle.shapers_base.proofs.SyllableLaws.{syllables_are_runs}

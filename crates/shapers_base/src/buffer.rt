@@ -35,6 +35,7 @@ pub use level::{BufferClusterLevel, Direction};
 pub use merging::merge_clusters_in;
 pub use refusal::ShaperError;
 pub use syllables::{Span, syllables_are_runs};
+pub(crate) use syllables::{cover, has_kind, run_len, set_syllable};
 pub use tag::{Script, hb_tag_t};
 pub use walking::{GlyphChange, GlyphWalk};
 

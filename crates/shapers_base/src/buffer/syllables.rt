@@ -56,7 +56,7 @@ impl hb_buffer_t {
 }
 
 // How many glyphs at the front have this syllable byte.
-fn run_len(glyphs: &[hb_glyph_info_t], byte: u8) -> usize
+pub(crate) fn run_len(glyphs: &[hb_glyph_info_t], byte: u8) -> usize
     ensures run { result ≡ prefix_len (has_byte byte) glyphs.now }
     ensures within { result ≤ length glyphs.now }
 {
@@ -76,14 +76,14 @@ fn first_above(glyphs: &[hb_glyph_info_t], last_kind: u8) -> Option<usize>
 }
 
 // Whether a span is of this kind.
-fn has_kind(spans: &[Span], kind: u8) -> bool
+pub(crate) fn has_kind(spans: &[Span], kind: u8) -> bool
     ensures { result ≡ list_any (λ span. span.kind == kind) spans.now }
 {
     spans.iter().any(|span| span.kind == kind)
 }
 
 // Whether no span is empty and the lengths add up to `len`.
-fn cover(len: usize, spans: &[Span]) -> bool
+pub(crate) fn cover(len: usize, spans: &[Span]) -> bool
     ensures { result ≡ spans_cover len spans.now }
 {
     let mut rest = len;
@@ -121,7 +121,7 @@ fn set_syllable_in(glyphs: &mut [hb_glyph_info_t], s: usize, e: usize, byte: u8)
 }
 
 // Gives all these glyphs one syllable byte.
-fn set_syllable(glyphs: &mut [hb_glyph_info_t], byte: u8)
+pub(crate) fn set_syllable(glyphs: &mut [hb_glyph_info_t], byte: u8)
     ensures { glyphs.new ≡ map (in_syllable byte) glyphs.old }
 {
     for glyph in glyphs.iter_mut() {

@@ -1,5 +1,5 @@
 //! Dotted circles: what a broken syllable stands on.
-ghost use Rattle.std.specs.Prelude.{◌≡◌, ◌==◌, ◌+◌, ◌%◌, ◌<◌, ◌≤◌, [], ◌++◌, ◌∷◌, IfErr, IfOk, IsOk, MatchOption, OnErr, OnOk, drop, take, is_some, length, slice_get};
+ghost use Rattle.std.specs.Prelude.{◌≡◌, ◌==◌, ◌<◌, ◌≤◌, [], ◌++◌, IfErr, IfOk, IsOk, MatchOption, OnErr, OnOk, is_some, length};
 ghost use Rattle.std.specs.List.{prefix_len};
 ghost use Rattle.shapers_base.specs.CircleLaws.{CirclesCanBeErased, CirclesKeepClusters};
 ghost use Rattle.shapers_base.specs.Circles.{circle_in, circled, circles_for, count_of_kind, rephas_len, with_circle, with_circles};
@@ -8,7 +8,7 @@ ghost use Rattle.shapers_base.specs.Refusals.{RefusesLength};
 ghost use Rattle.shapers_base.specs.Syllables.{first_syllable_len, has_byte};
 ghost use Rattle.shapers_base.specs.declared.buffer.refusal.ShaperError.TheVariants.{Memory};
 
-use crate::buffer::{BufferFlags, ShaperError, hb_buffer_t, hb_glyph_info_t};
+use crate::buffer::{BufferFlags, ShaperError, hb_buffer_t, hb_glyph_info_t, run_len};
 use crate::font::hb_font_t;
 use bitflags::Flags;
 use std::alloc::Global;
@@ -34,10 +34,10 @@ struct Places {
     end: usize,
 }
 
-/// Gives each broken syllable a dotted circle, behind its leading glyphs of the repha category where
-/// one is given, else in front. Answers false, with nothing changed, where no syllable is broken, the
-/// caller forbids circles or the font has none. Refuses with `TooLong` where the text would be longer
-/// than `max_len`, and with `Memory`; where no circle opens it takes none.
+/// Gives each broken syllable a dotted circle, behind its leading glyphs of the repha category
+/// where one is given, else in front. Answers false, with nothing changed, where no syllable is
+/// broken, the caller forbids circles or the font has none. Refuses with `TooLong` where the text
+/// would be longer than `max_len`, and with `Memory`; where no circle opens it takes none.
 pub fn insert_dotted_circles<F: hb_font_t>(
     face: &F,
     buffer: &mut hb_buffer_t,
@@ -48,17 +48,22 @@ pub fn insert_dotted_circles<F: hb_font_t>(
 ) -> Result<bool, ShaperError>
     requires { buffer.old.positions ≡ [] }
     ensures answer { let circles = circles_for ((F.font face.now).nominal 0x25CC)
-        broken_syllable_type dottedcircle_category repha_category dottedcircle_position buffer.old in
+        broken_syllable_type dottedcircle_category
+        repha_category dottedcircle_position buffer.old in
         IfOk result (λ answer. answer ≡ is_some circles) }
     ensures ok { let circles = circles_for ((F.font face.now).nominal 0x25CC)
-        broken_syllable_type dottedcircle_category repha_category dottedcircle_position buffer.old in
-        OnOk result (buffer.new ≡ record buffer.old { glyphs = circled circles buffer.old.glyphs }) }
+        broken_syllable_type dottedcircle_category
+        repha_category dottedcircle_position buffer.old in
+        OnOk result (buffer.new ≡
+        record buffer.old { glyphs = circled circles buffer.old.glyphs }) }
     ensures length { let circles = circles_for ((F.font face.now).nominal 0x25CC)
-        broken_syllable_type dottedcircle_category repha_category dottedcircle_position buffer.old in
+        broken_syllable_type dottedcircle_category
+        repha_category dottedcircle_position buffer.old in
         RefusesLength buffer.old.max_len (length (circled circles buffer.old.glyphs)) result }
     ensures err { OnErr result (buffer.new ≡ buffer.old) }
     ensures without_memory { let circles = circles_for ((F.font face.now).nominal 0x25CC)
-        broken_syllable_type dottedcircle_category repha_category dottedcircle_position buffer.old in
+        broken_syllable_type dottedcircle_category
+        repha_category dottedcircle_position buffer.old in
         circled circles buffer.old.glyphs ≡ buffer.old.glyphs → IsOk result }
 {
     // so that an answer with nothing changed keeps the promise on lengths, too
@@ -131,8 +136,10 @@ impl DottedCircles {
     // Puts the circles into the text.
     fn insert(&self, buffer: &mut hb_buffer_t) -> Result<(), ShaperError>
         requires { buffer.old.positions ≡ [] }
-        ensures ok { OnOk result (buffer.new ≡ record buffer.old { glyphs = with_circles self.now buffer.old.glyphs }) }
-        ensures length { RefusesLength buffer.old.max_len (length (with_circles self.now buffer.old.glyphs)) result }
+        ensures ok { OnOk result (buffer.new ≡
+            record buffer.old { glyphs = with_circles self.now buffer.old.glyphs }) }
+        ensures length { let wanted = length (with_circles self.now buffer.old.glyphs) in
+            RefusesLength buffer.old.max_len wanted result }
         ensures err { OnErr result (buffer.new ≡ buffer.old) }
         ensures free { with_circles self.now buffer.old.glyphs ≡ buffer.old.glyphs → IsOk result }
     {
@@ -203,7 +210,8 @@ impl DottedCircles {
         syllable: &[hb_glyph_info_t],
     ) -> Result<(), ShaperError>
         requires { 0 < length syllable.now }
-        ensures ok { OnOk result (glyphs.new.items ≡ glyphs.old.items ++ with_circle self.now syllable.now) }
+        ensures ok { let added = with_circle self.now syllable.now in
+            OnOk result (glyphs.new.items ≡ glyphs.old.items ++ added) }
         ensures err { IfErr result (λ e. e ≡ Memory) }
     {
         let (rephas, others) = syllable.split_at(self.rephas_len(syllable));
@@ -257,17 +265,6 @@ fn first_syllable_len(glyphs: &[hb_glyph_info_t]) -> usize
     ensures within { result ≤ length glyphs.now }
 {
     1 + run_len(&glyphs[1..], glyphs[0].syllable)
-}
-
-// How many glyphs at the front have this syllable byte.
-fn run_len(glyphs: &[hb_glyph_info_t], byte: u8) -> usize
-    ensures len { result ≡ prefix_len (has_byte byte) glyphs.now }
-    ensures within { result ≤ length glyphs.now }
-{
-    glyphs
-        .iter()
-        .take_while(|glyph| glyph.syllable == byte)
-        .count()
 }
 
 // The circle of a syllable, which takes cluster, mask and syllable byte from the first glyph.

@@ -8,7 +8,8 @@ ghost use Rattle.shapers_base.specs.Refusals.{RefusesInput};
 ghost use Rattle.shapers_base.specs.Syllables.{in_syllable, spans_cover, spans_refusal, with_spans};
 
 use crate::buffer::{
-    GlyphWalk, ShaperError, Span, hb_buffer_t, hb_glyph_info_t, unsafe_to_break_in,
+    GlyphWalk, ShaperError, Span, cover, has_kind, hb_buffer_t, hb_glyph_info_t, set_syllable,
+    unsafe_to_break_in,
 };
 
 /// Cuts the text into the syllables of these spans, marks whether one is of the broken kind, and
@@ -42,11 +43,10 @@ struct SetUp<'a> {
 }
 
 impl<'a> GlyphWalk for SetUp<'a> {
-    ghost use Rattle.std.specs.Prelude.{◌≡◌, ◌≤◌, All, IsTrue, length};
-    ghost use Rattle.shapers_base.specs.Syllabic.{unsafe_spans};
-    ghost use Rattle.shapers_base.specs.Syllables.{spans_cover};
+    ghost use Rattle.std.specs.Prelude.{◌≡◌};
+    ghost use Rattle.shapers_base.specs.Syllabic.{CanCut, unsafe_spans};
 
-    ghost can_walk = { λ walk glyphs. IsTrue (spans_cover (length glyphs) walk.spans.now) × All (λ span. span.kind ≤ 15) walk.spans.now };
+    ghost can_walk = { λ walk glyphs. CanCut walk.spans.now glyphs };
 
     ghost walks = { λ walk _ old new. new ≡ unsafe_spans walk.spans.now old };
 
@@ -86,34 +86,4 @@ fn set_up_span(glyphs: &mut [hb_glyph_info_t], byte: u8)
     set_syllable(glyphs, byte);
     let len = glyphs.len();
     unsafe_to_break_in(glyphs, 0, len);
-}
-
-// Gives all these glyphs one syllable byte.
-fn set_syllable(glyphs: &mut [hb_glyph_info_t], byte: u8)
-    ensures { glyphs.new ≡ map (in_syllable byte) glyphs.old }
-{
-    for glyph in glyphs.iter_mut() {
-        glyph.syllable = byte;
-    }
-}
-
-// Whether a span is of this kind.
-fn has_kind(spans: &[Span], kind: u8) -> bool
-    ensures { result ≡ list_any (λ span. span.kind == kind) spans.now }
-{
-    spans.iter().any(|span| span.kind == kind)
-}
-
-// Whether no span is empty and the lengths add up to `len`.
-fn cover(len: usize, spans: &[Span]) -> bool
-    ensures { result ≡ spans_cover len spans.now }
-{
-    let mut rest = len;
-    for span in spans {
-        if span.len == 0 || span.len > rest {
-            return false;
-        }
-        rest -= span.len;
-    }
-    rest == 0
 }

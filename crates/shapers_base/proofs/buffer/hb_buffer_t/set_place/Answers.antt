@@ -1,6 +1,6 @@
 use Rattle.std.proofs.Common.{◌<◌, ◌∙◌, ap, arith, length, List, ℕ}
 use Rattle.shapers_base.specs.Buffer.{Buffer}
-use Rattle.shapers_base.specs.Places.{with_place, without_last_zeros}
+use Rattle.shapers_base.specs.Places.{with_place}
 use Rattle.shapers_base.proofs.PlaceLaws.{set-without_last_zeros}
 use Rattle.shapers_base.specs.contracts.buffer.hb_buffer_t.{the_view}
 use Rattle.shapers_base.proofs.buffer.hb_buffer_t.set_place.Goals as goal

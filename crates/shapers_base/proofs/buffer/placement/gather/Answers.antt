@@ -1,5 +1,4 @@
 use Rattle.std.proofs.Common.{◌<◌, arith, get_or, length}
-use Rattle.std.proofs.lemmas.List.Elements.{All-get_or}
 use Rattle.shapers_base.specs.Glyph.{default_glyph}
 use Rattle.shapers_base.proofs.PlaceLaws.{gather_more}
 use Rattle.shapers_base.proofs.buffer.placement.gather.Goals as goal

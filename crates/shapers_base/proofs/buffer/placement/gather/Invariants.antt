@@ -1,4 +1,4 @@
-use Rattle.std.proofs.Common.{◌≡◌, take, length}
+use Rattle.std.proofs.Common.{◌≡◌, take}
 use Rattle.shapers_base.specs.Places.{pick}
 use Rattle.shapers_base.proofs.buffer.placement.gather.Given as goal
 

@@ -1,4 +1,4 @@
-use Rattle.std.proofs.Common.{◌≡◌, ◌-◌, ◌++◌, ◌∙◌, ap, arith, length, refl, take, replicate, vec_len}
+use Rattle.std.proofs.Common.{◌-◌, ◌++◌, ◌∙◌, ap, arith, replicate, vec_len}
 use Rattle.std.proofs.lemmas.List.{take_all}
 use Rattle.shapers_base.specs.Places.{without_last_zeros}
 use Rattle.shapers_base.proofs.PlaceLaws.{without_last_zeros-append}

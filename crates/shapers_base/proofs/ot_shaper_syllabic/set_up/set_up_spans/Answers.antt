@@ -1,10 +1,10 @@
-use Rattle.std.proofs.Common.{◌≡◌, ◌+◌, ◌≤◌, ◌∷◌, ◌++◌, ◌∙◌, Bool, true, length, take, drop, suc, get_or, ap, sym, add-one, arith}
+use Rattle.std.proofs.Common.{◌≡◌, ◌+◌, ◌≤◌, ◌∷◌, ◌∙◌, true, length, drop, suc, get_or, ap, sym, add-one, arith}
 use Rattle.std.specs.Prelude.{All}
 use Rattle.std.proofs.lemmas.List.{drop_more}
 use Rattle.std.proofs.lemmas.List.Elements.{All-drop, All-same}
-use Rattle.shapers_base.specs.Syllables.{span_byte, span_bytes, spans_cover}
+use Rattle.shapers_base.specs.Syllables.{span_bytes, spans_cover}
 use Rattle.shapers_base.specs.declared.buffer.syllables.Span.{Span}
-use Rattle.shapers_base.proofs.SyllabicLemmas.{set_up_next, covers_first}
+use Rattle.shapers_base.proofs.SyllabicLemmas.{set_up_next}
 use Rattle.shapers_base.proofs.ot_shaper_syllabic.set_up.set_up_spans.Goals as goal
 
 pub loop-i-preserved : goal.loop-i-preserved

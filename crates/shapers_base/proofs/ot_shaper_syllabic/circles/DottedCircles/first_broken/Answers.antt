@@ -1,4 +1,4 @@
-use Rattle.std.proofs.Common.{◌∙◌, ap, sym, subst, length, arith, ◌≤◌}
+use Rattle.std.proofs.Common.{◌∙◌, ap, arith}
 use Rattle.shapers_base.specs.Syllables.{first_syllable_len}
 use Rattle.shapers_base.proofs.CircleLaws.{is_first_broken, none_broken, to_end}
 use Rattle.shapers_base.proofs.ot_shaper_syllabic.circles.DottedCircles.first_broken.Goals as goal

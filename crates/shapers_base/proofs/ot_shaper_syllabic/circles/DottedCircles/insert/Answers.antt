@@ -1,4 +1,4 @@
-use Rattle.std.proofs.Common.{◌≡◌, ◌≤◌, ◌∙◌, ap, sym, arith, length, rules}
+use Rattle.std.proofs.Common.{◌≤◌, ◌∙◌, ap, sym, arith, length, rules}
 use Rattle.shapers_base.specs.Circles.{count_of_kind, with_circles}
 use Rattle.shapers_base.proofs.CircleLaws.{with_circles-none, length-with_circles, no_circles, with_glyphs}
 use Rattle.shapers_base.proofs.ot_shaper_syllabic.circles.DottedCircles.insert.Goals as goal

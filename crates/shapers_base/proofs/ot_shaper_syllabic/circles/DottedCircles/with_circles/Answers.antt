@@ -1,5 +1,5 @@
 use Rattle.std.proofs.Common.{◌≡◌, ◌∙◌, ◌++◌, ap, sym, rules}
-use Rattle.shapers_base.specs.Circles.{with_circles, count_of_kind}
+use Rattle.shapers_base.specs.Circles.{count_of_kind}
 use Rattle.shapers_base.proofs.CircleLaws.{with_circles-none}
 use Rattle.shapers_base.proofs.ot_shaper_syllabic.circles.DottedCircles.with_circles.Goals as goal
 
