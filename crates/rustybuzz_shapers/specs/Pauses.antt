@@ -1,5 +1,5 @@
 -- What each pause does to the buffer.
-use Rattle.std.specs.Prelude.{ℕ, ◌≡◌, Bool, true, false, List, length, map, Option, Result, IsOk}
+use Rattle.std.specs.Prelude.{ℕ, ◌≡◌, Bool, true, false, List, map, Result, IsOk}
 use Rattle.shapers_base.specs.Buffer.{Buffer}
 use Rattle.shapers_base.specs.Font.{Font}
 use Rattle.shapers_base.specs.Refusals.{RefusesInput}

@@ -1,28 +1,15 @@
 -- The records of the shapers: their constants, and what they ask of the map.
-use Rattle.std.specs.Prelude.{ℕ, Bool, true, false, List, [], ◌∷◌, ◌≡◌, length, Option, None, Some, Result, IsOk, codes}
-use Rattle.std.specs.List.{list_any}
+use Rattle.std.specs.Prelude.{Bool, true, false, List, Option, None, Some, codes}
 use Rattle.std.specs.Option.{option_map}
-use Rattle.shapers_base.specs.Buffer.{Buffer}
 use Rattle.shapers_base.specs.Planner.{Planner, with_requests}
-use Rattle.shapers_base.specs.Refusals.{RefusesLength}
-use Rattle.shapers_base.specs.declared.buffer.glyph.hb_glyph_info_t.{hb_glyph_info_t}
-use Rattle.shapers_base.specs.declared.buffer.level.BufferClusterLevel.{BufferClusterLevel}
-use Rattle.shapers_base.specs.declared.buffer.refusal.ShaperError.{ShaperError}
 use Rattle.shapers_base.specs.declared.buffer.tag.hb_tag_t.{hb_tag_t}
 use Rattle.shapers_base.specs.declared.buffer.tag.Script.{Script}
-use Rattle.shapers_base.specs.declared.plan.Preprocess.{Preprocess}
-use Rattle.shapers_base.specs.declared.plan.Preprocess.TheVariants.{Done, CallerRunsVowelConstraints}
 use Rattle.shapers_base.specs.declared.plan.planner.Request.{Request}
 use Rattle.shapers_base.specs.declared.plan.record.NormalizationMode.{NormalizationMode}
 use Rattle.shapers_base.specs.declared.plan.record.NormalizationMode.TheVariants as mode
 use Rattle.shapers_base.specs.declared.plan.record.ZeroWidthMarks.{ZeroWidthMarks}
 use Rattle.shapers_base.specs.declared.plan.record.ZeroWidthMarks.TheVariants as zeroing
-use Rattle.shapers_clusters.specs.Steps.{Step, run_step}
-use Rattle.shapers_text.specs.Hebrew.{composed_in_hebrew, mark_step}
 use Rattle.shapers_text.specs.Requests.{arabic_list, is_arabic, hangul_list, hangul_overrides}
-use Rattle.shapers_text.specs.Thai.{is_sara_am, rewritten, wants_forms}
-use Rattle.shapers_text.specs.ThaiForms.{preprocessed}
-use Rattle.shapers_text.specs.ThaiLaws.{ClustersInTwo}
 use Rattle.shapers_regroup.specs.Requests.{khmer_list, khmer_overrides, myanmar_list, universal_list}
 use Rattle.shapers_indic.specs.Requests.{indic_list, indic_overrides}
 use Rattle.rustybuzz_shapers.specs.declared.shaper.hb_ot_shaper_t.{hb_ot_shaper_t}
