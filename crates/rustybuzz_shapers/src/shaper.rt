@@ -4,7 +4,7 @@ ghost use Rattle.std.specs.Prelude.{◌≡◌, ◌≤◌, [], length, false, tru
 ghost use Rattle.shapers_base.specs.declared.buffer.refusal.ShaperError.TheVariants.{Memory};
 ghost use Rattle.shapers_base.specs.Glyph.{clusters};
 ghost use Rattle.shapers_clusters.specs.Laws.{ReorderedHold};
-ghost use Rattle.shapers_text.specs.Requests.{rclt};
+ghost use Rattle.shapers_arabic.specs.Requests.{rclt};
 ghost use Rattle.shapers_text.specs.Thai.{characters};
 ghost use Rattle.rustybuzz_shapers.specs.Shapers.{normalizes, wants_gpos_script, zeroes_marks, places_marks, collected, overridden, asked, if_there, keeps_data, postprocesses, compose_stands, composed_by, decomposes, masks_glyphs, moves_marks, marks_stand, after_marks, marks_steps, preprocess_answer, preprocess_stands, after_preprocess, ClustersPreprocessed, RefusesPreprocess};
 
@@ -18,7 +18,8 @@ pub use pauses::run_pause;
 pub use shapers_base::plan::{NormalizationMode, Pause, PlanData, Preprocess, ZeroWidthMarks};
 use shapers_indic::ot_shaper_indic;
 use shapers_regroup::{ot_shaper_khmer, ot_shaper_myanmar, ot_shaper_use};
-use shapers_text::{ot_shaper_arabic, ot_shaper_hangul, ot_shaper_hebrew, ot_shaper_thai};
+use shapers_arabic::ot_shaper_arabic;
+use shapers_text::{ot_shaper_hangul, ot_shaper_hebrew, ot_shaper_thai};
 
 /// A script shaper.
 #[derive(Clone, Copy, Debug, PartialEq, Eq)]

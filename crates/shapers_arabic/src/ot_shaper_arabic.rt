@@ -2,7 +2,7 @@
 ghost use Rattle.std.specs.Prelude.{◌≡◌, OnOk, OnErr, IsOkUnless, if◌then◌else◌};
 ghost use Rattle.shapers_base.specs.declared.buffer.refusal.ShaperError.TheVariants.{Memory};
 ghost use Rattle.shapers_base.specs.Planner.{with_requests};
-ghost use Rattle.shapers_text.specs.Requests.{arabic_list, is_arabic, joining_list, rclt};
+ghost use Rattle.shapers_arabic.specs.Requests.{arabic_list, is_arabic, joining_list, rclt};
 
 use arrayvec::ArrayVec;
 use shapers_base::buffer::{Script, hb_tag_t};
@@ -11,6 +11,8 @@ use shapers_base::map::{F_GLOBAL, F_HAS_FALLBACK, F_MANUAL_ZWJ, F_NONE};
 use shapers_base::plan::{Pause, Request, ShaperError, hb_ot_shape_planner_t};
 
 pub mod arabic_action_t;
+mod joining;
+mod look_ups;
 
 pub use shapers_base::plan::hb_arabic_joining_type_t;
 

@@ -1,0 +1,3 @@
+pub mod JoiningLists
+pub mod JoiningTable
+mod RequestRows
