@@ -1,3 +1,5 @@
+pub mod FormedGlyphs
 pub mod JoiningLists
 pub mod JoiningTable
+pub mod JoiningWalk
 mod RequestRows
