@@ -1,29 +1,25 @@
 -- Glyphs that only took forms and gained glyph flags.
-use Rattle.std.proofs.Common.{◌≡◌, ℕ, zero, suc, ◌+◌, ◌-◌, ◌/◌, ◌<◌, ◌≤◌, max, Bool, true, false, cond, eqb, List, [], ◌∷◌, ◌++◌, length, map, take, drop, get_or, refl, sym, ap, ◌∙◌, subst, arith}
+use Rattle.std.proofs.Common.{◌≡◌, ◌≢◌, Option, None, Some, ℕ, zero, suc, ◌+◌, ◌-◌, ◌/◌, ◌<◌, ◌≤◌, max, Bool, true, false, cond, eqb, List, [], ◌∷◌, ◌++◌, length, map, take, drop, get_or, refl, sym, ap, ◌∙◌, subst, arith}
 use Rattle.std.proofs.Math.ListN.{set}
 use Rattle.std.specs.List.{AllZip, AllByRecursion}
 use Rattle.std.specs.Char.{IsScalar}
 use Rattle.std.specs.Int.{bit_at}
 use Rattle.std.specs.Int.Bits.{bit_or, or_zero_r}
+use Rattle.std.proofs.lemmas.Bool.{eq-eqb, ne_eqb}
 use Rattle.std.proofs.lemmas.Nat.{or_shr}
 use Rattle.std.proofs.lemmas.Nat.Bits.{bit_at_or, same_from_bits}
 use Rattle.shapers_base.specs.declared.buffer.glyph.hb_glyph_info_t.{hb_glyph_info_t}
 use Rattle.shapers_base.specs.declared.plan.joining.hb_arabic_joining_type_t.{hb_arabic_joining_type_t}
+use Rattle.std.proofs.lemmas.List.{get_or-map}
+use Rattle.shapers_base.specs.declared.plan.joining.hb_arabic_joining_type_t.TheVariants.{U}
 use Rattle.shapers_base.specs.Clusters.{least, stretch_of}
 use Rattle.shapers_base.specs.Glyph.{clusters}
 use Rattle.shapers_base.specs.GlyphFlags.{with_stretch, with_bits, with_bits_off, flagged, unsafe_to_concat_in, tatweel_inside}
 use Rattle.shapers_clusters.specs.Merging.{three_parts}
+use Rattle.shapers_arabic.specs.declared.ot_shaper_arabic.arabic_action_t.TheConstants.{NONE}
 use Rattle.shapers_arabic.specs.Joining.{resolved}
 use Rattle.shapers_arabic.specs.JoinedText.{stored_types, AreCharacters}
-
--- the glyph with another form, and perhaps more glyph flags
-pub record OnlyForm (g h : hb_glyph_info_t) : Type 0 where
-  pub bits : ℕ
-  pub are_flags : bits < 8
-  pub same : h ≡ record g { auxiliary = h.auxiliary; mask = bit_or g.mask bits }
-
-abbrev pub OnlyFormed : List hb_glyph_info_t → List hb_glyph_info_t → Type 0
-OnlyFormed gs hs = AllZip OnlyForm gs hs
+use Rattle.shapers_arabic.specs.JoiningWalk.{OnlyForm, OnlyFormed, IsWithin, given_last}
 
 or-assoc : (a b c : ℕ) → bit_or (bit_or a b) c ≡ bit_or a (bit_or b c)
 or-assoc a b c = same_from_bits (bit_or (bit_or a b) c) (bit_or a (bit_or b c)) (λ i. omega (arith, bit_at_or (bit_or a b) c i, bit_at_or a b i, bit_at_or a (bit_or b c) i, bit_at_or b c i))
@@ -132,3 +128,19 @@ formed-tatweel asked s e gs h =
 pub formed-concat : (asked : Bool) (s e : ℕ) (gs : List hb_glyph_info_t) → s ≤ e → OnlyFormed gs (unsafe_to_concat_in asked s e gs)
 formed-concat false s e gs h = formed-stays gs
 formed-concat true s e gs h = formed-stretch s e (map (with_bits 2)) gs h (formed-map (with_bits 2) (λ g. form-bits 2 g (omega arith)) (stretch_of s e gs))
+
+-- the last letter keeps its form, or takes the one that it is given
+pub given-none : (given : ℕ) (forms : List ℕ) (k : ℕ) → given ≡ NONE → given_last (Some k) given forms ≡ forms
+given-none given forms k e = ap (λ b. cond b forms (set forms k given)) (eq-eqb given NONE e)
+
+pub given-some : (given : ℕ) (forms : List ℕ) (k : ℕ) → given ≢ NONE → given_last (Some k) given forms ≡ set forms k given
+given-some given forms k e = ap (λ b. cond b forms (set forms k given)) (ne_eqb given NONE e)
+
+pub within-more : (last : Option ℕ) (i : ℕ) → IsWithin last i → IsWithin last (i + 1)
+within-more None i h = tt
+within-more (Some k) i h = omega arith
+
+-- the type of the glyph at a place is as it was
+pub type-at : (joining : ℕ → hb_arabic_joining_type_t) (gs hs : List hb_glyph_info_t) (i : ℕ) (d : hb_glyph_info_t) → i < length hs → OnlyFormed gs hs → get_or (stored_types joining gs) i U ≡ resolved (joining (get_or hs i d).glyph_id) (get_or hs i d).general_category
+type-at joining gs hs i d h a =
+    ap (λ ts. get_or ts i U) (sym (types-formed joining gs hs a)) ∙ get_or-map (λ g. resolved (joining g.glyph_id) g.general_category) hs i d U h

@@ -1,47 +1,9 @@
 -- The table, cell by cell, against the joining rule.
-use Rattle.std.proofs.Common.{◌≡◌, ℕ, eqb, cond, List, [], ◌∷◌, get_or, Option, None, Some, refl}
-use Rattle.std.specs.Prelude.{if◌then◌else◌}
+use Rattle.std.proofs.Common.{◌≡◌, ℕ, Option, None, Some, refl}
 use Rattle.shapers_base.specs.declared.plan.joining.hb_arabic_joining_type_t.{hb_arabic_joining_type_t}
 use Rattle.shapers_base.specs.declared.plan.joining.hb_arabic_joining_type_t.TheVariants.{U, L, R, D, GroupAlaph, GroupDalathRish, T, X}
-use Rattle.shapers_arabic.specs.declared.ot_shaper_arabic.arabic_action_t.TheConstants.{NONE}
-use Rattle.shapers_arabic.specs.declared.ot_shaper_arabic.joining.TheConstants.{STATE_TABLE}
-use Rattle.shapers_arabic.specs.declared.ot_shaper_arabic.joining.Transition.{Transition}
-use Rattle.shapers_arabic.specs.Joining.{act, joins_on}
-
--- the column of a letter
-abbrev pub column_of : hb_arabic_joining_type_t → ℕ
-column_of L = 1
-column_of R = 2
-column_of D = 3
-column_of GroupAlaph = 4
-column_of GroupDalathRish = 5
-column_of _ = 0
-
--- the cell of a state and a letter
-abbrev pub cell : ℕ → hb_arabic_joining_type_t → Transition
-cell state t = get_or (get_or STATE_TABLE state []) (column_of t) (record { 0 = NONE; 1 = NONE; 2 = 0 })
-
--- the state behind an Alaph, by the letter before it
-abbrev pub alaph_state : Option hb_arabic_joining_type_t → ℕ
-alaph_state (Some L) = 4
-alaph_state (Some D) = 4
-alaph_state (Some R) = 5
-alaph_state (Some GroupAlaph) = 5
-alaph_state (Some GroupDalathRish) = 5
-alaph_state _ = 1
-
--- the state behind a letter, by the letter before it
-abbrev pub state_of : Option hb_arabic_joining_type_t → hb_arabic_joining_type_t → ℕ
-state_of before L = 2
-state_of before R = 1
-state_of before D = if joins_on before then 3 else 2
-state_of before GroupAlaph = alaph_state before
-state_of before GroupDalathRish = 6
-state_of before _ = 0
-
--- the form of a letter once the next one gave it another, or NONE to keep it
-abbrev pub kept_or : ℕ → ℕ → ℕ
-kept_or given own = cond (eqb given NONE) own given
+use Rattle.shapers_arabic.specs.Joining.{act}
+use Rattle.shapers_arabic.specs.JoiningWalk.{cell, state_of, kept_or}
 
 -- the form that the next letter gives
 pub gives_previous : (before : Option hb_arabic_joining_type_t) (own t : hb_arabic_joining_type_t) → kept_or (cell (state_of before own) t).0 (act before own None) ≡ act before own (Some t)

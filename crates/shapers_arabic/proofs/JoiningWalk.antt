@@ -7,49 +7,9 @@ use Rattle.shapers_base.specs.declared.plan.joining.hb_arabic_joining_type_t.{hb
 use Rattle.shapers_base.specs.declared.plan.joining.hb_arabic_joining_type_t.TheVariants.{U, T}
 use Rattle.shapers_arabic.specs.declared.ot_shaper_arabic.arabic_action_t.TheConstants.{NONE}
 use Rattle.shapers_arabic.specs.Joining.{is_transparent, nearest, act, forms}
+use Rattle.shapers_arabic.specs.JoiningWalk.{cell, state_of, kept_or, state_at_start, LastLetter, NoLetter, LastIs, Walked, IsWithin, given_last, given_by}
 use Rattle.shapers_arabic.proofs.JoiningLists.{transparent, nearest-transparent, nearest-letter, forms-contexts, length-forms, forms-append, forms-transparent, in_parts, forms-parts}
-use Rattle.shapers_arabic.proofs.JoiningTable.{cell, state_of, kept_or, gives_previous, gives_own, gives_first, gives_state, gives_first_state}
-
--- the state before a text, by the nearest type before it
-abbrev pub state_at_start : Option hb_arabic_joining_type_t → ℕ
-state_at_start None = 0
-state_at_start (Some t) = state_of None t
-
--- the last letter of a text stands at place k, and left this state
-pub record LastLetter (before ts : List hb_arabic_joining_type_t) (state k : ℕ) : Type 0 where
-  pub front : List hb_arabic_joining_type_t
-  pub own : hb_arabic_joining_type_t
-  pub tail : List hb_arabic_joining_type_t
-  pub split : ts ≡ front ++ own ∷ tail
-  pub place : length front ≡ k
-  pub letter : is_transparent own ≡ false
-  pub rest : nearest tail ≡ None
-  pub state_is : state ≡ state_of (nearest (reverse front ++ before)) own
-
--- a text without a letter left the state before it
-pub record NoLetter (before ts : List hb_arabic_joining_type_t) (state : ℕ) : Type 0 where
-  pub rest : nearest ts ≡ None
-  pub state_is : state ≡ state_at_start (nearest before)
-
-abbrev pub LastIs : List hb_arabic_joining_type_t → List hb_arabic_joining_type_t → ℕ → Option ℕ → Type 0
-LastIs before ts state None = NoLetter before ts state
-LastIs before ts state (Some k) = LastLetter before ts state k
-
--- the forms, where the last letter takes the form that it is given
-abbrev pub given_last : Option ℕ → ℕ → List ℕ → List ℕ
-given_last None given fs = fs
-given_last (Some k) given fs = cond (eqb given NONE) fs (set fs k given)
-
--- what holds after i places
-pub record Walked (before types : List hb_arabic_joining_type_t) (i state : ℕ) (last : Option ℕ) (fs : List ℕ) : Type 0 where
-  pub last_is : LastIs before (take i types) state last
-  pub forms_are : take i fs ≡ forms before (take i types) []
-  pub long : length fs ≡ length types
-
--- the last letter stands before place i
-abbrev pub IsWithin : Option ℕ → ℕ → Type 0
-IsWithin None i = Unit {0}
-IsWithin (Some k) i = k < i
+use Rattle.shapers_arabic.proofs.JoiningTable.{gives_previous, gives_own, gives_first, gives_state, gives_first_state}
 
 -- the last letter is given its form by the next one
 given_middle : (fs : List ℕ) (own given : ℕ) (tail : List ℕ) (k : ℕ) → length fs ≡ k → given_last (Some k) given (fs ++ own ∷ tail) ≡ fs ++ kept_or given own ∷ tail
@@ -150,11 +110,6 @@ pub last-within : (before types : List hb_arabic_joining_type_t) (i state : ℕ)
 last-within before types i state None h l = tt
 last-within before types i state (Some k) h l = omega (arith, l.place, ap length l.split, length-append l.front (l.own ∷ l.tail), length-take-le i types h)
 
--- the form that the nearest letter after the text gives
-abbrev pub given_by : ℕ → Option hb_arabic_joining_type_t → ℕ
-given_by state None = NONE
-given_by state (Some t) = (cell state t).0
-
 transparent-is : (t : hb_arabic_joining_type_t) → is_transparent t ≡ true → t ≡ T
 transparent-is T e = refl
 transparent-is U e = cc
@@ -212,3 +167,16 @@ walk-end before types after i state last fs at w =
     let done : fs ≡ forms before types [] = sym (take_all i fs (omega (arith, w.long))) ∙ w.forms_are ∙ ap (λ us. forms before us []) all in
     let here : LastIs before types state last = subst (λ us. LastIs before us state last) all w.last_is in
     ap (given_last last (given_by state (nearest after))) done ∙ end-at before types after state last here (nearest after) refl
+
+pub given-nothing : (last : Option ℕ) (fs : List ℕ) → given_last last NONE fs ≡ fs
+given-nothing None fs = refl
+given-nothing (Some k) fs = refl
+
+pub not-transparent : (t : hb_arabic_joining_type_t) → (t ≡ T → ⊥) → is_transparent t ≡ false
+not-transparent T n = absurd (n refl)
+not-transparent U n = refl
+not-transparent _ n = refl
+
+pub walked-at : (before types : List hb_arabic_joining_type_t) (i state other : ℕ) (last behind : Option ℕ) (fs gs : List ℕ) → Walked before types i state last fs → other ≡ state → behind ≡ last → gs ≡ fs → Walked before types i other behind gs
+walked-at before types i state other last behind fs gs w s l f =
+    subst (λ hs. Walked before types i other behind hs) (sym f) (subst (λ k. Walked before types i other k fs) (sym l) (subst (λ n. Walked before types i n last fs) (sym s) w))

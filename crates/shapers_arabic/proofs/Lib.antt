@@ -1,4 +1,5 @@
 pub mod FormedGlyphs
+pub mod JoiningLaws
 pub mod JoiningLists
 pub mod JoiningTable
 pub mod JoiningWalk

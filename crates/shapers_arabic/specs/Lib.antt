@@ -1,3 +1,4 @@
 pub mod JoinedText
 pub mod Joining
+pub mod JoiningWalk
 pub mod Requests

@@ -13,6 +13,7 @@ use shapers_base::plan::{Pause, Request, ShaperError, hb_ot_shape_planner_t};
 pub mod arabic_action_t;
 mod joining;
 mod look_ups;
+mod masks;
 
 pub use shapers_base::plan::hb_arabic_joining_type_t;
 
