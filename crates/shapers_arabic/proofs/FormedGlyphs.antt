@@ -1,9 +1,7 @@
 -- Glyphs that only took forms and gained glyph flags.
-use Rattle.std.proofs.Common.{◌≡◌, ◌≢◌, Option, None, Some, ℕ, zero, suc, ◌+◌, ◌-◌, ◌/◌, ◌<◌, ◌≤◌, max, Bool, true, false, cond, eqb, List, [], ◌∷◌, ◌++◌, length, map, take, drop, get_or, refl, sym, ap, ◌∙◌, subst, arith}
+use Rattle.std.proofs.Common.{◌≡◌, ◌≢◌, Option, None, Some, ℕ, zero, suc, ◌+◌, ◌/◌, ◌<◌, ◌≤◌, Bool, true, false, cond, eqb, List, [], ◌∷◌, ◌++◌, length, map, take, drop, get_or, refl, sym, ap, ◌∙◌, subst, arith}
 use Rattle.std.proofs.Math.ListN.{set}
-use Rattle.std.specs.List.{AllZip, AllByRecursion}
 use Rattle.std.specs.Char.{IsScalar}
-use Rattle.std.specs.Int.{bit_at}
 use Rattle.std.specs.Int.Bits.{bit_or, or_zero_r}
 use Rattle.std.proofs.lemmas.Bool.{eq-eqb, ne_eqb}
 use Rattle.std.proofs.lemmas.Nat.{or_shr}
@@ -41,8 +39,8 @@ form-again g h k a b =
       bits = bit_or a.bits b.bits;
       are_flags = or-flags a.bits b.bits a.are_flags b.are_flags;
       same = b.same
-      ∙ ap (λ (x : hb_glyph_info_t). let y : hb_glyph_info_t = record x { auxiliary = k.auxiliary; mask = bit_or x.mask b.bits } in y) whole
-      ∙ ap (λ m. let y : hb_glyph_info_t = record g { auxiliary = k.auxiliary; mask = m } in y) (or-assoc g.mask a.bits b.bits);
+          ∙ ap (λ (x : hb_glyph_info_t). let y : hb_glyph_info_t = record x { auxiliary = k.auxiliary; mask = bit_or x.mask b.bits } in y) whole
+          ∙ ap (λ m. let y : hb_glyph_info_t = record g { auxiliary = k.auxiliary; mask = m } in y) (or-assoc g.mask a.bits b.bits);
     }
 
 pub form-set : (g : hb_glyph_info_t) (form : ℕ) → OnlyForm g (record g { auxiliary = form })

@@ -1,12 +1,18 @@
 -- The selector rule over parts of a text, and the law of the cut.
-use Rattle.std.proofs.Common.{◌≡◌, ℕ, zero, suc, ◌+◌, ◌<◌, ◌≤◌, ◌⊎◌, Bool, true, false, cond, List, [], ◌∷◌, ◌++◌, length, map, take, drop, reverse, Option, None, Some, refl, sym, ap, ◌∙◌, subst, arith, append_assoc, length-append}
+use Rattle.std.proofs.Common.{◌≡◌, ℕ, zero, suc, ◌+◌, ◌≤◌, Bool, true, false, cond, List, [], ◌∷◌, ◌++◌, length, map, take, drop, reverse, Option, Some, refl, sym, ap, ◌∙◌, subst, arith, append_assoc, inl, inr}
 use Rattle.std.specs.List.{prefix_len, zip}
-use Rattle.std.proofs.lemmas.List.{append-nil, length-map, length-take-le, length-drop, take-append-drop, take_at, drop_at, drop-drop, reverse-append, map-append}
+use Rattle.std.proofs.lemmas.List.{length-map, length-take-le, take-append-drop, take-map, drop-map, take_all, take_at, drop_at, drop-drop, reverse-append, map-append}
 use Rattle.std.proofs.lemmas.Slice.Zip.{length-zip}
+use Rattle.std.specs.Option.{is_some}
+use Rattle.shapers_base.specs.MappedLists.{map-reverse}
+use Rattle.shapers_base.specs.Buffer.{Buffer}
+use Rattle.shapers_base.specs.declared.buffer.category.hb_unicode_general_category_t.{hb_unicode_general_category_t}
+use Rattle.shapers_base.specs.declared.buffer.glyph.hb_glyph_info_t.{hb_glyph_info_t}
 use Rattle.shapers_base.specs.declared.buffer.tag.Script.{Script}
 use Rattle.shapers_base.specs.declared.plan.joining.hb_arabic_joining_type_t.{hb_arabic_joining_type_t}
-use Rattle.shapers_arabic.specs.Joining.{nearest, forms, is_selector, form_behind, selected}
-use Rattle.shapers_arabic.specs.JoinedText.{Text, is_mongolian, forms_of, first_half, second_half, ShowNeighbours, opening, ActAsHalves, HoldsCut}
+use Rattle.shapers_arabic.specs.Joining.{resolved, nearest, is_transparent, forms, is_selector, form_behind, selected}
+use Rattle.shapers_arabic.specs.JoinedText.{Text, is_mongolian, forms_of, first_half, second_half, opening, HoldsCut, stored_types, context_types, text_of, AllFormed, CutsAsHalves, Shows, AgreesWithTable, first_of, second_of, CopiedContextsShow, CopiedContextsCut}
+use Rattle.shapers_arabic.proofs.JoinedGlyphs.{forms-formed}
 use Rattle.shapers_arabic.proofs.JoiningLists.{forms-contexts, length-forms, forms-append}
 
 zip-append : (cs ds : List ℕ) (fs gs : List ℕ) → length fs ≡ length cs → zip (cs ++ ds) (fs ++ gs) ≡ zip cs fs ++ zip ds gs
@@ -41,10 +47,10 @@ selected-opening before others (c ∷ cs) (f ∷ fs) =
     let places = zip cs fs in
     elim (is_selector c) as (λ b. is_selector c ≡ b → drop (cond b (1 + n) 0) (cond b (form_behind before f) f ∷ selected ((c, f) ∷ before) places) ≡ drop (cond b (1 + n) 0) (cond b (form_behind others f) f ∷ selected ((c, f) ∷ others) places)) [
       | true ↦ λ e.
-      let more : 1 + n ≡ suc n = omega arith in
-      ap (λ k. drop k (form_behind before f ∷ selected ((c, f) ∷ before) places)) more
-      ∙ selected-opening ((c, f) ∷ before) ((c, f) ∷ others) cs fs
-      ∙ sym (ap (λ k. drop k (form_behind others f ∷ selected ((c, f) ∷ others) places)) more)
+          let more : 1 + n ≡ suc n = omega arith in
+          ap (λ k. drop k (form_behind before f ∷ selected ((c, f) ∷ before) places)) more
+          ∙ selected-opening ((c, f) ∷ before) ((c, f) ∷ others) cs fs
+          ∙ sym (ap (λ k. drop k (form_behind others f ∷ selected ((c, f) ∷ others) places)) more)
       | false ↦ λ e. ap (λ gs. f ∷ gs) (selected-same ((c, f) ∷ before) ((c, f) ∷ others) places (λ own. ap (λ b. cond b (form_behind before f) f) e ∙ sym (ap (λ b. cond b (form_behind others f) f) e)))
     ] refl
 
@@ -85,3 +91,92 @@ holds-cut script text long n inner_after inner_before h s =
     ∙ ap (λ xs. fs ++ xs) (forms-contexts (reverse ts ++ text.before) inner_before us text.after text.after (sym s.backward) refl) in
     let parts = in-parts (is_mongolian script) n text.characters (forms text.before text.types text.after) (take n text.characters) fs (drop n text.characters) gs (sym (take-append-drop n text.characters)) whole (length-take-le n text.characters (omega arith)) (length-forms text.before ts inner_after ∙ length-take-le n text.types h) in
     record { first = parts.first; second = parts.second }
+
+-- what joining left is cut as the forms are
+pub cut-formed : (masks : List ℕ) (script : Option Script) (joining : ℕ → hb_arabic_joining_type_t) (general : ℕ → hb_unicode_general_category_t) (old new : Buffer) → AllFormed masks (forms_of script (text_of joining general old)) old.glyphs new.glyphs → CutsAsHalves script joining general old new
+cut-formed masks script joining general old new a =
+    let text = text_of joining general old in
+    let long : length text.characters ≡ length text.types = length-map old.glyphs (λ g. g.glyph_id) ∙ sym (length-map old.glyphs (λ g. resolved (joining g.glyph_id) g.general_category)) in
+    subst (λ fs. HoldsCut script text fs) (sym (forms-formed masks (forms_of script text) old.glyphs new.glyphs a)) (holds-cut script text long)
+
+-- a front that shows a type shows the nearest
+nearest-of_front : (ts us : List hb_arabic_joining_type_t) → is_some (nearest ts) ≡ true → nearest (ts ++ us) ≡ nearest ts
+nearest-of_front [] us e = cc
+nearest-of_front (t ∷ ts) us e =
+    elim (is_transparent t) as (λ b. is_some (cond b (nearest ts) (Some t)) ≡ true → cond b (nearest (ts ++ us)) (Some t) ≡ cond b (nearest ts) (Some t)) [
+      | true ↦ λ d. nearest-of_front ts us d
+      | false ↦ λ d. refl
+    ] e
+
+nearest-of_five : (ts : List hb_arabic_joining_type_t) → Shows ts → nearest (take 5 ts) ≡ nearest ts
+nearest-of_five ts (inl e) = sym (nearest-of_front (take 5 ts) (drop 5 ts) e) ∙ ap nearest (take-append-drop 5 ts)
+nearest-of_five ts (inr h) = ap nearest (take_all 5 ts h)
+
+pub copied-show : CopiedContextsShow
+copied-show n text onward backward = record {
+  onward = nearest-of_five (drop n text.types ++ text.after) onward;
+  backward = nearest-of_five (reverse (take n text.types) ++ text.before) backward;
+}
+
+-- the table's types of glyphs that agree with it are the stored ones
+types-agree : (joining : ℕ → hb_arabic_joining_type_t) (general : ℕ → hb_unicode_general_category_t) (gs : List hb_glyph_info_t) → AgreesWithTable general gs → context_types joining general (map (λ g. g.glyph_id) gs) ≡ stored_types joining gs
+types-agree joining general [] all = refl
+types-agree joining general (g ∷ gs) all =
+    ap (λ category. resolved (joining g.glyph_id) category ∷ context_types joining general (map (λ h. h.glyph_id) gs)) (sym all.0) ∙ ap (λ ts. resolved (joining g.glyph_id) g.general_category ∷ ts) (types-agree joining general gs all.1)
+
+agrees-take : (general : ℕ → hb_unicode_general_category_t) (n : ℕ) (gs : List hb_glyph_info_t) → AgreesWithTable general gs → AgreesWithTable general (take n gs)
+agrees-take general zero gs all = tt
+agrees-take general (suc n) [] all = tt
+agrees-take general (suc n) (g ∷ gs) all = (all.0, agrees-take general n gs all.1)
+
+agrees-drop : (general : ℕ → hb_unicode_general_category_t) (n : ℕ) (gs : List hb_glyph_info_t) → AgreesWithTable general gs → AgreesWithTable general (drop n gs)
+agrees-drop general zero gs all = all
+agrees-drop general (suc n) [] all = tt
+agrees-drop general (suc n) (g ∷ gs) all = agrees-drop general n gs all.1
+
+-- what a copied context shows: the types of the text there
+copied-after : (joining : ℕ → hb_arabic_joining_type_t) (general : ℕ → hb_unicode_general_category_t) (gs : List hb_glyph_info_t) (cs : List ℕ) → AgreesWithTable general gs → context_types joining general (take 5 (map (λ g. g.glyph_id) gs ++ cs)) ≡ take 5 (stored_types joining gs ++ context_types joining general cs)
+copied-after joining general gs cs all =
+    let type_of = λ (c : ℕ). resolved (joining c) (general c) in
+    sym (take-map type_of 5 (map (λ g. g.glyph_id) gs ++ cs))
+    ∙ ap (take 5) (map-append type_of (map (λ g. g.glyph_id) gs) cs ∙ ap (λ ts. ts ++ context_types joining general cs) (types-agree joining general gs all))
+
+copied-before : (joining : ℕ → hb_arabic_joining_type_t) (general : ℕ → hb_unicode_general_category_t) (gs : List hb_glyph_info_t) (cs : List ℕ) → AgreesWithTable general gs → context_types joining general (take 5 (reverse (map (λ g. g.glyph_id) gs) ++ cs)) ≡ take 5 (reverse (stored_types joining gs) ++ context_types joining general cs)
+copied-before joining general gs cs all =
+    let type_of = λ (c : ℕ). resolved (joining c) (general c) in
+    sym (take-map type_of 5 (reverse (map (λ g. g.glyph_id) gs) ++ cs))
+    ∙ ap (take 5) (map-append type_of (reverse (map (λ g. g.glyph_id) gs)) cs ∙ ap (λ ts. ts ++ context_types joining general cs) (map-reverse type_of (map (λ g. g.glyph_id) gs) ∙ ap reverse (types-agree joining general gs all)))
+
+-- the forms of a text by its parts
+abbrev forms_by : Option Script → List hb_arabic_joining_type_t → List ℕ → List hb_arabic_joining_type_t → List hb_arabic_joining_type_t → List ℕ
+forms_by script before characters types after = forms_of script (record { before = before; characters = characters; types = types; after = after })
+
+pub copied-cut : CopiedContextsCut
+copied-cut script joining general b n h all onward backward =
+    let gs = b.glyphs in
+    let text = text_of joining general b in
+    let ids = λ (g : hb_glyph_info_t). g.glyph_id in
+    let type_of = λ (g : hb_glyph_info_t). resolved (joining g.glyph_id) g.general_category in
+    let front : take n text.types ≡ stored_types joining (take n gs) = take-map type_of n gs in
+    let back : drop n text.types ≡ stored_types joining (drop n gs) = drop-map type_of n gs in
+    let inner_after = take 5 (drop n text.types ++ text.after) in
+    let inner_before = take 5 (reverse (take n text.types) ++ text.before) in
+    let shown = copied-show n text (subst (λ ts. Shows (ts ++ text.after)) (sym back) onward) (subst (λ ts. Shows (reverse ts ++ text.before)) (sym front) backward) in
+    let long : length text.characters ≡ length text.types = length-map gs ids ∙ sym (length-map gs type_of) in
+    let within : n ≤ length text.types = omega (arith, length-map gs type_of) in
+    let cut = holds-cut script text long n inner_after inner_before within shown in
+    let after_is : inner_after ≡ context_types joining general (take 5 (map ids (drop n gs) ++ b.after)) = ap (λ ts. take 5 (ts ++ text.after)) back ∙ sym (copied-after joining general (drop n gs) b.after (agrees-drop general n gs all)) in
+    let before_is : inner_before ≡ context_types joining general (take 5 (reverse (map ids (take n gs)) ++ b.before)) = ap (λ ts. take 5 (reverse ts ++ text.before)) front ∙ sym (copied-before joining general (take n gs) b.before (agrees-take general n gs all)) in
+    let first_is : forms_of script (first_half n inner_after text) ≡ forms_of script (text_of joining general (first_of n b)) =
+    ap (λ cs. forms_by script text.before cs (take n text.types) inner_after) (take-map ids n gs)
+    ∙ ap (λ ts. forms_by script text.before (map ids (take n gs)) ts inner_after) front
+    ∙ ap (forms_by script text.before (map ids (take n gs)) (stored_types joining (take n gs))) after_is in
+    let second_is : forms_of script (second_half n inner_before text) ≡ forms_of script (text_of joining general (second_of n b)) =
+    ap (λ cs. forms_by script inner_before cs (drop n text.types) text.after) (drop-map ids n gs)
+    ∙ ap (λ ts. forms_by script inner_before (map ids (drop n gs)) ts text.after) back
+    ∙ ap (λ ts. forms_by script ts (map ids (drop n gs)) (stored_types joining (drop n gs)) text.after) before_is in
+    let Q : List ℕ → Type 0 = λ cs. drop (n + opening script cs) (forms_of script text) ≡ drop (opening script cs) (forms_of script (second_half n inner_before text)) in
+    record {
+      first = cut.first ∙ first_is;
+      second = subst Q (drop-map ids n gs) cut.second ∙ ap (drop (opening script (map ids (drop n gs)))) second_is;
+    }

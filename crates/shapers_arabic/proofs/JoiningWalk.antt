@@ -1,13 +1,13 @@
 -- The walk along the letters: after each place the forms are those of the text so far, with nothing behind it.
-use Rattle.std.proofs.Common.{◌≡◌, ℕ, zero, suc, ◌+◌, ◌<◌, ◌≤◌, Bool, true, false, cond, eqb, List, [], ◌∷◌, ◌++◌, length, take, get_or, reverse, replicate, Option, None, Some, refl, sym, ap, ◌∙◌, subst, arith, append_assoc, length-append}
+use Rattle.std.proofs.Common.{◌≡◌, ℕ, ◌+◌, ◌<◌, ◌≤◌, true, false, cond, eqb, List, [], ◌∷◌, ◌++◌, length, take, get_or, reverse, replicate, Option, None, Some, refl, sym, ap, ◌∙◌, subst, arith, append_assoc, length-append}
 use Rattle.std.proofs.Math.ListN.{set}
 use Rattle.std.proofs.Math.Seq.{set-append_seam, take-set-lt}
-use Rattle.std.proofs.lemmas.List.{append-nil, length-take-le, length-set, take_more, take_more_set, take_all, reverse-append}
+use Rattle.std.proofs.lemmas.List.{length-take-le, length-set, take_more, take_more_set, take_all, reverse-append}
 use Rattle.shapers_base.specs.declared.plan.joining.hb_arabic_joining_type_t.{hb_arabic_joining_type_t}
 use Rattle.shapers_base.specs.declared.plan.joining.hb_arabic_joining_type_t.TheVariants.{U, T}
 use Rattle.shapers_arabic.specs.declared.ot_shaper_arabic.arabic_action_t.TheConstants.{NONE}
 use Rattle.shapers_arabic.specs.Joining.{is_transparent, nearest, act, forms}
-use Rattle.shapers_arabic.specs.JoiningWalk.{cell, state_of, kept_or, state_at_start, LastLetter, NoLetter, LastIs, Walked, IsWithin, given_last, given_by}
+use Rattle.shapers_arabic.specs.JoiningWalk.{cell, state_of, kept_or, state_at_start, LastLetter, LastIs, Walked, IsWithin, given_last, given_by}
 use Rattle.shapers_arabic.proofs.JoiningLists.{transparent, nearest-transparent, nearest-letter, forms-contexts, length-forms, forms-append, forms-transparent, in_parts, forms-parts}
 use Rattle.shapers_arabic.proofs.JoiningTable.{gives_previous, gives_own, gives_first, gives_state, gives_first_state}
 
@@ -132,8 +132,8 @@ walk-transparent before types i state last fs t h at e w =
     record {
       last_is = subst (λ us. LastIs before us state last) (sym more) (last-transparent before ts state last w.last_is);
       forms_are = take_more_set fs i NONE (omega (arith, w.long))
-      ∙ ap (λ gs. gs ++ NONE ∷ []) (w.forms_are ∙ forms-contexts before before ts [] (T ∷ []) refl refl)
-      ∙ sym (ap (λ us. forms before us []) more ∙ forms-push before ts T);
+          ∙ ap (λ gs. gs ++ NONE ∷ []) (w.forms_are ∙ forms-contexts before before ts [] (T ∷ []) refl refl)
+          ∙ sym (ap (λ us. forms before us []) more ∙ forms-push before ts T);
       long = length-set fs i NONE ∙ w.long;
     }
 
@@ -155,9 +155,9 @@ walk-letter before types i state last fs t h at e w =
         state_is = next.state_is;
       };
       forms_are = take_more_set (given_last last given fs) i (cell state t).1 (omega (arith, w.long, length-given last given fs))
-      ∙ ap (λ fs2. fs2 ++ (cell state t).1 ∷ []) (take-given last given fs i (last-within before types i state last (omega arith) w.last_is) ∙ ap (given_last last given) w.forms_are ∙ given-forms before ts state last t (t ∷ []) w.last_is (nearest-letter t [] e))
-      ∙ ap (λ a. forms before ts (t ∷ []) ++ a ∷ []) next.own_is
-      ∙ sym (ap (λ us. forms before us []) more ∙ forms-push before ts t);
+          ∙ ap (λ fs2. fs2 ++ (cell state t).1 ∷ []) (take-given last given fs i (last-within before types i state last (omega arith) w.last_is) ∙ ap (given_last last given) w.forms_are ∙ given-forms before ts state last t (t ∷ []) w.last_is (nearest-letter t [] e))
+          ∙ ap (λ a. forms before ts (t ∷ []) ++ a ∷ []) next.own_is
+          ∙ sym (ap (λ us. forms before us []) more ∙ forms-push before ts t);
       long = length-set (given_last last given fs) i (cell state t).1 ∙ length-given last given fs ∙ w.long;
     }
 

@@ -1,4 +1,5 @@
 pub mod FormedGlyphs
+pub mod JoinedGlyphs
 pub mod JoiningLaws
 pub mod JoiningLists
 pub mod JoiningTable

@@ -1,5 +1,5 @@
 -- What joining makes of a text: the form of each glyph, and how the halves of a text act.
-use Rattle.std.specs.Prelude.{ℕ, suc, ◌≡◌, ◌+◌, ◌<◌, ◌≤◌, nat_eq, bit_or, Bool, false, List, [], ◌∷◌, ◌++◌, length, map, take, drop, reverse, slice_index, Option, None, Some, codes, if◌then◌else◌}
+use Rattle.std.specs.Prelude.{ℕ, suc, ◌≡◌, ◌+◌, ◌<◌, ◌≤◌, nat_eq, bit_or, Bool, false, List, [], ◌∷◌, ◌++◌, length, map, take, drop, reverse, slice_index, is_some, true, ◌⊎◌, Option, None, Some, codes, if◌then◌else◌}
 use Rattle.std.specs.List.{prefix_len, zip}
 use Rattle.std.specs.Char.{IsScalar}
 use Rattle.std.specs.List.{AllByRecursion}
@@ -90,3 +90,40 @@ pub record ActAsHalves (script : Option Script) (n : ℕ) (text : Text) (inner_a
 -- the law of the cut: at every place, for all inner contexts that show the neighbours
 abbrev pub HoldsCut : Option Script → Text → List ℕ → Type 0
 HoldsCut script text whole = (n : ℕ) (inner_after inner_before : List hb_arabic_joining_type_t) → n ≤ length text.types → ShowNeighbours n text inner_after inner_before → ActAsHalves script n text inner_after inner_before whole
+
+-- a buffer after joining: each glyph is in its form, and nothing else changed
+pub record IsJoined (masks : List ℕ) (script : Option Script) (joining : ℕ → hb_arabic_joining_type_t) (general : ℕ → hb_unicode_general_category_t) (old new : Buffer) : Type 0 where
+  pub formed : AllFormed masks (forms_of script (text_of joining general old)) old.glyphs new.glyphs
+  pub others : new ≡ record old { glyphs = new.glyphs }
+
+-- the law of the cut for what joining left in the auxiliary bytes
+abbrev pub CutsAsHalves : Option Script → (ℕ → hb_arabic_joining_type_t) → (ℕ → hb_unicode_general_category_t) → Buffer → Buffer → Type 0
+CutsAsHalves script joining general old new = HoldsCut script (text_of joining general old) (map (λ g. g.auxiliary) new.glyphs)
+
+-- what a context shows that is copied from a text, at most five characters of it: one of them isn't transparent, or the text ends there
+abbrev pub Shows : List hb_arabic_joining_type_t → Type 0
+Shows ts = (is_some (nearest (take 5 ts)) ≡ true) ⊎ (length ts ≤ 5)
+
+-- the law of copied contexts: where they show something they show the neighbours
+abbrev pub CopiedContextsShow : Type 0
+CopiedContextsShow = (n : ℕ) (text : Text) → Shows (drop n text.types ++ text.after) → Shows (reverse (take n text.types) ++ text.before) → ShowNeighbours n text (take 5 (drop n text.types ++ text.after)) (take 5 (reverse (take n text.types) ++ text.before))
+
+-- the stored categories are those of the table
+abbrev pub AgreesWithTable : (ℕ → hb_unicode_general_category_t) → List hb_glyph_info_t → Type 0
+AgreesWithTable general gs = AllByRecursion (λ g. g.general_category ≡ general g.glyph_id) gs
+
+-- the halves of a buffer that is cut at place n, each with a context copied from the other
+abbrev pub first_of : ℕ → Buffer → Buffer
+first_of n b = record b { glyphs = take n b.glyphs; after = take 5 (map (λ g. g.glyph_id) (drop n b.glyphs) ++ b.after) }
+
+abbrev pub second_of : ℕ → Buffer → Buffer
+second_of n b = record b { glyphs = drop n b.glyphs; before = take 5 (reverse (map (λ g. g.glyph_id) (take n b.glyphs)) ++ b.before) }
+
+-- the forms of the whole are those of these halves; only the selectors that open the second may differ
+pub record HalvesAgree (script : Option Script) (joining : ℕ → hb_arabic_joining_type_t) (general : ℕ → hb_unicode_general_category_t) (n : ℕ) (b : Buffer) : Type 0 where
+  pub first : take n (forms_of script (text_of joining general b)) ≡ forms_of script (text_of joining general (first_of n b))
+  pub second : let k = opening script (map (λ g. g.glyph_id) (drop n b.glyphs)) in drop (n + k) (forms_of script (text_of joining general b)) ≡ drop k (forms_of script (text_of joining general (second_of n b)))
+
+-- the law of the cut for halves with copied contexts, where stored categories agree with the table's
+abbrev pub CopiedContextsCut : Type 0
+CopiedContextsCut = (script : Option Script) (joining : ℕ → hb_arabic_joining_type_t) (general : ℕ → hb_unicode_general_category_t) (b : Buffer) (n : ℕ) → n ≤ length b.glyphs → AgreesWithTable general b.glyphs → Shows (stored_types joining (drop n b.glyphs) ++ context_types joining general b.after) → Shows (reverse (stored_types joining (take n b.glyphs)) ++ context_types joining general b.before) → HalvesAgree script joining general n b

@@ -1,13 +1,15 @@
 -- Words for the walk along the letters of a text, which the contracts of its steps cite: the table's cells and states, and what holds after some places.
-use Rattle.std.specs.Prelude.{◌≡◌, ℕ, ◌+◌, ◌<◌, ◌==◌, map, bit_or, Bool, true, false, List, [], ◌∷◌, ◌++◌, length, take, reverse, slice_set, slice_index, slice_index_or, Option, None, Some, if◌then◌else◌}
+use Rattle.std.specs.Prelude.{◌≡◌, ℕ, ◌+◌, ◌<◌, ◌==◌, map, bit_or, false, List, [], ◌∷◌, ◌++◌, length, take, reverse, slice_set, slice_index, slice_index_or, Option, None, Some, if◌then◌else◌}
 use Rattle.std.specs.List.{AllZip, AllByRecursion}
 use Rattle.shapers_base.specs.declared.buffer.glyph.hb_glyph_info_t.{hb_glyph_info_t}
 use Rattle.shapers_base.specs.declared.plan.joining.hb_arabic_joining_type_t.{hb_arabic_joining_type_t}
-use Rattle.shapers_base.specs.declared.plan.joining.hb_arabic_joining_type_t.TheVariants.{U, L, R, D, GroupAlaph, GroupDalathRish, T, X}
+use Rattle.shapers_base.specs.declared.plan.joining.hb_arabic_joining_type_t.TheVariants.{U, L, R, D, GroupAlaph, GroupDalathRish}
+use Rattle.shapers_base.specs.declared.buffer.tag.Script.{Script}
 use Rattle.shapers_arabic.specs.declared.ot_shaper_arabic.arabic_action_t.TheConstants.{NONE}
 use Rattle.shapers_arabic.specs.declared.ot_shaper_arabic.joining.TheConstants.{STATE_TABLE}
 use Rattle.shapers_arabic.specs.declared.ot_shaper_arabic.joining.Transition.{Transition}
-use Rattle.shapers_arabic.specs.Joining.{is_transparent, nearest, act, forms, is_selector, joins_on}
+use Rattle.shapers_arabic.specs.JoinedText.{AllFormed, forms_of, stored_types}
+use Rattle.shapers_arabic.specs.Joining.{is_transparent, nearest, forms, is_selector, joins_on}
 
 -- the column of a letter
 abbrev pub column_of : hb_arabic_joining_type_t → ℕ
@@ -120,3 +122,11 @@ with_mask masks g = record g { mask = bit_or g.mask (slice_index masks g.auxilia
 -- the forms of the glyphs have masks
 abbrev pub HaveMasks : List hb_glyph_info_t → Type 0
 HaveMasks gs = AllByRecursion (λ g. g.auxiliary < 8) gs
+
+-- what can be nearest in some context: nothing, or a type that isn't transparent
+abbrev pub IsNearest : Option hb_arabic_joining_type_t → Type 0
+IsNearest o = (ts : List hb_arabic_joining_type_t) × (nearest ts ≡ o)
+
+-- each glyph in its form, between all contexts with these nearest types
+abbrev pub JoinsAll : List ℕ → Option Script → (ℕ → hb_arabic_joining_type_t) → Option hb_arabic_joining_type_t → Option hb_arabic_joining_type_t → List hb_glyph_info_t → List hb_glyph_info_t → Type 0
+JoinsAll masks script joining before after gs hs = (front behind : List hb_arabic_joining_type_t) → nearest front ≡ before → nearest behind ≡ after → AllFormed masks (forms_of script (record { before = front; characters = map (λ g. g.glyph_id) gs; types = stored_types joining gs; after = behind })) gs hs

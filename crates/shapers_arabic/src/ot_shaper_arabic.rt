@@ -1,21 +1,33 @@
 //! The shaper of Arabic and of the scripts that join like it.
-ghost use Rattle.std.specs.Prelude.{◌≡◌, OnOk, OnErr, IsOkUnless, if◌then◌else◌};
+ghost use Rattle.std.specs.Prelude.{◌≡◌, ◌+◌, ◌<◌, OnOk, OnErr, IsOkUnless, if◌then◌else◌};
 ghost use Rattle.shapers_base.specs.declared.buffer.refusal.ShaperError.TheVariants.{Memory};
 ghost use Rattle.shapers_base.specs.Planner.{with_requests};
 ghost use Rattle.shapers_arabic.specs.Requests.{arabic_list, is_arabic, joining_list, rclt};
+ghost use Rattle.shapers_arabic.specs.JoinedText.{AreCharacters, CopiedContextsCut, CopiedContextsShow, CutsAsHalves, IsJoined, look_ups, text_of};
+ghost use Rattle.shapers_arabic.specs.PlanData.{IsArabic, masks_of};
 
 use arrayvec::ArrayVec;
-use shapers_base::buffer::{Script, hb_tag_t};
-use shapers_base::font::hb_font_t;
+use shapers_base::buffer::{Script, hb_buffer_t, hb_tag_t};
+use shapers_base::font::{Tables, hb_font_t};
 use shapers_base::map::{F_GLOBAL, F_HAS_FALLBACK, F_MANUAL_ZWJ, F_NONE};
-use shapers_base::plan::{Pause, Request, ShaperError, hb_ot_shape_planner_t};
+use shapers_base::plan::{
+    Pause, PlanData, Request, ShaperError, hb_ot_shape_plan_t, hb_ot_shape_planner_t,
+};
+use std::marker::Brand;
+use std::sync::ledger::{Blank, Ledger};
 
 pub mod arabic_action_t;
+mod data;
 mod joining;
 mod look_ups;
 mod masks;
+mod walk;
 
-pub use shapers_base::plan::hb_arabic_joining_type_t;
+pub use data::{create_data, data_create_arabic};
+use joining::nearest_in;
+pub use look_ups::LookUps;
+pub use shapers_base::plan::{arabic_shape_plan_t, hb_arabic_joining_type_t};
+use walk::JoiningWalk;
 
 // A feature that holds for the whole text and sees joiners.
 const GLOBAL_ZWJ: u32 = F_GLOBAL | F_MANUAL_ZWJ;
@@ -99,3 +111,91 @@ fn joining_requests(flags: u32) -> [Request; 14]
         Request::Pause(None),
     ]
 }
+
+/// Gives each glyph the form that its neighbours ask for, in its auxiliary byte, and the form's
+/// mask, and counts the joining types that it looks up. It can't refuse and takes no memory.
+pub fn setup_masks_counted<T: Tables, L: Ledger>(
+    arabic_plan: &arabic_shape_plan_t,
+    script: Option<Script>,
+    buffer: &mut hb_buffer_t,
+    tables: &T,
+    count: &mut LookUps<L>,
+)
+    requires { AreCharacters buffer.old.glyphs }
+    ensures joined { IsJoined arabic_plan.now.mask_array script (T.joining tables.now) (T.general tables.now) buffer.old buffer.new }
+    ensures counted { count.new ≡ count.old + look_ups (text_of (T.joining tables.now) (T.general tables.now) buffer.old) }
+    ensures cut { CutsAsHalves script (T.joining tables.now) (T.general tables.now) buffer.old buffer.new }
+{
+    let before = nearest_in(buffer.pre_context(), tables, count);
+    let after = nearest_in(buffer.post_context(), tables, count);
+    let flags = buffer.flags();
+    let mut walk = JoiningWalk {
+        masks: &arabic_plan.mask_array,
+        script,
+        flags,
+        before,
+        after,
+        tables,
+        count,
+    };
+    buffer.walk(&mut walk);
+}
+
+/// Gives each glyph the form that its neighbours ask for, in its auxiliary byte, and the form's
+/// mask; a text that is cut acts as the whole where the halves see their neighbours. It can't
+/// refuse and takes no memory.
+pub fn setup_masks_inner<T: Tables>(
+    arabic_plan: &arabic_shape_plan_t,
+    script: Option<Script>,
+    buffer: &mut hb_buffer_t,
+    tables: &T,
+)
+    requires { AreCharacters buffer.old.glyphs }
+    ensures joined { IsJoined arabic_plan.now.mask_array script (T.joining tables.now) (T.general tables.now) buffer.old buffer.new }
+    ensures cut { CutsAsHalves script (T.joining tables.now) (T.general tables.now) buffer.old buffer.new }
+{
+    setup_masks_with::<T, Brand>(arabic_plan, script, buffer, tables, Blank::new(1));
+}
+
+// The same with a count of its own.
+fn setup_masks_with<T: Tables, L: Ledger>(
+    arabic_plan: &arabic_shape_plan_t,
+    script: Option<Script>,
+    buffer: &mut hb_buffer_t,
+    tables: &T,
+    blank: Blank,
+)
+    requires name { blank.name ≡ L.name }
+    requires parts { blank.parts ≡ L.parts }
+    requires some { 0 < blank.parts }
+    requires characters { AreCharacters buffer.old.glyphs }
+    ensures joined { IsJoined arabic_plan.now.mask_array script (T.joining tables.now) (T.general tables.now) buffer.old buffer.new }
+    ensures cut { CutsAsHalves script (T.joining tables.now) (T.general tables.now) buffer.old buffer.new }
+{
+    let mut count = LookUps::<L>::new(blank);
+    setup_masks_counted(arabic_plan, script, buffer, tables, &mut count);
+}
+
+/// Gives each glyph its form and the form's mask, with the script and the data of the plan. It can't
+/// refuse and takes no memory.
+pub fn setup_masks<T: Tables>(plan: &hb_ot_shape_plan_t, tables: &T, buffer: &mut hb_buffer_t)
+    requires data { IsArabic plan.now.plan_data }
+    requires characters { AreCharacters buffer.old.glyphs }
+    ensures joined { IsJoined (masks_of plan.now.plan_data) plan.now.script (T.joining tables.now) (T.general tables.now) buffer.old buffer.new }
+    ensures cut { CutsAsHalves plan.now.script (T.joining tables.now) (T.general tables.now) buffer.old buffer.new }
+{
+    match &plan.plan_data {
+        PlanData::Arabic(arabic_plan) => {
+            setup_masks_inner(arabic_plan, plan.script, buffer, tables);
+        }
+        PlanData::None => unreachable!(),
+    }
+}
+
+/// A law of joining: contexts that are copied from the text show the neighbours, where one of their
+/// at most five characters isn't transparent or the text ends there; so halves with such contexts act
+/// as the whole.
+pub fn copied_contexts_law()
+    ensures shown { CopiedContextsShow }
+    ensures halves { CopiedContextsCut }
+{}

@@ -1,9 +1,7 @@
 -- The form of the last letter, and the flags.
-use Rattle.std.proofs.Common.{◌≡◌, refl, ap, sym, ◌∙◌, cond, eqb, map, subst, arith}
-use Rattle.std.proofs.Math.ListN.{set}
+use Rattle.std.proofs.Common.{refl, ap, sym, ◌∙◌, map, subst, arith}
 use Rattle.shapers_base.specs.Buffer.{has_flag}
 use Rattle.shapers_clusters.specs.FlagCalls.{map-tatweel_inside, map-unsafe_to_concat_in}
-use Rattle.shapers_arabic.specs.declared.ot_shaper_arabic.arabic_action_t.TheConstants.{NONE}
 use Rattle.shapers_arabic.specs.JoiningWalk.{OnlyFormed}
 use Rattle.shapers_arabic.proofs.FormedGlyphs.{formed-again, formed-stays, formed-tatweel, formed-concat, given-none, given-some}
 use Rattle.shapers_arabic.proofs.ot_shaper_arabic.joining.give_form.Goals as goal

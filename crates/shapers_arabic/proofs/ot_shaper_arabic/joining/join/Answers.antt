@@ -1,7 +1,6 @@
 -- The form that the nearest letter after the text gives to the last one.
-use Rattle.std.proofs.Common.{◌≡◌, refl, ap, sym, ◌∙◌, map, length, Option, None, Some, List, arith}
+use Rattle.std.proofs.Common.{◌≡◌, ap, sym, ◌∙◌, map, length}
 use Rattle.std.proofs.lemmas.List.{length-map}
-use Rattle.shapers_base.specs.declared.plan.joining.hb_arabic_joining_type_t.{hb_arabic_joining_type_t}
 use Rattle.shapers_arabic.specs.Joining.{resolved, nearest}
 use Rattle.shapers_arabic.specs.JoinedText.{stored_types}
 use Rattle.shapers_arabic.specs.declared.ot_shaper_arabic.joining.Transition.{Transition}

@@ -1,6 +1,5 @@
 -- The form of the last letter, and the letter's own.
-use Rattle.std.proofs.Common.{◌+◌, ap, ◌∙◌, arith}
-use Rattle.std.proofs.Math.ListN.{set}
+use Rattle.std.proofs.Common.{arith}
 use Rattle.shapers_arabic.proofs.FormedGlyphs.{formed-again, length-formed, within-more}
 use Rattle.shapers_arabic.proofs.ot_shaper_arabic.joining.join_letter.Goals as goal
 

@@ -1,8 +1,7 @@
 -- One more place.
-use Rattle.std.proofs.Common.{◌≡◌, refl, ap, sym, ◌∙◌, map, subst, arith}
-use Rattle.std.proofs.lemmas.List.{length-map, get_or-map}
+use Rattle.std.proofs.Common.{sym, ◌∙◌, map, arith}
+use Rattle.std.proofs.lemmas.List.{length-map}
 use Rattle.shapers_base.specs.Glyph.{default_glyph}
-use Rattle.shapers_base.specs.declared.plan.joining.hb_arabic_joining_type_t.TheVariants.{U}
 use Rattle.shapers_arabic.specs.Joining.{resolved}
 use Rattle.shapers_arabic.specs.JoinedText.{stored_types}
 use Rattle.shapers_arabic.proofs.FormedGlyphs.{formed-again, formed-stays, length-formed, are_characters-formed, character-at, type-at}

@@ -1,10 +1,7 @@
 -- A transparent place, or a letter.
-use Rattle.std.proofs.Common.{◌≡◌, ◌+◌, ◌<◌, false, refl, ap, sym, ◌∙◌, map, subst, Option, Some, arith}
-use Rattle.std.proofs.Math.ListN.{set}
-use Rattle.shapers_base.specs.declared.plan.joining.hb_arabic_joining_type_t.{hb_arabic_joining_type_t}
-use Rattle.shapers_arabic.specs.declared.ot_shaper_arabic.arabic_action_t.TheConstants.{NONE}
+use Rattle.std.proofs.Common.{◌≡◌, ◌+◌, ◌<◌, false, refl, ap, sym, map, subst, Some, arith}
 use Rattle.shapers_arabic.specs.Joining.{is_transparent}
-use Rattle.shapers_arabic.specs.JoiningWalk.{cell, given_last, IsWithin}
+use Rattle.shapers_arabic.specs.JoiningWalk.{cell, IsWithin}
 use Rattle.shapers_arabic.proofs.JoiningWalk.{walk-transparent, walk-letter, walked-at, not-transparent}
 use Rattle.shapers_arabic.proofs.ot_shaper_arabic.joining.join_place.Goals as goal
 
