@@ -7,6 +7,8 @@ mod buffer;
 #[cfg(test)]
 mod feature_lists;
 #[cfg(test)]
+mod joining;
+#[cfg(test)]
 mod planner;
 #[cfg(test)]
 mod shapers;
