@@ -1,0 +1,8 @@
+pub mod FormedGlyphs
+pub mod JoinedGlyphs
+pub mod JoiningLaws
+pub mod JoiningLists
+mod JoiningRows
+pub mod JoiningTable
+pub mod JoiningWalk
+mod RequestRows

@@ -1,0 +1,5 @@
+pub mod JoinedText
+pub mod Joining
+pub mod JoiningWalk
+pub mod PlanData
+pub mod Requests
