@@ -5,4 +5,5 @@ pub mod JoiningLists
 mod JoiningRows
 pub mod JoiningTable
 pub mod JoiningWalk
+mod PlanRows
 mod RequestRows
