@@ -1,6 +1,5 @@
 -- The joining rule, the selector rule and the table, computed on values written out from the rules.
-use Rattle.std.specs.Prelude.{◌≡◌, ℕ, ◌+◌, List, [], ◌∷◌, length, map, take, drop, reverse, replicate, Option, None, Some, true, false, codes, slice_index_or, ◌==◌, if◌then◌else◌, refl}
-use Rattle.std.specs.List.{zip}
+use Rattle.std.specs.Prelude.{◌≡◌, ℕ, List, [], ◌∷◌, length, map, replicate, Option, None, Some, true, false, codes, slice_index_or, ◌==◌, if◌then◌else◌, refl}
 use Rattle.shapers_base.specs.Buffer.{Buffer, new_buffer}
 use Rattle.shapers_base.specs.Glyph.{default_glyph}
 use Rattle.shapers_base.specs.declared.buffer.category.hb_unicode_general_category_t.{hb_unicode_general_category_t}
@@ -11,8 +10,8 @@ use Rattle.shapers_base.specs.declared.plan.joining.hb_arabic_joining_type_t.{hb
 use Rattle.shapers_base.specs.declared.plan.joining.hb_arabic_joining_type_t.TheVariants.{U, L, R, D, GroupAlaph, GroupDalathRish, T, X}
 use Rattle.shapers_arabic.specs.declared.ot_shaper_arabic.arabic_action_t.TheConstants.{ISOL, FINA, FIN2, FIN3, MEDI, MED2, INIT, NONE, STRETCHING_FIXED, STRETCHING_REPEATING}
 use Rattle.shapers_arabic.specs.declared.ot_shaper_arabic.joining.TheConstants.{STATE_TABLE}
-use Rattle.shapers_arabic.specs.Joining.{resolved, nearest, act, forms, is_selector, selected}
-use Rattle.shapers_arabic.specs.JoinedText.{Text, is_mongolian, forms_of, seen, look_ups, opening, stored_types, context_types, text_of, first_of, second_of}
+use Rattle.shapers_arabic.specs.Joining.{resolved, act, forms, is_selector}
+use Rattle.shapers_arabic.specs.JoinedText.{Text, is_mongolian, forms_of, seen, look_ups, opening, text_of, first_of, second_of}
 
 -- the numbers of the forms
 numbers : ISOL ∷ FINA ∷ FIN2 ∷ FIN3 ∷ MEDI ∷ MED2 ∷ INIT ∷ NONE ∷ STRETCHING_FIXED ∷ STRETCHING_REPEATING ∷ [] ≡ 0 ∷ 1 ∷ 2 ∷ 3 ∷ 4 ∷ 5 ∷ 6 ∷ 7 ∷ 8 ∷ 9 ∷ []

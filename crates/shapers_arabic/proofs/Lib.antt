@@ -5,4 +5,6 @@ pub mod JoiningLists
 mod JoiningRows
 pub mod JoiningTable
 pub mod JoiningWalk
+mod MarkRows
+mod PlanRows
 mod RequestRows

@@ -197,7 +197,7 @@ pub fn setup_masks<T: Tables>(plan: &hb_ot_shape_plan_t, tables: &T, buffer: &mu
         PlanData::Arabic(arabic_plan) => {
             setup_masks_inner(arabic_plan, plan.script, buffer, tables);
         }
-        PlanData::None => unreachable!(),
+        _ => unreachable!(),
     }
 }
 
