@@ -1,5 +1,5 @@
 -- What each hook does, shaper by shaper. Where a shaper lacks a hook, nothing changes and the answer is None.
-use Rattle.std.specs.Prelude.{ℕ, true, false, ◌≡◌, length, Option, None, Some, Result, IsOk}
+use Rattle.std.specs.Prelude.{ℕ, List, true, false, ◌≡◌, length, Option, None, Some, Result, IsOk}
 use Rattle.std.specs.Char.{IsScalar}
 use Rattle.std.specs.List.{All, list_any}
 use Rattle.shapers_base.specs.Buffer.{Buffer}
