@@ -1,7 +1,7 @@
 -- A few letters with joining types, for tests.
 use Rattle.std.specs.Prelude.{ℕ, ◌==◌, if◌then◌else◌}
-use Rattle.shapers_base.specs.declared.plan.joining.hb_arabic_joining_type_t.{hb_arabic_joining_type_t}
-use Rattle.shapers_base.specs.declared.plan.joining.hb_arabic_joining_type_t.TheVariants.{U, R, D, T}
+use Rattle.rustybuzz_shapers.specs.hb_arabic_joining_type_t.{hb_arabic_joining_type_t}
+use Rattle.rustybuzz_shapers.specs.hb_arabic_joining_type_t.TheVariants.{U, R, D, T}
 
 -- D for `d`, R for `r`, T for `t` and for the first selector, U for others
 abbrev pub letter_type : ℕ → hb_arabic_joining_type_t

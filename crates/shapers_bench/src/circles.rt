@@ -1,9 +1,9 @@
 //! Circles with plenty of memory: one in each of many broken syllables.
 ghost use Rattle.std.specs.Prelude.{◌≡◌, ◌==◌, [], IfOk, None, Some, false, if◌then◌else◌, pos};
 
-use shapers_base::buffer::{ShaperError, hb_buffer_t, hb_glyph_info_t, hb_tag_t};
-use shapers_base::font::{GlyphId, hb_font_t};
-use shapers_base::ot_shaper_syllabic::insert_dotted_circles;
+use rustybuzz_shapers::buffer::{ShaperError, hb_buffer_t, hb_glyph_info_t, hb_tag_t};
+use rustybuzz_shapers::font::{GlyphId, hb_font_t};
+use rustybuzz_shapers::ot_shaper_syllabic::insert_dotted_circles;
 use std::alloc::Global;
 use std::test::Fail;
 

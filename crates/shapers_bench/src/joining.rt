@@ -1,6 +1,6 @@
 //! Joining, with tables of a few letters.
 ghost use Rattle.std.specs.Prelude.{◌≡◌, ◌<◌, [], IfOk};
-ghost use Rattle.shapers_arabic.specs.JoinedText.{AreCharacters};
+ghost use Rattle.rustybuzz_shapers.specs.JoinedText.{AreCharacters};
 
 use rustybuzz_shapers::buffer::{
     Script, ShaperError, hb_buffer_t, hb_glyph_info_t, hb_unicode_general_category_t,
@@ -21,7 +21,7 @@ struct Letters;
 
 impl Tables for Letters {
     ghost use Rattle.std.specs.Prelude.{None};
-    ghost use Rattle.shapers_base.specs.declared.buffer.category.hb_unicode_general_category_t.TheVariants.{Lo};
+    ghost use Rattle.rustybuzz_shapers.specs.hb_unicode_general_category_t.TheVariants.{Lo};
     ghost use Rattle.shapers_bench.specs.Letters.{letter_type};
 
     ghost tables = { λ _. record {
