@@ -1,1 +1,2 @@
+mod ConstantRows
 mod RequestRows

@@ -1,8 +1,11 @@
+mod ConstantRows
 pub mod HebrewLemmas
 mod HebrewRows
 mod RequestRows
+mod SaraAmRows
 pub mod ThaiClusters
 pub mod ThaiFormLaws
+mod ThaiFormRows
 pub mod ThaiFormWalks
 pub mod ThaiInTwo
 pub mod ThaiKept

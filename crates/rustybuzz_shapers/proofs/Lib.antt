@@ -1,0 +1,4 @@
+mod HookRows
+mod PauseRows
+mod RecordRows
+mod StandingRows

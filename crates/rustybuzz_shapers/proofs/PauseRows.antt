@@ -1,0 +1,76 @@
+-- The pauses, computed: which are built, and what those that are do to a small buffer.
+use Rattle.std.specs.Prelude.{◌≡◌, ℕ, ◌+◌, true, false, List, [], ◌∷◌, map, Err, refl}
+use Rattle.shapers_base.specs.declared.buffer.category.hb_unicode_general_category_t.TheVariants.{Mn}
+use Rattle.shapers_base.specs.declared.buffer.glyph.hb_glyph_info_t.{hb_glyph_info_t}
+use Rattle.shapers_base.specs.declared.buffer.refusal.ShaperError.TheVariants.{SpansDontCover}
+use Rattle.shapers_base.specs.declared.buffer.syllables.Span.{Span}
+use Rattle.shapers_base.specs.declared.plan.hb_ot_shape_plan_t.{hb_ot_shape_plan_t}
+use Rattle.shapers_base.specs.declared.plan.pause.Pause.{Pause}
+use Rattle.shapers_base.specs.declared.plan.pause.Pause.TheVariants.{SetupSyllablesIndic, SetupSyllablesKhmer, SetupSyllablesMyanmar, SetupSyllablesUse, InitialReordering, ReorderKhmer, ReorderMyanmar, ReorderUse, FinalReordering, RecordStch, RecordRphf, RecordPref, SyllabicClearVar, ClearSubstitutionFlags, ArabicFallbackShape}
+use Rattle.shapers_base.specs.Buffer.{Buffer, new_buffer}
+use Rattle.shapers_base.specs.Font.{Font}
+use Rattle.shapers_base.specs.Glyph.{default_glyph}
+use Rattle.rustybuzz_shapers.specs.Pauses.{PauseAnswers, Paused, RefusesPause, pause_standing}
+use Rattle.rustybuzz_shapers.specs.declared.shaper.standing.Standing.TheVariants.{Has, WillHave}
+
+-- each of the fifteen
+built : map pause_standing (SetupSyllablesIndic ∷ SetupSyllablesKhmer ∷ SetupSyllablesMyanmar ∷ SetupSyllablesUse ∷ InitialReordering ∷ ReorderKhmer ∷ ReorderMyanmar ∷ ReorderUse ∷ FinalReordering ∷ RecordStch ∷ RecordRphf ∷ RecordPref ∷ SyllabicClearVar ∷ ClearSubstitutionFlags ∷ ArabicFallbackShape ∷ []) ≡ Has ∷ Has ∷ Has ∷ WillHave ∷ WillHave ∷ WillHave ∷ WillHave ∷ WillHave ∷ WillHave ∷ WillHave ∷ WillHave ∷ WillHave ∷ Has ∷ Has ∷ Has ∷ []
+built = refl
+
+-- three glyphs, each with its cluster, byte and mask
+abbrev glyph : ℕ → ℕ → ℕ → hb_glyph_info_t
+glyph c byte m = record default_glyph { cluster = c; syllable = byte; mask = m }
+
+abbrev text : Buffer
+text = record (new_buffer 10) { glyphs = glyph 0 0 8 ∷ glyph 1 0 8 ∷ glyph 2 0 8 ∷ [] }
+
+-- spans for them: two glyphs of kind 0, and one of kind k
+abbrev spans : ℕ → List Span
+spans k = record { len = 2; kind = 0 } ∷ record { len = 1; kind = k } ∷ []
+
+-- the text cut so, with no broken syllable, or with one
+abbrev whole : ℕ → Buffer
+whole k = record text { glyphs = glyph 0 0x10 8 ∷ glyph 1 0x10 11 ∷ glyph 2 (0x20 + k) 8 ∷ [] }
+
+abbrev broken : ℕ → Buffer
+broken k = record (whole k) { broken = true }
+
+-- what a pause makes of the text and these spans
+abbrev Cuts : Pause → ℕ → Buffer → Type 0
+Cuts pause k new = (plan : hb_ot_shape_plan_t) (font : Font) → Paused pause plan font (spans k) text new
+
+-- of the kinds of Indic 4 is the broken one
+indic_broken : Cuts SetupSyllablesIndic 1 (whole 1) × Cuts SetupSyllablesIndic 2 (whole 2) × Cuts SetupSyllablesIndic 3 (whole 3) × Cuts SetupSyllablesIndic 4 (broken 4) × Cuts SetupSyllablesIndic 5 (whole 5) × Cuts SetupSyllablesIndic 6 (whole 6)
+indic_broken = (λ plan font. refl, λ plan font. refl, λ plan font. refl, λ plan font. refl, λ plan font. refl, λ plan font. refl)
+
+-- of the kinds of Khmer 1 is the broken one
+khmer_broken : Cuts SetupSyllablesKhmer 1 (broken 1) × Cuts SetupSyllablesKhmer 2 (whole 2) × Cuts SetupSyllablesKhmer 3 (whole 3)
+khmer_broken = (λ plan font. refl, λ plan font. refl, λ plan font. refl)
+
+-- of the kinds of Myanmar 2 is the broken one
+myanmar_broken : Cuts SetupSyllablesMyanmar 1 (whole 1) × Cuts SetupSyllablesMyanmar 2 (broken 2) × Cuts SetupSyllablesMyanmar 3 (whole 3) × Cuts SetupSyllablesMyanmar 4 (whole 4)
+myanmar_broken = (λ plan font. refl, λ plan font. refl, λ plan font. refl, λ plan font. refl)
+
+-- clearing takes one field of each glyph back, and the fallback of Arabic does nothing
+abbrev full : hb_glyph_info_t
+full = record { glyph_id = 0x916; cluster = 5; mask = 0x1F; syllable = 0x24; category = 1; auxiliary = 3; general_category = Mn; modified_combining_class = 9; lig_comp = 2; substituted = true; ligated = true; multiplied = true; ignorable = true; continuation = true }
+
+abbrev full_text : List hb_glyph_info_t → Buffer
+full_text gs = record (new_buffer 10) { glyphs = gs; broken = true; stch = true }
+
+abbrev Makes : Pause → hb_glyph_info_t → Type 0
+Makes pause g = (plan : hb_ot_shape_plan_t) (font : Font) → Paused pause plan font [] (full_text (full ∷ full ∷ [])) (full_text (g ∷ g ∷ []))
+
+cleared : Makes SyllabicClearVar (record full { syllable = 0 }) × Makes ClearSubstitutionFlags (record full { substituted = false }) × Makes ArabicFallbackShape full
+cleared = (λ plan font. refl, λ plan font. refl, λ plan font. refl)
+
+-- set-up refuses spans that don't cover, and nothing else; the others refuse nothing
+abbrev too_short : List Span
+too_short = record { len = 2; kind = 0 } ∷ []
+
+refused : RefusesPause {T = Unit {0}} SetupSyllablesIndic too_short text (Err SpansDontCover) × RefusesPause {T = Unit {0}} SetupSyllablesKhmer too_short text (Err SpansDontCover) × RefusesPause {T = Unit {0}} SetupSyllablesMyanmar too_short text (Err SpansDontCover)
+refused = (refl, refl, refl)
+
+-- none of them answers that circles were wanted
+answered : (font : Font) → PauseAnswers SetupSyllablesIndic font text false × PauseAnswers SetupSyllablesKhmer font text false × PauseAnswers SetupSyllablesMyanmar font text false × PauseAnswers SyllabicClearVar font text false × PauseAnswers ClearSubstitutionFlags font text false × PauseAnswers ArabicFallbackShape font text false
+answered font = (refl, refl, refl, refl, refl, refl)
