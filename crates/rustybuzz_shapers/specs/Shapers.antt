@@ -19,7 +19,8 @@ use Rattle.shapers_base.specs.declared.plan.record.ZeroWidthMarks.{ZeroWidthMark
 use Rattle.shapers_base.specs.declared.plan.record.ZeroWidthMarks.TheVariants as zeroing
 use Rattle.shapers_clusters.specs.Steps.{Step, run_step}
 use Rattle.shapers_text.specs.Hebrew.{composed_in_hebrew, mark_step}
-use Rattle.shapers_text.specs.Requests.{arabic_list, is_arabic, hangul_list, hangul_overrides}
+use Rattle.shapers_hangul.specs.Requests.{hangul_list, hangul_overrides}
+use Rattle.shapers_text.specs.Requests.{arabic_list, is_arabic}
 use Rattle.shapers_text.specs.Thai.{is_sara_am, rewritten, wants_forms}
 use Rattle.shapers_text.specs.ThaiForms.{preprocessed}
 use Rattle.shapers_text.specs.ThaiLaws.{ClustersInTwo}

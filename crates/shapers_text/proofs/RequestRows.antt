@@ -1,7 +1,7 @@
--- The lists of Arabic and Hangul, computed: their lengths, and some of their flags.
+-- The lists of Arabic, computed: their lengths, and some of their flags.
 use Rattle.std.specs.Prelude.{◌≡◌, true, false, Some, length, slice_get, codes, refl}
 use Rattle.shapers_base.specs.declared.plan.planner.Request.TheVariants.{Feature}
-use Rattle.shapers_text.specs.Requests.{arabic_list, hangul_list, hangul_overrides, is_arabic}
+use Rattle.shapers_text.specs.Requests.{arabic_list, is_arabic}
 
 arabic_without_rclt : length (arabic_list true false) ≡ 26
 arabic_without_rclt = refl
@@ -29,9 +29,3 @@ syriac_isol = refl
 
 rlig : slice_get (arabic_list true false) 19 ≡ Some (Feature (record { 0 = codes "rlig" }) 11 1)
 rlig = refl
-
-hangul : length hangul_list ≡ 3
-hangul = refl
-
-hangul_after : length hangul_overrides ≡ 1
-hangul_after = refl

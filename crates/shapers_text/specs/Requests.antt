@@ -1,4 +1,4 @@
--- What Arabic and Hangul ask of the map.
+-- What Arabic asks of the map.
 use Rattle.std.specs.Prelude.{ℕ, Bool, List, [], ◌∷◌, ◌++◌, map, bit_or, Option, None, Some, codes, false, nat_eq, if◌then◌else◌}
 use Rattle.std.specs.Cmp.Lexicographic.{pointwise}
 use Rattle.shapers_base.specs.declared.buffer.tag.hb_tag_t.{hb_tag_t}
@@ -6,7 +6,7 @@ use Rattle.shapers_base.specs.declared.buffer.tag.Script.{Script}
 use Rattle.shapers_base.specs.declared.map.TheConstants.{F_NONE, F_HAS_FALLBACK, F_MANUAL_ZWJ}
 use Rattle.shapers_base.specs.declared.plan.pause.Pause.TheVariants.{RecordStch, ArabicFallbackShape}
 use Rattle.shapers_base.specs.declared.plan.planner.Request.{Request}
-use Rattle.shapers_base.specs.Planner.{added, enabled, disabled, bare_pause, pause_for, each_paused}
+use Rattle.shapers_base.specs.Planner.{added, enabled, bare_pause, pause_for, each_paused}
 
 -- whether the script is Arabic itself
 abbrev pub is_arabic : Option Script → Bool
@@ -29,10 +29,3 @@ arabic_list arabic has_rclt =
     ++ enabled (bit_or F_MANUAL_ZWJ F_HAS_FALLBACK) "rlig" ∷ (if arabic then pause_for ArabicFallbackShape ∷ [] else [])
     ++ enabled F_MANUAL_ZWJ "calt" ∷ (if has_rclt then [] else bare_pause ∷ [])
     ++ map (enabled F_MANUAL_ZWJ) ("liga" ∷ "clig" ∷ "mset" ∷ [])
-
--- Hangul, and what it asks after the lists of all
-abbrev pub hangul_list : List Request
-hangul_list = map (added F_NONE) ("ljmo" ∷ "vjmo" ∷ "tjmo" ∷ [])
-
-abbrev pub hangul_overrides : List Request
-hangul_overrides = disabled "calt" ∷ []

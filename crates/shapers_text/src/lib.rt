@@ -2,6 +2,5 @@
 #![tactic(auto)]
 
 pub mod ot_shaper_arabic;
-pub mod ot_shaper_hangul;
 pub mod ot_shaper_hebrew;
 pub mod ot_shaper_thai;
