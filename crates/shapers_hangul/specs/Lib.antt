@@ -1,1 +1,3 @@
+pub mod Hangul
+pub mod Masks
 pub mod Requests

@@ -1,0 +1,138 @@
+//! The text rewritten, item after item.
+ghost use Rattle.std.specs.Prelude.{◌≡◌, ◌+◌, ◌<◌, ◌≤◌, ◌++◌, [], drop, length, false, OnOk, OnErr, IfOk, IfErr, IsOkUnless, not};
+ghost use Rattle.shapers_base.specs.Clusters.{merge_all};
+ghost use Rattle.shapers_base.specs.Refusals.{RefusesLength};
+ghost use Rattle.shapers_base.specs.declared.buffer.refusal.ShaperError.TheVariants.{Memory, TooLong};
+ghost use Rattle.shapers_hangul.specs.Hangul.{first_item, item_len, items, characters, glyph_copies, outputs, stretches, preprocessed, wants_circles, Stays};
+
+use super::item::{Item, first_item};
+use bitflags::Flags;
+use shapers_base::buffer::{
+    BufferClusterLevel, BufferFlags, ShaperError, hb_buffer_t, hb_glyph_info_t,
+};
+use shapers_base::font::hb_font_t;
+use std::alloc::Global;
+
+// The item at a place of the text.
+fn item_at<F: hb_font_t>(face: &F, circles: bool, glyphs: &[hb_glyph_info_t], place: usize) -> Item
+    requires { place < length glyphs.now }
+    ensures item { result ≡ first_item (F.font face.now) circles (characters (drop place glyphs.now)) }
+    ensures within { place + item_len result ≤ length glyphs.now }
+    ensures in_rest { item_len result ≤ length (drop place glyphs.now) }
+{
+    first_item(face, circles, rest_from(glyphs, place))
+}
+
+// The text from a place on.
+fn rest_from(glyphs: &[hb_glyph_info_t], place: usize) -> &[hb_glyph_info_t]
+    requires { place ≤ length glyphs.now }
+    ensures { result.now ≡ drop place glyphs.now }
+{
+    &glyphs[place..]
+}
+
+// Whether the text changes. Refuses where the result would be longer than `limit`, and for nothing
+// else.
+fn changes<F: hb_font_t>(
+    face: &F,
+    circles: bool,
+    glyphs: &[hb_glyph_info_t],
+    limit: usize,
+) -> Result<bool, ShaperError>
+    ensures length { RefusesLength limit (length (outputs glyph_copies (items (F.font face.now) circles (characters glyphs.now)) glyphs.now)) result }
+    ensures unchanged { IfOk result (λ changed. changed ≡ false → Stays (items (F.font face.now) circles (characters glyphs.now)) glyphs.now) }
+    ensures refusal { IfErr result (λ e. e ≡ TooLong) }
+{
+    let mut room = limit;
+    let mut changed = false;
+    let mut place = 0;
+    while place < glyphs.len() {
+        let item = item_at(face, circles, glyphs, place);
+        if room < item.output_len() {
+            return Err(ShaperError::TooLong);
+        }
+        room -= item.output_len();
+        changed |= !item.is_kept();
+        place += item.len();
+    }
+    Ok(changed)
+}
+
+// Merges what the items merge, one after another.
+fn merge_items<F: hb_font_t>(
+    face: &F,
+    circles: bool,
+    level: BufferClusterLevel,
+    glyphs: &mut [hb_glyph_info_t],
+)
+    ensures { glyphs.new ≡ merge_all level (stretches level (items (F.font face.now) circles (characters glyphs.old))) glyphs.old }
+{
+    let mut place = 0;
+    while place < glyphs.len() {
+        let item = item_at(face, circles, glyphs, place);
+        item.merge(level, glyphs, place);
+        place += item.len();
+    }
+}
+
+// Adds what the items become, one after another.
+fn write_items<F: hb_font_t>(
+    face: &F,
+    circles: bool,
+    glyphs: &[hb_glyph_info_t],
+    list: &mut Vec<hb_glyph_info_t>,
+) -> Result<(), ShaperError>
+    ensures ok { OnOk result (list.new.items ≡ list.old.items ++ outputs glyph_copies (items (F.font face.now) circles (characters glyphs.now)) glyphs.now) }
+    ensures refusal { IsOkUnless result Memory }
+{
+    let mut place = 0;
+    while place < glyphs.len() {
+        let item = item_at(face, circles, glyphs, place);
+        item.write(rest_from(glyphs, place), list)?;
+        place += item.len();
+    }
+    Ok(())
+}
+
+// The text rewritten: what its items merge, on the old places, and then what they become.
+fn rewritten<F: hb_font_t>(
+    face: &F,
+    circles: bool,
+    level: BufferClusterLevel,
+    glyphs: &[hb_glyph_info_t],
+    alloc: Global,
+) -> Result<Vec<hb_glyph_info_t>, ShaperError>
+    ensures ok { IfOk result (λ list. list.items ≡ preprocessed (F.font face.now) circles level glyphs.now) }
+    ensures refusal { IsOkUnless result Memory }
+{
+    let mut merged = Vec::from_slice(alloc, glyphs)?;
+    merge_items(face, circles, level, &mut merged);
+    let mut list = Vec::with_capacity(alloc, glyphs.len())?;
+    write_items(face, circles, merged.as_slice(), &mut list)?;
+    Ok(list)
+}
+
+// Whether the caller lets circles be inserted.
+fn wants_circles(buffer: &hb_buffer_t) -> bool
+    ensures { result ≡ wants_circles buffer.now }
+{
+    !buffer
+        .flags()
+        .contains(BufferFlags::DO_NOT_INSERT_DOTTED_CIRCLE)
+}
+
+// Rewrites the text.
+pub(super) fn rewrite<F: hb_font_t>(face: &F, buffer: &mut hb_buffer_t) -> Result<(), ShaperError>
+    requires { buffer.old.positions ≡ [] }
+    ensures ok { OnOk result (buffer.new ≡ record buffer.old { glyphs = preprocessed (F.font face.now) (wants_circles buffer.old) buffer.old.level buffer.old.glyphs }) }
+    ensures length { RefusesLength buffer.old.max_len (length (preprocessed (F.font face.now) (wants_circles buffer.old) buffer.old.level buffer.old.glyphs)) result }
+    ensures err { OnErr result (buffer.new ≡ buffer.old) }
+{
+    let circles = wants_circles(buffer);
+    if !changes(face, circles, buffer.glyphs(), buffer.max_len())? {
+        return Ok(());
+    }
+    let (level, alloc) = (buffer.cluster_level(), buffer.alloc());
+    let list = rewritten(face, circles, level, buffer.glyphs(), alloc)?;
+    buffer.replace_glyphs(list)
+}
