@@ -1,4 +1,6 @@
+pub mod HangulClusters
 mod HangulRows
+pub mod HangulSpelling
 pub mod Items
 pub mod Outputs
 mod RequestRows

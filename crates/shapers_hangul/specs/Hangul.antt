@@ -269,6 +269,10 @@ preprocessed font circles level gs =
 abbrev pub wants_circles : Buffer → Bool
 wants_circles b = not (asks 0x20 b)
 
+-- the buffer with its text rewritten
+abbrev pub rewritten : Font → Buffer → Buffer
+rewritten font b = record b { glyphs = preprocessed font (wants_circles b) b.level b.glyphs }
+
 -- where nothing is merged and every output is what it was: at any level
 pub record Stays (cut : List (ℕ × Item)) (gs : List hb_glyph_info_t) : Type 0 where
   pub unmerged : (level : BufferClusterLevel) → merge_all level (stretches level cut) gs ≡ gs

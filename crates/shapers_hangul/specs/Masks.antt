@@ -3,6 +3,7 @@ use Rattle.std.specs.Prelude.{ℕ, bit_or, Bool, true, false, List, [], ◌∷�
 use Rattle.shapers_base.specs.declared.buffer.glyph.hb_glyph_info_t.{hb_glyph_info_t}
 use Rattle.shapers_base.specs.declared.plan.PlanData.{PlanData}
 use Rattle.shapers_base.specs.declared.plan.PlanData.TheVariants.{Hangul}
+use Rattle.shapers_base.specs.Buffer.{Buffer}
 use Rattle.shapers_base.specs.Map.{Map, mask_of}
 
 -- the masks that the plan keeps: none for unmarked glyphs, then those of leading, vowel and trailing jamo
@@ -21,3 +22,7 @@ masks_in _ = []
 -- the glyph with the mask of its auxiliary byte's number besides its own; a byte without a mask changes nothing
 abbrev pub with_jamo_mask : List ℕ → hb_glyph_info_t → hb_glyph_info_t
 with_jamo_mask masks g = record g { mask = bit_or g.mask (slice_index masks g.auxiliary) }
+
+-- the buffer with the masks in these plan data
+abbrev pub with_jamo_masks : PlanData → Buffer → Buffer
+with_jamo_masks kept b = record b { glyphs = map (with_jamo_mask (masks_in kept)) b.glyphs }

@@ -5,8 +5,9 @@ ghost use Rattle.shapers_base.specs.Planner.{with_requests};
 ghost use Rattle.std.specs.List.{All};
 ghost use Rattle.shapers_base.specs.declared.plan.PlanData.TheVariants.{Hangul};
 ghost use Rattle.shapers_base.specs.Refusals.{RefusesLength};
-ghost use Rattle.shapers_hangul.specs.Hangul.{preprocessed, wants_circles};
-ghost use Rattle.shapers_hangul.specs.Masks.{jamo_masks, is_hangul_data, masks_in, with_jamo_mask};
+ghost use Rattle.shapers_hangul.specs.Hangul.{rewritten};
+ghost use Rattle.shapers_hangul.specs.HangulLaws.{KeepsClusters, RewrittenLaw};
+ghost use Rattle.shapers_hangul.specs.Masks.{jamo_masks, is_hangul_data, masks_in, with_jamo_masks};
 ghost use Rattle.shapers_hangul.specs.Requests.{hangul_list, hangul_overrides};
 
 use rewriting::rewrite;
@@ -63,12 +64,20 @@ pub fn preprocess_text<F: hb_font_t>(
     buffer: &mut hb_buffer_t,
 ) -> Result<(), ShaperError>
     requires { buffer.old.positions ≡ [] }
-    ensures ok { OnOk result (buffer.new ≡ record buffer.old { glyphs = preprocessed (F.font face.now) (wants_circles buffer.old) buffer.old.level buffer.old.glyphs }) }
-    ensures length { RefusesLength buffer.old.max_len (length (preprocessed (F.font face.now) (wants_circles buffer.old) buffer.old.level buffer.old.glyphs)) result }
+    ensures ok { OnOk result (buffer.new ≡ rewritten (F.font face.now) buffer.old) }
+    ensures clusters { OnOk result (KeepsClusters (F.font face.now) buffer.old buffer.new) }
+    ensures length { let text = (rewritten (F.font face.now) buffer.old).glyphs in
+        RefusesLength buffer.old.max_len (length text) result }
     ensures err { OnErr result (buffer.new ≡ buffer.old) }
 {
     rewrite(face, buffer)
 }
+
+/// What the rewriting makes of clusters and glyph flags: flags and old clusters, the cluster law of
+/// tones, and exact cuts.
+pub fn rewriting_law()
+    ensures { RewrittenLaw }
+{}
 
 /// Keeps the masks of the features of jamo in the plan. None of them touches a glyph flag bit.
 pub fn create_data(plan: &hb_ot_shape_plan_t) -> PlanData
@@ -94,7 +103,7 @@ struct JamoMasks {
 impl GlyphChange for JamoMasks {
     ghost use Rattle.std.specs.Prelude.{◌≡◌};
     ghost use Rattle.shapers_base.specs.Refusals.{RefusesLength};
-    ghost use Rattle.shapers_hangul.specs.Hangul.{preprocessed, wants_circles};
+    ghost use Rattle.shapers_hangul.specs.Hangul.{rewritten};
     ghost use Rattle.shapers_hangul.specs.Masks.{with_jamo_mask};
 
     ghost changed = { λ m g. with_jamo_mask m.masks g };
@@ -109,7 +118,7 @@ impl GlyphChange for JamoMasks {
 /// then those of leading, vowel and trailing jamo. It takes no memory.
 pub fn setup_masks(plan: &hb_ot_shape_plan_t, buffer: &mut hb_buffer_t)
     requires { is_hangul_data plan.now.plan_data ≡ true }
-    ensures { buffer.new ≡ record buffer.old { glyphs = map (with_jamo_mask (masks_in plan.now.plan_data)) buffer.old.glyphs } }
+    ensures { buffer.new ≡ with_jamo_masks plan.now.plan_data buffer.old }
 {
     match &plan.plan_data {
         PlanData::Hangul(data) => {

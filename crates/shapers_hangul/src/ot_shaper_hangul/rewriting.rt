@@ -3,7 +3,7 @@ ghost use Rattle.std.specs.Prelude.{◌≡◌, ◌+◌, ◌<◌, ◌≤◌, ◌+
 ghost use Rattle.shapers_base.specs.Clusters.{merge_all};
 ghost use Rattle.shapers_base.specs.Refusals.{RefusesLength};
 ghost use Rattle.shapers_base.specs.declared.buffer.refusal.ShaperError.TheVariants.{Memory, TooLong};
-ghost use Rattle.shapers_hangul.specs.Hangul.{first_item, item_len, items, characters, glyph_copies, outputs, stretches, preprocessed, wants_circles, Stays};
+ghost use Rattle.shapers_hangul.specs.Hangul.{first_item, item_len, items, characters, glyph_copies, outputs, stretches, preprocessed, rewritten, wants_circles, Stays};
 
 use super::item::{Item, first_item};
 use bitflags::Flags;
@@ -16,7 +16,8 @@ use std::alloc::Global;
 // The item at a place of the text.
 fn item_at<F: hb_font_t>(face: &F, circles: bool, glyphs: &[hb_glyph_info_t], place: usize) -> Item
     requires { place < length glyphs.now }
-    ensures item { result ≡ first_item (F.font face.now) circles (characters (drop place glyphs.now)) }
+    ensures item { let us = characters (drop place glyphs.now) in
+        result ≡ first_item (F.font face.now) circles us }
     ensures within { place + item_len result ≤ length glyphs.now }
     ensures in_rest { item_len result ≤ length (drop place glyphs.now) }
 {
@@ -39,8 +40,10 @@ fn changes<F: hb_font_t>(
     glyphs: &[hb_glyph_info_t],
     limit: usize,
 ) -> Result<bool, ShaperError>
-    ensures length { RefusesLength limit (length (outputs glyph_copies (items (F.font face.now) circles (characters glyphs.now)) glyphs.now)) result }
-    ensures unchanged { IfOk result (λ changed. changed ≡ false → Stays (items (F.font face.now) circles (characters glyphs.now)) glyphs.now) }
+    ensures length { let cut = items (F.font face.now) circles (characters glyphs.now) in
+        RefusesLength limit (length (outputs glyph_copies cut glyphs.now)) result }
+    ensures unchanged { let cut = items (F.font face.now) circles (characters glyphs.now) in
+        IfOk result (λ changed. changed ≡ false → Stays cut glyphs.now) }
     ensures refusal { IfErr result (λ e. e ≡ TooLong) }
 {
     let mut room = limit;
@@ -65,7 +68,8 @@ fn merge_items<F: hb_font_t>(
     level: BufferClusterLevel,
     glyphs: &mut [hb_glyph_info_t],
 )
-    ensures { glyphs.new ≡ merge_all level (stretches level (items (F.font face.now) circles (characters glyphs.old))) glyphs.old }
+    ensures { let cut = items (F.font face.now) circles (characters glyphs.old) in
+        glyphs.new ≡ merge_all level (stretches level cut) glyphs.old }
 {
     let mut place = 0;
     while place < glyphs.len() {
@@ -82,7 +86,8 @@ fn write_items<F: hb_font_t>(
     glyphs: &[hb_glyph_info_t],
     list: &mut Vec<hb_glyph_info_t>,
 ) -> Result<(), ShaperError>
-    ensures ok { OnOk result (list.new.items ≡ list.old.items ++ outputs glyph_copies (items (F.font face.now) circles (characters glyphs.now)) glyphs.now) }
+    ensures ok { let cut = items (F.font face.now) circles (characters glyphs.now) in
+        OnOk result (list.new.items ≡ list.old.items ++ outputs glyph_copies cut glyphs.now) }
     ensures refusal { IsOkUnless result Memory }
 {
     let mut place = 0;
@@ -102,7 +107,8 @@ fn rewritten<F: hb_font_t>(
     glyphs: &[hb_glyph_info_t],
     alloc: Global,
 ) -> Result<Vec<hb_glyph_info_t>, ShaperError>
-    ensures ok { IfOk result (λ list. list.items ≡ preprocessed (F.font face.now) circles level glyphs.now) }
+    ensures ok { let text = preprocessed (F.font face.now) circles level glyphs.now in
+        IfOk result (λ list. list.items ≡ text) }
     ensures refusal { IsOkUnless result Memory }
 {
     let mut merged = Vec::from_slice(alloc, glyphs)?;
@@ -124,8 +130,9 @@ fn wants_circles(buffer: &hb_buffer_t) -> bool
 // Rewrites the text.
 pub(super) fn rewrite<F: hb_font_t>(face: &F, buffer: &mut hb_buffer_t) -> Result<(), ShaperError>
     requires { buffer.old.positions ≡ [] }
-    ensures ok { OnOk result (buffer.new ≡ record buffer.old { glyphs = preprocessed (F.font face.now) (wants_circles buffer.old) buffer.old.level buffer.old.glyphs }) }
-    ensures length { RefusesLength buffer.old.max_len (length (preprocessed (F.font face.now) (wants_circles buffer.old) buffer.old.level buffer.old.glyphs)) result }
+    ensures ok { OnOk result (buffer.new ≡ rewritten (F.font face.now) buffer.old) }
+    ensures length { let text = (rewritten (F.font face.now) buffer.old).glyphs in
+        RefusesLength buffer.old.max_len (length text) result }
     ensures err { OnErr result (buffer.new ≡ buffer.old) }
 {
     let circles = wants_circles(buffer);
