@@ -19,7 +19,7 @@ pub either : (Q : Unit → Type 0) (b : Bool) (x y : Unit) → (b ≡ true → Q
 either Q b x y passes fails = elim b as (λ a. b ≡ a → Q (cond a x y)) [ true ↦ passes | false ↦ fails ] refl
 
 -- what a test that 0 fails says of a number
-above : (test : ℕ → Bool) (v : ℕ) → test 0 ≡ false → test v ≡ true → 0 < v
+pub above : (test : ℕ → Bool) (v : ℕ) → test 0 ≡ false → test v ≡ true → 0 < v
 above test zero none passes = absurd cc
 above test (suc v) none passes = omega arith
 
@@ -85,12 +85,12 @@ unit_reaches font circles u v t =
     (λ _. either Q (is_s u) (syllable_unit font u v) Other (λ _. syllable_reaches font u v t) (λ _. inl (omega arith))))
 
 -- a character that isn't 0 stands within the text
-there : (us : List ℕ) (i : ℕ) → 0 < get_or us i 0 → i < length us
+pub there : (us : List ℕ) (i : ℕ) → 0 < get_or us i 0 → i < length us
 there [] i some = absurd (omega arith)
 there (u ∷ us) zero some = omega arith
 there (u ∷ us) (suc i) some = omega (arith, there us i some)
 
-unit_within : (font : Font) (circles : Bool) (us : List ℕ) → 0 < length us → taken (first_unit font circles (get_or us 0 0) (get_or us 1 0) (get_or us 2 0)) ≤ length us
+pub unit_within : (font : Font) (circles : Bool) (us : List ℕ) → 0 < length us → taken (first_unit font circles (get_or us 0 0) (get_or us 1 0) (get_or us 2 0)) ≤ length us
 unit_within font circles us some =
     let x = first_unit font circles (get_or us 0 0) (get_or us 1 0) (get_or us 2 0) in
     elim (unit_reaches font circles (get_or us 0 0) (get_or us 1 0) (get_or us 2 0)) [

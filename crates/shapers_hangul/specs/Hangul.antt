@@ -152,10 +152,13 @@ is_marked _ = false
 abbrev pub joined_tone : Font → Unit → ℕ → JoinedTone
 joined_tone font unit w = if is_syllable unit && is_tone w then (if is_narrow font w then Behind else Before) else Absent
 
--- the item that opens a text
+-- the unit that opens a text, and the item
+abbrev pub opening_unit : Font → Bool → List ℕ → Unit
+opening_unit font circles us = first_unit font circles (get_or us 0 0) (get_or us 1 0) (get_or us 2 0)
+
 abbrev pub first_item : Font → Bool → List ℕ → Item
 first_item font circles us =
-    let opening = first_unit font circles (get_or us 0 0) (get_or us 1 0) (get_or us 2 0) in
+    let opening = opening_unit font circles us in
     record { unit = opening; tone = joined_tone font opening (get_or us (taken opening) 0) }
 
 abbrev pub tone_len : JoinedTone → ℕ

@@ -1,5 +1,5 @@
 -- What the rewriting makes of clusters and glyph flags, and that it spells the same text.
-use Rattle.std.specs.Prelude.{ℕ, Bool, ◌+◌, ◌==◌, ◌||◌, ◌≡◌, ◌<◌, true, List, [], ◌∷◌, ◌++◌, map, flat_map, take, length, if◌then◌else◌}
+use Rattle.std.specs.Prelude.{ℕ, Bool, ◌+◌, ◌==◌, ◌||◌, ◌≡◌, not, true, false, get_or, filter, List, [], ◌∷◌, ◌++◌, map, flat_map, take, length, if◌then◌else◌}
 use Rattle.std.specs.List.{AllZip, range_with_len}
 use Rattle.shapers_base.specs.declared.buffer.glyph.hb_glyph_info_t.{hb_glyph_info_t}
 use Rattle.shapers_base.specs.declared.buffer.level.BufferClusterLevel.{BufferClusterLevel}
@@ -13,7 +13,7 @@ use Rattle.shapers_clusters.specs.Flags.{FlagsFall}
 use Rattle.shapers_clusters.specs.Laws.{ClustersMade}
 use Rattle.shapers_hangul.specs.declared.ot_shaper_hangul.item.Item.{Item}
 use Rattle.shapers_hangul.specs.declared.ot_shaper_hangul.item.JoinedTone.TheVariants.{Before}
-use Rattle.shapers_hangul.specs.Hangul.{Copying, outputs, output_len, items, stretches, characters, preprocessed, wants_circles}
+use Rattle.shapers_hangul.specs.Hangul.{lead, vowel, trail, is_s, is_lv, is_tone, opening_unit, taken, Copying, unit_output, outputs, output_len, items, stretches, character_copies, characters, preprocessed, wants_circles}
 
 -- the rule on places: a copy has the place of what it copies
 abbrev pub place_copies : Copying ℕ
@@ -47,3 +47,25 @@ pub record RewrittenHolds (font : Font) (circles : Bool) (level : BufferClusterL
 
 abbrev pub RewrittenLaw : Type 0
 RewrittenLaw = (font : Font) (circles : Bool) (level : BufferClusterLevel) (gs : List hb_glyph_info_t) → RewrittenHolds font circles level gs (preprocessed font circles level gs)
+
+-- SPELLING. A text with each syllable character replaced by its jamo; that without tones and circles
+abbrev pub jamo_of : ℕ → List ℕ
+jamo_of s = lead s ∷ vowel s ∷ (if is_lv s then [] else trail s ∷ [])
+
+abbrev pub full : List ℕ → List ℕ
+full us = flat_map (λ u. if is_s u then jamo_of u else u ∷ []) us
+
+abbrev pub spelled : List ℕ → List ℕ
+spelled us = filter (λ u. not (is_tone u || u == 0x25CC)) (full us)
+
+-- A unit that is no tone spells what it takes; the result spells the text, tones and circles apart.
+pub record Spells (font : Font) (circles : Bool) (us : List ℕ) : Type 0 where
+  pub unit : is_tone (get_or us 0 0) ≡ false → full (unit_output character_copies (opening_unit font circles us) us) ≡ full (take (taken (opening_unit font circles us)) us)
+  pub whole : spelled (outputs character_copies (items font circles us) us) ≡ spelled us
+
+abbrev pub SpellingLaw : Type 0
+SpellingLaw = (font : Font) (circles : Bool) (us : List ℕ) → Spells font circles us
+
+-- the same of a buffer
+abbrev pub SpellsSame : Buffer → Buffer → Type 0
+SpellsSame old new = spelled (characters new.glyphs) ≡ spelled (characters old.glyphs)

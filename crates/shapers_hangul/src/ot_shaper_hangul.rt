@@ -6,7 +6,7 @@ ghost use Rattle.std.specs.List.{All};
 ghost use Rattle.shapers_base.specs.declared.plan.PlanData.TheVariants.{Hangul};
 ghost use Rattle.shapers_base.specs.Refusals.{RefusesLength};
 ghost use Rattle.shapers_hangul.specs.Hangul.{rewritten};
-ghost use Rattle.shapers_hangul.specs.HangulLaws.{KeepsClusters, RewrittenLaw};
+ghost use Rattle.shapers_hangul.specs.HangulLaws.{KeepsClusters, RewrittenLaw, SpellingLaw, SpellsSame};
 ghost use Rattle.shapers_hangul.specs.Masks.{jamo_masks, is_hangul_data, masks_in, with_jamo_masks};
 ghost use Rattle.shapers_hangul.specs.Requests.{hangul_list, hangul_overrides};
 
@@ -66,6 +66,7 @@ pub fn preprocess_text<F: hb_font_t>(
     requires { buffer.old.positions ≡ [] }
     ensures ok { OnOk result (buffer.new ≡ rewritten (F.font face.now) buffer.old) }
     ensures clusters { OnOk result (KeepsClusters (F.font face.now) buffer.old buffer.new) }
+    ensures spelling { OnOk result (SpellsSame buffer.old buffer.new) }
     ensures length { let text = (rewritten (F.font face.now) buffer.old).glyphs in
         RefusesLength buffer.old.max_len (length text) result }
     ensures err { OnErr result (buffer.new ≡ buffer.old) }
@@ -77,6 +78,12 @@ pub fn preprocess_text<F: hb_font_t>(
 /// tones, and exact cuts.
 pub fn rewriting_law()
     ensures { RewrittenLaw }
+{}
+
+/// What a unit becomes spells what it takes, syllable characters by their jamo; so the result spells
+/// the text, tones and circles apart.
+pub fn spelling_law()
+    ensures { SpellingLaw }
 {}
 
 /// Keeps the masks of the features of jamo in the plan. None of them touches a glyph flag bit.
