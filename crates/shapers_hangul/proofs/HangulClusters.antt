@@ -1,6 +1,6 @@
 -- What the hook makes of clusters and glyph flags, by the law of made glyphs.
-use Rattle.std.proofs.Common.{◌≡◌, ℕ, zero, suc, ◌+◌, ◌-◌, ◌<◌, ◌≤◌, ◌||◌, not, Bool, true, false, cond, List, [], ◌∷◌, ◌++◌, length, map, flat_map, take, drop, refl, sym, ap, ◌∙◌, subst, arith}
-use Rattle.std.specs.List.{range_with_len, enumerate_from, AllByRecursion, Contains}
+use Rattle.std.proofs.Common.{◌≡◌, ℕ, zero, suc, ◌+◌, ◌-◌, ◌<◌, ◌≤◌, ◌||◌, not, Bool, true, false, cond, List, [], ◌∷◌, ◌++◌, length, map, take, drop, refl, sym, ap, ◌∙◌, subst, arith}
+use Rattle.std.specs.List.{range_with_len, AllByRecursion, Contains}
 use Rattle.std.proofs.lemmas.List.Elements.{All-from_recursion, Contains-append_right}
 use Rattle.std.proofs.lemmas.List.Concat.{flat_map-append}
 use Rattle.std.proofs.lemmas.List.FromFn.{length-range_with_len}
@@ -26,7 +26,7 @@ use Rattle.shapers_hangul.specs.declared.ot_shaper_hangul.item.JoinedTone.TheVar
 use Rattle.shapers_hangul.specs.declared.ot_shaper_hangul.item.Unit.{Unit}
 use Rattle.shapers_hangul.specs.declared.ot_shaper_hangul.item.Unit.TheVariants.{ComposedTwo, ComposedThree, JamoTwo, JamoThree, PartsTwo, PartsThree, PartsBeforeT, Syllable, ToneCircle, CircleTone, Other}
 use Rattle.shapers_hangul.specs.Hangul.{taken, output_len, tone_len, item_len, marks_merge, is_marked, first_item, items_from, items, Copying, unit_output, with_tone, item_output, outputs, unit_stretch, tone_stretch, item_stretches, stretches, glyph_copies, characters, preprocessed, rewritten, wants_circles}
-use Rattle.shapers_hangul.specs.HangulLaws.{place_copies, sources, ClustersRewritten, KeepsClusters, unnamed, RewrittenLaw}
+use Rattle.shapers_hangul.specs.HangulLaws.{place_copies, sources, KeepsClusters, unnamed, RewrittenLaw}
 use Rattle.shapers_hangul.proofs.Items.{first_item-within}
 use Rattle.shapers_hangul.proofs.Outputs.{Leads, outputs-map}
 use Rattle.shapers_hangul.proofs.Walks.{length-characters, length-item_output}

@@ -4,7 +4,7 @@ use Rattle.std.specs.Prelude.{◌≤◌, Result, Err}
 use Rattle.shapers_base.specs.declared.buffer.refusal.ShaperError.TheVariants.{Memory}
 use Rattle.shapers_base.specs.Refusals.{RefusesLength}
 use Rattle.shapers_base.specs.declared.buffer.refusal.ShaperError.{ShaperError}
-use Rattle.std.proofs.lemmas.List.{map-append, length-map, drop-map}
+use Rattle.std.proofs.lemmas.List.{map-append, drop-map}
 use Rattle.std.specs.List.{take-map}
 use Rattle.shapers_base.specs.declared.buffer.glyph.hb_glyph_info_t.{hb_glyph_info_t}
 use Rattle.shapers_base.specs.declared.buffer.level.BufferClusterLevel.{BufferClusterLevel}

@@ -1,11 +1,9 @@
 -- The walks of the code over the items: what is written, what is merged, what changes.
-use Rattle.std.proofs.Common.{◌≡◌, ℕ, zero, suc, ◌+◌, ◌-◌, ◌<◌, ◌≤◌, ◌||◌, ◌&&◌, ◌==◌, nat_lt, not, Bool, true, false, cond, List, [], ◌∷◌, ◌++◌, length, map, take, drop, refl, sym, ap, subst, ◌∙◌, arith}
-use Rattle.std.proofs.lemmas.List.{append_assoc, append-nil, length-append, length-map, length-drop, drop-map, length-take, drop_more, take-append-drop}
-use Rattle.std.proofs.lemmas.Bool.{eqb-true}
+use Rattle.std.proofs.Common.{◌≡◌, ℕ, zero, suc, ◌+◌, ◌<◌, ◌≤◌, ◌||◌, ◌&&◌, ◌==◌, not, Bool, true, false, cond, List, [], ◌∷◌, ◌++◌, length, take, drop, refl, sym, ap, subst, ◌∙◌, arith}
+use Rattle.std.proofs.lemmas.List.{append_assoc, append-nil, length-append, length-map, drop-map, take-append-drop}
 use Rattle.shapers_base.specs.declared.buffer.glyph.hb_glyph_info_t.{hb_glyph_info_t}
 use Rattle.shapers_base.specs.declared.buffer.level.BufferClusterLevel.{BufferClusterLevel}
-use Rattle.shapers_base.specs.Glyph.{default_glyph}
-use Rattle.shapers_base.specs.Clusters.{merge, merge_all, merged, merges}
+use Rattle.shapers_base.specs.Clusters.{merge, merge_all}
 use Rattle.shapers_base.specs.Font.{Font}
 use Rattle.shapers_clusters.proofs.Merging.{map-merge_all, merge_all-append, merge_cases}
 use Rattle.shapers_hangul.specs.declared.ot_shaper_hangul.item.Item.{Item}
@@ -13,7 +11,7 @@ use Rattle.shapers_hangul.specs.declared.ot_shaper_hangul.item.JoinedTone.{Joine
 use Rattle.shapers_hangul.specs.declared.ot_shaper_hangul.item.JoinedTone.TheVariants.{Absent, Before, Behind}
 use Rattle.shapers_hangul.specs.declared.ot_shaper_hangul.item.Unit.{Unit}
 use Rattle.shapers_hangul.specs.declared.ot_shaper_hangul.item.Unit.TheVariants.{ComposedTwo, ComposedThree, JamoTwo, JamoThree, PartsTwo, PartsThree, PartsBeforeT, Syllable, ToneCircle, CircleTone, Other}
-use Rattle.shapers_hangul.specs.Hangul.{taken, output_len, tone_len, item_len, keeps, is_kept, first_item, items, Copying, marked_from, unit_output, with_tone, item_output, outputs, item_stretches, stretches, marks_merge, glyph_copies, characters, Stays}
+use Rattle.shapers_hangul.specs.Hangul.{taken, output_len, tone_len, item_len, keeps, is_kept, first_item, items, Copying, unit_output, with_tone, item_output, outputs, item_stretches, stretches, marks_merge, glyph_copies, characters, Stays}
 use Rattle.shapers_hangul.proofs.Items.{drop_more_of, items_at, items_at_next, items_at_end}
 
 pub characters-merge_all : (level : BufferClusterLevel) (sts : List (ℕ × ℕ)) (gs : List hb_glyph_info_t) → characters (merge_all level sts gs) ≡ characters gs

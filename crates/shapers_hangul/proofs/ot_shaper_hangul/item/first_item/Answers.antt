@@ -1,5 +1,5 @@
 -- An item stands within the text.
-use Rattle.std.proofs.Common.{rules, ◌≡◌, ◌≤◌, length, sym, ap, subst, arith}
+use Rattle.std.proofs.Common.{rules, ◌≡◌, ap, arith}
 use Rattle.std.proofs.lemmas.List.{length-map}
 use Rattle.shapers_hangul.specs.Hangul.{first_item, item_len, characters}
 use Rattle.shapers_hangul.specs.declared.ot_shaper_hangul.item.Item.{Item}

@@ -1,8 +1,8 @@
 -- One more item, no room for one, and the end.
-use Rattle.std.proofs.Common.{◌≡◌, ◌+◌, ◌∙◌, false, sym, ap, subst, length, arith, rules}
-use Rattle.shapers_hangul.specs.Hangul.{characters, glyph_copies, items, item_len, outputs}
+use Rattle.std.proofs.Common.{◌≡◌, ◌+◌, ◌∙◌, sym, ap, subst, length, arith}
+use Rattle.shapers_hangul.specs.Hangul.{characters, glyph_copies, item_len, outputs}
 use Rattle.shapers_hangul.proofs.Items.{items_at}
-use Rattle.shapers_hangul.proofs.Walks.{StaysFrom, length_next, length_end, stays_next, stays_end, stays_all, neither}
+use Rattle.shapers_hangul.proofs.Walks.{StaysFrom, length_next, stays_next, neither}
 use Rattle.shapers_hangul.proofs.ot_shaper_hangul.rewriting.changes.Goals as goal
 
 pub returns-then-room-output_len-clause-length : goal.returns-then-room-output_len-clause-length

@@ -1,6 +1,6 @@
 -- The room that is left, and what stays if nothing changed so far.
 use Rattle.std.proofs.Common.{◌≡◌, ◌+◌, ◌≤◌, ◌-◌, length, false}
-use Rattle.shapers_hangul.specs.Hangul.{characters, glyph_copies, items, outputs}
+use Rattle.shapers_hangul.specs.Hangul.{characters, glyph_copies, outputs}
 use Rattle.shapers_hangul.proofs.Items.{items_at}
 use Rattle.shapers_hangul.proofs.Walks.{StaysFrom}
 use Rattle.shapers_hangul.proofs.ot_shaper_hangul.rewriting.changes.Given as goal

@@ -2,7 +2,7 @@
 use Rattle.std.proofs.Common.{◌≡◌, ◌+◌, ◌∙◌, sym, ap, subst, length, arith}
 use Rattle.std.proofs.lemmas.List.{length-map}
 use Rattle.shapers_base.specs.Clusters.{merge_all}
-use Rattle.shapers_hangul.specs.Hangul.{characters, items, item_len, item_stretches, stretches}
+use Rattle.shapers_hangul.specs.Hangul.{characters, items, item_stretches, stretches}
 use Rattle.shapers_hangul.proofs.Items.{items_at}
 use Rattle.shapers_hangul.proofs.Walks.{merging_next, characters-merge_all}
 use Rattle.shapers_hangul.proofs.ot_shaper_hangul.rewriting.merge_items.Goals as goal

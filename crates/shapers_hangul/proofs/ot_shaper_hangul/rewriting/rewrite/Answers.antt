@@ -1,5 +1,5 @@
 -- The refusals, a text that stays, and the whole.
-use Rattle.std.proofs.Common.{rules, ◌≡◌, ◌∙◌, List, length, OnOk, sym, ap, subst, arith}
+use Rattle.std.proofs.Common.{rules, ◌≡◌, List, length, OnOk, ap, subst}
 use Rattle.shapers_base.specs.Buffer.{Buffer}
 use Rattle.shapers_base.specs.Refusals.{RefusesLength}
 use Rattle.shapers_base.specs.declared.buffer.glyph.hb_glyph_info_t.{hb_glyph_info_t}

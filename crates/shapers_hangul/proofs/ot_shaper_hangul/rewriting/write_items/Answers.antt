@@ -1,5 +1,5 @@
 -- One more item, and the end.
-use Rattle.std.proofs.Common.{◌≡◌, ◌+◌, ◌++◌, ◌∙◌, List, refl, sym, ap, subst, length, arith}
+use Rattle.std.proofs.Common.{◌≡◌, ◌+◌, ◌++◌, ◌∙◌, sym, ap, subst, arith}
 use Rattle.shapers_hangul.specs.Hangul.{characters, glyph_copies, items, item_output, outputs}
 use Rattle.shapers_hangul.proofs.Items.{items_at}
 use Rattle.shapers_hangul.proofs.Walks.{writing_next}
