@@ -105,9 +105,9 @@ fn jamo_two<F: hb_font_t>(face: &F, l: u32, v: u32) -> Unit
     ensures { result ≡ jamo_two (F.font face.now) l v }
 {
     if is_combining_l(l) && is_combining_v(v) {
-        let s = compose_two(l, v);
-        if face.has_glyph(s) {
-            return Unit::ComposedTwo(s);
+        let lv = compose_two(l, v);
+        if face.has_glyph(lv) {
+            return Unit::ComposedTwo(lv);
         }
     }
     Unit::JamoTwo
@@ -118,9 +118,9 @@ fn jamo_three<F: hb_font_t>(face: &F, l: u32, v: u32, t: u32) -> Unit
     ensures { result ≡ jamo_three (F.font face.now) l v t }
 {
     if is_combining_l(l) && is_combining_v(v) && is_combining_t(t) {
-        let s = compose_three(compose_two(l, v), t);
-        if face.has_glyph(s) {
-            return Unit::ComposedThree(s);
+        let lvt = compose_three(compose_two(l, v), t);
+        if face.has_glyph(lvt) {
+            return Unit::ComposedThree(lvt);
         }
     }
     Unit::JamoThree

@@ -1,5 +1,5 @@
 //! The text rewritten, item after item.
-ghost use Rattle.std.specs.Prelude.{◌≡◌, ◌+◌, ◌<◌, ◌≤◌, ◌++◌, [], drop, length, false, OnOk, OnErr, IfOk, IfErr, IsOkUnless, not};
+ghost use Rattle.std.specs.Prelude.{◌≡◌, ◌+◌, ◌<◌, ◌≤◌, ◌++◌, [], drop, length, None, IfSome, OnOk, OnErr, IfOk, IfErr, IsOkUnless, not};
 ghost use Rattle.shapers_base.specs.Clusters.{merge_all};
 ghost use Rattle.shapers_base.specs.Refusals.{RefusesLength};
 ghost use Rattle.shapers_base.specs.declared.buffer.refusal.ShaperError.TheVariants.{Memory, TooLong};
@@ -32,18 +32,20 @@ fn rest_from(glyphs: &[hb_glyph_info_t], place: usize) -> &[hb_glyph_info_t]
     &glyphs[place..]
 }
 
-// Whether the text changes. Refuses where the result would be longer than `limit`, and for nothing
-// else.
-fn changes<F: hb_font_t>(
+// The length of the result where the text changes, None where it stays. Refuses where the result
+// would be longer than `limit`, and for nothing else.
+fn measure<F: hb_font_t>(
     face: &F,
     circles: bool,
     glyphs: &[hb_glyph_info_t],
     limit: usize,
-) -> Result<bool, ShaperError>
+) -> Result<Option<usize>, ShaperError>
     ensures length { let cut = items (F.font face.now) circles (characters glyphs.now) in
         RefusesLength limit (length (outputs glyph_copies cut glyphs.now)) result }
     ensures unchanged { let cut = items (F.font face.now) circles (characters glyphs.now) in
-        IfOk result (λ changed. changed ≡ false → Stays cut glyphs.now) }
+        IfOk result (λ len. len ≡ None → Stays cut glyphs.now) }
+    ensures measured { let cut = items (F.font face.now) circles (characters glyphs.now) in
+        IfOk result (λ len. IfSome len (λ n. n ≡ length (outputs glyph_copies cut glyphs.now))) }
     ensures refusal { IfErr result (λ e. e ≡ TooLong) }
 {
     let mut room = limit;
@@ -58,7 +60,10 @@ fn changes<F: hb_font_t>(
         changed |= !item.is_kept();
         place += item.len();
     }
-    Ok(changed)
+    if !changed {
+        return Ok(None);
+    }
+    Ok(Some(limit - room))
 }
 
 // Merges what the items merge, one after another.
@@ -99,12 +104,14 @@ fn write_items<F: hb_font_t>(
     Ok(())
 }
 
-// The text rewritten: what its items merge, on the old places, and then what they become.
+// The text rewritten, to a length that is known: what its items merge, on the old places, and then
+// what they become.
 fn rewritten<F: hb_font_t>(
     face: &F,
     circles: bool,
     level: BufferClusterLevel,
     glyphs: &[hb_glyph_info_t],
+    len: usize,
     alloc: Global,
 ) -> Result<Vec<hb_glyph_info_t>, ShaperError>
     ensures ok { let text = preprocessed (F.font face.now) circles level glyphs.now in
@@ -113,7 +120,7 @@ fn rewritten<F: hb_font_t>(
 {
     let mut merged = Vec::from_slice(alloc, glyphs)?;
     merge_items(face, circles, level, &mut merged);
-    let mut list = Vec::with_capacity(alloc, glyphs.len())?;
+    let mut list = Vec::with_capacity(alloc, len)?;
     write_items(face, circles, merged.as_slice(), &mut list)?;
     Ok(list)
 }
@@ -136,10 +143,10 @@ pub(super) fn rewrite<F: hb_font_t>(face: &F, buffer: &mut hb_buffer_t) -> Resul
     ensures err { OnErr result (buffer.new ≡ buffer.old) }
 {
     let circles = wants_circles(buffer);
-    if !changes(face, circles, buffer.glyphs(), buffer.max_len())? {
+    let Some(len) = measure(face, circles, buffer.glyphs(), buffer.max_len())? else {
         return Ok(());
-    }
+    };
     let (level, alloc) = (buffer.cluster_level(), buffer.alloc());
-    let list = rewritten(face, circles, level, buffer.glyphs(), alloc)?;
+    let list = rewritten(face, circles, level, buffer.glyphs(), len, alloc)?;
     buffer.replace_glyphs(list)
 }

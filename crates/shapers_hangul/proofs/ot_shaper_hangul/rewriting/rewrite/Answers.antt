@@ -7,8 +7,8 @@ use Rattle.shapers_hangul.specs.Hangul.{characters, glyph_copies, items, outputs
 use Rattle.shapers_hangul.proofs.Outputs.{told_by_text, stays_by, fits_by, told_memory, preprocessed-read}
 use Rattle.shapers_hangul.proofs.ot_shaper_hangul.rewriting.rewrite.Goals as goal
 
-pub returns-in_err-changes-clause-length : goal.returns-in_err-changes-clause-length
-returns-in_err-changes-clause-length g c =
+pub returns-in_err-len-clause-length : goal.returns-in_err-len-clause-length
+returns-in_err-len-clause-length g c =
     let font = g.F.hb_font_t.font c.args.face.now in
     let b = c.args.buffer.now in
     let circles = c.wants_circles-circles.result in
@@ -16,8 +16,8 @@ returns-in_err-changes-clause-length g c =
     let told : RefusesLength c.max_len.result (length (outputs glyph_copies (items font circles (characters read)) read)) c.from_residual.result = search rules in
     told_by_text font (wants_circles b) b.level b.max_len b.glyphs circles c.max_len.result read c.from_residual.result c.wants_circles-circles.ensures c.max_len.ensures.limit c.glyphs.ensures told
 
-pub returns-then-not-branch-clause-ok : goal.returns-then-not-branch-clause-ok
-returns-then-not-branch-clause-ok g c =
+pub returns-in_default-clause-ok : goal.returns-in_default-clause-ok
+returns-in_default-clause-ok g c =
     let font = g.F.hb_font_t.font c.args.face.now in
     let b = c.args.buffer.now in
     let circles = c.wants_circles-circles.result in
@@ -25,13 +25,13 @@ returns-then-not-branch-clause-ok g c =
     let stays : Stays (items font circles (characters read)) read = search rules in
     ap (λ gs. let r : Buffer = record b { glyphs = gs } in r) (stays_by font (wants_circles b) b.level b.glyphs circles read c.wants_circles-circles.ensures c.glyphs.ensures stays)
 
-pub returns-then-not-branch-clause-length : goal.returns-then-not-branch-clause-length
-returns-then-not-branch-clause-length g c =
+pub returns-in_default-clause-length : goal.returns-in_default-clause-length
+returns-in_default-clause-length g c =
     let font = g.F.hb_font_t.font c.args.face.now in
     let b = c.args.buffer.now in
     let circles = c.wants_circles-circles.result in
     let read = c.glyphs.result.now in
-    fits_by font (wants_circles b) b.level b.max_len b.glyphs circles c.max_len.result read c.wants_circles-circles.ensures c.max_len.ensures.limit c.glyphs.ensures c.in_ok-changes.ensures.length
+    fits_by font (wants_circles b) b.level b.max_len b.glyphs circles c.max_len.result read c.wants_circles-circles.ensures c.max_len.ensures.limit c.glyphs.ensures c.in_ok-len.ensures.length
 
 pub returns-in_err-list-clause-length : goal.returns-in_err-list-clause-length
 returns-in_err-list-clause-length g c =
@@ -39,7 +39,7 @@ returns-in_err-list-clause-length g c =
     let b = c.args.buffer.now in
     let circles = c.wants_circles-circles.result in
     let read = c.glyphs.result.now in
-    let fits = fits_by font (wants_circles b) b.level b.max_len b.glyphs circles c.max_len.result read c.wants_circles-circles.ensures c.max_len.ensures.limit c.glyphs.ensures c.in_ok-changes.ensures.length in
+    let fits = fits_by font (wants_circles b) b.level b.max_len b.glyphs circles c.max_len.result read c.wants_circles-circles.ensures c.max_len.ensures.limit c.glyphs.ensures c.in_ok-len.ensures.length in
     told_memory b.max_len _ c.from_residual-in_err-list.result (search rules) fits
 
 pub returns-clause-ok : goal.returns-clause-ok

@@ -3,7 +3,7 @@ use Rattle.std.proofs.Common.{◌≡◌, ◌+◌, ◌≤◌, ◌-◌, length, fa
 use Rattle.shapers_hangul.specs.Hangul.{characters, glyph_copies, outputs}
 use Rattle.shapers_hangul.proofs.Items.{items_at}
 use Rattle.shapers_hangul.proofs.Walks.{StaysFrom}
-use Rattle.shapers_hangul.proofs.ot_shaper_hangul.rewriting.changes.Given as goal
+use Rattle.shapers_hangul.proofs.ot_shaper_hangul.rewriting.measure.Given as goal
 
 abbrev pub invariant-loop-place : goal.invariant-loop-place
 invariant-loop-place g l =

@@ -3,7 +3,7 @@ use Rattle.std.proofs.Common.{◌≡◌, ◌+◌, ◌∙◌, sym, ap, subst, len
 use Rattle.shapers_hangul.specs.Hangul.{characters, glyph_copies, item_len, outputs}
 use Rattle.shapers_hangul.proofs.Items.{items_at}
 use Rattle.shapers_hangul.proofs.Walks.{StaysFrom, length_next, stays_next, neither}
-use Rattle.shapers_hangul.proofs.ot_shaper_hangul.rewriting.changes.Goals as goal
+use Rattle.shapers_hangul.proofs.ot_shaper_hangul.rewriting.measure.Goals as goal
 
 pub returns-then-room-output_len-clause-length : goal.returns-then-room-output_len-clause-length
 returns-then-room-output_len-clause-length g c =
