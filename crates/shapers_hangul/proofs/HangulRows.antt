@@ -1,5 +1,5 @@
 -- Worked rows of Hangul, computed: ranges, syllable characters, units with their tones, masks.
-use Rattle.std.specs.Prelude.{◌≡◌, ℕ, ◌==◌, true, false, pos, Some, None, List, [], ◌∷◌, map, refl, if◌then◌else◌}
+use Rattle.std.specs.Prelude.{codes, ◌≡◌, ℕ, ◌==◌, true, false, pos, Some, None, List, [], ◌∷◌, map, refl, if◌then◌else◌}
 use Rattle.std.specs.List.{list_any, enumerate_from}
 use Rattle.shapers_base.specs.declared.buffer.glyph.hb_glyph_info_t.{hb_glyph_info_t}
 use Rattle.shapers_base.specs.declared.buffer.level.BufferClusterLevel.{BufferClusterLevel}
@@ -7,8 +7,9 @@ use Rattle.shapers_base.specs.declared.buffer.level.BufferClusterLevel.TheVarian
 use Rattle.shapers_base.specs.declared.buffer.category.hb_unicode_general_category_t.TheVariants.{Mn}
 use Rattle.shapers_base.specs.Font.{Font}
 use Rattle.shapers_base.specs.Glyph.{default_glyph}
-use Rattle.shapers_hangul.specs.Hangul.{is_l, is_v, is_t, combines_l, combines_v, combines_t, is_s, is_lv, is_tone, with_v, with_t, lead, vowel, trail, preprocessed}
-use Rattle.shapers_hangul.specs.Masks.{with_jamo_mask}
+use Rattle.shapers_hangul.specs.Hangul.{is_l, is_v, is_t, combines_l, combines_v, combines_t, is_s, is_lv, is_tone, with_v, with_t, lead, vowel, trail, preprocessed, items, stretches}
+use Rattle.shapers_hangul.specs.HangulLaws.{sources, full, spelled}
+use Rattle.shapers_hangul.specs.Masks.{jamo_masks, with_jamo_mask}
 
 -- RANGES: both ends, and what stands beside them
 leading : map is_l (0x10FF ∷ 0x1100 ∷ 0x115F ∷ 0x1160 ∷ 0xA95F ∷ 0xA960 ∷ 0xA97C ∷ 0xA97D ∷ []) ≡ false ∷ true ∷ true ∷ false ∷ false ∷ true ∷ true ∷ false ∷ []
@@ -202,3 +203,28 @@ masks = refl
 
 masked_whole : with_jamo_mask (0 ∷ 0x10 ∷ 0x20 ∷ []) (record (full_glyph 0x1161 3) { auxiliary = 2 }) ≡ record (full_glyph 0x1161 3) { mask = 0x3F; auxiliary = 2 }
 masked_whole = refl
+
+jamo_tags : jamo_masks (record { features = record { tag = record { 0 = codes "tjmo" }; mask = 0x40; stage = 0 } ∷ record { tag = record { 0 = codes "ljmo" }; mask = 0x10; stage = 0 } ∷ record { tag = record { 0 = codes "vjmo" }; mask = 0x20; stage = 0 } ∷ []; stages = []; lookups = []; global = 0; chosen = None; found = true }) ≡ 0 ∷ 0x10 ∷ 0x20 ∷ 0x40 ∷ []
+jamo_tags = refl
+
+-- SOURCES, MERGES and SPELLING of a text with two syllables and a tone
+abbrev mixed : List ℕ
+mixed = 0x1100 ∷ 0x1161 ∷ 0x11A8 ∷ 0x302E ∷ 0xAC01 ∷ 0x302F ∷ 0x302F ∷ []
+
+mixed_sources : sources (items (wide (0xAC01 ∷ 0x25CC ∷ [])) true mixed) 7 ≡ 3 ∷ 0 ∷ 5 ∷ 4 ∷ 6 ∷ 6 ∷ []
+mixed_sources = refl
+
+mixed_merges : stretches MonotoneCharacters (items (wide (0xAC01 ∷ 0x25CC ∷ [])) true mixed) ≡ (0, 3) ∷ (0, 4) ∷ (4, 5) ∷ (4, 6) ∷ (6, 7) ∷ []
+mixed_merges = refl
+
+marked_merges : map (λ level. stretches level (items (wide []) true (0x115F ∷ 0x1160 ∷ 0x302E ∷ []))) (MonotoneGraphemes ∷ MonotoneCharacters ∷ Characters ∷ []) ≡ ((0, 2) ∷ (0, 3) ∷ []) ∷ ((0, 3) ∷ []) ∷ ((0, 3) ∷ []) ∷ []
+marked_merges = refl
+
+mixed_full : full mixed ≡ 0x1100 ∷ 0x1161 ∷ 0x11A8 ∷ 0x302E ∷ 0x1100 ∷ 0x1161 ∷ 0x11A8 ∷ 0x302F ∷ 0x302F ∷ []
+mixed_full = refl
+
+full_lv : full (0xAC1C ∷ 0x41 ∷ 0xD7A4 ∷ []) ≡ 0x1100 ∷ 0x1162 ∷ 0x41 ∷ 0xD7A4 ∷ []
+full_lv = refl
+
+spelled_apart : spelled (0x25CC ∷ 0x302E ∷ 0xD7A3 ∷ 0x302F ∷ 0x41 ∷ []) ≡ 0x1112 ∷ 0x1175 ∷ 0x11C2 ∷ 0x41 ∷ []
+spelled_apart = refl
