@@ -21,7 +21,8 @@ pub use shapers_base::plan::{NormalizationMode, Pause, PlanData, Preprocess, Zer
 use shapers_indic::ot_shaper_indic;
 use shapers_regroup::{ot_shaper_khmer, ot_shaper_myanmar, ot_shaper_use};
 use shapers_arabic::ot_shaper_arabic;
-use shapers_text::{ot_shaper_hangul, ot_shaper_hebrew, ot_shaper_thai};
+use shapers_hangul::ot_shaper_hangul;
+use shapers_text::{ot_shaper_hebrew, ot_shaper_thai};
 
 /// A script shaper.
 #[derive(Clone, Copy, Debug, PartialEq, Eq)]

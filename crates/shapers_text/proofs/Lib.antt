@@ -1,7 +1,5 @@
-mod ConstantRows
 pub mod HebrewLemmas
 mod HebrewRows
-mod RequestRows
 mod SaraAmRows
 pub mod ThaiClusters
 pub mod ThaiFormLaws
