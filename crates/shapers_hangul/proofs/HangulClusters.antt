@@ -14,7 +14,7 @@ use Rattle.shapers_base.specs.Buffer.{Buffer}
 use Rattle.shapers_base.specs.Clusters.{merge_all, merges}
 use Rattle.shapers_base.specs.Font.{Font}
 use Rattle.shapers_base.specs.Glyph.{clusters}
-use Rattle.shapers_base.specs.MappedLists.{all-append, all-flat_map, drop-range, places-enumerate_from, Contains-flat_map}
+use Rattle.shapers_base.proofs.MappedLists.{all-append, all-flat_map, drop-range, places-enumerate_from, Contains-flat_map}
 use Rattle.shapers_clusters.specs.Cuts.{EndWithin, ShareCluster}
 use Rattle.shapers_clusters.specs.Laws.{ClustersMade}
 use Rattle.shapers_clusters.proofs.Made.{Made, all_standing, glyphs-standing, numbered-standing}

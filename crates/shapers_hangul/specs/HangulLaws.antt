@@ -8,7 +8,7 @@ use Rattle.shapers_base.specs.Clusters.{merge_all, merges}
 use Rattle.shapers_base.specs.Font.{Font}
 use Rattle.shapers_base.specs.Glyph.{clusters}
 use Rattle.shapers_clusters.specs.Cuts.{ShareCluster}
-use Rattle.shapers_clusters.specs.Steps.{pick}
+use Rattle.shapers_base.specs.Places.{pick}
 use Rattle.shapers_clusters.specs.Flags.{FlagsFall}
 use Rattle.shapers_clusters.specs.Laws.{ClustersMade}
 use Rattle.shapers_hangul.specs.declared.ot_shaper_hangul.item.Item.{Item}
