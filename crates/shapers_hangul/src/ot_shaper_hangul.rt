@@ -59,7 +59,7 @@ pub fn override_features(planner: &mut hb_ot_shape_planner_t) -> Result<(), Shap
 /// length of the result does. (The Unicode Standard, "Conjoining Jamo Behavior"; OpenType's notes on
 /// Hangul.)
 pub fn preprocess_text<F: hb_font_t>(
-    _plan: &hb_ot_shape_plan_t,
+    plan: &hb_ot_shape_plan_t,
     face: &F,
     buffer: &mut hb_buffer_t,
 ) -> Result<(), ShaperError>
