@@ -5,6 +5,8 @@ pub mod ListLaws
 pub mod MapLemmas
 mod MapRows
 pub mod MappedLists
+pub mod MarkLemmas
+mod MarkRows
 pub mod PieceLaws
 pub mod PlaceLaws
 mod Rows
