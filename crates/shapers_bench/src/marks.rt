@@ -1,5 +1,5 @@
 //! The marks of a glyph, each by its name.
-use shapers_base::buffer::{GlyphMarks, hb_glyph_info_t};
+use rustybuzz_shapers::buffer::{GlyphMarks, hb_glyph_info_t};
 use std::test::Fail;
 
 // Whether each mark is on.

@@ -1,7 +1,7 @@
 //! The lines `at I FIELD V`.
 use super::fields::{decimal, decimal_to, general_category, hexadecimal, signed};
 use crate::fault::LineFault;
-use shapers_base::buffer::{GlyphMarks, hb_glyph_info_t, hb_unicode_general_category_t};
+use rustybuzz_shapers::buffer::{GlyphMarks, hb_glyph_info_t, hb_unicode_general_category_t};
 
 /// A field of a glyph or of its position, and its value.
 #[derive(Clone, Copy)]
