@@ -2,7 +2,7 @@
 use Rattle.std.specs.Prelude.{ℕ, ◌==◌, ◌&&◌, Bool, List}
 use Rattle.std.specs.List.{list_any}
 use Rattle.hbhook.specs.declared.font.Applied.{Applied}
-use Rattle.shapers_base.specs.declared.font.GlyphId.{GlyphId}
+use Rattle.rustybuzz_shapers.specs.GlyphId.{GlyphId}
 use lib.Pointwise.{pointwise}
 
 -- whether two lists hold the same glyphs in the same order

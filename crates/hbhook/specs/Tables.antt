@@ -4,8 +4,8 @@ use Rattle.std.specs.Ordering.{nat_cmp}
 use Rattle.std.specs.BTreeMap.{get, BTreeMap}
 use Rattle.hbhook.specs.declared.tables.CanonicalPair.{CanonicalPair}
 use Rattle.hbhook.specs.declared.tables.CharacterEntry.{CharacterEntry}
-use Rattle.shapers_base.specs.declared.buffer.category.hb_unicode_general_category_t.TheVariants.{Lo}
-use Rattle.shapers_base.specs.declared.plan.joining.hb_arabic_joining_type_t.TheVariants.{U}
+use Rattle.rustybuzz_shapers.specs.hb_unicode_general_category_t.TheVariants.{Lo}
+use Rattle.rustybuzz_shapers.specs.hb_arabic_joining_type_t.TheVariants.{U}
 
 -- what holds of a character without a line
 abbrev pub default_entry : CharacterEntry

@@ -13,10 +13,10 @@ use fields::{
 };
 pub use glyph_field::{GlyphField, Marks};
 pub use hook::HookCall;
+use rustybuzz_shapers::buffer::{CONTEXT_LENGTH, Span, hb_tag_t};
+use rustybuzz_shapers::font::GlyphId;
+use rustybuzz_shapers::plan::hb_arabic_joining_type_t;
 pub use setting::Setting;
-use shapers_base::buffer::{CONTEXT_LENGTH, Span, hb_tag_t};
-use shapers_base::font::GlyphId;
-use shapers_base::plan::hb_arabic_joining_type_t;
 use std::alloc::Global;
 use std::ops::Range;
 

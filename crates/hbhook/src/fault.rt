@@ -1,5 +1,5 @@
 //! What ends a run before its last line.
-use shapers_base::buffer::ShaperError;
+use rustybuzz_shapers::buffer::ShaperError;
 use std::alloc::{AllocError, AllocFailed};
 use thiserror::Error;
 

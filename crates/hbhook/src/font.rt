@@ -1,6 +1,6 @@
 //! The font that the lines `font` and `applies` describe.
-use shapers_base::buffer::hb_tag_t;
-use shapers_base::font::{GlyphId, hb_font_t};
+use rustybuzz_shapers::buffer::hb_tag_t;
+use rustybuzz_shapers::font::{GlyphId, hb_font_t};
 use std::alloc::{AllocError, Global};
 use std::collections::BTreeMap;
 
@@ -56,10 +56,10 @@ impl hb_font_t for LineFont {
     ghost use Rattle.hbhook.specs.Font.{some_applies};
 
     ghost font = { λ font. record {
-        nominal = λ c. get nat_cmp font.glyphs c;
-        advance = λ glyph. unwrap_or (get nat_cmp font.advances glyph.0) (pos 0);
-        applies = λ lookup glyphs _. some_applies font.applied.items lookup glyphs;
-        offers = λ _. false;
+      nominal = λ c. get nat_cmp font.glyphs c;
+      advance = λ glyph. unwrap_or (get nat_cmp font.advances glyph.0) (pos 0);
+      applies = λ lookup glyphs _. some_applies font.applied.items lookup glyphs;
+      offers = λ _. false;
     } };
 
     fn get_nominal_glyph(&self, c: u32) -> Option<GlyphId> {

@@ -2,7 +2,7 @@
 ghost use Rattle.std.specs.Prelude.{◌<◌, length};
 
 use crate::fault::Fault;
-use shapers_base::buffer::hb_buffer_t;
+use rustybuzz_shapers::buffer::hb_buffer_t;
 use std::alloc::AllocError;
 use std::io::{self, Write};
 

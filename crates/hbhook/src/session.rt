@@ -7,8 +7,8 @@ use crate::command::{Command, GlyphField, Setting, Side};
 use crate::fault::LineFault;
 use crate::printing::print_buffer;
 use crate::settings::Settings;
-use shapers_base::buffer::{GlyphPosition, hb_buffer_t, hb_glyph_info_t};
-use shapers_base::font::{GlyphId, Tables, hb_font_t};
+use rustybuzz_shapers::buffer::{GlyphPosition, hb_buffer_t, hb_glyph_info_t};
+use rustybuzz_shapers::font::{GlyphId, Tables, hb_font_t};
 use std::alloc::{AllocError, Global};
 
 /// The greatest length of a buffer before a line sets it.

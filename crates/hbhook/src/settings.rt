@@ -4,10 +4,10 @@ ghost use Rattle.std.specs.Prelude.{◌≡◌, IfOk};
 use crate::fault::LineFault;
 use crate::font::LineFont;
 use crate::tables::LineTables;
+use rustybuzz_shapers::buffer::{Script, Span, hb_tag_t};
+use rustybuzz_shapers::map::{feature_map_t, hb_ot_map_t};
+use rustybuzz_shapers::plan::{PlanData, hb_ot_shape_plan_t};
 use rustybuzz_shapers::shaper::hb_ot_shaper_t;
-use shapers_base::buffer::{Script, Span, hb_tag_t};
-use shapers_base::map::{feature_map_t, hb_ot_map_t};
-use shapers_base::plan::{PlanData, hb_ot_shape_plan_t};
 use std::alloc::{AllocError, Global};
 use std::ops::Range;
 

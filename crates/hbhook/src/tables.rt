@@ -2,9 +2,9 @@
 ghost use Rattle.std.specs.Prelude.{◌≡◌, ◌==◌, ◌&&◌, find};
 ghost use Rattle.hbhook.specs.Tables.{entry_of};
 
-use shapers_base::buffer::hb_unicode_general_category_t;
-use shapers_base::font::Tables;
-use shapers_base::plan::{Category, Position, hb_arabic_joining_type_t};
+use rustybuzz_shapers::buffer::hb_unicode_general_category_t;
+use rustybuzz_shapers::font::Tables;
+use rustybuzz_shapers::plan::{Category, Position, hb_arabic_joining_type_t};
 use std::alloc::{AllocError, Global};
 use std::collections::BTreeMap;
 
@@ -78,12 +78,12 @@ impl Tables for LineTables {
     ghost use Rattle.hbhook.specs.Tables.{entry_of, whole_of, parts_of};
 
     ghost tables = { λ tables. record {
-        joining = λ c. (entry_of tables.entries c).joining_type;
-        general = λ c. (entry_of tables.entries c).general_category;
-        indic = λ c. let entry = entry_of tables.entries c in (entry.indic_category, entry.indic_position);
-        universal = λ c. (entry_of tables.entries c).universal_category;
-        composed = λ a b. whole_of tables.pairs.items a b;
-        decomposed = λ whole. parts_of tables.pairs.items whole;
+      joining = λ c. (entry_of tables.entries c).joining_type;
+      general = λ c. (entry_of tables.entries c).general_category;
+      indic = λ c. let entry = entry_of tables.entries c in (entry.indic_category, entry.indic_position);
+      universal = λ c. (entry_of tables.entries c).universal_category;
+      composed = λ a b. whole_of tables.pairs.items a b;
+      decomposed = λ whole. parts_of tables.pairs.items whole;
     } };
 
     fn joining_type(&self, c: char) -> hb_arabic_joining_type_t {

@@ -1,4 +1,5 @@
 //! Runs of the program: what lines print, and how a run ends.
+mod arabic;
 mod edges;
 mod hebrew;
 mod hooks;

@@ -1,13 +1,18 @@
 -- What each hook does, shaper by shaper. Where a shaper lacks a hook, nothing changes and the answer is None.
-use Rattle.std.specs.Prelude.{ℕ, true, false, ◌≡◌, length, Option, None, Some, Result, IsOk}
-use Rattle.std.specs.List.{list_any}
+use Rattle.std.specs.Prelude.{ℕ, List, true, false, ◌≡◌, length, Option, None, Some, Result, IsOk}
+use Rattle.std.specs.Char.{IsScalar}
+use Rattle.std.specs.List.{All, list_any}
 use Rattle.shapers_base.specs.Buffer.{Buffer}
 use Rattle.shapers_base.specs.Font.{CharacterTables, Font}
 use Rattle.shapers_base.specs.Glyph.{clusters}
 use Rattle.shapers_base.specs.Refusals.{RefusesLength}
+use Rattle.shapers_arabic.specs.JoinedText.{CutsAsHalves, IsJoined}
+use Rattle.shapers_arabic.specs.PlanData.{arabic_plan, IsArabic, masks_of}
+use Rattle.shapers_base.specs.declared.buffer.glyph.hb_glyph_info_t.{hb_glyph_info_t}
 use Rattle.shapers_base.specs.declared.buffer.refusal.ShaperError.{ShaperError}
 use Rattle.shapers_base.specs.declared.plan.hb_ot_shape_plan_t.{hb_ot_shape_plan_t}
 use Rattle.shapers_base.specs.declared.plan.PlanData.{PlanData}
+use Rattle.shapers_base.specs.declared.plan.PlanData.TheVariants as data_of
 use Rattle.shapers_base.specs.declared.plan.Preprocess.{Preprocess}
 use Rattle.shapers_base.specs.declared.plan.Preprocess.TheVariants.{Done, CallerRunsVowelConstraints}
 use Rattle.shapers_clusters.specs.Steps.{run_step}
@@ -31,7 +36,7 @@ Unbuilt = ⊥
 
 -- what the shaper keeps in the plan
 abbrev pub DataCreated : hb_ot_shaper_t → hb_ot_shape_plan_t → Option PlanData → Type 0
-DataCreated Arabic plan answer = Unbuilt
+DataCreated Arabic plan answer = answer ≡ Some (data_of.Arabic (arabic_plan plan.ot_map))
 DataCreated Hangul plan answer = Unbuilt
 DataCreated Hebrew plan answer = answer ≡ None
 DataCreated Indic plan answer = Unbuilt
@@ -40,6 +45,30 @@ DataCreated Myanmar plan answer = answer ≡ None
 DataCreated MyanmarZawgyi plan answer = answer ≡ None
 DataCreated Thai plan answer = answer ≡ None
 DataCreated Universal plan answer = Unbuilt
+
+-- the plan's data are of the kind that the shaper reads
+abbrev pub PlanFits : hb_ot_shaper_t → hb_ot_shape_plan_t → Type 0
+PlanFits Arabic plan = IsArabic plan.plan_data
+PlanFits Hangul plan = Unit {0}
+PlanFits Hebrew plan = Unit {0}
+PlanFits Indic plan = Unit {0}
+PlanFits Khmer plan = Unit {0}
+PlanFits Myanmar plan = Unit {0}
+PlanFits MyanmarZawgyi plan = Unit {0}
+PlanFits Thai plan = Unit {0}
+PlanFits Universal plan = Unit {0}
+
+-- what setting masks asks of the glyphs: for Arabic they are characters
+abbrev pub GlyphsFit : hb_ot_shaper_t → List hb_glyph_info_t → Type 0
+GlyphsFit Arabic gs = All (λ g. IsScalar g.glyph_id) gs
+GlyphsFit Hangul gs = Unit {0}
+GlyphsFit Hebrew gs = Unit {0}
+GlyphsFit Indic gs = Unit {0}
+GlyphsFit Khmer gs = Unit {0}
+GlyphsFit Myanmar gs = Unit {0}
+GlyphsFit MyanmarZawgyi gs = Unit {0}
+GlyphsFit Thai gs = Unit {0}
+GlyphsFit Universal gs = Unit {0}
 
 -- what preprocessing answers
 abbrev pub preprocess_answer : hb_ot_shaper_t → Option Preprocess
@@ -139,7 +168,7 @@ Decomposed Universal plan tables ab answer = answer ≡ None
 
 -- the buffer before and after masks are set
 abbrev pub MasksSet : hb_ot_shaper_t → hb_ot_shape_plan_t → CharacterTables → Buffer → Buffer → Type 0
-MasksSet Arabic plan tables old new = Unbuilt
+MasksSet Arabic plan tables old new = IsJoined (masks_of plan.plan_data) plan.script tables.joining tables.general old new × CutsAsHalves plan.script tables.joining tables.general old new
 MasksSet Hangul plan tables old new = Unbuilt
 MasksSet Hebrew plan tables old new = new ≡ old
 MasksSet Indic plan tables old new = Unbuilt

@@ -2,8 +2,8 @@
 //! and changes nothing.
 ghost use Rattle.std.specs.Prelude.{◌≡◌, ◌≤◌, [], length, IfOk, IsOk, IsNone, is_some, IsOkUnless, OnOk, OnErr};
 ghost use Rattle.shapers_base.specs.declared.buffer.refusal.ShaperError.TheVariants.{Memory};
-ghost use Rattle.shapers_text.specs.Requests.{rclt};
-ghost use Rattle.rustybuzz_shapers.specs.Hooks.{CanAsk, Composed, DataCreated, Decomposed, MasksSet, MarksKeep, MarksReordered, Postprocessed, Preprocessed, PreprocessKeeps, preprocess_answer, RefusesPostprocess, RefusesPreprocess};
+ghost use Rattle.shapers_arabic.specs.Requests.{rclt};
+ghost use Rattle.rustybuzz_shapers.specs.Hooks.{CanAsk, Composed, DataCreated, Decomposed, GlyphsFit, MasksSet, MarksKeep, MarksReordered, PlanFits, Postprocessed, Preprocessed, PreprocessKeeps, preprocess_answer, RefusesPostprocess, RefusesPreprocess};
 ghost use Rattle.rustybuzz_shapers.specs.Records.{asked, collected, if_there, normalizes, overridden, places_marks, wants_gpos_script, zeroes_marks};
 ghost use Rattle.rustybuzz_shapers.specs.Standing.{is_there, standing};
 
@@ -11,6 +11,7 @@ use shapers_base::buffer::{ShaperError, hb_buffer_t, hb_tag_t};
 use shapers_base::font::{Tables, hb_font_t};
 use shapers_base::plan::{hb_ot_shape_plan_t, hb_ot_shape_planner_t};
 
+mod conditions;
 mod pauses;
 mod standing;
 
@@ -19,7 +20,8 @@ pub use standing::{Hook, Hooks, Standing};
 pub use shapers_base::plan::{NormalizationMode, Pause, PlanData, Preprocess, ZeroWidthMarks};
 use shapers_indic::ot_shaper_indic;
 use shapers_regroup::{ot_shaper_khmer, ot_shaper_myanmar, ot_shaper_use};
-use shapers_text::{ot_shaper_arabic, ot_shaper_hangul, ot_shaper_hebrew, ot_shaper_thai};
+use shapers_arabic::ot_shaper_arabic;
+use shapers_text::{ot_shaper_hangul, ot_shaper_hebrew, ot_shaper_thai};
 
 /// A script shaper.
 #[derive(Clone, Copy, Debug, PartialEq, Eq)]
@@ -161,10 +163,9 @@ impl hb_ot_shaper_t {
         ensures { DataCreated self plan.now result }
     {
         match self {
+            Self::Arabic => Some(ot_shaper_arabic::create_data(plan)),
             Self::Hebrew | Self::Myanmar | Self::MyanmarZawgyi | Self::Thai => None,
-            Self::Arabic | Self::Hangul | Self::Indic | Self::Khmer | Self::Universal => {
-                unreachable!()
-            }
+            Self::Hangul | Self::Indic | Self::Khmer | Self::Universal => unreachable!(),
         }
     }
 
@@ -267,7 +268,8 @@ impl hb_ot_shaper_t {
         }
     }
 
-    /// Sets the masks of the glyphs. It can't refuse and takes no memory.
+    /// Sets the masks of the glyphs: for Arabic, the form that each letter takes between its
+    /// neighbours, and the form's mask. It can't refuse and takes no memory.
     pub fn setup_masks<F: hb_font_t, T: Tables>(
         self,
         plan: &hb_ot_shape_plan_t,
@@ -277,13 +279,15 @@ impl hb_ot_shaper_t {
     ) -> Option<()>
         requires without_positions { buffer.old.positions ≡ [] }
         requires settled { CanAsk self Hook.SetupMasks }
+        requires data { PlanFits self plan.now }
+        requires glyphs { GlyphsFit self buffer.old.glyphs }
         ensures answer { is_some result ≡ is_there (standing self Hook.SetupMasks) }
         ensures masks { MasksSet self plan.now (T.tables tables.now) buffer.old buffer.new }
     {
         match self {
+            Self::Arabic => Some(ot_shaper_arabic::setup_masks(plan, tables, buffer)),
             Self::Hebrew | Self::MyanmarZawgyi | Self::Thai => None,
-            Self::Arabic
-            | Self::Hangul
+            Self::Hangul
             | Self::Indic
             | Self::Khmer
             | Self::Myanmar

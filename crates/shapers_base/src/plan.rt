@@ -4,6 +4,7 @@ use crate::buffer::Script;
 pub use crate::buffer::ShaperError;
 use crate::map::hb_ot_map_t;
 
+mod arabic;
 mod joining;
 pub mod ot_category_t;
 pub mod ot_position_t;
@@ -11,6 +12,7 @@ mod pause;
 mod planner;
 mod record;
 
+pub use arabic::arabic_shape_plan_t;
 pub use joining::hb_arabic_joining_type_t;
 pub use pause::Pause;
 pub use planner::{Request, hb_ot_shape_planner_t};
@@ -40,6 +42,8 @@ pub struct hb_ot_shape_plan_t {
 pub enum PlanData {
     /// Nothing.
     None,
+    /// The masks of the joining forms.
+    Arabic(arabic_shape_plan_t),
 }
 
 /// What `preprocess_text` left to its caller.

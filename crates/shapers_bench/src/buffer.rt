@@ -1,7 +1,7 @@
 //! The buffer: merges, spans, contexts, and the calls that may want memory.
 ghost use Rattle.std.specs.Prelude.{◌≡◌, ◌≤◌, [], length, IfOk};
 
-use shapers_base::buffer::{
+use rustybuzz_shapers::buffer::{
     BufferClusterLevel, BufferFlags, Direction, GlyphPosition, Script, ShaperError, Span,
     glyph_flag, hb_buffer_t, hb_glyph_info_t,
 };

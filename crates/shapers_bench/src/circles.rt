@@ -1,9 +1,9 @@
 //! Circles with plenty of memory: one in each of many broken syllables.
 ghost use Rattle.std.specs.Prelude.{◌≡◌, ◌==◌, [], IfOk, None, Some, false, if◌then◌else◌, pos};
 
-use shapers_base::buffer::{ShaperError, hb_buffer_t, hb_glyph_info_t, hb_tag_t};
-use shapers_base::font::{GlyphId, hb_font_t};
-use shapers_base::ot_shaper_syllabic::insert_dotted_circles;
+use rustybuzz_shapers::buffer::{ShaperError, hb_buffer_t, hb_glyph_info_t, hb_tag_t};
+use rustybuzz_shapers::font::{GlyphId, hb_font_t};
+use rustybuzz_shapers::ot_shaper_syllabic::insert_dotted_circles;
 use std::alloc::Global;
 use std::test::Fail;
 
@@ -12,13 +12,12 @@ use std::test::Fail;
 struct Circle(GlyphId);
 
 impl hb_font_t for Circle {
-    ghost nominal_glyph = { λ font c. if c == 0x25CC then Some font.0 else None };
-
-    ghost h_advance = { λ font glyph. pos 0 };
-
-    ghost applies = { λ font lookup glyphs zero_context. false };
-
-    ghost offers = { λ font tag. false };
+    ghost font = { λ font. record {
+        nominal = λ c. if c == 0x25CC then Some font.0 else None;
+        advance = λ _. pos 0;
+        applies = λ _ _ _. false;
+        offers = λ _. false;
+    } };
 
     fn get_nominal_glyph(&self, c: u32) -> Option<GlyphId> {
         if c == 0x25CC { Some(self.0) } else { None }

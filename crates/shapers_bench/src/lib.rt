@@ -9,6 +9,8 @@ mod circles;
 #[cfg(test)]
 mod feature_lists;
 #[cfg(test)]
+mod joining;
+#[cfg(test)]
 mod planner;
 #[cfg(test)]
 mod shapers;

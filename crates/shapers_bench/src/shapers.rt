@@ -54,8 +54,8 @@ impl hb_font_t for Nothing {
 
 impl Tables for Nothing {
     ghost use Rattle.std.specs.Prelude.{None};
-    ghost use Rattle.shapers_base.specs.declared.buffer.category.hb_unicode_general_category_t.TheVariants.{Cn};
-    ghost use Rattle.shapers_base.specs.declared.plan.joining.hb_arabic_joining_type_t.TheVariants.{U};
+    ghost use Rattle.rustybuzz_shapers.specs.hb_unicode_general_category_t.TheVariants.{Cn};
+    ghost use Rattle.rustybuzz_shapers.specs.hb_arabic_joining_type_t.TheVariants.{U};
 
     ghost tables = { λ _. record {
         joining = λ _. U;

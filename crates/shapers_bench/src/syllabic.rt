@@ -1,11 +1,11 @@
 //! Spans and dotted circles, with a font that has a circle or none.
 ghost use Rattle.std.specs.Prelude.{◌≡◌, ◌==◌, [], IfOk, None, false, if◌then◌else◌, pos};
 
-use shapers_base::buffer::{
+use rustybuzz_shapers::buffer::{
     BufferFlags, ShaperError, Span, hb_buffer_t, hb_glyph_info_t, hb_tag_t,
 };
-use shapers_base::font::{GlyphId, hb_font_t};
-use shapers_base::ot_shaper_syllabic::{
+use rustybuzz_shapers::font::{GlyphId, hb_font_t};
+use rustybuzz_shapers::ot_shaper_syllabic::{
     clear_substitution_flags, clear_syllables, indic_syllable, insert_dotted_circles,
     set_up_syllables,
 };

@@ -1,14 +1,15 @@
 -- Rows computed: what the definitions give for small lists of clusters.
-use Rattle.std.proofs.Common.{ℕ, true, false, map, ◌%◌, ◌+◌, ◌-◌, ◌≡◌, ◌≤◌, [], ◌∷◌, refl, arith, subst}
+use Rattle.std.proofs.Common.{ℕ, true, false, map, ◌%◌, ◌+◌, ◌-◌, ◌≡◌, ◌≤◌, [], ◌∷◌, refl, ap, arith, subst}
 use Rattle.std.specs.List.{AllByRecursion}
 use Rattle.shapers_base.specs.declared.buffer.level.BufferClusterLevel.TheVariants.{MonotoneGraphemes, Characters}
 use Rattle.shapers_base.specs.declared.buffer.glyph.hb_glyph_info_t.{hb_glyph_info_t}
-use Rattle.shapers_base.specs.Glyph.{default_glyph}
+use Rattle.shapers_base.specs.Glyph.{default_glyph, without_flags}
 use Rattle.shapers_clusters.specs.Cuts.{held, linked}
-use Rattle.shapers_clusters.specs.Flags.{bit_at, seen, whole}
+use Rattle.shapers_clusters.specs.Flags.{HidesFields, bit_at, seen, whole}
 use Rattle.shapers_clusters.specs.Joined.{joined, joined_all}
 use Rattle.shapers_base.specs.Places.{pick}
 use Rattle.shapers_clusters.specs.Steps.{Step, joined_steps, old_places, MovesMerged, all_first, shifted, widened, still_step, swap_step, steps_along, reordered_along}
+use Rattle.shapers_clusters.proofs.Merging.{without_flags-twice}
 use Rattle.shapers_clusters.proofs.Moves.{moves_anywhere}
 use Rattle.shapers_clusters.proofs.Widened.{moves-widened}
 
@@ -104,6 +105,22 @@ row_seen = refl
 row_whole : seen whole (a_glyph 4 255 3 ∷ []) ≡ a_glyph 0 248 3 ∷ []
 unfolding a_glyph
 row_whole = refl
+
+-- views for hooks that besides moving glyphs change masks, categories and positions, or classes
+rests : (m : ℕ) → without_flags (without_flags m % 8) ≡ without_flags (m % 8)
+rests m = omega arith
+
+masks_hidden : HidesFields (λ g. record g { mask = g.mask % 8; category = 0; auxiliary = 0 })
+masks_hidden = record {
+  shows = record { cluster = λ g. refl; flags = λ g. omega arith };
+  apart = λ g. ap (λ (m : ℕ). record g { cluster = 0; mask = m; category = 0; auxiliary = 0 }) (rests g.mask);
+}
+
+classes_hidden : HidesFields (λ g. record g { modified_combining_class = 0 })
+classes_hidden = record {
+  shows = record { cluster = λ g. refl; flags = λ g. refl };
+  apart = λ g. ap (λ (m : ℕ). record g { cluster = 0; mask = m; modified_combining_class = 0 }) (without_flags-twice g.mask);
+}
 
 -- a hook that merges and swaps the places i + 1 and i + 2 of n: all laws of merged steps hold of it
 swap_moves : MovesMerged 2 swap_two

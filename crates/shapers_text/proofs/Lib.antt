@@ -1,4 +1,3 @@
-mod ConstantRows
 pub mod HebrewLemmas
 mod HebrewRows
 mod RequestRows

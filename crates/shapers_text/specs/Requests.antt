@@ -1,34 +1,8 @@
--- What Arabic and Hangul ask of the map.
-use Rattle.std.specs.Prelude.{ℕ, Bool, List, [], ◌∷◌, ◌++◌, map, bit_or, Option, None, Some, codes, false, nat_eq, if◌then◌else◌}
-use Rattle.std.specs.Cmp.Lexicographic.{pointwise}
-use Rattle.shapers_base.specs.declared.buffer.tag.hb_tag_t.{hb_tag_t}
-use Rattle.shapers_base.specs.declared.buffer.tag.Script.{Script}
-use Rattle.shapers_base.specs.declared.map.TheConstants.{F_NONE, F_HAS_FALLBACK, F_MANUAL_ZWJ}
-use Rattle.shapers_base.specs.declared.plan.pause.Pause.TheVariants.{RecordStch, ArabicFallbackShape}
+-- What Hangul asks of the map.
+use Rattle.std.specs.Prelude.{List, [], ◌∷◌, map}
+use Rattle.shapers_base.specs.declared.map.TheConstants.{F_NONE}
 use Rattle.shapers_base.specs.declared.plan.planner.Request.{Request}
-use Rattle.shapers_base.specs.Planner.{added, enabled, disabled, bare_pause, pause_for, each_paused}
-
--- whether the script is Arabic itself
-abbrev pub is_arabic : Option Script → Bool
-is_arabic None = false
-is_arabic (Some s) = pointwise nat_eq s.0 (codes "Arab")
-
--- the tag of the required contextual forms
-abbrev pub rclt : hb_tag_t
-rclt = record { 0 = codes "rclt" }
-
--- the joining forms, with these flags, but those of the second and third kind without a fallback; each followed by a pause
-abbrev pub joining_list : ℕ → List Request
-joining_list flags = each_paused (added flags "isol" ∷ added flags "fina" ∷ added F_MANUAL_ZWJ "fin2" ∷ added F_MANUAL_ZWJ "fin3" ∷ added flags "medi" ∷ added F_MANUAL_ZWJ "med2" ∷ added flags "init" ∷ [])
-
--- Arabic: only with the script Arabic itself a fallback for the joining forms and its pause, and only without rclt a pause after calt
-abbrev pub arabic_list : Bool → Bool → List Request
-arabic_list arabic has_rclt =
-    enabled F_NONE "stch" ∷ pause_for RecordStch ∷ enabled F_MANUAL_ZWJ "ccmp" ∷ enabled F_MANUAL_ZWJ "locl" ∷ bare_pause
-    ∷ joining_list (bit_or F_MANUAL_ZWJ (if arabic then F_HAS_FALLBACK else F_NONE))
-    ++ enabled (bit_or F_MANUAL_ZWJ F_HAS_FALLBACK) "rlig" ∷ (if arabic then pause_for ArabicFallbackShape ∷ [] else [])
-    ++ enabled F_MANUAL_ZWJ "calt" ∷ (if has_rclt then [] else bare_pause ∷ [])
-    ++ map (enabled F_MANUAL_ZWJ) ("liga" ∷ "clig" ∷ "mset" ∷ [])
+use Rattle.shapers_base.specs.Planner.{added, disabled}
 
 -- Hangul, and what it asks after the lists of all
 abbrev pub hangul_list : List Request

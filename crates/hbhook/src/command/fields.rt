@@ -2,7 +2,7 @@
 ghost use Rattle.std.specs.Prelude.{◌≤◌, IfOk};
 
 use crate::fault::LineFault;
-use shapers_base::buffer::hb_unicode_general_category_t;
+use rustybuzz_shapers::buffer::hb_unicode_general_category_t;
 use std::str::FromStr;
 
 /// A number of decimal digits alone.

@@ -1,7 +1,7 @@
 //! The lines `at I FIELD V`.
 use super::fields::{decimal, decimal_to, general_category, hexadecimal, signed};
 use crate::fault::LineFault;
-use shapers_base::buffer::{hb_glyph_info_t, hb_unicode_general_category_t};
+use rustybuzz_shapers::buffer::{hb_glyph_info_t, hb_unicode_general_category_t};
 
 /// The marks of a glyph.
 #[derive(Clone, Copy)]

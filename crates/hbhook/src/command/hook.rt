@@ -1,7 +1,7 @@
 //! The lines `run NAME ..`.
 use super::fields::{character, decimal};
 use crate::fault::LineFault;
-use shapers_base::plan::Pause;
+use rustybuzz_shapers::plan::Pause;
 
 /// A hook or a pause, and what it is asked.
 #[derive(Clone, Copy)]

@@ -2,11 +2,11 @@
 use super::fields::{decimal, four_characters, hexadecimal, yes_or_no};
 use crate::fault::LineFault;
 use bitflags::Flags;
+use rustybuzz_shapers::buffer::{BufferClusterLevel, BufferFlags, Direction, Script, hb_tag_t};
 use rustybuzz_shapers::shaper::{
     ARABIC_SHAPER, HANGUL_SHAPER, HEBREW_SHAPER, INDIC_SHAPER, KHMER_SHAPER, MYANMAR_SHAPER,
     MYANMAR_ZAWGYI_SHAPER, THAI_SHAPER, UNIVERSAL_SHAPER, hb_ot_shaper_t,
 };
-use shapers_base::buffer::{BufferClusterLevel, BufferFlags, Direction, Script, hb_tag_t};
 
 /// A setting and its value.
 #[derive(Clone, Copy)]

@@ -1,6 +1,6 @@
 //! The pauses by their names.
 use super::{Command, HookCall};
-use shapers_base::plan::Pause;
+use rustybuzz_shapers::plan::Pause;
 use std::test::Fail;
 
 #[test]

@@ -6,10 +6,10 @@ ghost use Rattle.rustybuzz_shapers.specs.Pauses.{CanPause};
 use super::Session;
 use crate::command::HookCall;
 use crate::fault::LineFault;
+use rustybuzz_shapers::buffer::Span;
 use rustybuzz_shapers::shaper::{
     Hook, Pause, Preprocess, hb_ot_shaper_t, pause_standing, run_pause,
 };
-use shapers_base::buffer::Span;
 
 impl Session {
     /// Asks a hook of the shaper. Without a shaper, where the call's conditions fail and where the
@@ -31,7 +31,7 @@ impl Session {
     fn preprocess(&mut self, shaper: hb_ot_shaper_t) -> Result<(), LineFault> {
         self.check_no_positions()?;
         check_hook(shaper, Hook::PreprocessText)?;
-        let plan = self.settings.plan()?;
+        let plan = shaper.with_data(self.settings.plan()?);
         let answer = shaper.preprocess_text(&plan, &self.settings.font, &mut self.buffer)?;
         match answer {
             Some(Preprocess::Done) => Ok(()),
@@ -44,7 +44,8 @@ impl Session {
     fn set_masks(&mut self, shaper: hb_ot_shaper_t) -> Result<(), LineFault> {
         self.check_no_positions()?;
         check_hook(shaper, Hook::SetupMasks)?;
-        let plan = self.settings.plan()?;
+        check(shaper.glyphs_fit(&self.buffer))?;
+        let plan = shaper.with_data(self.settings.plan()?);
         let (font, tables) = (&self.settings.font, &self.settings.tables);
         let answer = shaper.setup_masks(&plan, font, tables, &mut self.buffer);
         self.answer_if_absent(answer)
@@ -54,7 +55,7 @@ impl Session {
     fn postprocess(&mut self, shaper: hb_ot_shaper_t) -> Result<(), LineFault> {
         check(self.buffer.positions_len() == self.buffer.len())?;
         check_hook(shaper, Hook::PostprocessGlyphs)?;
-        let plan = self.settings.plan()?;
+        let plan = shaper.with_data(self.settings.plan()?);
         let answer = shaper.postprocess_glyphs(&plan, &self.settings.font, &mut self.buffer)?;
         self.answer_if_absent(answer)
     }
@@ -69,7 +70,7 @@ impl Session {
         self.check_no_positions()?;
         check(start <= end && end <= self.buffer.len())?;
         check_hook(shaper, Hook::ReorderMarks)?;
-        let plan = self.settings.plan()?;
+        let plan = shaper.with_data(self.settings.plan()?);
         let answer = shaper.reorder_marks(&plan, &mut self.buffer, start, end);
         self.answer_if_absent(answer)
     }
@@ -77,7 +78,7 @@ impl Session {
     // The hook that composes two characters.
     fn compose(&mut self, shaper: hb_ot_shaper_t, a: char, b: char) -> Result<(), LineFault> {
         check_hook(shaper, Hook::Compose)?;
-        let plan = self.settings.plan()?;
+        let plan = shaper.with_data(self.settings.plan()?);
         match shaper.compose(&plan, &self.settings.tables, a, b) {
             Some(Some(ab)) => Ok(writeln!(self.answers, "{:04x}", u32::from(ab))?),
             Some(None) => self.answer("none"),
@@ -88,7 +89,7 @@ impl Session {
     // The hook that decomposes a character.
     fn decompose(&mut self, shaper: hb_ot_shaper_t, ab: char) -> Result<(), LineFault> {
         check_hook(shaper, Hook::Decompose)?;
-        let plan = self.settings.plan()?;
+        let plan = shaper.with_data(self.settings.plan()?);
         match shaper.decompose(&plan, &self.settings.tables, ab) {
             Some(Some((a, b))) => {
                 writeln!(self.answers, "{:04x} {:04x}", u32::from(a), u32::from(b))?;

@@ -1,13 +1,13 @@
 //! What lines leave in the settings and the buffer, of which no line of output tells.
 use super::{Command, MAX_LEN, Session};
 use crate::fault::LineFault;
-use rustybuzz_shapers::shaper::hb_ot_shaper_t;
-use shapers_base::buffer::{
+use rustybuzz_shapers::buffer::{
     BufferClusterLevel, BufferFlags, Direction, Script, hb_tag_t, hb_unicode_general_category_t,
 };
-use shapers_base::font::{GlyphId, Tables, hb_font_t};
-use shapers_base::map::TableIndex;
-use shapers_base::plan::hb_arabic_joining_type_t;
+use rustybuzz_shapers::font::{GlyphId, Tables, hb_font_t};
+use rustybuzz_shapers::map::TableIndex;
+use rustybuzz_shapers::plan::hb_arabic_joining_type_t;
+use rustybuzz_shapers::shaper::hb_ot_shaper_t;
 use std::alloc::Global;
 use std::test::Fail;
 

@@ -85,9 +85,9 @@ impl hb_ot_shaper_t {
         match self {
             Self::Arabic => Hooks {
                 collect_features: Has,
-                create_data: WillHave,
+                create_data: Has,
                 postprocess_glyphs: WillHave,
-                setup_masks: WillHave,
+                setup_masks: Has,
                 reorder_marks: WillHave,
                 ..NO_HOOKS
             },

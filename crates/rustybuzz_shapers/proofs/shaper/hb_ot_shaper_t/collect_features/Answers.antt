@@ -1,6 +1,6 @@
 use Rattle.std.proofs.Common.{ap, sym, ◌∙◌}
 use Rattle.rustybuzz_shapers.specs.Records.{asked, collected}
-use Rattle.shapers_text.specs.Requests.{rclt}
+use Rattle.shapers_arabic.specs.Requests.{rclt}
 use Rattle.rustybuzz_shapers.proofs.shaper.hb_ot_shaper_t.collect_features.Goals as goal
 
 pub returns-in_ok-collect_features-in-Arabic-clause-ok : goal.returns-in_ok-collect_features-in-Arabic-clause-ok

@@ -1,0 +1,182 @@
+-- The selector rule over parts of a text, and the law of the cut.
+use Rattle.std.proofs.Common.{◌≡◌, ℕ, zero, suc, ◌+◌, ◌≤◌, Bool, true, false, cond, List, [], ◌∷◌, ◌++◌, length, map, take, drop, reverse, Option, Some, refl, sym, ap, ◌∙◌, subst, arith, append_assoc, inl, inr}
+use Rattle.std.specs.List.{prefix_len, zip}
+use Rattle.std.proofs.lemmas.List.{length-map, length-take-le, take-append-drop, take-map, drop-map, take_all, take_at, drop_at, drop-drop, reverse-append, map-append}
+use Rattle.std.proofs.lemmas.Slice.Zip.{length-zip}
+use Rattle.std.specs.Option.{is_some}
+use Rattle.shapers_base.proofs.MappedLists.{map-reverse}
+use Rattle.shapers_base.specs.Buffer.{Buffer}
+use Rattle.shapers_base.specs.declared.buffer.category.hb_unicode_general_category_t.{hb_unicode_general_category_t}
+use Rattle.shapers_base.specs.declared.buffer.glyph.hb_glyph_info_t.{hb_glyph_info_t}
+use Rattle.shapers_base.specs.declared.buffer.tag.Script.{Script}
+use Rattle.shapers_base.specs.declared.plan.joining.hb_arabic_joining_type_t.{hb_arabic_joining_type_t}
+use Rattle.shapers_arabic.specs.Joining.{resolved, nearest, is_transparent, forms, is_selector, form_behind, selected}
+use Rattle.shapers_arabic.specs.JoinedText.{Text, is_mongolian, forms_of, first_half, second_half, opening, HoldsCut, stored_types, context_types, text_of, AllFormed, CutsAsHalves, Shows, AgreesWithTable, first_of, second_of, CopiedContextsShow, CopiedContextsCut}
+use Rattle.shapers_arabic.proofs.JoinedGlyphs.{forms-formed}
+use Rattle.shapers_arabic.proofs.JoiningLists.{forms-contexts, length-forms, forms-append}
+
+zip-append : (cs ds : List ℕ) (fs gs : List ℕ) → length fs ≡ length cs → zip (cs ++ ds) (fs ++ gs) ≡ zip cs fs ++ zip ds gs
+zip-append [] ds [] gs e = refl
+zip-append [] ds (f ∷ fs) gs e = absurd (omega arith)
+zip-append (c ∷ cs) ds [] gs e = absurd (omega arith)
+zip-append (c ∷ cs) ds (f ∷ fs) gs e = ap (λ ps. (c, f) ∷ ps) (zip-append cs ds fs gs (omega arith))
+
+pub length-selected : (before places : List (ℕ × ℕ)) → length (selected before places) ≡ length places
+length-selected before [] = refl
+length-selected before ((c, a) ∷ ps) = ap suc (length-selected ((c, a) ∷ before) ps)
+
+selected-append : (before xs ys : List (ℕ × ℕ)) → selected before (xs ++ ys) ≡ selected before xs ++ selected (reverse xs ++ before) ys
+selected-append before [] ys = refl
+selected-append before ((c, a) ∷ xs) ys =
+    let seen : reverse xs ++ ((c, a) ∷ before) ≡ reverse ((c, a) ∷ xs) ++ before = sym (ap (λ r. r ++ before) (reverse-append ((c, a) ∷ []) xs) ∙ append_assoc (reverse xs) ((c, a) ∷ []) before) in
+    ap (λ fs. (cond (is_selector c) (form_behind before a) a) ∷ fs) (selected-append ((c, a) ∷ before) xs ys ∙ ap (λ us. selected ((c, a) ∷ before) xs ++ selected us ys) seen)
+
+-- behind a place that is no selector nothing earlier counts
+selected-same : (before others places : List (ℕ × ℕ)) → ((own : ℕ) → form_behind before own ≡ form_behind others own) → selected before places ≡ selected others places
+selected-same before others [] e = refl
+selected-same before others ((c, a) ∷ ps) e =
+    ap (λ x. cond (is_selector c) x a ∷ selected ((c, a) ∷ before) ps) (e a)
+    ∙ ap (λ fs. cond (is_selector c) (form_behind others a) a ∷ fs) (selected-same ((c, a) ∷ before) ((c, a) ∷ others) ps (λ own. ap (λ x. cond (is_selector c) x a) (e a)))
+
+-- so two texts before differ in the selectors that open the text alone
+selected-opening : (before others : List (ℕ × ℕ)) (cs fs : List ℕ) → drop (prefix_len is_selector cs) (selected before (zip cs fs)) ≡ drop (prefix_len is_selector cs) (selected others (zip cs fs))
+selected-opening before others [] fs = refl
+selected-opening before others (c ∷ cs) [] = refl
+selected-opening before others (c ∷ cs) (f ∷ fs) =
+    let n = prefix_len is_selector cs in
+    let places = zip cs fs in
+    elim (is_selector c) as (λ b. is_selector c ≡ b → drop (cond b (1 + n) 0) (cond b (form_behind before f) f ∷ selected ((c, f) ∷ before) places) ≡ drop (cond b (1 + n) 0) (cond b (form_behind others f) f ∷ selected ((c, f) ∷ others) places)) [
+      | true ↦ λ e.
+          let more : 1 + n ≡ suc n = omega arith in
+          ap (λ k. drop k (form_behind before f ∷ selected ((c, f) ∷ before) places)) more
+          ∙ selected-opening ((c, f) ∷ before) ((c, f) ∷ others) cs fs
+          ∙ sym (ap (λ k. drop k (form_behind others f ∷ selected ((c, f) ∷ others) places)) more)
+      | false ↦ λ e. ap (λ gs. f ∷ gs) (selected-same ((c, f) ∷ before) ((c, f) ∷ others) places (λ own. ap (λ b. cond b (form_behind before f) f) e ∙ sym (ap (λ b. cond b (form_behind others f) f) e)))
+    ] refl
+
+-- forms that fall into two parts, by the rule or with the selectors
+record InParts (b : Bool) (n : ℕ) (characters whole cs fs ds gs : List ℕ) : Type 0 where
+  first : take n (cond b (selected [] (zip characters whole)) whole) ≡ cond b (selected [] (zip cs fs)) fs
+  second : drop (n + cond b (prefix_len is_selector ds) 0) (cond b (selected [] (zip characters whole)) whole) ≡ drop (cond b (prefix_len is_selector ds) 0) (cond b (selected [] (zip ds gs)) gs)
+
+in-parts : (b : Bool) (n : ℕ) (characters whole cs fs ds gs : List ℕ) → characters ≡ cs ++ ds → whole ≡ fs ++ gs → length cs ≡ n → length fs ≡ n → InParts b n characters whole cs fs ds gs
+in-parts false n characters whole cs fs ds gs c w l m =
+    let none : n + 0 ≡ n = omega arith in
+    record {
+      first = ap (take n) w ∙ take_at fs gs n m;
+      second = ap (λ k. drop k whole) none ∙ ap (drop n) w ∙ drop_at fs gs n m;
+    }
+in-parts true n characters whole cs fs ds gs c w l m =
+    let front = selected [] (zip cs fs) in
+    let back = selected (reverse (zip cs fs) ++ []) (zip ds gs) in
+    let k = prefix_len is_selector ds in
+    let both : selected [] (zip characters whole) ≡ front ++ back = ap (λ xs. selected [] (zip xs whole)) c ∙ ap (λ xs. selected [] (zip (cs ++ ds) xs)) w ∙ ap (selected []) (zip-append cs ds fs gs (m ∙ sym l)) ∙ selected-append [] (zip cs fs) (zip ds gs) in
+    let long : length front ≡ n = length-selected [] (zip cs fs) ∙ omega (arith, length-zip cs fs) in
+    record {
+      first = ap (take n) both ∙ take_at front back n long;
+      second = sym (drop-drop k n (selected [] (zip characters whole))) ∙ ap (λ xs. drop k (drop n xs)) both ∙ ap (drop k) (drop_at front back n long) ∙ selected-opening (reverse (zip cs fs) ++ []) [] ds gs;
+    }
+
+-- the law
+pub holds-cut : (script : Option Script) (text : Text) → length text.characters ≡ length text.types → HoldsCut script text (forms_of script text)
+holds-cut script text long n inner_after inner_before h s =
+    let ts = take n text.types in
+    let us = drop n text.types in
+    let fs = forms text.before ts inner_after in
+    let gs = forms inner_before us text.after in
+    let whole : forms text.before text.types text.after ≡ fs ++ gs =
+    ap (λ xs. forms text.before xs text.after) (sym (take-append-drop n text.types))
+    ∙ forms-append text.before ts us text.after
+    ∙ ap (λ xs. xs ++ forms (reverse ts ++ text.before) us text.after) (forms-contexts text.before text.before ts (us ++ text.after) inner_after refl (sym s.onward))
+    ∙ ap (λ xs. fs ++ xs) (forms-contexts (reverse ts ++ text.before) inner_before us text.after text.after (sym s.backward) refl) in
+    let parts = in-parts (is_mongolian script) n text.characters (forms text.before text.types text.after) (take n text.characters) fs (drop n text.characters) gs (sym (take-append-drop n text.characters)) whole (length-take-le n text.characters (omega arith)) (length-forms text.before ts inner_after ∙ length-take-le n text.types h) in
+    record { first = parts.first; second = parts.second }
+
+-- what joining left is cut as the forms are
+pub cut-formed : (masks : List ℕ) (script : Option Script) (joining : ℕ → hb_arabic_joining_type_t) (general : ℕ → hb_unicode_general_category_t) (old new : Buffer) → AllFormed masks (forms_of script (text_of joining general old)) old.glyphs new.glyphs → CutsAsHalves script joining general old new
+cut-formed masks script joining general old new a =
+    let text = text_of joining general old in
+    let long : length text.characters ≡ length text.types = length-map old.glyphs (λ g. g.glyph_id) ∙ sym (length-map old.glyphs (λ g. resolved (joining g.glyph_id) g.general_category)) in
+    subst (λ fs. HoldsCut script text fs) (sym (forms-formed masks (forms_of script text) old.glyphs new.glyphs a)) (holds-cut script text long)
+
+-- a front that shows a type shows the nearest
+nearest-of_front : (ts us : List hb_arabic_joining_type_t) → is_some (nearest ts) ≡ true → nearest (ts ++ us) ≡ nearest ts
+nearest-of_front [] us e = cc
+nearest-of_front (t ∷ ts) us e =
+    elim (is_transparent t) as (λ b. is_some (cond b (nearest ts) (Some t)) ≡ true → cond b (nearest (ts ++ us)) (Some t) ≡ cond b (nearest ts) (Some t)) [
+      | true ↦ λ d. nearest-of_front ts us d
+      | false ↦ λ d. refl
+    ] e
+
+nearest-of_five : (ts : List hb_arabic_joining_type_t) → Shows ts → nearest (take 5 ts) ≡ nearest ts
+nearest-of_five ts (inl e) = sym (nearest-of_front (take 5 ts) (drop 5 ts) e) ∙ ap nearest (take-append-drop 5 ts)
+nearest-of_five ts (inr h) = ap nearest (take_all 5 ts h)
+
+pub copied-show : CopiedContextsShow
+copied-show n text onward backward = record {
+  onward = nearest-of_five (drop n text.types ++ text.after) onward;
+  backward = nearest-of_five (reverse (take n text.types) ++ text.before) backward;
+}
+
+-- the table's types of glyphs that agree with it are the stored ones
+types-agree : (joining : ℕ → hb_arabic_joining_type_t) (general : ℕ → hb_unicode_general_category_t) (gs : List hb_glyph_info_t) → AgreesWithTable general gs → context_types joining general (map (λ g. g.glyph_id) gs) ≡ stored_types joining gs
+types-agree joining general [] all = refl
+types-agree joining general (g ∷ gs) all =
+    ap (λ category. resolved (joining g.glyph_id) category ∷ context_types joining general (map (λ h. h.glyph_id) gs)) (sym all.0) ∙ ap (λ ts. resolved (joining g.glyph_id) g.general_category ∷ ts) (types-agree joining general gs all.1)
+
+agrees-take : (general : ℕ → hb_unicode_general_category_t) (n : ℕ) (gs : List hb_glyph_info_t) → AgreesWithTable general gs → AgreesWithTable general (take n gs)
+agrees-take general zero gs all = tt
+agrees-take general (suc n) [] all = tt
+agrees-take general (suc n) (g ∷ gs) all = (all.0, agrees-take general n gs all.1)
+
+agrees-drop : (general : ℕ → hb_unicode_general_category_t) (n : ℕ) (gs : List hb_glyph_info_t) → AgreesWithTable general gs → AgreesWithTable general (drop n gs)
+agrees-drop general zero gs all = all
+agrees-drop general (suc n) [] all = tt
+agrees-drop general (suc n) (g ∷ gs) all = agrees-drop general n gs all.1
+
+-- what a copied context shows: the types of the text there
+copied-after : (joining : ℕ → hb_arabic_joining_type_t) (general : ℕ → hb_unicode_general_category_t) (gs : List hb_glyph_info_t) (cs : List ℕ) → AgreesWithTable general gs → context_types joining general (take 5 (map (λ g. g.glyph_id) gs ++ cs)) ≡ take 5 (stored_types joining gs ++ context_types joining general cs)
+copied-after joining general gs cs all =
+    let type_of = λ (c : ℕ). resolved (joining c) (general c) in
+    sym (take-map type_of 5 (map (λ g. g.glyph_id) gs ++ cs))
+    ∙ ap (take 5) (map-append type_of (map (λ g. g.glyph_id) gs) cs ∙ ap (λ ts. ts ++ context_types joining general cs) (types-agree joining general gs all))
+
+copied-before : (joining : ℕ → hb_arabic_joining_type_t) (general : ℕ → hb_unicode_general_category_t) (gs : List hb_glyph_info_t) (cs : List ℕ) → AgreesWithTable general gs → context_types joining general (take 5 (reverse (map (λ g. g.glyph_id) gs) ++ cs)) ≡ take 5 (reverse (stored_types joining gs) ++ context_types joining general cs)
+copied-before joining general gs cs all =
+    let type_of = λ (c : ℕ). resolved (joining c) (general c) in
+    sym (take-map type_of 5 (reverse (map (λ g. g.glyph_id) gs) ++ cs))
+    ∙ ap (take 5) (map-append type_of (reverse (map (λ g. g.glyph_id) gs)) cs ∙ ap (λ ts. ts ++ context_types joining general cs) (map-reverse type_of (map (λ g. g.glyph_id) gs) ∙ ap reverse (types-agree joining general gs all)))
+
+-- the forms of a text by its parts
+abbrev forms_by : Option Script → List hb_arabic_joining_type_t → List ℕ → List hb_arabic_joining_type_t → List hb_arabic_joining_type_t → List ℕ
+forms_by script before characters types after = forms_of script (record { before = before; characters = characters; types = types; after = after })
+
+pub copied-cut : CopiedContextsCut
+copied-cut script joining general b n h all onward backward =
+    let gs = b.glyphs in
+    let text = text_of joining general b in
+    let ids = λ (g : hb_glyph_info_t). g.glyph_id in
+    let type_of = λ (g : hb_glyph_info_t). resolved (joining g.glyph_id) g.general_category in
+    let front : take n text.types ≡ stored_types joining (take n gs) = take-map type_of n gs in
+    let back : drop n text.types ≡ stored_types joining (drop n gs) = drop-map type_of n gs in
+    let inner_after = take 5 (drop n text.types ++ text.after) in
+    let inner_before = take 5 (reverse (take n text.types) ++ text.before) in
+    let shown = copied-show n text (subst (λ ts. Shows (ts ++ text.after)) (sym back) onward) (subst (λ ts. Shows (reverse ts ++ text.before)) (sym front) backward) in
+    let long : length text.characters ≡ length text.types = length-map gs ids ∙ sym (length-map gs type_of) in
+    let within : n ≤ length text.types = omega (arith, length-map gs type_of) in
+    let cut = holds-cut script text long n inner_after inner_before within shown in
+    let after_is : inner_after ≡ context_types joining general (take 5 (map ids (drop n gs) ++ b.after)) = ap (λ ts. take 5 (ts ++ text.after)) back ∙ sym (copied-after joining general (drop n gs) b.after (agrees-drop general n gs all)) in
+    let before_is : inner_before ≡ context_types joining general (take 5 (reverse (map ids (take n gs)) ++ b.before)) = ap (λ ts. take 5 (reverse ts ++ text.before)) front ∙ sym (copied-before joining general (take n gs) b.before (agrees-take general n gs all)) in
+    let first_is : forms_of script (first_half n inner_after text) ≡ forms_of script (text_of joining general (first_of n b)) =
+    ap (λ cs. forms_by script text.before cs (take n text.types) inner_after) (take-map ids n gs)
+    ∙ ap (λ ts. forms_by script text.before (map ids (take n gs)) ts inner_after) front
+    ∙ ap (forms_by script text.before (map ids (take n gs)) (stored_types joining (take n gs))) after_is in
+    let second_is : forms_of script (second_half n inner_before text) ≡ forms_of script (text_of joining general (second_of n b)) =
+    ap (λ cs. forms_by script inner_before cs (drop n text.types) text.after) (drop-map ids n gs)
+    ∙ ap (λ ts. forms_by script inner_before (map ids (drop n gs)) ts text.after) back
+    ∙ ap (λ ts. forms_by script ts (map ids (drop n gs)) (stored_types joining (drop n gs)) text.after) before_is in
+    let Q : List ℕ → Type 0 = λ cs. drop (n + opening script cs) (forms_of script text) ≡ drop (opening script cs) (forms_of script (second_half n inner_before text)) in
+    record {
+      first = cut.first ∙ first_is;
+      second = subst Q (drop-map ids n gs) cut.second ∙ ap (drop (opening script (map ids (drop n gs)))) second_is;
+    }

@@ -1,0 +1,83 @@
+-- The table, cell by cell, against the joining rule.
+use Rattle.std.proofs.Common.{◌≡◌, Option, None, Some, refl}
+use Rattle.shapers_base.specs.declared.plan.joining.hb_arabic_joining_type_t.{hb_arabic_joining_type_t}
+use Rattle.shapers_base.specs.declared.plan.joining.hb_arabic_joining_type_t.TheVariants.{U, L, R, D, GroupAlaph}
+use Rattle.shapers_arabic.specs.Joining.{act}
+use Rattle.shapers_arabic.specs.JoiningWalk.{cell, state_of, kept_or}
+
+-- the form that the next letter gives
+pub gives_previous : (before : Option hb_arabic_joining_type_t) (own t : hb_arabic_joining_type_t) → kept_or (cell (state_of before own) t).0 (act before own None) ≡ act before own (Some t)
+gives_previous before U U = refl
+gives_previous before U _ = refl
+gives_previous before L U = refl
+gives_previous before L _ = refl
+gives_previous before R U = refl
+gives_previous before R _ = refl
+gives_previous None D U = refl
+gives_previous None D _ = refl
+gives_previous (Some L) D U = refl
+gives_previous (Some L) D _ = refl
+gives_previous (Some _) D U = refl
+gives_previous (Some _) D _ = refl
+gives_previous None GroupAlaph U = refl
+gives_previous None GroupAlaph _ = refl
+gives_previous (Some L) GroupAlaph U = refl
+gives_previous (Some L) GroupAlaph _ = refl
+gives_previous (Some _) GroupAlaph U = refl
+gives_previous (Some _) GroupAlaph _ = refl
+gives_previous before _ U = refl
+gives_previous before _ _ = refl
+
+-- a letter's own form, as long as none follows
+pub gives_own : (before : Option hb_arabic_joining_type_t) (own t : hb_arabic_joining_type_t) → (cell (state_of before own) t).1 ≡ act (Some own) t None
+gives_own before U U = refl
+gives_own before U _ = refl
+gives_own before L U = refl
+gives_own before L _ = refl
+gives_own before R U = refl
+gives_own before R _ = refl
+gives_own None D U = refl
+gives_own None D _ = refl
+gives_own (Some L) D U = refl
+gives_own (Some L) D _ = refl
+gives_own (Some _) D U = refl
+gives_own (Some _) D _ = refl
+gives_own None GroupAlaph U = refl
+gives_own None GroupAlaph _ = refl
+gives_own (Some L) GroupAlaph U = refl
+gives_own (Some L) GroupAlaph _ = refl
+gives_own (Some _) GroupAlaph U = refl
+gives_own (Some _) GroupAlaph _ = refl
+gives_own before _ U = refl
+gives_own before _ _ = refl
+
+pub gives_first : (t : hb_arabic_joining_type_t) → (cell 0 t).1 ≡ act None t None
+gives_first U = refl
+gives_first _ = refl
+
+-- the state behind a letter
+pub gives_state : (before : Option hb_arabic_joining_type_t) (own t : hb_arabic_joining_type_t) → (cell (state_of before own) t).2 ≡ state_of (Some own) t
+gives_state before U U = refl
+gives_state before U _ = refl
+gives_state before L U = refl
+gives_state before L _ = refl
+gives_state before R U = refl
+gives_state before R _ = refl
+gives_state None D U = refl
+gives_state None D _ = refl
+gives_state (Some L) D U = refl
+gives_state (Some L) D _ = refl
+gives_state (Some _) D U = refl
+gives_state (Some _) D _ = refl
+gives_state None GroupAlaph U = refl
+gives_state None GroupAlaph _ = refl
+gives_state (Some L) GroupAlaph U = refl
+gives_state (Some L) GroupAlaph _ = refl
+gives_state (Some _) GroupAlaph U = refl
+gives_state (Some _) GroupAlaph _ = refl
+gives_state before _ U = refl
+gives_state before _ _ = refl
+
+pub gives_first_state : (t : hb_arabic_joining_type_t) → (cell 0 t).2 ≡ state_of None t
+gives_first_state U = refl
+gives_first_state _ = refl

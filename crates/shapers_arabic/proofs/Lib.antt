@@ -1,0 +1,11 @@
+mod ConstantRows
+pub mod FormedGlyphs
+pub mod JoinedGlyphs
+pub mod JoiningLaws
+pub mod JoiningLists
+mod JoiningRows
+pub mod JoiningTable
+pub mod JoiningWalk
+mod MarkRows
+mod PlanRows
+mod RequestRows

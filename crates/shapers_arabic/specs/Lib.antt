@@ -1,0 +1,6 @@
+pub mod JoinedText
+pub mod Joining
+pub mod JoiningWalk
+pub mod Marks
+pub mod PlanData
+pub mod Requests

@@ -1,0 +1,71 @@
+-- The order of Arabic marks: marks that modify a letter come to the front. (Unicode Technical Report 53.)
+use Rattle.std.specs.Prelude.{ℕ, ◌+◌, ◌==◌, nat_lt, Bool, ◌&&◌, List, [], ◌∷◌, ◌++◌, length, map, take, drop}
+use Rattle.std.specs.List.{list_any, prefix_len, range_with_len}
+use Rattle.shapers_base.specs.declared.buffer.glyph.hb_glyph_info_t.{hb_glyph_info_t}
+use Rattle.shapers_base.specs.declared.buffer.modified_combining_class.TheConstants.{CCC22, CCC26}
+use Rattle.shapers_clusters.specs.Steps.{Step}
+
+-- the marks that modify a letter
+abbrev pub modifiers : List ℕ
+modifiers = 0x0654 ∷ 0x0655 ∷ 0x0658 ∷ 0x06DC ∷ 0x06E3 ∷ 0x06E7 ∷ 0x06E8 ∷ 0x08CA ∷ 0x08CB ∷ 0x08CD ∷ 0x08CE ∷ 0x08CF ∷ 0x08D3 ∷ 0x08F3 ∷ []
+
+-- whether a mark is of a class below this one
+abbrev pub is_below : ℕ → hb_glyph_info_t → Bool
+is_below class g = nat_lt g.modified_combining_class class
+
+-- whether a mark is of this class and modifies a letter
+abbrev pub is_modifier_of : ℕ → hb_glyph_info_t → Bool
+is_modifier_of class g = g.modified_combining_class == class && list_any (λ c. c == g.glyph_id) modifiers
+
+-- the longest front all of which passes a test, and what stands behind it
+abbrev pub front_of : (hb_glyph_info_t → Bool) → List hb_glyph_info_t → List hb_glyph_info_t
+front_of test gs = take (prefix_len test gs) gs
+
+abbrev pub behind : (hb_glyph_info_t → Bool) → List hb_glyph_info_t → List hb_glyph_info_t
+behind test gs = drop (prefix_len test gs) gs
+
+-- marks in five parts: the longest front of classes below 220, the longest run of modifiers of 220 behind it, the longest run of classes below 230, the modifiers of 230 behind it, and the rest
+pub record Marks : Type 0 where
+  pub low : List hb_glyph_info_t
+  pub modifiers_below : List hb_glyph_info_t
+  pub middle : List hb_glyph_info_t
+  pub modifiers_above : List hb_glyph_info_t
+  pub rest : List hb_glyph_info_t
+
+abbrev pub split_marks : List hb_glyph_info_t → Marks
+split_marks gs =
+    let second = behind (is_below 220) gs in
+    let third = behind (is_modifier_of 220) second in
+    let fourth = behind (is_below 230) third in
+    record {
+      low = front_of (is_below 220) gs;
+      modifiers_below = front_of (is_modifier_of 220) second;
+      middle = front_of (is_below 230) third;
+      modifiers_above = front_of (is_modifier_of 230) fourth;
+      rest = behind (is_modifier_of 230) fourth;
+    }
+
+-- the modifiers come to the front, those of 220 first, in classes of their own
+abbrev pub in_class : ℕ → hb_glyph_info_t → hb_glyph_info_t
+in_class class g = record g { modified_combining_class = class }
+
+abbrev pub with_modifiers_first : Marks → List hb_glyph_info_t
+with_modifiers_first s = map (in_class CCC22) s.modifiers_below ++ (map (in_class CCC26) s.modifiers_above ++ (s.low ++ (s.middle ++ s.rest)))
+
+-- the stretch from p to q, unless nothing is moved over it
+abbrev pub merged_for : List hb_glyph_info_t → ℕ → ℕ → List (ℕ × ℕ)
+merged_for [] p q = []
+merged_for (g ∷ gs) p q = (p, q) ∷ []
+
+-- the same as a step over the places of the marks, from 0 on: what the modifiers of 220 pass merges with them, and then what those of 230 pass
+abbrev pub mark_step : Marks → Step
+mark_step s =
+    let a = length s.low in
+    let m = length s.modifiers_below in
+    let b = length s.middle in
+    let n = length s.modifiers_above in
+    record {
+      merged_first = merged_for s.modifiers_below 0 (a + m) ++ merged_for s.modifiers_above m (a + m + b + n);
+      places = range_with_len a m ++ (range_with_len (a + m + b) n ++ (range_with_len 0 a ++ (range_with_len (a + m) b ++ range_with_len (a + m + b + n) (length s.rest))));
+      merged_then = [];
+    }

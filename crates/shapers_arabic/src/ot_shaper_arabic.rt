@@ -1,0 +1,210 @@
+//! The shaper of Arabic and of the scripts that join like it.
+ghost use Rattle.std.specs.Prelude.{◌≡◌, ◌+◌, ◌<◌, OnOk, OnErr, IsOkUnless, if◌then◌else◌};
+ghost use Rattle.shapers_base.specs.declared.buffer.refusal.ShaperError.TheVariants.{Memory};
+ghost use Rattle.shapers_base.specs.Planner.{with_requests};
+ghost use Rattle.shapers_arabic.specs.Requests.{arabic_list, is_arabic, joining_list, rclt};
+ghost use Rattle.shapers_arabic.specs.JoinedText.{AreCharacters, CopiedContextsCut, CopiedContextsShow, CutsAsHalves, IsJoined, look_ups, text_of};
+ghost use Rattle.shapers_arabic.specs.PlanData.{IsArabic, masks_of};
+
+use arrayvec::ArrayVec;
+use shapers_base::buffer::{Script, hb_buffer_t, hb_tag_t};
+use shapers_base::font::{Tables, hb_font_t};
+use shapers_base::map::{F_GLOBAL, F_HAS_FALLBACK, F_MANUAL_ZWJ, F_NONE};
+use shapers_base::plan::{
+    Pause, PlanData, Request, ShaperError, hb_ot_shape_plan_t, hb_ot_shape_planner_t,
+};
+use std::marker::Brand;
+use std::sync::ledger::{Blank, Ledger};
+
+pub mod arabic_action_t;
+mod data;
+mod joining;
+mod look_ups;
+mod masks;
+mod walk;
+
+pub use data::{create_data, data_create_arabic};
+use joining::nearest_in;
+pub use look_ups::LookUps;
+pub use shapers_base::plan::{arabic_shape_plan_t, hb_arabic_joining_type_t};
+use walk::JoiningWalk;
+
+// A feature that holds for the whole text and sees joiners.
+const GLOBAL_ZWJ: u32 = F_GLOBAL | F_MANUAL_ZWJ;
+
+// What comes before the joining forms.
+const FIRST_REQUESTS: [Request; 5] = [
+    Request::Feature(hb_tag_t(*b"stch"), F_GLOBAL, 1),
+    Request::Pause(Some(Pause::RecordStch)),
+    Request::Feature(hb_tag_t(*b"ccmp"), GLOBAL_ZWJ, 1),
+    Request::Feature(hb_tag_t(*b"locl"), GLOBAL_ZWJ, 1),
+    Request::Pause(None),
+];
+
+// The required ligatures.
+const RLIG: Request = Request::Feature(hb_tag_t(*b"rlig"), GLOBAL_ZWJ | F_HAS_FALLBACK, 1);
+
+// What comes last.
+const LAST_REQUESTS: [Request; 3] = [
+    Request::Feature(hb_tag_t(*b"liga"), GLOBAL_ZWJ, 1),
+    Request::Feature(hb_tag_t(*b"clig"), GLOBAL_ZWJ, 1),
+    Request::Feature(hb_tag_t(*b"mset"), GLOBAL_ZWJ, 1),
+];
+
+/// Asks for the features of Arabic, in the order of its OpenType specification; for the script
+/// Arabic itself with the pause of the fallback shaper.
+/// The only refusal is `Memory`, which leaves the planner as it was.
+pub fn collect_features<F: hb_font_t>(
+    face: &F,
+    planner: &mut hb_ot_shape_planner_t,
+) -> Result<(), ShaperError>
+    ensures ok { OnOk result (planner.new ≡ with_requests (arabic_list (is_arabic planner.old.script) ((F.font face.now).offers rclt)) planner.old) }
+    ensures refusal { IsOkUnless result Memory }
+    ensures err { OnErr result (planner.new ≡ planner.old) }
+{
+    let is_arabic = planner.script() == Some(Script(*b"Arab"));
+    let has_rclt = planner.has_feature(face, hb_tag_t(*b"rclt"));
+    let requests = arabic_requests(is_arabic, has_rclt);
+    planner.add_requests(requests.as_slice())
+}
+
+// The list for the script Arabic or another one, for a font that has `rclt` or has it not.
+fn arabic_requests(is_arabic: bool, has_rclt: bool) -> ArrayVec<Request, 26>
+    ensures { result.items ≡ arabic_list is_arabic has_rclt }
+{
+    let fallback = if is_arabic { F_HAS_FALLBACK } else { F_NONE };
+    let mut requests = ArrayVec::new();
+    requests.try_extend_from_slice(&FIRST_REQUESTS).unwrap();
+    requests
+        .try_extend_from_slice(&joining_requests(F_MANUAL_ZWJ | fallback))
+        .unwrap();
+    requests.push(Request::Feature(hb_tag_t(*b"rlig"), GLOBAL_ZWJ | F_HAS_FALLBACK, 1));
+    if is_arabic {
+        requests.push(Request::Pause(Some(Pause::ArabicFallbackShape)));
+    }
+    requests.push(Request::Feature(hb_tag_t(*b"calt"), GLOBAL_ZWJ, 1));
+    if !has_rclt {
+        requests.push(Request::Pause(None));
+    }
+    requests.try_extend_from_slice(&LAST_REQUESTS).unwrap();
+    requests
+}
+
+// The joining forms, each followed by a pause; the forms of Syriac alone never have a fallback.
+fn joining_requests(flags: u32) -> [Request; 14]
+    ensures { result ≡ joining_list flags }
+{
+    [
+        Request::Feature(hb_tag_t(*b"isol"), flags, 1),
+        Request::Pause(None),
+        Request::Feature(hb_tag_t(*b"fina"), flags, 1),
+        Request::Pause(None),
+        Request::Feature(hb_tag_t(*b"fin2"), F_MANUAL_ZWJ, 1),
+        Request::Pause(None),
+        Request::Feature(hb_tag_t(*b"fin3"), F_MANUAL_ZWJ, 1),
+        Request::Pause(None),
+        Request::Feature(hb_tag_t(*b"medi"), flags, 1),
+        Request::Pause(None),
+        Request::Feature(hb_tag_t(*b"med2"), F_MANUAL_ZWJ, 1),
+        Request::Pause(None),
+        Request::Feature(hb_tag_t(*b"init"), flags, 1),
+        Request::Pause(None),
+    ]
+}
+
+/// Gives each glyph the form that its neighbours ask for, in its auxiliary byte, and the form's
+/// mask, and counts the joining types that it looks up. It can't refuse and takes no memory.
+pub fn setup_masks_counted<T: Tables, L: Ledger>(
+    arabic_plan: &arabic_shape_plan_t,
+    script: Option<Script>,
+    buffer: &mut hb_buffer_t,
+    tables: &T,
+    count: &mut LookUps<L>,
+)
+    requires { AreCharacters buffer.old.glyphs }
+    ensures joined { let table = T.tables tables.now in
+        IsJoined arabic_plan.now.mask_array script table.joining table.general buffer.old buffer.new }
+    ensures counted { let table = T.tables tables.now in
+        count.new ≡ count.old + look_ups (text_of table.joining table.general buffer.old) }
+    ensures cut { let table = T.tables tables.now in
+        CutsAsHalves script table.joining table.general buffer.old buffer.new }
+{
+    let before = nearest_in(buffer.pre_context(), tables, count);
+    let after = nearest_in(buffer.post_context(), tables, count);
+    let flags = buffer.flags();
+    let mut walk = JoiningWalk {
+        masks: &arabic_plan.mask_array,
+        script,
+        flags,
+        before,
+        after,
+        tables,
+        count,
+    };
+    buffer.walk(&mut walk);
+}
+
+/// Gives each glyph the form that its neighbours ask for, in its auxiliary byte, and the form's
+/// mask; a text that is cut acts as the whole where the halves see their neighbours. It can't
+/// refuse and takes no memory.
+pub fn setup_masks_inner<T: Tables>(
+    arabic_plan: &arabic_shape_plan_t,
+    script: Option<Script>,
+    buffer: &mut hb_buffer_t,
+    tables: &T,
+)
+    requires { AreCharacters buffer.old.glyphs }
+    ensures joined { let table = T.tables tables.now in
+        IsJoined arabic_plan.now.mask_array script table.joining table.general buffer.old buffer.new }
+    ensures cut { let table = T.tables tables.now in
+        CutsAsHalves script table.joining table.general buffer.old buffer.new }
+{
+    setup_masks_with::<T, Brand>(arabic_plan, script, buffer, tables, Blank::new(1));
+}
+
+// The same with a count of its own.
+fn setup_masks_with<T: Tables, L: Ledger>(
+    arabic_plan: &arabic_shape_plan_t,
+    script: Option<Script>,
+    buffer: &mut hb_buffer_t,
+    tables: &T,
+    blank: Blank,
+)
+    requires name { blank.name ≡ L.name }
+    requires parts { blank.parts ≡ L.parts }
+    requires some { 0 < blank.parts }
+    requires characters { AreCharacters buffer.old.glyphs }
+    ensures joined { let table = T.tables tables.now in
+        IsJoined arabic_plan.now.mask_array script table.joining table.general buffer.old buffer.new }
+    ensures cut { let table = T.tables tables.now in
+        CutsAsHalves script table.joining table.general buffer.old buffer.new }
+{
+    let mut count = LookUps::<L>::new(blank);
+    setup_masks_counted(arabic_plan, script, buffer, tables, &mut count);
+}
+
+/// Gives each glyph its form and the form's mask, with the script and the data of the plan. It can't
+/// refuse and takes no memory.
+pub fn setup_masks<T: Tables>(plan: &hb_ot_shape_plan_t, tables: &T, buffer: &mut hb_buffer_t)
+    requires data { IsArabic plan.now.plan_data }
+    requires characters { AreCharacters buffer.old.glyphs }
+    ensures joined { let table = T.tables tables.now in let masks = masks_of plan.now.plan_data in
+        IsJoined masks plan.now.script table.joining table.general buffer.old buffer.new }
+    ensures cut { let table = T.tables tables.now in
+        CutsAsHalves plan.now.script table.joining table.general buffer.old buffer.new }
+{
+    match &plan.plan_data {
+        PlanData::Arabic(arabic_plan) => {
+            setup_masks_inner(arabic_plan, plan.script, buffer, tables);
+        }
+        _ => unreachable!(),
+    }
+}
+
+/// A law of joining: contexts that are copied from the text show the neighbours, where one of their
+/// at most five characters isn't transparent or the text ends there; so halves with such contexts act
+/// as the whole.
+pub fn copied_contexts_law()
+    ensures shown { CopiedContextsShow }
+    ensures halves { CopiedContextsCut }
+{}

@@ -1,0 +1,60 @@
+//! One walk over the glyphs of a buffer: joining, the selectors, and the masks.
+ghost use Rattle.std.specs.Prelude.{◌≡◌, None, map, if◌then◌else◌};
+ghost use Rattle.shapers_arabic.specs.JoinedText.{is_mongolian};
+ghost use Rattle.shapers_arabic.specs.JoiningWalk.{HaveMasks, with_copied, with_mask};
+
+use super::joining::join;
+use super::look_ups::LookUps;
+use super::masks::{add_masks, copy_to_selectors};
+use shapers_base::buffer::{BufferFlags, GlyphWalk, Script, hb_glyph_info_t};
+use shapers_base::font::Tables;
+use shapers_base::plan::hb_arabic_joining_type_t;
+use std::sync::ledger::Ledger;
+
+// What joining needs besides the glyphs: the masks of the forms, and the nearest letters before and
+// after the text.
+#[derive(Drop)]
+pub(super) struct JoiningWalk<'a, T: Tables, L: Ledger> {
+    pub(super) masks: &'a [u32; 8],
+    pub(super) script: Option<Script>,
+    pub(super) flags: BufferFlags,
+    pub(super) before: Option<hb_arabic_joining_type_t>,
+    pub(super) after: Option<hb_arabic_joining_type_t>,
+    pub(super) tables: &'a T,
+    pub(super) count: &'a mut LookUps<L>,
+}
+
+impl<'a, T: Tables, L: Ledger> GlyphWalk for JoiningWalk<'a, T, L> {
+    ghost use Rattle.std.specs.Prelude.{◌≡◌, ◌+◌, length};
+    ghost use Rattle.shapers_arabic.specs.JoinedText.{AreCharacters};
+    ghost use Rattle.shapers_arabic.specs.JoiningWalk.{IsNearest, JoinsAll};
+
+    ghost can_walk = { λ w gs. AreCharacters gs × IsNearest w.before × IsNearest w.after };
+
+    ghost walks = { λ v w gs hs. JoinsAll v.masks.now v.script (T.tables v.tables.now).joining v.before v.after gs hs × (w.count.now ≡ v.count.now + length gs) × (w.count.ghost_name ≡ v.count.ghost_name) };
+
+    fn walk(&mut self, glyphs: &mut [hb_glyph_info_t]) {
+        join(
+            self.flags,
+            glyphs,
+            self.before,
+            self.after,
+            self.tables,
+            self.count,
+        );
+        finish_forms(self.script, self.masks, glyphs);
+    }
+}
+
+// Gives the selectors their forms, with the script Mongolian alone, and all glyphs their masks.
+fn finish_forms(script: Option<Script>, masks: &[u32; 8], glyphs: &mut [hb_glyph_info_t])
+    requires { HaveMasks glyphs.old }
+    ensures { glyphs.new ≡ map (with_mask masks.now) (if is_mongolian script then with_copied None glyphs.old else glyphs.old) }
+{
+    if script == Some(Script(*b"Mong")) {
+        copy_to_selectors(glyphs);
+        add_masks(masks, glyphs);
+    } else {
+        add_masks(masks, glyphs);
+    }
+}
