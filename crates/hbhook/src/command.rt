@@ -11,7 +11,7 @@ use crate::tables::{CanonicalPair, CharacterEntry};
 use fields::{
     character, decimal, decimal_to, four_characters, general_category, hexadecimal, signed,
 };
-pub use glyph_field::{GlyphField, Marks};
+pub use glyph_field::GlyphField;
 pub use hook::HookCall;
 use rustybuzz_shapers::buffer::{CONTEXT_LENGTH, Span, hb_tag_t};
 use rustybuzz_shapers::font::GlyphId;

@@ -1,6 +1,7 @@
 //! Runs of the program: what lines print, and how a run ends.
 mod arabic;
 mod edges;
+mod hangul;
 mod hebrew;
 mod hooks;
 mod lines;

@@ -20,8 +20,8 @@ text_stays : (plan : hb_ot_shape_plan_t) (font : Font) (b : Buffer) → Preproce
 text_stays plan font b = (refl, refl, refl, refl, refl, refl, refl)
 
 -- and so do its clusters
-text_kept : (plan : hb_ot_shape_plan_t) (b : Buffer) → PreprocessKeeps Arabic plan b b × PreprocessKeeps Hebrew plan b b × PreprocessKeeps Indic plan b b × PreprocessKeeps Khmer plan b b × PreprocessKeeps Myanmar plan b b × PreprocessKeeps MyanmarZawgyi plan b b × PreprocessKeeps Universal plan b b
-text_kept plan b = (refl, refl, refl, refl, refl, refl, refl)
+text_kept : (plan : hb_ot_shape_plan_t) (font : Font) (b : Buffer) → PreprocessKeeps Arabic plan font b b × PreprocessKeeps Hebrew plan font b b × PreprocessKeeps Indic plan font b b × PreprocessKeeps Khmer plan font b b × PreprocessKeeps Myanmar plan font b b × PreprocessKeeps MyanmarZawgyi plan font b b × PreprocessKeeps Universal plan font b b
+text_kept plan font b = (refl, refl, refl, refl, refl, refl, refl)
 
 -- the glyphs stay after positioning
 glyphs_stay : (plan : hb_ot_shape_plan_t) (font : Font) (b : Buffer) → Postprocessed Hangul plan font b b × Postprocessed Hebrew plan font b b × Postprocessed Indic plan font b b × Postprocessed Khmer plan font b b × Postprocessed Myanmar plan font b b × Postprocessed MyanmarZawgyi plan font b b × Postprocessed Thai plan font b b × Postprocessed Universal plan font b b

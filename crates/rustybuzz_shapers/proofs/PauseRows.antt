@@ -53,7 +53,7 @@ myanmar_broken = (λ plan font. refl, λ plan font. refl, λ plan font. refl, λ
 
 -- clearing takes one field of each glyph back, and the fallback of Arabic does nothing
 abbrev full : hb_glyph_info_t
-full = record { glyph_id = 0x916; cluster = 5; mask = 0x1F; syllable = 0x24; category = 1; auxiliary = 3; general_category = Mn; modified_combining_class = 9; lig_comp = 2; substituted = true; ligated = true; multiplied = true; ignorable = true; continuation = true }
+full = record { glyph_id = 0x916; cluster = 5; mask = 0x1F; syllable = 0x24; category = 1; auxiliary = 3; general_category = Mn; modified_combining_class = 9; lig_comp = 2; marks = record { 0 = 31 } }
 
 abbrev full_text : List hb_glyph_info_t → Buffer
 full_text gs = record (new_buffer 10) { glyphs = gs; broken = true; stch = true }
@@ -61,7 +61,7 @@ full_text gs = record (new_buffer 10) { glyphs = gs; broken = true; stch = true 
 abbrev Makes : Pause → hb_glyph_info_t → Type 0
 Makes pause g = (plan : hb_ot_shape_plan_t) (font : Font) → Paused pause plan font [] (full_text (full ∷ full ∷ [])) (full_text (g ∷ g ∷ []))
 
-cleared : Makes SyllabicClearVar (record full { syllable = 0 }) × Makes ClearSubstitutionFlags (record full { substituted = false }) × Makes ArabicFallbackShape full
+cleared : Makes SyllabicClearVar (record full { syllable = 0 }) × Makes ClearSubstitutionFlags (record full { marks = record { 0 = 30 } }) × Makes ArabicFallbackShape full
 cleared = (λ plan font. refl, λ plan font. refl, λ plan font. refl)
 
 -- set-up refuses spans that don't cover, and nothing else; the others refuse nothing

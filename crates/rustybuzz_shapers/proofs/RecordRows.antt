@@ -7,7 +7,7 @@ use Rattle.shapers_base.specs.Planner.{bare_pause, disabled, enabled}
 use Rattle.shapers_indic.specs.Requests.{indic_list, indic_overrides}
 use Rattle.shapers_regroup.specs.Requests.{khmer_list, khmer_overrides, myanmar_list, universal_list}
 use Rattle.shapers_arabic.specs.Requests.{arabic_list}
-use Rattle.shapers_text.specs.Requests.{hangul_list, hangul_overrides}
+use Rattle.shapers_hangul.specs.Requests.{hangul_list, hangul_overrides}
 use Rattle.rustybuzz_shapers.specs.Records.{asked, collected, if_there, normalizes, overridden, places_marks, wants_gpos_script, zeroes_marks}
 use Rattle.rustybuzz_shapers.specs.declared.shaper.hb_ot_shaper_t.{hb_ot_shaper_t}
 use Rattle.rustybuzz_shapers.specs.declared.shaper.hb_ot_shaper_t.TheVariants.{Arabic, Hangul, Hebrew, Indic, Khmer, Myanmar, MyanmarZawgyi, Thai, Universal}

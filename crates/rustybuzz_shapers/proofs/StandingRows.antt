@@ -18,7 +18,7 @@ row shaper = map (standing shaper) nine
 row_of_arabic : row Arabic ≡ Has ∷ Lacks ∷ Has ∷ Lacks ∷ WillHave ∷ Lacks ∷ Lacks ∷ Has ∷ WillHave ∷ []
 row_of_arabic = refl
 
-row_of_hangul : row Hangul ≡ Has ∷ Has ∷ WillHave ∷ WillHave ∷ Lacks ∷ Lacks ∷ Lacks ∷ WillHave ∷ Lacks ∷ []
+row_of_hangul : row Hangul ≡ Has ∷ Has ∷ Has ∷ Has ∷ Lacks ∷ Lacks ∷ Lacks ∷ Has ∷ Lacks ∷ []
 row_of_hangul = refl
 
 row_of_hebrew : row Hebrew ≡ Lacks ∷ Lacks ∷ Lacks ∷ Lacks ∷ Lacks ∷ Has ∷ Lacks ∷ Lacks ∷ Has ∷ []

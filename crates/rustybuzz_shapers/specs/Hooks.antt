@@ -16,6 +16,9 @@ use Rattle.shapers_base.specs.declared.plan.PlanData.TheVariants as data_of
 use Rattle.shapers_base.specs.declared.plan.Preprocess.{Preprocess}
 use Rattle.shapers_base.specs.declared.plan.Preprocess.TheVariants.{Done, CallerRunsVowelConstraints}
 use Rattle.shapers_clusters.specs.Steps.{run_step}
+use Rattle.shapers_hangul.specs.Hangul as hangul
+use Rattle.shapers_hangul.specs.HangulLaws.{KeepsClusters, SpellsSame}
+use Rattle.shapers_hangul.specs.Masks.{is_hangul_data, jamo_masks, with_jamo_masks}
 use Rattle.shapers_text.specs.Hebrew as hebrew
 use Rattle.shapers_text.specs.Hebrew.{composed_in_hebrew, mark_step}
 use Rattle.shapers_text.specs.Thai.{characters, is_sara_am, rewritten}
@@ -37,7 +40,7 @@ Unbuilt = ⊥
 -- what the shaper keeps in the plan
 abbrev pub DataCreated : hb_ot_shaper_t → hb_ot_shape_plan_t → Option PlanData → Type 0
 DataCreated Arabic plan answer = answer ≡ Some (data_of.Arabic (arabic_plan plan.ot_map))
-DataCreated Hangul plan answer = Unbuilt
+DataCreated Hangul plan answer = answer ≡ Some (data_of.Hangul (record { mask_array = jamo_masks plan.ot_map }))
 DataCreated Hebrew plan answer = answer ≡ None
 DataCreated Indic plan answer = Unbuilt
 DataCreated Khmer plan answer = Unbuilt
@@ -49,7 +52,7 @@ DataCreated Universal plan answer = Unbuilt
 -- the plan's data are of the kind that the shaper reads
 abbrev pub PlanFits : hb_ot_shaper_t → hb_ot_shape_plan_t → Type 0
 PlanFits Arabic plan = IsArabic plan.plan_data
-PlanFits Hangul plan = Unit {0}
+PlanFits Hangul plan = is_hangul_data plan.plan_data ≡ true
 PlanFits Hebrew plan = Unit {0}
 PlanFits Indic plan = Unit {0}
 PlanFits Khmer plan = Unit {0}
@@ -85,7 +88,7 @@ preprocess_answer Universal = Some CallerRunsVowelConstraints
 -- the buffer before and after preprocessing
 abbrev pub Preprocessed : hb_ot_shaper_t → hb_ot_shape_plan_t → Font → Buffer → Buffer → Type 0
 Preprocessed Arabic plan font old new = new ≡ old
-Preprocessed Hangul plan font old new = Unbuilt
+Preprocessed Hangul plan font old new = new ≡ hangul.rewritten font old
 Preprocessed Hebrew plan font old new = new ≡ old
 Preprocessed Indic plan font old new = new ≡ old
 Preprocessed Khmer plan font old new = new ≡ old
@@ -95,28 +98,28 @@ Preprocessed Thai plan font old new = new ≡ preprocessed_in_thai plan font old
 Preprocessed Universal plan font old new = new ≡ old
 
 -- the laws of its clusters, and that no glyph is lost
-abbrev pub PreprocessKeeps : hb_ot_shaper_t → hb_ot_shape_plan_t → Buffer → Buffer → Type 0
-PreprocessKeeps Arabic plan old new = new ≡ old
-PreprocessKeeps Hangul plan old new = Unbuilt
-PreprocessKeeps Hebrew plan old new = new ≡ old
-PreprocessKeeps Indic plan old new = new ≡ old
-PreprocessKeeps Khmer plan old new = new ≡ old
-PreprocessKeeps Myanmar plan old new = new ≡ old
-PreprocessKeeps MyanmarZawgyi plan old new = new ≡ old
-PreprocessKeeps Thai plan old new = ClustersInTwo old.level (characters old.glyphs) (clusters old.glyphs) (clusters new.glyphs) × KeptInTwo (asks_for_forms plan) old.glyphs new.glyphs
-PreprocessKeeps Universal plan old new = new ≡ old
+abbrev pub PreprocessKeeps : hb_ot_shaper_t → hb_ot_shape_plan_t → Font → Buffer → Buffer → Type 0
+PreprocessKeeps Arabic plan font old new = new ≡ old
+PreprocessKeeps Hangul plan font old new = KeepsClusters font old new × SpellsSame old new
+PreprocessKeeps Hebrew plan font old new = new ≡ old
+PreprocessKeeps Indic plan font old new = new ≡ old
+PreprocessKeeps Khmer plan font old new = new ≡ old
+PreprocessKeeps Myanmar plan font old new = new ≡ old
+PreprocessKeeps MyanmarZawgyi plan font old new = new ≡ old
+PreprocessKeeps Thai plan font old new = ClustersInTwo old.level (characters old.glyphs) (clusters old.glyphs) (clusters new.glyphs) × KeptInTwo (asks_for_forms plan) old.glyphs new.glyphs
+PreprocessKeeps Universal plan font old new = new ≡ old
 
--- when it refuses: Thai as a growth does, and never without a SARA AM; the others never
-abbrev pub RefusesPreprocess : {T : Type 0} → hb_ot_shaper_t → Buffer → Result T ShaperError → Type 0
-RefusesPreprocess Arabic old r = IsOk r
-RefusesPreprocess Hangul old r = Unbuilt
-RefusesPreprocess Hebrew old r = IsOk r
-RefusesPreprocess Indic old r = IsOk r
-RefusesPreprocess Khmer old r = IsOk r
-RefusesPreprocess Myanmar old r = IsOk r
-RefusesPreprocess MyanmarZawgyi old r = IsOk r
-RefusesPreprocess Thai old r = RefusesLength old.max_len (length (rewritten old.glyphs)) r × (list_any (λ g. is_sara_am g.glyph_id) old.glyphs ≡ false → IsOk r)
-RefusesPreprocess Universal old r = IsOk r
+-- when it refuses: Hangul and Thai as a growth to the result's length does, Thai never without a SARA AM; the others never
+abbrev pub RefusesPreprocess : {T : Type 0} → hb_ot_shaper_t → Font → Buffer → Result T ShaperError → Type 0
+RefusesPreprocess Arabic font old r = IsOk r
+RefusesPreprocess Hangul font old r = RefusesLength old.max_len (length (hangul.rewritten font old).glyphs) r
+RefusesPreprocess Hebrew font old r = IsOk r
+RefusesPreprocess Indic font old r = IsOk r
+RefusesPreprocess Khmer font old r = IsOk r
+RefusesPreprocess Myanmar font old r = IsOk r
+RefusesPreprocess MyanmarZawgyi font old r = IsOk r
+RefusesPreprocess Thai font old r = RefusesLength old.max_len (length (rewritten old.glyphs)) r × (list_any (λ g. is_sara_am g.glyph_id) old.glyphs ≡ false → IsOk r)
+RefusesPreprocess Universal font old r = IsOk r
 
 -- the buffer before and after postprocessing
 abbrev pub Postprocessed : hb_ot_shaper_t → hb_ot_shape_plan_t → Font → Buffer → Buffer → Type 0
@@ -169,7 +172,7 @@ Decomposed Universal plan tables ab answer = answer ≡ None
 -- the buffer before and after masks are set
 abbrev pub MasksSet : hb_ot_shaper_t → hb_ot_shape_plan_t → CharacterTables → Buffer → Buffer → Type 0
 MasksSet Arabic plan tables old new = IsJoined (masks_of plan.plan_data) plan.script tables.joining tables.general old new × CutsAsHalves plan.script tables.joining tables.general old new
-MasksSet Hangul plan tables old new = Unbuilt
+MasksSet Hangul plan tables old new = new ≡ with_jamo_masks plan.plan_data old
 MasksSet Hebrew plan tables old new = new ≡ old
 MasksSet Indic plan tables old new = Unbuilt
 MasksSet Khmer plan tables old new = Unbuilt

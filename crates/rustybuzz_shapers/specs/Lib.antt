@@ -19,6 +19,9 @@ pub use Rattle.shapers_base.specs.Syllables
 pub use Rattle.shapers_base.specs.declared.buffer.category.hb_unicode_general_category_t
 pub use Rattle.shapers_base.specs.declared.font.GlyphId
 pub use Rattle.shapers_base.specs.declared.plan.joining.hb_arabic_joining_type_t
+pub use Rattle.shapers_hangul.specs.Hangul
+pub use Rattle.shapers_hangul.specs.HangulLaws
+pub use Rattle.shapers_hangul.specs.Masks
 pub use Rattle.shapers_text.specs.Hebrew
 pub use Rattle.shapers_text.specs.Thai
 pub use Rattle.shapers_text.specs.ThaiForms

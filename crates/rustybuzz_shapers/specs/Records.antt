@@ -10,7 +10,7 @@ use Rattle.shapers_base.specs.declared.plan.record.NormalizationMode.TheVariants
 use Rattle.shapers_base.specs.declared.plan.record.ZeroWidthMarks.{ZeroWidthMarks}
 use Rattle.shapers_base.specs.declared.plan.record.ZeroWidthMarks.TheVariants as zeroing
 use Rattle.shapers_arabic.specs.Requests.{arabic_list, is_arabic}
-use Rattle.shapers_text.specs.Requests.{hangul_list, hangul_overrides}
+use Rattle.shapers_hangul.specs.Requests.{hangul_list, hangul_overrides}
 use Rattle.shapers_regroup.specs.Requests.{khmer_list, khmer_overrides, myanmar_list, universal_list}
 use Rattle.shapers_indic.specs.Requests.{indic_list, indic_overrides}
 use Rattle.rustybuzz_shapers.specs.declared.shaper.hb_ot_shaper_t.{hb_ot_shaper_t}

@@ -21,7 +21,8 @@ pub use shapers_base::plan::{NormalizationMode, Pause, PlanData, Preprocess, Zer
 use shapers_indic::ot_shaper_indic;
 use shapers_regroup::{ot_shaper_khmer, ot_shaper_myanmar, ot_shaper_use};
 use shapers_arabic::ot_shaper_arabic;
-use shapers_text::{ot_shaper_hangul, ot_shaper_hebrew, ot_shaper_thai};
+use shapers_hangul::ot_shaper_hangul;
+use shapers_text::{ot_shaper_hebrew, ot_shaper_thai};
 
 /// A script shaper.
 #[derive(Clone, Copy, Debug, PartialEq, Eq)]
@@ -164,15 +165,17 @@ impl hb_ot_shaper_t {
     {
         match self {
             Self::Arabic => Some(ot_shaper_arabic::create_data(plan)),
+            Self::Hangul => Some(ot_shaper_hangul::create_data(plan)),
             Self::Hebrew | Self::Myanmar | Self::MyanmarZawgyi | Self::Thai => None,
-            Self::Hangul | Self::Indic | Self::Khmer | Self::Universal => unreachable!(),
+            Self::Indic | Self::Khmer | Self::Universal => unreachable!(),
         }
     }
 
     /// Rewrites a text before its characters become glyphs. Thai puts each SARA AM in two, and then,
-    /// where GSUB doesn't have the script Thai, gives marks and bases their private use forms; it
-    /// refuses as a growth does. For Indic and the universal shaper the caller runs the vowel
-    /// constraints.
+    /// where GSUB doesn't have the script Thai, gives marks and bases their private use forms. Hangul
+    /// composes jamo, or takes syllables apart, as the font has them, and puts tones before their
+    /// syllables. Both refuse as a growth does. For Indic and the universal shaper the caller runs the
+    /// vowel constraints.
     pub fn preprocess_text<F: hb_font_t>(
         self,
         plan: &hb_ot_shape_plan_t,
@@ -183,8 +186,8 @@ impl hb_ot_shaper_t {
         requires settled { CanAsk self Hook.PreprocessText }
         ensures answer { IfOk result (λ answer. answer ≡ preprocess_answer self) }
         ensures ok { OnOk result (Preprocessed self plan.now (F.font face.now) buffer.old buffer.new) }
-        ensures laws { OnOk result (PreprocessKeeps self plan.now buffer.old buffer.new) }
-        ensures refusal { RefusesPreprocess self buffer.old result }
+        ensures laws { OnOk result (PreprocessKeeps self plan.now (F.font face.now) buffer.old buffer.new) }
+        ensures refusal { RefusesPreprocess self (F.font face.now) buffer.old result }
         ensures err { OnErr result (buffer.new ≡ buffer.old) }
     {
         match self {
@@ -192,7 +195,10 @@ impl hb_ot_shaper_t {
                 ot_shaper_thai::preprocess_text(plan, face, buffer)?;
                 Ok(Some(Preprocess::Done))
             }
-            Self::Hangul => unreachable!(),
+            Self::Hangul => {
+                ot_shaper_hangul::preprocess_text(plan, face, buffer)?;
+                Ok(Some(Preprocess::Done))
+            }
             Self::Indic | Self::Universal => Ok(Some(Preprocess::CallerRunsVowelConstraints)),
             Self::Arabic | Self::Hebrew | Self::Khmer | Self::Myanmar | Self::MyanmarZawgyi => {
                 Ok(None)
@@ -269,7 +275,8 @@ impl hb_ot_shaper_t {
     }
 
     /// Sets the masks of the glyphs: for Arabic, the form that each letter takes between its
-    /// neighbours, and the form's mask. It can't refuse and takes no memory.
+    /// neighbours, and the form's mask; for Hangul those of marked jamo. It can't refuse and takes no
+    /// memory.
     pub fn setup_masks<F: hb_font_t, T: Tables>(
         self,
         plan: &hb_ot_shape_plan_t,
@@ -286,12 +293,9 @@ impl hb_ot_shaper_t {
     {
         match self {
             Self::Arabic => Some(ot_shaper_arabic::setup_masks(plan, tables, buffer)),
+            Self::Hangul => Some(ot_shaper_hangul::setup_masks(plan, buffer)),
             Self::Hebrew | Self::MyanmarZawgyi | Self::Thai => None,
-            Self::Hangul
-            | Self::Indic
-            | Self::Khmer
-            | Self::Myanmar
-            | Self::Universal => unreachable!(),
+            Self::Indic | Self::Khmer | Self::Myanmar | Self::Universal => unreachable!(),
         }
     }
 

@@ -9,6 +9,8 @@ pub mod ListLaws
 pub mod MapLemmas
 mod MapRows
 pub mod MappedLists
+pub mod MarkLemmas
+mod MarkRows
 pub mod PieceLaws
 pub mod PlaceLaws
 mod PlaceRows

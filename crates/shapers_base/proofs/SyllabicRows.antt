@@ -1,5 +1,5 @@
 -- The kinds of syllables by their numbers, span set-up and clearing, computed on small texts.
-use Rattle.std.specs.Prelude.{◌≡◌, ℕ, true, false, [], ◌∷◌, map, refl}
+use Rattle.std.specs.Prelude.{◌≡◌, ℕ, true, [], ◌∷◌, map, refl}
 use Rattle.shapers_base.specs.declared.buffer.category.hb_unicode_general_category_t.TheVariants.{Mn}
 use Rattle.shapers_base.specs.declared.buffer.glyph.hb_glyph_info_t.{hb_glyph_info_t}
 use Rattle.shapers_base.specs.declared.ot_shaper_syllabic.kinds.indic_syllable.TheConstants as indic
@@ -30,12 +30,12 @@ kinds_of_bytes = refl
 
 -- clearing takes one field back and keeps the others
 abbrev full : hb_glyph_info_t
-full = record { glyph_id = 0x916; cluster = 5; mask = 0x1F; syllable = 0x24; category = 1; auxiliary = 3; general_category = Mn; modified_combining_class = 9; lig_comp = 2; substituted = true; ligated = true; multiplied = true; ignorable = true; continuation = true }
+full = record { glyph_id = 0x916; cluster = 5; mask = 0x1F; syllable = 0x24; category = 1; auxiliary = 3; general_category = Mn; modified_combining_class = 9; lig_comp = 2; marks = record { 0 = 31 } }
 
 cleared_syllable : in_syllable 0 full ≡ record full { syllable = 0 }
 cleared_syllable = refl
 
-cleared_substitution : unsubstituted full ≡ record full { substituted = false }
+cleared_substitution : unsubstituted full ≡ record full { marks = record { 0 = 30 } }
 cleared_substitution = refl
 
 -- the span pause: bytes, flags inside each syllable, and the mark of a broken one

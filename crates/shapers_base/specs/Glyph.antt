@@ -1,13 +1,14 @@
 -- The glyph on its own: its default, its order view, the kind of its syllable.
-use Rattle.std.specs.Prelude.{ℕ, ◌-◌, ◌%◌, List, map, false}
+use Rattle.std.specs.Prelude.{ℕ, ◌-◌, ◌%◌, List, map}
 use Rattle.shapers_base.specs.declared.buffer.category.hb_unicode_general_category_t.TheVariants.{Cc}
 use Rattle.shapers_base.specs.declared.buffer.glyph.hb_glyph_info_t.{hb_glyph_info_t}
 use Rattle.shapers_base.specs.declared.buffer.glyph.GlyphPosition.{GlyphPosition}
 use Rattle.std.specs.Prelude.{pos}
+use Rattle.shapers_base.specs.Marks.{no_marks}
 
 -- the default glyph: all zero, of category Cc, with no marks
 abbrev pub default_glyph : hb_glyph_info_t
-default_glyph = record { glyph_id = 0; cluster = 0; mask = 0; syllable = 0; category = 0; auxiliary = 0; general_category = Cc; modified_combining_class = 0; lig_comp = 0; substituted = false; ligated = false; multiplied = false; ignorable = false; continuation = false }
+default_glyph = record { glyph_id = 0; cluster = 0; mask = 0; syllable = 0; category = 0; auxiliary = 0; general_category = Cc; modified_combining_class = 0; lig_comp = 0; marks = no_marks }
 
 -- the default position: all zero
 abbrev pub default_position : GlyphPosition

@@ -9,6 +9,7 @@ pub mod Glyph
 pub mod GlyphFlags
 pub mod Lists
 pub mod Map
+pub mod Marks
 pub mod Places
 pub mod Planner
 pub mod Refusals

@@ -1,10 +1,11 @@
 -- What the shapers of syllabic scripts do to the whole text.
-use Rattle.std.specs.Prelude.{ℕ, ◌≤◌, List, length, map, false, All, IsTrue}
+use Rattle.std.specs.Prelude.{ℕ, ◌≤◌, List, length, map, All, IsTrue}
 use Rattle.std.specs.List.{flat_map}
 use Rattle.shapers_base.specs.declared.buffer.glyph.hb_glyph_info_t.{hb_glyph_info_t}
 use Rattle.shapers_base.specs.declared.buffer.syllables.Span.{Span}
 use Rattle.shapers_base.specs.Buffer.{Buffer}
 use Rattle.shapers_base.specs.GlyphFlags.{flagged}
+use Rattle.shapers_base.specs.Marks.{SUBSTITUTED, without_mark}
 use Rattle.shapers_base.specs.Syllables.{syllables, in_syllable, span_bytes, spans_cover, with_bytes}
 
 -- the glyphs with the inside of each syllable unsafe to break and to concatenate
@@ -29,4 +30,4 @@ in_unsafe_syllable byte gs = flagged 3 (map (in_syllable byte) gs)
 
 -- the glyph without the mark that a lookup substituted it
 abbrev pub unsubstituted : hb_glyph_info_t → hb_glyph_info_t
-unsubstituted g = record g { substituted = false }
+unsubstituted g = record g { marks = without_mark SUBSTITUTED g.marks }

@@ -14,6 +14,7 @@ mod fields;
 mod flags;
 mod glyph;
 mod glyph_flags;
+mod glyph_marks;
 mod level;
 mod merging;
 pub mod modified_combining_class;
@@ -31,6 +32,7 @@ pub use glyph::{GlyphPosition, hb_glyph_info_t};
 pub use glyph_flags::{
     glyph_flag, safe_to_insert_tatweel_in, unsafe_to_break_in, unsafe_to_concat_in,
 };
+pub use glyph_marks::{GlyphMarks, marks_are_set_alone};
 pub use level::{BufferClusterLevel, Direction};
 pub use merging::merge_clusters_in;
 pub use refusal::ShaperError;

@@ -5,6 +5,7 @@ pub use crate::buffer::ShaperError;
 use crate::map::hb_ot_map_t;
 
 mod arabic;
+mod hangul;
 mod joining;
 pub mod ot_category_t;
 pub mod ot_position_t;
@@ -13,6 +14,7 @@ mod planner;
 mod record;
 
 pub use arabic::arabic_shape_plan_t;
+pub use hangul::hangul_shape_plan_t;
 pub use joining::hb_arabic_joining_type_t;
 pub use pause::Pause;
 pub use planner::{Request, hb_ot_shape_planner_t};
@@ -44,6 +46,8 @@ pub enum PlanData {
     None,
     /// The masks of the joining forms.
     Arabic(arabic_shape_plan_t),
+    /// What Hangul keeps.
+    Hangul(hangul_shape_plan_t),
 }
 
 /// What `preprocess_text` left to its caller.

@@ -11,6 +11,8 @@ mod feature_lists;
 #[cfg(test)]
 mod joining;
 #[cfg(test)]
+mod marks;
+#[cfg(test)]
 mod planner;
 #[cfg(test)]
 mod shapers;

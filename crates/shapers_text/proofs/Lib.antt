@@ -1,6 +1,5 @@
 pub mod HebrewLemmas
 mod HebrewRows
-mod RequestRows
 mod SaraAmRows
 pub mod ThaiClusters
 pub mod ThaiFormLaws

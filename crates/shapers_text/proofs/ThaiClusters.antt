@@ -6,11 +6,14 @@ use Rattle.std.proofs.lemmas.List.Elements.{All-cons, All-from_recursion}
 use Rattle.std.proofs.lemmas.List.FromFn.{length-range_with_len}
 use Rattle.std.proofs.lemmas.List.Sums.{suffix_len-le-length}
 use Rattle.std.proofs.lemmas.Simd.{map-map}
+use Rattle.shapers_base.specs.declared.buffer.category.hb_unicode_general_category_t.TheVariants.{Cc}
 use Rattle.shapers_base.specs.declared.buffer.glyph.hb_glyph_info_t.{hb_glyph_info_t}
 use Rattle.shapers_base.specs.declared.buffer.level.BufferClusterLevel.{BufferClusterLevel}
 use Rattle.shapers_base.specs.Glyph.{clusters}
 use Rattle.shapers_base.specs.Clusters.{merge_all, merges}
+use Rattle.shapers_base.specs.Marks.{CONTINUATION}
 use Rattle.shapers_base.specs.Lists.{before_last_run, each_after}
+use Rattle.shapers_base.proofs.MarkLemmas.{cleared_after_set}
 use Rattle.shapers_base.proofs.MappedLists.{all-range, Contains-flat_map, Contains-each_after}
 use Rattle.shapers_clusters.specs.Cuts.{ShareCluster}
 use Rattle.shapers_clusters.proofs.Made.{Made, all_standing, glyphs-standing, numbered-standing}
@@ -23,9 +26,13 @@ use Rattle.shapers_text.proofs.ThaiInTwo.{kept, none_lost, read_by, in_two-map, 
 use Rattle.shapers_text.proofs.ThaiStretches.{characters-merge_all, stretches_within}
 use Rattle.shapers_text.proofs.ThaiFormWalks.{forms_hold}
 
+-- but for what the rewriting changes, a NIKHAHIT is the SARA AM that it comes of
+unnamed_nikhahit : (am : hb_glyph_info_t) → unnamed (nikhahit am) ≡ unnamed am
+unnamed_nikhahit am = ap (λ marks. let g : hb_glyph_info_t = record am { glyph_id = 0; general_category = Cc; marks = marks } in g) (cleared_after_set CONTINUATION am.marks refl)
+
 -- the rule on made glyphs: what comes of a SARA AM comes of its place
 abbrev made_in_two : (gs : List hb_glyph_info_t) → InTwo (Made unnamed gs)
-made_in_two gs = read_by (λ m. m.glyph) (λ m. record m { glyph = nikhahit m.glyph; same = m.same }) (λ m. record m { glyph = sara_aa m.glyph; same = m.same }) glyphs_in_two
+made_in_two gs = read_by (λ m. m.glyph) (λ m. record m { glyph = nikhahit m.glyph; same = unnamed_nikhahit m.glyph ∙ m.same }) (λ m. record m { glyph = sara_aa m.glyph; same = m.same }) glyphs_in_two
 
 -- a SARA AM with marks merges with them, and that stretch holds together what comes of them
 shares : (level : BufferClusterLevel) (us cs js : List ℕ) → ClustersMade level (sara_am_stretches level us) (sources us) cs js → merges level ≡ true → (xs : List ℕ) (u : ℕ) (ys : List ℕ) → us ≡ xs ++ u ∷ ys → is_sara_am u ≡ true → ShareCluster js (new_place xs) (new_place xs + suffix_len is_above_base xs)

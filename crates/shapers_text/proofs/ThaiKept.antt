@@ -7,7 +7,7 @@ use Rattle.std.proofs.lemmas.List.Sorted.{IsPermutation-map}
 use Rattle.std.proofs.lemmas.Simd.{map-map}
 use Rattle.shapers_base.specs.declared.buffer.glyph.hb_glyph_info_t.{hb_glyph_info_t}
 use Rattle.shapers_base.specs.declared.buffer.level.BufferClusterLevel.{BufferClusterLevel}
-use Rattle.shapers_base.specs.Glyph.{order_view, plain, without_flags}
+use Rattle.shapers_base.specs.Glyph.{order_view, plain}
 use Rattle.shapers_base.specs.Clusters.{merge_all}
 use Rattle.shapers_clusters.proofs.Merging.{order_view-merge_all, without_flags-twice}
 use Rattle.shapers_text.specs.Thai.{characters, glyphs_in_two, in_parts, is_sara_am, nikhahit, sara_aa, rewritten, sara_am_stretches}

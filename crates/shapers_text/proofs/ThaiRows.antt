@@ -6,6 +6,7 @@ use Rattle.shapers_base.specs.declared.buffer.glyph.hb_glyph_info_t.{hb_glyph_in
 use Rattle.shapers_base.specs.declared.buffer.level.BufferClusterLevel.{BufferClusterLevel}
 use Rattle.shapers_base.specs.declared.buffer.level.BufferClusterLevel.TheVariants.{MonotoneGraphemes, MonotoneCharacters}
 use Rattle.shapers_base.specs.Glyph.{default_glyph, clusters}
+use Rattle.shapers_base.specs.Marks.{is_continuation}
 use Rattle.shapers_text.specs.Thai.{characters, sources, sara_am_stretches}
 use Rattle.shapers_text.specs.ThaiForms.{preprocessed}
 use Rattle.shapers_text.specs.ThaiLaws.{new_place}
@@ -39,7 +40,7 @@ tone-new_place : new_place (0x0E14 ∷ 0x0E4B ∷ []) ≡ 1
 tone-new_place = refl
 
 -- only NIKHAHIT is made a mark and a continuation
-made-marks : map (λ g. g.continuation) (found MonotoneGraphemes (0x0E14 ∷ 0x0E4B ∷ 0x0E33 ∷ [])) ≡ false ∷ true ∷ false ∷ false ∷ []
+made-marks : map (λ g. is_continuation g.marks) (found MonotoneGraphemes (0x0E14 ∷ 0x0E4B ∷ 0x0E33 ∷ [])) ≡ false ∷ true ∷ false ∷ false ∷ []
 made-marks = refl
 
 made-categories : map (λ g. g.general_category) (found MonotoneGraphemes (0x0E14 ∷ 0x0E4B ∷ 0x0E33 ∷ [])) ≡ Cc ∷ Mn ∷ Cc ∷ Cc ∷ []

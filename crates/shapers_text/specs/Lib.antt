@@ -1,4 +1,3 @@
-pub mod Requests
 pub mod Hebrew
 pub mod Thai
 pub mod ThaiForms

@@ -7,6 +7,7 @@ use Rattle.shapers_base.specs.declared.buffer.level.BufferClusterLevel.{BufferCl
 use Rattle.shapers_base.specs.declared.buffer.level.BufferClusterLevel.TheVariants.{MonotoneGraphemes, MonotoneCharacters, Characters}
 use Rattle.std.specs.Cmp.Lexicographic.{pointwise}
 use Rattle.shapers_base.specs.declared.buffer.tag.Script.{Script}
+use Rattle.shapers_base.specs.Marks.{CONTINUATION, with_mark}
 use Rattle.shapers_base.specs.Lists.{last_run, before_last_run, each_after, opened_pieces}
 
 -- SARA AM, of Thai and of Lao
@@ -23,7 +24,7 @@ is_above_base u = is_thai_above_base (bit_and u 0xFFFFFF7F)
 
 -- NIKHAHIT and SARA AA out of SARA AM: NIKHAHIT is a continuation of category Mn
 abbrev pub nikhahit : hb_glyph_info_t → hb_glyph_info_t
-nikhahit am = record am { glyph_id = am.glyph_id + 0x1A; general_category = Mn; continuation = true }
+nikhahit am = record am { glyph_id = am.glyph_id + 0x1A; general_category = Mn; marks = with_mark CONTINUATION am.marks }
 
 abbrev pub sara_aa : hb_glyph_info_t → hb_glyph_info_t
 sara_aa am = record am { glyph_id = am.glyph_id - 1 }

@@ -5,6 +5,7 @@ use Rattle.std.specs.List.Sorted.{IsPermutation}
 use Rattle.shapers_base.specs.declared.buffer.glyph.hb_glyph_info_t.{hb_glyph_info_t}
 use Rattle.shapers_base.specs.declared.buffer.level.BufferClusterLevel.{BufferClusterLevel}
 use Rattle.shapers_base.specs.declared.buffer.category.hb_unicode_general_category_t.TheVariants.{Cc}
+use Rattle.shapers_base.specs.Marks.{CONTINUATION, without_mark}
 use Rattle.shapers_base.specs.Lists.{before_last_run}
 use Rattle.shapers_base.specs.Glyph.{clusters, plain, without_flags}
 use Rattle.shapers_base.specs.Clusters.{merge_all, merges}
@@ -29,7 +30,7 @@ pub record ClustersInTwo (level : BufferClusterLevel) (us cs js : List ℕ) : Ty
 
 -- a glyph without what the rewriting changes
 abbrev pub unnamed : hb_glyph_info_t → hb_glyph_info_t
-unnamed g = record g { glyph_id = 0; general_category = Cc; continuation = false }
+unnamed g = record g { glyph_id = 0; general_category = Cc; marks = without_mark CONTINUATION g.marks }
 
 -- What it gives: rs. But for its order it is the merged text with each SARA AM taken in two. Each glyph is its source after the merges in all but character, category and continuation; so no cluster rises,
 -- and glyph flags stay unless it fell.

@@ -1,17 +1,7 @@
 //! The lines `at I FIELD V`.
 use super::fields::{decimal, decimal_to, general_category, hexadecimal, signed};
 use crate::fault::LineFault;
-use rustybuzz_shapers::buffer::{hb_glyph_info_t, hb_unicode_general_category_t};
-
-/// The marks of a glyph.
-#[derive(Clone, Copy)]
-pub struct Marks {
-    pub substituted: bool,
-    pub ligated: bool,
-    pub multiplied: bool,
-    pub ignorable: bool,
-    pub continuation: bool,
-}
+use rustybuzz_shapers::buffer::{GlyphMarks, hb_glyph_info_t, hb_unicode_general_category_t};
 
 /// A field of a glyph or of its position, and its value.
 #[derive(Clone, Copy)]
@@ -25,7 +15,7 @@ pub enum GlyphField {
     GeneralCategory(hb_unicode_general_category_t),
     CombiningClass(u8),
     Component(u8),
-    Marks(Marks),
+    Marks(GlyphMarks),
     Advance(i32),
 }
 
@@ -60,33 +50,23 @@ impl GlyphField {
             GlyphField::GeneralCategory(category) => glyph.general_category = category,
             GlyphField::CombiningClass(class) => glyph.modified_combining_class = class,
             GlyphField::Component(component) => glyph.lig_comp = component,
-            GlyphField::Marks(marks) => marks.write(glyph),
+            GlyphField::Marks(marks) => glyph.marks = marks,
             GlyphField::Advance(_) => {}
         }
     }
 }
 
-impl Marks {
-    fn write(self, glyph: &mut hb_glyph_info_t) {
-        glyph.substituted = self.substituted;
-        glyph.ligated = self.ligated;
-        glyph.multiplied = self.multiplied;
-        glyph.ignorable = self.ignorable;
-        glyph.continuation = self.continuation;
-    }
-}
-
 // The marks of these letters; `-` alone is none.
-fn marks_of(letters: &str) -> Result<Marks, LineFault> {
+fn marks_of(letters: &str) -> Result<GlyphMarks, LineFault> {
     let is_mark = |letter: u8| b"slmic".contains(&letter);
     if letters.is_empty() || letters != "-" && !letters.bytes().all(is_mark) {
         return Err(LineFault::Unreadable);
     }
-    Ok(Marks {
-        substituted: letters.contains('s'),
-        ligated: letters.contains('l'),
-        multiplied: letters.contains('m'),
-        ignorable: letters.contains('i'),
-        continuation: letters.contains('c'),
-    })
+    let mut marks = GlyphMarks::NONE;
+    marks.set_substituted(letters.contains('s'));
+    marks.set_ligated(letters.contains('l'));
+    marks.set_multiplied(letters.contains('m'));
+    marks.set_ignorable(letters.contains('i'));
+    marks.set_continuation(letters.contains('c'));
+    Ok(marks)
 }

@@ -136,7 +136,7 @@ fn makes_glyphs(rt: HostRuntime) -> Result<(), Fail> {
         let glyph = session.buffer.get(i);
         assert_eq!(rt; glyph.general_category, categories[i]);
         assert_eq!(rt; glyph.lig_comp, 0);
-        assert!(rt; !glyph.substituted);
+        assert!(rt; !glyph.marks.is_substituted());
     }
     session.buffer.set_has_broken_syllable(true);
     session.buffer.set_has_stch(true);
@@ -162,11 +162,11 @@ fn sets_marks_by_letter(rt: HostRuntime) -> Result<(), Fail> {
         let session = session_of(rt.alloc(), &lines)?;
         assert!(rt; session.buffer.len() == 1);
         let glyph = session.buffer.get(0);
-        assert_eq!(rt; glyph.substituted, marks.0, "{line}");
-        assert_eq!(rt; glyph.ligated, marks.1, "{line}");
-        assert_eq!(rt; glyph.multiplied, marks.2, "{line}");
-        assert_eq!(rt; glyph.ignorable, marks.3, "{line}");
-        assert_eq!(rt; glyph.continuation, marks.4, "{line}");
+        assert_eq!(rt; glyph.marks.is_substituted(), marks.0, "{line}");
+        assert_eq!(rt; glyph.marks.is_ligated(), marks.1, "{line}");
+        assert_eq!(rt; glyph.marks.is_multiplied(), marks.2, "{line}");
+        assert_eq!(rt; glyph.marks.is_ignorable(), marks.3, "{line}");
+        assert_eq!(rt; glyph.marks.is_continuation(), marks.4, "{line}");
         assert_eq!(rt; glyph.lig_comp, 5);
     }
     Ok(())

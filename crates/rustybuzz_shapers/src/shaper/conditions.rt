@@ -6,6 +6,7 @@ use super::hb_ot_shaper_t;
 use shapers_arabic::ot_shaper_arabic;
 use shapers_base::buffer::{hb_buffer_t, hb_glyph_info_t};
 use shapers_base::plan::hb_ot_shape_plan_t;
+use shapers_hangul::ot_shaper_hangul;
 
 impl hb_ot_shaper_t {
     ghost use Rattle.rustybuzz_shapers.specs.Hooks.{GlyphsFit, PlanFits};
@@ -17,8 +18,8 @@ impl hb_ot_shaper_t {
     {
         match self {
             Self::Arabic => plan.plan_data = ot_shaper_arabic::create_data(&plan),
-            Self::Hangul
-            | Self::Hebrew
+            Self::Hangul => plan.plan_data = ot_shaper_hangul::create_data(&plan),
+            Self::Hebrew
             | Self::Indic
             | Self::Khmer
             | Self::Myanmar

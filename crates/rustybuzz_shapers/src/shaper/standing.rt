@@ -94,9 +94,9 @@ impl hb_ot_shaper_t {
             Self::Hangul => Hooks {
                 collect_features: Has,
                 override_features: Has,
-                create_data: WillHave,
-                preprocess_text: WillHave,
-                setup_masks: WillHave,
+                create_data: Has,
+                preprocess_text: Has,
+                setup_masks: Has,
                 ..NO_HOOKS
             },
             Self::Hebrew => Hooks {

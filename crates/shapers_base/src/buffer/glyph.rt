@@ -1,4 +1,5 @@
 use super::category::hb_unicode_general_category_t;
+use super::glyph_marks::GlyphMarks;
 
 /// One glyph of the buffer, or before the font's mapping one character.
 #[derive(Clone, Copy, Debug, PartialEq, Eq)]
@@ -17,11 +18,7 @@ pub struct hb_glyph_info_t {
     pub modified_combining_class: u8,
     /// The component of a ligature that a mark stands on, 0 to 15.
     pub lig_comp: u8,
-    pub substituted: bool,
-    pub ligated: bool,
-    pub multiplied: bool,
-    pub ignorable: bool,
-    pub continuation: bool,
+    pub marks: GlyphMarks,
 }
 
 impl hb_glyph_info_t {
@@ -36,11 +33,7 @@ impl hb_glyph_info_t {
         general_category: hb_unicode_general_category_t::Cc,
         modified_combining_class: 0,
         lig_comp: 0,
-        substituted: false,
-        ligated: false,
-        multiplied: false,
-        ignorable: false,
-        continuation: false,
+        marks: GlyphMarks::NONE,
     };
 }
 

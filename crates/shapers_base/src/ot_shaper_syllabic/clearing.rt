@@ -45,6 +45,6 @@ impl GlyphChange for Unsubstituted {
     ghost changed = { λ _ glyph. unsubstituted glyph };
 
     fn change(&self, glyph: &mut hb_glyph_info_t) {
-        glyph.substituted = false;
+        glyph.marks.set_substituted(false);
     }
 }

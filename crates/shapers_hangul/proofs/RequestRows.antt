@@ -1,6 +1,6 @@
 -- The lists of Hangul, computed: their lengths.
 use Rattle.std.specs.Prelude.{◌≡◌, length, refl}
-use Rattle.shapers_text.specs.Requests.{hangul_list, hangul_overrides}
+use Rattle.shapers_hangul.specs.Requests.{hangul_list, hangul_overrides}
 
 hangul : length hangul_list ≡ 3
 hangul = refl

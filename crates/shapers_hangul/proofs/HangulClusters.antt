@@ -1,0 +1,179 @@
+-- What the hook makes of clusters and glyph flags, by the law of made glyphs.
+use Rattle.std.proofs.Common.{◌≡◌, ℕ, zero, suc, ◌+◌, ◌-◌, ◌<◌, ◌≤◌, ◌||◌, not, Bool, true, false, cond, List, [], ◌∷◌, ◌++◌, length, map, take, drop, refl, sym, ap, ◌∙◌, subst, arith}
+use Rattle.std.specs.List.{range_with_len, AllByRecursion, Contains}
+use Rattle.std.proofs.lemmas.List.Elements.{All-from_recursion, Contains-append_right}
+use Rattle.std.proofs.lemmas.List.Concat.{flat_map-append}
+use Rattle.std.proofs.lemmas.List.FromFn.{length-range_with_len}
+use Rattle.std.proofs.lemmas.List.{length-drop}
+use Rattle.std.proofs.lemmas.Simd.{map-map}
+use Rattle.shapers_base.specs.declared.buffer.glyph.hb_glyph_info_t.{hb_glyph_info_t}
+use Rattle.shapers_base.specs.declared.buffer.level.BufferClusterLevel.{BufferClusterLevel}
+use Rattle.std.specs.Prelude.{Result, Ok, Err, OnOk}
+use Rattle.shapers_base.specs.declared.buffer.refusal.ShaperError.{ShaperError}
+use Rattle.shapers_base.specs.Buffer.{Buffer}
+use Rattle.shapers_base.specs.Clusters.{merge_all, merges}
+use Rattle.shapers_base.specs.Font.{Font}
+use Rattle.shapers_base.specs.Glyph.{clusters}
+use Rattle.shapers_base.proofs.MappedLists.{all-append, all-flat_map, drop-range, places-enumerate_from, Contains-flat_map}
+use Rattle.shapers_clusters.specs.Cuts.{EndWithin, ShareCluster}
+use Rattle.shapers_clusters.specs.Laws.{ClustersMade}
+use Rattle.shapers_clusters.proofs.Made.{Made, all_standing, glyphs-standing, numbered-standing}
+use Rattle.shapers_clusters.proofs.Merging.{length-merge_all}
+use Rattle.shapers_clusters.proofs.Proved.{made_hold_by, part_shares}
+use Rattle.shapers_hangul.specs.declared.ot_shaper_hangul.item.Item.{Item}
+use Rattle.shapers_hangul.specs.declared.ot_shaper_hangul.item.JoinedTone.{JoinedTone}
+use Rattle.shapers_hangul.specs.declared.ot_shaper_hangul.item.JoinedTone.TheVariants.{Absent, Before, Behind}
+use Rattle.shapers_hangul.specs.declared.ot_shaper_hangul.item.Unit.{Unit}
+use Rattle.shapers_hangul.specs.declared.ot_shaper_hangul.item.Unit.TheVariants.{ComposedTwo, ComposedThree, JamoTwo, JamoThree, PartsTwo, PartsThree, PartsBeforeT, Syllable, ToneCircle, CircleTone, Other}
+use Rattle.shapers_hangul.specs.Hangul.{taken, output_len, tone_len, item_len, marks_merge, is_marked, first_item, items_from, items, Copying, unit_output, with_tone, item_output, outputs, unit_stretch, tone_stretch, item_stretches, stretches, glyph_copies, characters, preprocessed, rewritten, wants_circles}
+use Rattle.shapers_hangul.specs.HangulLaws.{place_copies, sources, KeepsClusters, unnamed, RewrittenLaw}
+use Rattle.shapers_hangul.proofs.Items.{first_item-within}
+use Rattle.shapers_hangul.proofs.Outputs.{Leads, outputs-map}
+use Rattle.shapers_hangul.proofs.Walks.{length-characters, length-item_output}
+
+-- all items stand within the text, and so do their stretches
+items_within : (font : Font) (circles : Bool) (place skip : ℕ) (us : List ℕ) → AllByRecursion (λ p. p.0 + item_len p.1 ≤ place + length us) (items_from (first_item font circles) place skip us)
+items_within font circles place skip [] = tt
+items_within font circles place zero (u ∷ us) =
+    let read = first_item font circles (u ∷ us) in
+    let same : place + 1 + length us ≡ place + length (u ∷ us) = omega arith in
+    (omega (arith, first_item-within font circles (u ∷ us) (omega arith)), subst (λ n. AllByRecursion (λ p. p.0 + item_len p.1 ≤ n) (items_from (first_item font circles) (place + 1) (item_len read - 1) us)) same (items_within font circles (place + 1) (item_len read - 1) us))
+items_within font circles place (suc skip) (u ∷ us) =
+    let same : place + 1 + length us ≡ place + length (u ∷ us) = omega arith in
+    subst (λ n. AllByRecursion (λ p. p.0 + item_len p.1 ≤ n) (items_from (first_item font circles) (place + 1) skip us)) same (items_within font circles (place + 1) skip us)
+
+unit_ends : (b : Bool) (s e n : ℕ) → e ≤ n → EndWithin n (cond b ((s, e) ∷ []) [])
+unit_ends true s e n within = (within, tt)
+unit_ends false s e n within = tt
+
+tone_ends : (tone : JoinedTone) (s e n : ℕ) → e + tone_len tone ≤ n → EndWithin n (tone_stretch tone s e)
+tone_ends Absent s e n within = tt
+tone_ends Before s e n within = (within, tt)
+tone_ends Behind s e n within = tt
+
+item_ends : (level : BufferClusterLevel) (unit : Unit) (tone : JoinedTone) (s n : ℕ) → s + (taken unit + tone_len tone) ≤ n → EndWithin n (unit_stretch level unit s ++ tone_stretch tone s (s + taken unit))
+item_ends level unit tone s n within =
+    all-append (λ st. st.1 ≤ n) (unit_stretch level unit s) (tone_stretch tone s (s + taken unit)) (unit_ends (marks_merge level || not (is_marked unit)) s (s + taken unit) n (omega arith)) (tone_ends tone s (s + taken unit) n (omega arith))
+
+stretches_within : (font : Font) (circles : Bool) (level : BufferClusterLevel) (us : List ℕ) → EndWithin (length us) (stretches level (items font circles us))
+stretches_within font circles level us =
+    let none : 0 + length us ≡ length us = omega arith in
+    all-flat_map (λ p. p.0 + item_len p.1 ≤ length us) (λ st. st.1 ≤ length us) (λ p. item_stretches level p.1 p.0) (λ p within. item_ends level p.1.unit p.1.tone p.0 (length us) within) (items font circles us)
+    (subst (λ n. AllByRecursion (λ p. p.0 + item_len p.1 ≤ n) (items font circles us)) none (items_within font circles 0 0 us))
+
+-- an element of a list that all elements say something of
+all-at : {X : Type 0} (P : X → Type 0) (xs : List X) (x : X) (ys : List X) → AllByRecursion P (xs ++ x ∷ ys) → P x
+all-at P [] x ys all = all.0
+all-at P (z ∷ xs) x ys all = all-at P xs x ys all.1
+
+contains-at : {X : Type 0} (xs : List X) (x : X) (ys : List X) → Contains (xs ++ x ∷ ys) x
+contains-at [] x ys = (0, omega arith, refl)
+contains-at (z ∷ xs) x ys = let (k, inside, at) = contains-at xs x ys in (suc k, omega arith, at)
+
+-- the sources of an item are among its places
+all-take-range : (P : ℕ → Type 0) (n a k : ℕ) → ((p : ℕ) → a ≤ p → p < a + n → P p) → AllByRecursion P (take n (range_with_len a k))
+all-take-range P zero a k h = tt
+all-take-range P (suc n) a zero h = tt
+all-take-range P (suc n) a (suc k) h = (h a (omega arith) (omega arith), all-take-range P n (a + 1) k (λ p low high. h p (omega arith) (omega arith)))
+
+all-unit_output : (P : ℕ → Type 0) (unit : Unit) (xs : List ℕ) → AllByRecursion P (take (taken unit) xs) → AllByRecursion P (unit_output place_copies unit xs)
+all-unit_output P (ComposedTwo s) [] all = tt
+all-unit_output P (ComposedTwo s) (x ∷ xs) all = (all.0, tt)
+all-unit_output P (ComposedThree s) [] all = tt
+all-unit_output P (ComposedThree s) (x ∷ xs) all = (all.0, tt)
+all-unit_output P JamoTwo [] all = tt
+all-unit_output P JamoTwo (x ∷ []) all = (all.0, tt)
+all-unit_output P JamoTwo (x ∷ y ∷ xs) all = (all.0, (all.1.0, tt))
+all-unit_output P JamoThree [] all = tt
+all-unit_output P JamoThree (x ∷ []) all = (all.0, tt)
+all-unit_output P JamoThree (x ∷ y ∷ []) all = (all.0, (all.1.0, tt))
+all-unit_output P JamoThree (x ∷ y ∷ z ∷ xs) all = (all.0, (all.1.0, (all.1.1.0, tt)))
+all-unit_output P (PartsTwo l v) [] all = tt
+all-unit_output P (PartsTwo l v) (x ∷ xs) all = (all.0, (all.0, tt))
+all-unit_output P (PartsThree l v t) [] all = tt
+all-unit_output P (PartsThree l v t) (x ∷ xs) all = (all.0, (all.0, (all.0, tt)))
+all-unit_output P (PartsBeforeT l v) [] all = tt
+all-unit_output P (PartsBeforeT l v) (x ∷ []) all = (all.0, (all.0, tt))
+all-unit_output P (PartsBeforeT l v) (x ∷ y ∷ xs) all = (all.0, (all.0, (all.1.0, tt)))
+all-unit_output P Syllable xs all = all
+all-unit_output P ToneCircle [] all = tt
+all-unit_output P ToneCircle (x ∷ xs) all = (all.0, (all.0, tt))
+all-unit_output P CircleTone [] all = tt
+all-unit_output P CircleTone (x ∷ xs) all = (all.0, (all.0, tt))
+all-unit_output P Other xs all = all
+
+all-with_tone : (P : ℕ → Type 0) (tone : JoinedTone) (ts out : List ℕ) → AllByRecursion P ts → AllByRecursion P out → AllByRecursion P (with_tone tone ts out)
+all-with_tone P Absent ts out all every = every
+all-with_tone P Before ts out all every = all-append P ts out all every
+all-with_tone P Behind ts out all every = all-append P out ts every all
+
+-- those of an item at a place of n
+item_sources : (item : Item) (place n : ℕ) → AllByRecursion (λ p. (place ≤ p) × (p < place + taken item.unit + 1)) (item_output place_copies item (drop place (range_with_len 0 n)))
+item_sources item place n =
+    let t = taken item.unit in
+    let P : ℕ → Type 0 = λ p. (place ≤ p) × (p < place + t + 1) in
+    let none : 0 + place ≡ place = omega arith in
+    let rest : drop place (range_with_len 0 n) ≡ range_with_len place (n - place) = drop-range 0 n place ∙ ap (λ a. range_with_len a (n - place)) none in
+    subst (λ (xs : List ℕ). AllByRecursion P (item_output place_copies item xs)) (sym rest)
+    (all-with_tone P item.tone (take 1 (drop t (range_with_len place (n - place)))) (unit_output place_copies item.unit (range_with_len place (n - place)))
+    (subst (λ (xs : List ℕ). AllByRecursion P (take 1 xs)) (sym (drop-range place (n - place) t)) (all-take-range P 1 (place + t) (n - place - t) (λ p low high. (omega arith, omega arith))))
+    (all-unit_output P item.unit (range_with_len place (n - place)) (all-take-range P t place (n - place) (λ p low high. (omega arith, omega arith)))))
+
+-- a tone that moves merges with its syllable
+tone_stands : (level : BufferClusterLevel) (unit : Unit) (tone : JoinedTone) (s : ℕ) → tone ≡ Before → Contains (unit_stretch level unit s ++ tone_stretch tone s (s + taken unit)) (s, s + taken unit + 1)
+tone_stands level unit tone s moves =
+    subst (λ t. Contains (unit_stretch level unit s ++ tone_stretch t s (s + taken unit)) (s, s + taken unit + 1)) (sym moves)
+    (Contains-append_right (unit_stretch level unit s) ((s, s + taken unit + 1) ∷ []) (s, s + taken unit + 1) (0, omega arith, refl))
+
+shares : (font : Font) (circles : Bool) (level : BufferClusterLevel) (us cs js : List ℕ) → ClustersMade level (stretches level (items font circles us)) (sources (items font circles us) (length us)) cs js → merges level ≡ true → (before : List (ℕ × Item)) (place : ℕ) (item : Item) (after : List (ℕ × Item)) → items font circles us ≡ before ++ (place, item) ∷ after → item.tone ≡ Before → ShareCluster js (length (sources before (length us))) (length (sources before (length us)) + output_len item.unit)
+shares font circles level us cs js made m before place item after split moves =
+    let n = length us in
+    let cut = items font circles us in
+    let st : ℕ × ℕ = (place, place + taken item.unit + 1) in
+    let inside = item_output place_copies item (drop place (range_with_len 0 n)) in
+    let within : place + item_len item ≤ 0 + n = all-at (λ p. p.0 + item_len p.1 ≤ 0 + n) before (place, item) after (subst (AllByRecursion (λ p. p.0 + item_len p.1 ≤ 0 + n)) split (items_within font circles 0 0 us)) in
+    let one : tone_len item.tone ≡ 1 = ap tone_len moves in
+    let many = length-item_output place_copies item (drop place (range_with_len 0 n)) (omega (arith, within, length-drop place (range_with_len 0 n), length-range_with_len 0 n)) in
+    part_shares made m st (sources before n) inside (sources after n)
+    (λ some. Contains-flat_map (λ p. item_stretches level p.1 p.0) cut (place, item) st (subst (λ (l : List (ℕ × Item)). Contains l (place, item)) (sym split) (contains-at before (place, item) after)) (tone_stands level item.unit item.tone place moves))
+    (ap (λ l. sources l n) split ∙ flat_map-append (λ p. item_output place_copies p.1 (drop p.0 (range_with_len 0 n))) before ((place, item) ∷ after))
+    (All-from_recursion (λ p. (st.0 ≤ p) × (p < st.1)) inside (item_sources item place n))
+    (length (sources before n)) (length (sources before n) + output_len item.unit) refl (omega (arith, many, one))
+
+-- the rule on made glyphs: a copy comes of the place of what it copies
+abbrev made_copies : (gs : List hb_glyph_info_t) → Copying (Made unnamed gs)
+made_copies gs = record {
+  as_character = λ u m. record m { glyph = glyph_copies.as_character u m.glyph; same = m.same };
+  as_jamo = λ feature m. record m { glyph = glyph_copies.as_jamo feature m.glyph; same = m.same };
+}
+
+pub rewritten_holds : RewrittenLaw
+rewritten_holds font circles level gs =
+    let us = characters gs in
+    let cut = items font circles us in
+    let sts = stretches level cut in
+    let ms = merge_all level sts gs in
+    let standing = all_standing unnamed ms in
+    let made = outputs (made_copies ms) cut standing in
+    let within = subst (λ n. EndWithin n sts) (length-characters gs) (stretches_within font circles level us) in
+    let places : map (λ m. m.place) standing ≡ range_with_len 0 (length gs) =
+    sym (map-map (λ p. p.0) (λ m. (m.place, m.glyph.glyph_id)) standing)
+    ∙ ap (map (λ p. p.0)) (numbered-standing (λ g. g.glyph_id) unnamed ms)
+    ∙ places-enumerate_from 0 (characters ms)
+    ∙ ap (range_with_len 0) (length-characters ms ∙ length-merge_all level sts gs within) in
+    let to_places : Leads (λ m. m.place) (made_copies ms) place_copies = record { character = λ u m. refl; jamo = λ n m. refl } in
+    let to_glyphs : Leads (λ m. m.glyph) (made_copies ms) glyph_copies = record { character = λ u m. refl; jamo = λ n m. refl } in
+    let from : map (λ m. m.place) made ≡ sources cut (length gs) = outputs-map (λ m. m.place) (made_copies ms) place_copies to_places cut standing ∙ ap (outputs place_copies cut) places in
+    let glyphs : map (λ m. m.glyph) made ≡ preprocessed font circles level gs = outputs-map (λ m. m.glyph) (made_copies ms) glyph_copies to_glyphs cut standing ∙ ap (outputs glyph_copies cut) (glyphs-standing unnamed ms) in
+    let (same, h) = made_hold_by unnamed (record { cluster = λ g. refl; flags = λ g. refl }) level sts (sources cut (length gs)) gs (preprocessed font circles level gs) within made from glyphs in
+    let by_characters = subst (λ n. ClustersMade level sts (sources cut n) (clusters gs) (clusters (preprocessed font circles level gs))) (sym (length-characters gs)) h.clusters_made in
+    record {
+      made = same;
+      in_clusters = record { made = by_characters; cluster_law = shares font circles level us (clusters gs) (clusters (preprocessed font circles level gs)) by_characters };
+      falls = h.falls;
+    }
+
+-- the whole hook
+pub on_rewritten : {T : Type 0} (r : Result T ShaperError) (font : Font) (old new : Buffer) → OnOk r (new ≡ rewritten font old) → OnOk r (KeepsClusters font old new)
+on_rewritten (Ok x) font old new is = subst (KeepsClusters font old) (sym is) (rewritten_holds font (wants_circles old) old.level old.glyphs).in_clusters
+on_rewritten (Err e) font old new is = tt

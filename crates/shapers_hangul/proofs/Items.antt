@@ -1,0 +1,155 @@
+-- Units and items: how far they reach, one after another.
+use Rattle.std.proofs.Common.{◌≡◌, ◌⊎◌, inl, inr, ℕ, zero, suc, ◌+◌, ◌-◌, ◌<◌, ◌≤◌, ◌&&◌, not, Bool, true, false, cond, List, [], ◌∷◌, length, get_or, drop, refl, sym, ap, ◌∙◌, arith}
+use Rattle.std.proofs.lemmas.List.{drop_all, length-drop}
+use Rattle.std.proofs.Math.Seq.{drop-nil}
+use Rattle.shapers_base.specs.Font.{Font, has_nominal}
+use Rattle.shapers_hangul.specs.declared.ot_shaper_hangul.item.Item.{Item}
+use Rattle.shapers_hangul.specs.declared.ot_shaper_hangul.item.JoinedTone.TheVariants.{Absent, Before, Behind}
+use Rattle.shapers_hangul.specs.declared.ot_shaper_hangul.item.Unit.{Unit}
+use Rattle.shapers_hangul.specs.declared.ot_shaper_hangul.item.Unit.TheVariants.{ComposedTwo, ComposedThree, JamoTwo, JamoThree, PartsTwo, PartsThree, PartsBeforeT, Syllable, ToneCircle, CircleTone, Other}
+use Rattle.shapers_hangul.specs.Hangul.{is_l, is_v, is_t, combines_l, combines_v, combines_t, is_s, is_lv, is_tone, with_v, with_t, lead, vowel, trail, has_jamo_of, is_narrow, jamo_two, jamo_three, parts, syllable_unit, lone_tone, first_unit, taken, is_syllable, joined_tone, first_item, tone_len, item_len, items_from}
+
+-- both of two tests that pass together; a choice of two units
+pub both : (a b : Bool) → a && b ≡ true → (a ≡ true) × (b ≡ true)
+both true b h = (refl, h)
+both false b h = absurd cc
+
+pub either : (Q : Unit → Type 0) (b : Bool) (x y : Unit) → (b ≡ true → Q x) → (b ≡ false → Q y) → Q (cond b x y)
+either Q b x y passes fails = elim b as (λ a. b ≡ a → Q (cond a x y)) [ true ↦ passes | false ↦ fails ] refl
+
+-- what a test that 0 fails says of a number
+pub above : (test : ℕ → Bool) (v : ℕ) → test 0 ≡ false → test v ≡ true → 0 < v
+above test zero none passes = absurd cc
+above test (suc v) none passes = omega arith
+
+pub taken_some : (x : Unit) → 1 ≤ taken x
+taken_some (ComposedTwo s) = omega arith
+taken_some (ComposedThree s) = omega arith
+taken_some JamoTwo = omega arith
+taken_some JamoThree = omega arith
+taken_some (PartsTwo l v) = omega arith
+taken_some (PartsThree l v t) = omega arith
+taken_some (PartsBeforeT l v) = omega arith
+taken_some Syllable = omega arith
+taken_some ToneCircle = omega arith
+taken_some CircleTone = omega arith
+taken_some Other = omega arith
+
+taken_most : (x : Unit) → taken x ≤ 3
+taken_most (ComposedTwo s) = omega arith
+taken_most (ComposedThree s) = omega arith
+taken_most JamoTwo = omega arith
+taken_most JamoThree = omega arith
+taken_most (PartsTwo l v) = omega arith
+taken_most (PartsThree l v t) = omega arith
+taken_most (PartsBeforeT l v) = omega arith
+taken_most Syllable = omega arith
+taken_most ToneCircle = omega arith
+taken_most CircleTone = omega arith
+taken_most Other = omega arith
+
+-- a unit takes the next character only if there is one, and so the one behind it
+abbrev Reaches : ℕ → ℕ → Unit → Type 0
+Reaches v t x = (taken x ≤ 1) ⊎ ((0 < v) × ((taken x ≤ 2) ⊎ (0 < t)))
+
+lone_reaches : (font : Font) (circles : Bool) (u v t : ℕ) → Reaches v t (lone_tone font circles u)
+lone_reaches font circles u v t =
+    let Q = λ (x : Unit). Reaches v t x in
+    either Q (circles && has_nominal font 0x25CC) _ _ (λ _. either Q (is_narrow font u) CircleTone ToneCircle (λ _. inl (omega arith)) (λ _. inl (omega arith))) (λ _. inl (omega arith))
+
+two_reaches : (font : Font) (u v t : ℕ) → 0 < v → Reaches v t (jamo_two font u v)
+two_reaches font u v t some =
+    let Q = λ (x : Unit). Reaches v t x in
+    either Q ((combines_l u && combines_v v) && has_nominal font (with_v u v)) (ComposedTwo (with_v u v)) JamoTwo (λ _. inr (some, inl (omega arith))) (λ _. inr (some, inl (omega arith)))
+
+parts_reach : (s v t : ℕ) → Reaches v t (parts s)
+parts_reach s v t = let Q = λ (x : Unit). Reaches v t x in either Q (is_lv s) (PartsTwo (lead s) (vowel s)) (PartsThree (lead s) (vowel s) (trail s)) (λ _. inl (omega arith)) (λ _. inl (omega arith))
+
+syllable_reaches : (font : Font) (s v t : ℕ) → Reaches v t (syllable_unit font s v)
+syllable_reaches font s v t =
+    let Q = λ (x : Unit). Reaches v t x in
+    either Q ((is_lv s && combines_t v) && has_nominal font (with_t s v)) (ComposedTwo (with_t s v)) _
+    (λ h. inr (above combines_t v refl (both (is_lv s) _ (both _ (has_nominal font (with_t s v)) h).0).1, inl (omega arith)))
+    (λ _. either Q (not (has_nominal font s) && has_jamo_of font s) (parts s) _ (λ _. parts_reach s v t)
+    (λ _. either Q ((is_lv s && is_t v) && has_jamo_of font s) (PartsBeforeT (lead s) (vowel s)) _
+    (λ h. inr (above is_t v refl (both (is_lv s) _ (both _ (has_jamo_of font s) h).0).1, inl (omega arith)))
+    (λ _. either Q (has_nominal font s) Syllable Other (λ _. inl (omega arith)) (λ _. inl (omega arith)))))
+
+unit_reaches : (font : Font) (circles : Bool) (u v t : ℕ) → Reaches v t (first_unit font circles u v t)
+unit_reaches font circles u v t =
+    let Q = λ (x : Unit). Reaches v t x in
+    either Q (is_tone u) (lone_tone font circles u) _ (λ _. lone_reaches font circles u v t)
+    (λ _. either Q (is_l u && is_v v) _ _
+    (λ h. let some = above is_v v refl (both (is_l u) (is_v v) h).1 in either Q (is_t t) (jamo_three font u v t) (jamo_two font u v) (λ h. inr (some, inr (above is_t t refl h))) (λ _. two_reaches font u v t some))
+    (λ _. either Q (is_s u) (syllable_unit font u v) Other (λ _. syllable_reaches font u v t) (λ _. inl (omega arith))))
+
+-- a character that isn't 0 stands within the text
+pub there : (us : List ℕ) (i : ℕ) → 0 < get_or us i 0 → i < length us
+there [] i some = absurd (omega arith)
+there (u ∷ us) zero some = omega arith
+there (u ∷ us) (suc i) some = omega (arith, there us i some)
+
+pub unit_within : (font : Font) (circles : Bool) (us : List ℕ) → 0 < length us → taken (first_unit font circles (get_or us 0 0) (get_or us 1 0) (get_or us 2 0)) ≤ length us
+unit_within font circles us some =
+    let x = first_unit font circles (get_or us 0 0) (get_or us 1 0) (get_or us 2 0) in
+    elim (unit_reaches font circles (get_or us 0 0) (get_or us 1 0) (get_or us 2 0)) [
+      | inl one ↦ omega arith
+      | inr p ↦
+          elim p.1 [
+            | inl two ↦ omega (arith, there us 1 p.0)
+            | inr t ↦ omega (arith, there us 2 t, taken_most x)
+          ]
+    ]
+
+tone_within : (font : Font) (x : Unit) (us : List ℕ) → taken x ≤ length us → taken x + tone_len (joined_tone font x (get_or us (taken x) 0)) ≤ length us
+tone_within font x us within =
+    let w = get_or us (taken x) 0 in
+    elim (is_syllable x && is_tone w) as (λ b. is_syllable x && is_tone w ≡ b → taken x + tone_len (cond b (cond (is_narrow font w) Behind Before) Absent) ≤ length us) [
+      | true ↦ λ h.
+          let inside = there us (taken x) (above is_tone w refl (both (is_syllable x) (is_tone w) h).1) in
+          elim (is_narrow font w) as (λ b. taken x + tone_len (cond b Behind Before) ≤ length us) [ true ↦ omega (arith, inside) | false ↦ omega (arith, inside) ]
+      | false ↦ λ _. omega arith
+    ] refl
+
+pub first_item-within : (font : Font) (circles : Bool) (us : List ℕ) → 0 < length us → item_len (first_item font circles us) ≤ length us
+first_item-within font circles us some = tone_within font (first_unit font circles (get_or us 0 0) (get_or us 1 0) (get_or us 2 0)) us (unit_within font circles us some)
+
+-- the items from a place on: what the item before took is skipped, and then the first item opens the rest
+skipped : (read : List ℕ → Item) (place skip : ℕ) (us : List ℕ) → items_from read place skip us ≡ items_from read (place + skip) 0 (drop skip us)
+skipped read place zero [] = refl
+skipped read place (suc skip) [] = refl
+skipped read place zero (u ∷ us) = let same : place ≡ place + 0 = omega arith in ap (λ p. items_from read p 0 (u ∷ us)) same
+skipped read place (suc skip) (u ∷ us) = let same : place + 1 + skip ≡ place + suc skip = omega arith in skipped read (place + 1) skip us ∙ ap (λ p. items_from read p 0 (drop skip us)) same
+
+item_next : (read : List ℕ → Item) (place k : ℕ) (us : List ℕ) → 0 < length us → item_len (read us) ≡ suc k → items_from read place 0 us ≡ (place, read us) ∷ items_from read (place + suc k) 0 (drop (suc k) us)
+item_next read place k [] some takes = absurd (omega arith)
+item_next read place k (u ∷ us) some takes =
+    let less : item_len (read (u ∷ us)) - 1 ≡ k = omega arith in
+    let same : place + 1 + k ≡ place + suc k = omega arith in
+    ap (λ n. (place, read (u ∷ us)) ∷ items_from read (place + 1) n us) less
+    ∙ ap (λ l. (place, read (u ∷ us)) ∷ l) (skipped read (place + 1) k us ∙ ap (λ p. items_from read p 0 (drop k us)) same)
+
+pub drop_more_of : {X : Type 0} (n k : ℕ) (xs : List X) → drop k (drop n xs) ≡ drop (n + k) xs
+drop_more_of zero k xs = let same : k ≡ 0 + k = omega arith in ap (λ i. drop i xs) same
+drop_more_of (suc n) k [] = drop-nil k ∙ sym (drop-nil (suc n + k))
+drop_more_of (suc n) k (x ∷ xs) = let same : suc n + k ≡ suc (n + k) = omega arith in drop_more_of n k xs ∙ sym (ap (λ i. drop i (x ∷ xs)) same)
+
+-- the items from a place of a text on
+abbrev pub items_at : Font → Bool → List ℕ → ℕ → List (ℕ × Item)
+items_at font circles us place = items_from (first_item font circles) place 0 (drop place us)
+
+pub items_at_next : (font : Font) (circles : Bool) (us : List ℕ) (place : ℕ) (item : Item) → place < length us → item ≡ first_item font circles (drop place us) → items_at font circles us place ≡ (place, item) ∷ items_at font circles us (place + item_len item)
+items_at_next font circles us place item inside is =
+    let read = first_item font circles in
+    let rest = drop place us in
+    let k = item_len item - 1 in
+    let some : 1 ≤ item_len item = omega (arith, taken_some item.unit) in
+    let takes : item_len (read rest) ≡ suc k = omega (arith, ap item_len is) in
+    let many : suc k ≡ item_len item = omega arith in
+    item_next read place k rest (omega (arith, length-drop place us)) takes
+    ∙ ap (λ i. (place, i) ∷ items_from read (place + suc k) 0 (drop (suc k) rest)) (sym is)
+    ∙ ap (λ n. (place, item) ∷ items_from read (place + n) 0 (drop n rest)) many
+    ∙ ap (λ l. (place, item) ∷ items_from read (place + item_len item) 0 l) (drop_more_of place (item_len item) us)
+
+pub items_at_end : (font : Font) (circles : Bool) (us : List ℕ) (place : ℕ) → length us ≤ place → items_at font circles us place ≡ []
+items_at_end font circles us place past = ap (items_from (first_item font circles) place 0) (drop_all place us past)

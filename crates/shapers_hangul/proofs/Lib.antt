@@ -1,0 +1,7 @@
+pub mod HangulClusters
+mod HangulRows
+pub mod HangulSpelling
+pub mod Items
+pub mod Outputs
+mod RequestRows
+pub mod Walks

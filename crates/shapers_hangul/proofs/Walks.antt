@@ -1,0 +1,184 @@
+-- The walks of the code over the items: what is written, what is merged, what changes.
+use Rattle.std.proofs.Common.{◌≡◌, ℕ, zero, suc, ◌+◌, ◌<◌, ◌≤◌, ◌||◌, ◌&&◌, ◌==◌, not, Bool, true, false, cond, List, [], ◌∷◌, ◌++◌, length, take, drop, refl, sym, ap, subst, ◌∙◌, arith}
+use Rattle.std.proofs.lemmas.List.{append_assoc, append-nil, length-append, length-map, drop-map, take-append-drop}
+use Rattle.shapers_base.specs.declared.buffer.glyph.hb_glyph_info_t.{hb_glyph_info_t}
+use Rattle.shapers_base.specs.declared.buffer.level.BufferClusterLevel.{BufferClusterLevel}
+use Rattle.shapers_base.specs.Clusters.{merge, merge_all}
+use Rattle.shapers_base.specs.Font.{Font}
+use Rattle.shapers_clusters.proofs.Merging.{map-merge_all, merge_all-append, merge_cases}
+use Rattle.shapers_hangul.specs.declared.ot_shaper_hangul.item.Item.{Item}
+use Rattle.shapers_hangul.specs.declared.ot_shaper_hangul.item.JoinedTone.{JoinedTone}
+use Rattle.shapers_hangul.specs.declared.ot_shaper_hangul.item.JoinedTone.TheVariants.{Absent, Before, Behind}
+use Rattle.shapers_hangul.specs.declared.ot_shaper_hangul.item.Unit.{Unit}
+use Rattle.shapers_hangul.specs.declared.ot_shaper_hangul.item.Unit.TheVariants.{ComposedTwo, ComposedThree, JamoTwo, JamoThree, PartsTwo, PartsThree, PartsBeforeT, Syllable, ToneCircle, CircleTone, Other}
+use Rattle.shapers_hangul.specs.Hangul.{taken, output_len, tone_len, item_len, keeps, is_kept, first_item, items, Copying, unit_output, with_tone, item_output, outputs, item_stretches, stretches, marks_merge, glyph_copies, characters, Stays}
+use Rattle.shapers_hangul.proofs.Items.{drop_more_of, items_at, items_at_next, items_at_end}
+
+pub characters-merge_all : (level : BufferClusterLevel) (sts : List (ℕ × ℕ)) (gs : List hb_glyph_info_t) → characters (merge_all level sts gs) ≡ characters gs
+characters-merge_all level sts gs = map-merge_all (λ g. g.glyph_id) (λ g. refl) level sts gs
+
+pub length-characters : (gs : List hb_glyph_info_t) → length (characters gs) ≡ length gs
+length-characters gs = length-map gs (λ g. g.glyph_id)
+
+-- one more item, read from what is left of the glyphs
+pub glyphs_next : (font : Font) (circles : Bool) (gs : List hb_glyph_info_t) (us : List ℕ) (place : ℕ) (item : Item) → us ≡ characters gs → place < length gs → item ≡ first_item font circles (characters (drop place gs)) → items_at font circles us place ≡ (place, item) ∷ items_at font circles us (place + item_len item)
+glyphs_next font circles gs us place item same inside is =
+    items_at_next font circles us place item (omega (arith, length-characters gs, ap length same)) (is ∙ ap (first_item font circles) (sym (drop-map (λ g. g.glyph_id) place gs) ∙ ap (drop place) (sym same)))
+
+pub glyphs_end : (font : Font) (circles : Bool) (gs : List hb_glyph_info_t) (us : List ℕ) (place : ℕ) → us ≡ characters gs → length gs ≤ place → items_at font circles us place ≡ []
+glyphs_end font circles gs us place same past = items_at_end font circles us place (omega (arith, length-characters gs, ap length same))
+
+-- WRITING
+pub writing_next : (font : Font) (circles : Bool) (gs start list longer : List hb_glyph_info_t) (place : ℕ) (item : Item) → place < length gs → item ≡ first_item font circles (characters (drop place gs)) → list ++ outputs glyph_copies (items_at font circles (characters gs) place) gs ≡ start → longer ≡ list ++ item_output glyph_copies item (drop place gs) → longer ++ outputs glyph_copies (items_at font circles (characters gs) (place + item_len item)) gs ≡ start
+writing_next font circles gs start list longer place item inside is so_far written =
+    let rest = items_at font circles (characters gs) (place + item_len item) in
+    ap (λ l. l ++ outputs glyph_copies rest gs) written
+    ∙ append_assoc list (item_output glyph_copies item (drop place gs)) (outputs glyph_copies rest gs)
+    ∙ ap (λ cut. list ++ outputs glyph_copies cut gs) (sym (glyphs_next font circles gs (characters gs) place item refl inside is))
+    ∙ so_far
+
+pub writing_all : (font : Font) (circles : Bool) (gs start list : List hb_glyph_info_t) (place : ℕ) → length gs ≤ place → list ++ outputs glyph_copies (items_at font circles (characters gs) place) gs ≡ start → list ≡ start
+writing_all font circles gs start list place past so_far =
+    sym (append-nil list) ∙ ap (λ cut. list ++ outputs glyph_copies cut gs) (sym (glyphs_end font circles gs (characters gs) place refl past)) ∙ so_far
+
+-- MERGING
+pub merging_next : (font : Font) (circles : Bool) (level : BufferClusterLevel) (us : List ℕ) (gs now whole : List hb_glyph_info_t) (place : ℕ) (item : Item) → us ≡ characters gs → place < length gs → item ≡ first_item font circles (characters (drop place gs)) → merge_all level (stretches level (items_at font circles us place)) gs ≡ whole → now ≡ merge_all level (item_stretches level item place) gs → merge_all level (stretches level (items_at font circles us (place + item_len item))) now ≡ whole
+merging_next font circles level us gs now whole place item same inside is so_far done =
+    let rest = items_at font circles us (place + item_len item) in
+    ap (merge_all level (stretches level rest)) done
+    ∙ sym (merge_all-append level (item_stretches level item place) (stretches level rest) gs)
+    ∙ ap (λ cut. merge_all level (stretches level cut) gs) (sym (glyphs_next font circles gs us place item same inside is))
+    ∙ so_far
+
+pub merging_all : (font : Font) (circles : Bool) (level : BufferClusterLevel) (us : List ℕ) (gs whole : List hb_glyph_info_t) (place : ℕ) → us ≡ characters gs → length gs ≤ place → merge_all level (stretches level (items_at font circles us place)) gs ≡ whole → gs ≡ whole
+merging_all font circles level us gs whole place same past so_far =
+    ap (λ cut. merge_all level (stretches level cut) gs) (sym (glyphs_end font circles gs us place same past)) ∙ so_far
+
+-- LENGTHS
+length-unit_output : {X : Type 0} (c : Copying X) (unit : Unit) (xs : List X) → taken unit ≤ length xs → length (unit_output c unit xs) ≡ output_len unit
+length-unit_output c (ComposedTwo s) [] h = absurd (omega arith)
+length-unit_output c (ComposedTwo s) (x ∷ xs) h = refl
+length-unit_output c (ComposedThree s) [] h = absurd (omega arith)
+length-unit_output c (ComposedThree s) (x ∷ xs) h = refl
+length-unit_output c JamoTwo [] h = absurd (omega arith)
+length-unit_output c JamoTwo (x ∷ []) h = absurd (omega arith)
+length-unit_output c JamoTwo (x ∷ y ∷ xs) h = refl
+length-unit_output c JamoThree [] h = absurd (omega arith)
+length-unit_output c JamoThree (x ∷ []) h = absurd (omega arith)
+length-unit_output c JamoThree (x ∷ y ∷ []) h = absurd (omega arith)
+length-unit_output c JamoThree (x ∷ y ∷ z ∷ xs) h = refl
+length-unit_output c (PartsTwo l v) [] h = absurd (omega arith)
+length-unit_output c (PartsTwo l v) (x ∷ xs) h = refl
+length-unit_output c (PartsThree l v t) [] h = absurd (omega arith)
+length-unit_output c (PartsThree l v t) (x ∷ xs) h = refl
+length-unit_output c (PartsBeforeT l v) [] h = absurd (omega arith)
+length-unit_output c (PartsBeforeT l v) (x ∷ []) h = absurd (omega arith)
+length-unit_output c (PartsBeforeT l v) (x ∷ y ∷ xs) h = refl
+length-unit_output c Syllable [] h = absurd (omega arith)
+length-unit_output c Syllable (x ∷ xs) h = refl
+length-unit_output c ToneCircle [] h = absurd (omega arith)
+length-unit_output c ToneCircle (x ∷ xs) h = refl
+length-unit_output c CircleTone [] h = absurd (omega arith)
+length-unit_output c CircleTone (x ∷ xs) h = refl
+length-unit_output c Other [] h = absurd (omega arith)
+length-unit_output c Other (x ∷ xs) h = refl
+
+first_after : {X : Type 0} (n : ℕ) (xs : List X) → n < length xs → length (take 1 (drop n xs)) ≡ 1
+first_after n [] some = absurd (omega arith)
+first_after zero (x ∷ xs) some = refl
+first_after (suc n) (x ∷ xs) some = first_after n xs (omega arith)
+
+length-with_tone : {X : Type 0} (c : Copying X) (unit : Unit) (tone : JoinedTone) (xs : List X) → taken unit + tone_len tone ≤ length xs → length (with_tone tone (take 1 (drop (taken unit) xs)) (unit_output c unit xs)) ≡ output_len unit + tone_len tone
+length-with_tone c unit Absent xs h = omega (arith, length-unit_output c unit xs (omega arith))
+length-with_tone c unit Before xs h = omega (arith, length-append (take 1 (drop (taken unit) xs)) (unit_output c unit xs), length-unit_output c unit xs (omega arith), first_after (taken unit) xs (omega arith))
+length-with_tone c unit Behind xs h = omega (arith, length-append (unit_output c unit xs) (take 1 (drop (taken unit) xs)), length-unit_output c unit xs (omega arith), first_after (taken unit) xs (omega arith))
+
+pub length-item_output : {X : Type 0} (c : Copying X) (item : Item) (xs : List X) → item_len item ≤ length xs → length (item_output c item xs) ≡ output_len item.unit + tone_len item.tone
+length-item_output c item xs h = length-with_tone c item.unit item.tone xs h
+
+pub length_next : (font : Font) (circles : Bool) (gs : List hb_glyph_info_t) (place : ℕ) (item : Item) → place < length gs → item ≡ first_item font circles (characters (drop place gs)) → item_len item ≤ length (drop place gs) → length (outputs glyph_copies (items_at font circles (characters gs) place) gs) ≡ (output_len item.unit + tone_len item.tone) + length (outputs glyph_copies (items_at font circles (characters gs) (place + item_len item)) gs)
+length_next font circles gs place item inside is within =
+    let rest = items_at font circles (characters gs) (place + item_len item) in
+    ap (λ cut. length (outputs glyph_copies cut gs)) (glyphs_next font circles gs (characters gs) place item refl inside is)
+    ∙ length-append (item_output glyph_copies item (drop place gs)) (outputs glyph_copies rest gs)
+    ∙ ap (λ n. n + length (outputs glyph_copies rest gs)) (length-item_output glyph_copies item (drop place gs) within)
+
+pub length_end : (font : Font) (circles : Bool) (gs : List hb_glyph_info_t) (place : ℕ) → length gs ≤ place → length (outputs glyph_copies (items_at font circles (characters gs) place) gs) ≡ 0
+length_end font circles gs place past = ap (λ cut. length (outputs glyph_copies cut gs)) (glyphs_end font circles gs (characters gs) place refl past)
+
+-- WHAT STAYS
+-- from a place on: nothing is merged, and every output is what it was
+pub record StaysFrom (cut : List (ℕ × Item)) (place : ℕ) (gs : List hb_glyph_info_t) : Type 0 where
+  pub unmerged : (level : BufferClusterLevel) → merge_all level (stretches level cut) gs ≡ gs
+  pub same : outputs glyph_copies cut gs ≡ drop place gs
+
+drop_none : {X : Type 0} (n : ℕ) (xs : List X) → length xs ≤ n → drop n xs ≡ []
+drop_none zero [] past = refl
+drop_none zero (x ∷ xs) past = absurd (omega arith)
+drop_none (suc n) [] past = refl
+drop_none (suc n) (x ∷ xs) past = drop_none n xs (omega arith)
+
+pub stays_end : (font : Font) (circles : Bool) (gs : List hb_glyph_info_t) (place : ℕ) → length gs ≤ place → StaysFrom (items_at font circles (characters gs) place) place gs
+stays_end font circles gs place past =
+    subst (λ (cut : List (ℕ × Item)). StaysFrom cut place gs) (sym (glyphs_end font circles gs (characters gs) place refl past)) (record { unmerged = λ level. refl; same = sym (drop_none place gs past) })
+
+-- one place merges nothing
+alone : (level : BufferClusterLevel) (s : ℕ) (gs : List hb_glyph_info_t) → merge level s (s + 1) gs ≡ gs
+alone level s gs = merge_cases (λ (xs : List hb_glyph_info_t). xs ≡ gs) level s (s + 1) gs refl (λ two. absurd (omega arith))
+
+-- an item that is kept is a syllable character or another one, without a tone
+kept_cases : (P : Item → Type 0) → P (record { unit = Syllable; tone = Absent }) → P (record { unit = Other; tone = Absent }) → (unit : Unit) (tone : JoinedTone) → keeps unit && tone_len tone == 0 ≡ true → P (record { unit = unit; tone = tone })
+kept_cases P s o (ComposedTwo x) tone k = absurd cc
+kept_cases P s o (ComposedThree x) tone k = absurd cc
+kept_cases P s o JamoTwo tone k = absurd cc
+kept_cases P s o JamoThree tone k = absurd cc
+kept_cases P s o (PartsTwo l v) tone k = absurd cc
+kept_cases P s o (PartsThree l v t) tone k = absurd cc
+kept_cases P s o (PartsBeforeT l v) tone k = absurd cc
+kept_cases P s o ToneCircle tone k = absurd cc
+kept_cases P s o CircleTone tone k = absurd cc
+kept_cases P s o Syllable Absent k = s
+kept_cases P s o Syllable Before k = absurd cc
+kept_cases P s o Syllable Behind k = absurd cc
+kept_cases P s o Other Absent k = o
+kept_cases P s o Other Before k = absurd cc
+kept_cases P s o Other Behind k = absurd cc
+
+one_unmerged : (level : BufferClusterLevel) (s : ℕ) (gs : List hb_glyph_info_t) (b : Bool) → merge_all level (cond b ((s, s + 1) ∷ []) [] ++ []) gs ≡ gs
+one_unmerged level s gs true = alone level s gs
+one_unmerged level s gs false = refl
+
+-- what is kept takes one place, merges nothing, and becomes itself
+record Keeps (item : Item) : Type 0 where
+  pub one : item_len item ≡ 1
+  pub unmerged : (level : BufferClusterLevel) (s : ℕ) (gs : List hb_glyph_info_t) → merge_all level (item_stretches level item s) gs ≡ gs
+  pub itself : (gs : List hb_glyph_info_t) → item_output glyph_copies item gs ≡ take 1 gs
+
+kept_stays : (item : Item) → is_kept item ≡ true → Keeps item
+kept_stays item kept =
+    kept_cases Keeps
+    (record { one = refl; unmerged = λ level s gs. one_unmerged level s gs (marks_merge level || true); itself = λ gs. refl })
+    (record { one = refl; unmerged = λ level s gs. one_unmerged level s gs (marks_merge level || true); itself = λ gs. refl })
+    item.unit item.tone kept
+
+pub stays_next : (font : Font) (circles : Bool) (gs : List hb_glyph_info_t) (place : ℕ) (item : Item) → place < length gs → item ≡ first_item font circles (characters (drop place gs)) → is_kept item ≡ true → StaysFrom (items_at font circles (characters gs) (place + item_len item)) (place + item_len item) gs → StaysFrom (items_at font circles (characters gs) place) place gs
+stays_next font circles gs place item inside is kept later =
+    let cut = items_at font circles (characters gs) (place + item_len item) in
+    let keeps = kept_stays item kept in
+    let next = glyphs_next font circles gs (characters gs) place item refl inside is in
+    subst (λ (cut : List (ℕ × Item)). StaysFrom cut place gs) (sym next) (record {
+      unmerged = λ level. merge_all-append level (item_stretches level item place) (stretches level cut) gs ∙ ap (merge_all level (stretches level cut)) (keeps.unmerged level place gs) ∙ later.unmerged level;
+      same =
+          ap (λ l. l ++ outputs glyph_copies cut gs) (keeps.itself (drop place gs))
+          ∙ ap (λ l. take 1 (drop place gs) ++ l) (later.same ∙ ap (λ n. drop (place + n) gs) keeps.one ∙ sym (drop_more_of place 1 gs))
+          ∙ take-append-drop 1 (drop place gs);
+    })
+
+pub neither : (a b : Bool) → a || not b ≡ false → (a ≡ false) × (b ≡ true)
+neither true b h = absurd cc
+neither false true h = (refl, refl)
+neither false false h = absurd cc
+
+-- the whole
+pub stays_all : (font : Font) (circles : Bool) (gs : List hb_glyph_info_t) → StaysFrom (items_at font circles (characters gs) 0) 0 gs → Stays (items font circles (characters gs)) gs
+stays_all font circles gs stays = record { unmerged = stays.unmerged; same = stays.same }

@@ -1,0 +1,28 @@
+-- One more item, no room for one, and the end.
+use Rattle.std.proofs.Common.{◌≡◌, ◌+◌, ◌∙◌, sym, ap, subst, length, arith}
+use Rattle.shapers_hangul.specs.Hangul.{characters, glyph_copies, item_len, outputs}
+use Rattle.shapers_hangul.proofs.Items.{items_at}
+use Rattle.shapers_hangul.proofs.Walks.{StaysFrom, length_next, stays_next, neither}
+use Rattle.shapers_hangul.proofs.ot_shaper_hangul.rewriting.measure.Goals as goal
+
+pub returns-then-room-output_len-clause-length : goal.returns-then-room-output_len-clause-length
+returns-then-room-output_len-clause-length g c =
+    let l = c.loop-place in
+    omega (arith, length_next (g.F.hb_font_t.font c.args.face.now) c.args.circles c.args.glyphs.now l.place c.item_at-item.result c.loop-place-test.true c.item_at-item.ensures.item c.item_at-item.ensures.in_rest, l.invariant.room_left, c.if-room-output_len.true, c.output_len.ensures)
+
+pub loop-place-preserved : goal.loop-place-preserved
+loop-place-preserved g c =
+    let l = c.loop-place in
+    let font = g.F.hb_font_t.font c.args.face.now in
+    let gs = c.args.glyphs.now in
+    let item = c.item_at-item.result in
+    let circles = c.args.circles in
+    let step = length_next font circles gs l.place item c.loop-place-test.true c.item_at-item.ensures.item c.item_at-item.ensures.in_rest in
+    let on : l.place + item_len item ≡ l.place + c.len-place.result = ap (λ n. l.place + n) (sym c.len-place.ensures) in
+    record {
+      within = omega (arith, c.item_at-item.ensures.within, c.len-place.ensures);
+      room_left = omega (arith, step, ap (λ p. length (outputs glyph_copies (items_at font circles (characters gs) p) gs)) on, l.invariant.room_left, c.if-room-output_len.false, c.output_len.ensures, c.output_len-room.ensures);
+      unchanged = λ none later.
+          let (before, kept) = neither l.changed _ (ap (λ b. b) none) in
+          l.invariant.unchanged before (stays_next font circles gs l.place item c.loop-place-test.true c.item_at-item.ensures.item (sym c.is_kept.ensures ∙ kept) (subst (λ p. StaysFrom (items_at font circles (characters gs) p) p gs) (sym on) later));
+    }

@@ -1,0 +1,71 @@
+-- What the rewriting makes of clusters and glyph flags, and that it spells the same text.
+use Rattle.std.specs.Prelude.{ℕ, Bool, ◌+◌, ◌==◌, ◌||◌, ◌≡◌, not, true, false, get_or, filter, List, [], ◌∷◌, ◌++◌, map, flat_map, take, length, if◌then◌else◌}
+use Rattle.std.specs.List.{AllZip, range_with_len}
+use Rattle.shapers_base.specs.declared.buffer.glyph.hb_glyph_info_t.{hb_glyph_info_t}
+use Rattle.shapers_base.specs.declared.buffer.level.BufferClusterLevel.{BufferClusterLevel}
+use Rattle.shapers_base.specs.Buffer.{Buffer}
+use Rattle.shapers_base.specs.Clusters.{merge_all, merges}
+use Rattle.shapers_base.specs.Font.{Font}
+use Rattle.shapers_base.specs.Glyph.{clusters}
+use Rattle.shapers_clusters.specs.Cuts.{ShareCluster}
+use Rattle.shapers_base.specs.Places.{pick}
+use Rattle.shapers_clusters.specs.Flags.{FlagsFall}
+use Rattle.shapers_clusters.specs.Laws.{ClustersMade}
+use Rattle.shapers_hangul.specs.declared.ot_shaper_hangul.item.Item.{Item}
+use Rattle.shapers_hangul.specs.declared.ot_shaper_hangul.item.JoinedTone.TheVariants.{Before}
+use Rattle.shapers_hangul.specs.Hangul.{lead, vowel, trail, is_s, is_lv, is_tone, opening_unit, taken, Copying, unit_output, outputs, output_len, items, stretches, character_copies, characters, preprocessed, wants_circles}
+
+-- the rule on places: a copy has the place of what it copies
+abbrev pub place_copies : Copying ℕ
+place_copies = record { as_character = λ u place. place; as_jamo = λ feature place. place }
+
+-- for each glyph that comes of these items of n characters the old place that it copies
+abbrev pub sources : List (ℕ × Item) → ℕ → List ℕ
+sources cut n = outputs place_copies cut (range_with_len 0 n)
+
+-- What the rewriting of the characters us makes of their clusters cs: js. They are the clusters of made glyphs, each having that
+-- of its source after the merges, with exact cuts. At the levels that merge, all places between a moved tone, which stands
+-- before what its syllable becomes, and the place behind that share one cluster.
+pub record ClustersRewritten (font : Font) (circles : Bool) (level : BufferClusterLevel) (us cs js : List ℕ) : Type 0 where
+  pub made : ClustersMade level (stretches level (items font circles us)) (sources (items font circles us) (length us)) cs js
+  pub cluster_law : merges level ≡ true → (before : List (ℕ × Item)) (place : ℕ) (item : Item) (after : List (ℕ × Item)) → items font circles us ≡ before ++ (place, item) ∷ after → item.tone ≡ Before → ShareCluster js (length (sources before (length us))) (length (sources before (length us)) + output_len item.unit)
+
+-- the same of a buffer, and of that with its text rewritten
+abbrev pub KeepsClusters : Font → Buffer → Buffer → Type 0
+KeepsClusters font old new = ClustersRewritten font (wants_circles old) old.level (characters old.glyphs) (clusters old.glyphs) (clusters new.glyphs)
+
+-- a glyph without what the rewriting changes
+abbrev pub unnamed : hb_glyph_info_t → hb_glyph_info_t
+unnamed g = record g { glyph_id = 0; auxiliary = 0 }
+
+-- What it gives: rs. Each glyph is its source after the merges in all but character and feature; so no cluster rises, and glyph
+-- flags stay unless it fell.
+pub record RewrittenHolds (font : Font) (circles : Bool) (level : BufferClusterLevel) (gs rs : List hb_glyph_info_t) : Type 0 where
+  pub made : map unnamed rs ≡ map unnamed (pick (sources (items font circles (characters gs)) (length gs)) (merge_all level (stretches level (items font circles (characters gs))) gs))
+  pub in_clusters : ClustersRewritten font circles level (characters gs) (clusters gs) (clusters rs)
+  pub falls : AllZip FlagsFall (pick (sources (items font circles (characters gs)) (length gs)) gs) rs
+
+abbrev pub RewrittenLaw : Type 0
+RewrittenLaw = (font : Font) (circles : Bool) (level : BufferClusterLevel) (gs : List hb_glyph_info_t) → RewrittenHolds font circles level gs (preprocessed font circles level gs)
+
+-- SPELLING. A text with each syllable character replaced by its jamo; that without tones and circles
+abbrev pub jamo_of : ℕ → List ℕ
+jamo_of s = lead s ∷ vowel s ∷ (if is_lv s then [] else trail s ∷ [])
+
+abbrev pub full : List ℕ → List ℕ
+full us = flat_map (λ u. if is_s u then jamo_of u else u ∷ []) us
+
+abbrev pub spelled : List ℕ → List ℕ
+spelled us = filter (λ u. not (is_tone u || u == 0x25CC)) (full us)
+
+-- A unit that is no tone spells what it takes; the result spells the text, tones and circles apart.
+pub record Spells (font : Font) (circles : Bool) (us : List ℕ) : Type 0 where
+  pub unit : is_tone (get_or us 0 0) ≡ false → full (unit_output character_copies (opening_unit font circles us) us) ≡ full (take (taken (opening_unit font circles us)) us)
+  pub whole : spelled (outputs character_copies (items font circles us) us) ≡ spelled us
+
+abbrev pub SpellingLaw : Type 0
+SpellingLaw = (font : Font) (circles : Bool) (us : List ℕ) → Spells font circles us
+
+-- the same of a buffer
+abbrev pub SpellsSame : Buffer → Buffer → Type 0
+SpellsSame old new = spelled (characters new.glyphs) ≡ spelled (characters old.glyphs)

@@ -1,0 +1,4 @@
+pub mod Hangul
+pub mod HangulLaws
+pub mod Masks
+pub mod Requests

@@ -1,0 +1,4 @@
+//! The shaper of Hangul.
+#![tactic(auto)]
+
+pub mod ot_shaper_hangul;

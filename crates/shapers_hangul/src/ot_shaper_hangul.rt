@@ -1,0 +1,139 @@
+//! The shaper of Hangul.
+ghost use Rattle.std.specs.Prelude.{◌≡◌, ◌%◌, OnOk, OnErr, IsOkUnless, true, map, length, []};
+ghost use Rattle.shapers_base.specs.declared.buffer.refusal.ShaperError.TheVariants.{Memory};
+ghost use Rattle.shapers_base.specs.Planner.{with_requests};
+ghost use Rattle.std.specs.List.{All};
+ghost use Rattle.shapers_base.specs.declared.plan.PlanData.TheVariants.{Hangul};
+ghost use Rattle.shapers_base.specs.Refusals.{RefusesLength};
+ghost use Rattle.shapers_hangul.specs.Hangul.{rewritten};
+ghost use Rattle.shapers_hangul.specs.HangulLaws.{KeepsClusters, RewrittenLaw, SpellingLaw, SpellsSame};
+ghost use Rattle.shapers_hangul.specs.Masks.{jamo_masks, is_hangul_data, masks_in, with_jamo_masks};
+ghost use Rattle.shapers_hangul.specs.Requests.{hangul_list, hangul_overrides};
+
+use rewriting::rewrite;
+use shapers_base::buffer::{GlyphChange, hb_buffer_t, hb_glyph_info_t, hb_tag_t};
+use shapers_base::font::hb_font_t;
+use shapers_base::map::{F_GLOBAL, F_NONE};
+use shapers_base::plan::{
+    PlanData, Request, ShaperError, hangul_shape_plan_t, hb_ot_shape_plan_t, hb_ot_shape_planner_t,
+};
+
+mod item;
+mod jamo;
+mod rewriting;
+
+// The forms of leading consonants, vowels and trailing consonants.
+const REQUESTS: [Request; 3] = [
+    Request::Feature(hb_tag_t(*b"ljmo"), F_NONE, 1),
+    Request::Feature(hb_tag_t(*b"vjmo"), F_NONE, 1),
+    Request::Feature(hb_tag_t(*b"tjmo"), F_NONE, 1),
+];
+
+// Some fonts put all jamo forms into `calt` as well, so it stays off.
+const OVERRIDES: [Request; 1] = [Request::Feature(hb_tag_t(*b"calt"), F_GLOBAL, 0)];
+
+/// Asks for the forms of jamo.
+/// The only refusal is `Memory`, which leaves the planner as it was.
+pub fn collect_features(planner: &mut hb_ot_shape_planner_t) -> Result<(), ShaperError>
+    ensures ok { OnOk result (planner.new ≡ with_requests hangul_list planner.old) }
+    ensures refusal { IsOkUnless result Memory }
+    ensures err { OnErr result (planner.new ≡ planner.old) }
+{
+    planner.add_requests(&REQUESTS)
+}
+
+/// Turns off what fonts mix up with the forms of jamo.
+/// The only refusal is `Memory`, which leaves the planner as it was.
+pub fn override_features(planner: &mut hb_ot_shape_planner_t) -> Result<(), ShaperError>
+    ensures ok { OnOk result (planner.new ≡ with_requests hangul_overrides planner.old) }
+    ensures refusal { IsOkUnless result Memory }
+    ensures err { OnErr result (planner.new ≡ planner.old) }
+{
+    planner.add_requests(&OVERRIDES)
+}
+
+/// Rewrites a Hangul text before its characters become glyphs, unit by unit: jamo that combine become
+/// one syllable character where the font has it, else they are marked for the features of jamo; so
+/// are the jamo of a syllable character that the font lacks. A tone moves before the syllable that it
+/// follows, unless it has advance 0; without one it gets a dotted circle. Refuses as a growth to the
+/// length of the result does. (The Unicode Standard, "Conjoining Jamo Behavior"; OpenType's notes on
+/// Hangul.)
+pub fn preprocess_text<F: hb_font_t>(
+    plan: &hb_ot_shape_plan_t,
+    face: &F,
+    buffer: &mut hb_buffer_t,
+) -> Result<(), ShaperError>
+    requires { buffer.old.positions ≡ [] }
+    ensures ok { OnOk result (buffer.new ≡ rewritten (F.font face.now) buffer.old) }
+    ensures clusters { OnOk result (KeepsClusters (F.font face.now) buffer.old buffer.new) }
+    ensures spelling { OnOk result (SpellsSame buffer.old buffer.new) }
+    ensures length { let text = (rewritten (F.font face.now) buffer.old).glyphs in
+        RefusesLength buffer.old.max_len (length text) result }
+    ensures err { OnErr result (buffer.new ≡ buffer.old) }
+{
+    rewrite(face, buffer)
+}
+
+/// What the rewriting makes of clusters and glyph flags: flags and old clusters, the cluster law of
+/// tones, and exact cuts.
+pub fn rewriting_law()
+    ensures { RewrittenLaw }
+{}
+
+/// What a unit becomes spells what it takes, syllable characters by their jamo; so the result spells
+/// the text, tones and circles apart.
+pub fn spelling_law()
+    ensures { SpellingLaw }
+{}
+
+/// Keeps the masks of the features of jamo in the plan. None of them touches a glyph flag bit.
+pub fn create_data(plan: &hb_ot_shape_plan_t) -> PlanData
+    ensures masks { result ≡ Hangul (record { mask_array = jamo_masks plan.now.ot_map }) }
+    ensures off_flags { All (λ mask. mask % 8 ≡ 0) (masks_in result) }
+{
+    PlanData::Hangul(hangul_shape_plan_t {
+        mask_array: [
+            0,
+            plan.ot_map.get_1_mask(hb_tag_t(*b"ljmo")),
+            plan.ot_map.get_1_mask(hb_tag_t(*b"vjmo")),
+            plan.ot_map.get_1_mask(hb_tag_t(*b"tjmo")),
+        ],
+    })
+}
+
+// The masks of jamo, by their auxiliary bytes.
+#[derive(Drop)]
+struct JamoMasks {
+    masks: [u32; 4],
+}
+
+impl GlyphChange for JamoMasks {
+    ghost use Rattle.std.specs.Prelude.{◌≡◌};
+    ghost use Rattle.shapers_base.specs.Refusals.{RefusesLength};
+    ghost use Rattle.shapers_hangul.specs.Hangul.{rewritten};
+    ghost use Rattle.shapers_hangul.specs.Masks.{with_jamo_mask};
+
+    ghost changed = { λ m g. with_jamo_mask m.masks g };
+
+    fn change(&self, glyph: &mut hb_glyph_info_t) {
+        let feature = usize::from(glyph.auxiliary);
+        glyph.mask |= self.masks.get(feature).copied().unwrap_or(0);
+    }
+}
+
+/// Gives each glyph, besides its own mask, the one of the feature in its auxiliary byte: none for 0,
+/// then those of leading, vowel and trailing jamo. It takes no memory.
+pub fn setup_masks(plan: &hb_ot_shape_plan_t, buffer: &mut hb_buffer_t)
+    requires { is_hangul_data plan.now.plan_data ≡ true }
+    ensures { buffer.new ≡ with_jamo_masks plan.now.plan_data buffer.old }
+{
+    match &plan.plan_data {
+        PlanData::Hangul(data) => {
+            let masks = JamoMasks {
+                masks: data.mask_array,
+            };
+            buffer.change_each(0, buffer.len(), &masks);
+        }
+        _ => unreachable!(),
+    }
+}
