@@ -1,3 +1,4 @@
+mod ConstantRows
 pub mod FormedGlyphs
 pub mod JoinedGlyphs
 pub mod JoiningLaws
