@@ -2,7 +2,6 @@ pub mod Hooks
 pub mod Pauses
 pub mod Records
 pub mod Standing
-
 -- what the public clauses cite of the crates below
 pub use Rattle.shapers_arabic.specs.JoinedText
 pub use Rattle.shapers_arabic.specs.PlanData

@@ -16,13 +16,13 @@ mod pauses;
 mod standing;
 
 pub use pauses::{pause_standing, run_pause};
-pub use standing::{Hook, Hooks, Standing};
+use shapers_arabic::ot_shaper_arabic;
 pub use shapers_base::plan::{NormalizationMode, Pause, PlanData, Preprocess, ZeroWidthMarks};
+use shapers_hangul::ot_shaper_hangul;
 use shapers_indic::ot_shaper_indic;
 use shapers_regroup::{ot_shaper_khmer, ot_shaper_myanmar, ot_shaper_use};
-use shapers_arabic::ot_shaper_arabic;
-use shapers_hangul::ot_shaper_hangul;
 use shapers_text::{ot_shaper_hebrew, ot_shaper_thai};
+pub use standing::{Hook, Hooks, Standing};
 
 /// A script shaper.
 #[derive(Clone, Copy, Debug, PartialEq, Eq)]

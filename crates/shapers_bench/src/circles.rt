@@ -13,10 +13,10 @@ struct Circle(GlyphId);
 
 impl hb_font_t for Circle {
     ghost font = { λ font. record {
-        nominal = λ c. if c == 0x25CC then Some font.0 else None;
-        advance = λ _. pos 0;
-        applies = λ _ _ _. false;
-        offers = λ _. false;
+      nominal = λ c. if c == 0x25CC then Some font.0 else None;
+      advance = λ _. pos 0;
+      applies = λ _ _ _. false;
+      offers = λ _. false;
     } };
 
     fn get_nominal_glyph(&self, c: u32) -> Option<GlyphId> {

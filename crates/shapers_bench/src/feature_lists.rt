@@ -221,10 +221,10 @@ impl hb_font_t for Font {
     ghost use Rattle.std.specs.Cmp.Lexicographic.{pointwise};
 
     ghost font = { λ font. record {
-        nominal = λ _. None;
-        advance = λ _. pos 0;
-        applies = λ _ _ _. false;
-        offers = λ tag. font.rclt && pointwise nat_eq tag.0 (codes "rclt");
+      nominal = λ _. None;
+      advance = λ _. pos 0;
+      applies = λ _ _ _. false;
+      offers = λ tag. font.rclt && pointwise nat_eq tag.0 (codes "rclt");
     } };
 
     fn get_nominal_glyph(&self, _c: u32) -> Option<GlyphId> {

@@ -25,12 +25,12 @@ impl Tables for Letters {
     ghost use Rattle.shapers_bench.specs.Letters.{letter_type};
 
     ghost tables = { λ _. record {
-        joining = λ c. letter_type c;
-        general = λ _. Lo;
-        indic = λ _. (0, 14);
-        universal = λ _. 0;
-        composed = λ _ _. None;
-        decomposed = λ _. None;
+      joining = λ c. letter_type c;
+      general = λ _. Lo;
+      indic = λ _. (0, 14);
+      universal = λ _. 0;
+      composed = λ _ _. None;
+      decomposed = λ _. None;
     } };
 
     fn joining_type(&self, c: char) -> hb_arabic_joining_type_t {

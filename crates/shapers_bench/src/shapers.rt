@@ -25,10 +25,10 @@ impl hb_font_t for Nothing {
     ghost use Rattle.std.specs.Prelude.{None, pos, false};
 
     ghost font = { λ _. record {
-        nominal = λ _. None;
-        advance = λ _. pos 0;
-        applies = λ _ _ _. false;
-        offers = λ _. false;
+      nominal = λ _. None;
+      advance = λ _. pos 0;
+      applies = λ _ _ _. false;
+      offers = λ _. false;
     } };
 
     fn get_nominal_glyph(&self, _c: u32) -> Option<GlyphId> {
@@ -58,12 +58,12 @@ impl Tables for Nothing {
     ghost use Rattle.rustybuzz_shapers.specs.hb_arabic_joining_type_t.TheVariants.{U};
 
     ghost tables = { λ _. record {
-        joining = λ _. U;
-        general = λ _. Cn;
-        indic = λ _. (0, 14);
-        universal = λ _. 0;
-        composed = λ _ _. None;
-        decomposed = λ _. None;
+      joining = λ _. U;
+      general = λ _. Cn;
+      indic = λ _. (0, 14);
+      universal = λ _. 0;
+      composed = λ _ _. None;
+      decomposed = λ _. None;
     } };
 
     fn joining_type(&self, _c: char) -> hb_arabic_joining_type_t {

@@ -20,10 +20,10 @@ struct Font {
 
 impl hb_font_t for Font {
     ghost font = { λ font. record {
-        nominal = λ c. if c == 0x25CC then font.circle else None;
-        advance = λ _. pos 0;
-        applies = λ _ _ _. false;
-        offers = λ _. false;
+      nominal = λ c. if c == 0x25CC then font.circle else None;
+      advance = λ _. pos 0;
+      applies = λ _ _ _. false;
+      offers = λ _. false;
     } };
 
     fn get_nominal_glyph(&self, c: u32) -> Option<GlyphId> {

@@ -52,5 +52,7 @@ impl hb_ot_shaper_t {
 fn are_characters(glyphs: &[hb_glyph_info_t]) -> bool
     ensures { IsTrue result ↔ All (λ g. IsScalar g.glyph_id) glyphs.now }
 {
-    glyphs.iter().all(|glyph| char::from_u32(glyph.glyph_id).is_some())
+    glyphs
+        .iter()
+        .all(|glyph| char::from_u32(glyph.glyph_id).is_some())
 }
