@@ -2,6 +2,7 @@
 use Rattle.std.specs.Prelude.{◌≡◌, ℕ, List, [], ◌∷◌, map, length, replicate, true, false, refl}
 use Rattle.std.specs.List.{range_with_len}
 use Rattle.shapers_base.specs.Glyph.{default_glyph, clusters}
+use Rattle.shapers_base.specs.declared.buffer.category.hb_unicode_general_category_t.TheVariants.{Mn}
 use Rattle.shapers_base.specs.declared.buffer.glyph.hb_glyph_info_t.{hb_glyph_info_t}
 use Rattle.shapers_base.specs.declared.buffer.level.BufferClusterLevel.{BufferClusterLevel}
 use Rattle.shapers_base.specs.declared.buffer.level.BufferClusterLevel.TheVariants.{MonotoneGraphemes, MonotoneCharacters, Characters}
@@ -150,7 +151,22 @@ hamza_above_merged = refl
 
 -- glyph flags go where the cluster falls, and other fields of a moved mark stay
 abbrev full : hb_glyph_info_t
-full = record default_glyph { glyph_id = 0x0655; mask = 23; cluster = 7; modified_combining_class = 220 }
+full = record {
+  glyph_id = 0x0655;
+  cluster = 7;
+  mask = 23;
+  syllable = 33;
+  category = 5;
+  auxiliary = 6;
+  general_category = Mn;
+  modified_combining_class = 220;
+  lig_comp = 3;
+  substituted = true;
+  ligated = true;
+  multiplied = true;
+  ignorable = true;
+  continuation = true;
+}
 
 kept_fields : marks_reordered 0 2 (marks_merged MonotoneGraphemes 0 2 (mark (0x064E, 31, 5) ∷ full ∷ [])) ≡ record full { mask = 16; cluster = 5; modified_combining_class = 25 } ∷ mark (0x064E, 31, 5) ∷ []
 kept_fields = refl

@@ -29,9 +29,10 @@ pub fn reorder_marks(_plan: &hb_ot_shape_plan_t, buffer: &mut hb_buffer_t, start
     requires in_order { start ≤ end }
     requires in_range { end ≤ length buffer.old.glyphs }
     requires at_most_32 { end ≤ start + 32 }
-    ensures step { let merged = marks_merged buffer.old.level start end buffer.old.glyphs in
+    ensures marks { let merged = marks_merged buffer.old.level start end buffer.old.glyphs in
         buffer.new ≡ record buffer.old { glyphs = marks_reordered start end merged } }
-    ensures order { order_view buffer.new.glyphs ≡ marks_reordered start end (order_view buffer.old.glyphs) }
+    ensures order { let view = order_view buffer.old.glyphs in
+        order_view buffer.new.glyphs ≡ marks_reordered start end view }
     ensures laws { MarksReordered start end buffer.old buffer.new }
 {
     let level = buffer.cluster_level();
