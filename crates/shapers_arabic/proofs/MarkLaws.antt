@@ -1,6 +1,6 @@
 -- The order of marks in a text: what merging leaves of the parts, and what the laws of steps say.
-use Rattle.std.proofs.Common.{◌≡◌, ℕ, zero, suc, ◌+◌, ◌-◌, ◌<◌, ◌≤◌, Bool, cond, List, [], ◌∷◌, ◌++◌, map, length, take, drop, refl, ap, sym, ◌∙◌, subst, arith, length-append, length-take, length-drop}
-use Rattle.std.specs.List.{AllByRecursion, prefix_len}
+use Rattle.std.proofs.Common.{◌≡◌, ℕ, zero, suc, ◌+◌, ◌-◌, ◌≤◌, Bool, cond, List, [], ◌∷◌, ◌++◌, map, length, take, drop, refl, ap, sym, ◌∙◌, subst, arith, length-append, length-take, length-drop}
+use Rattle.std.specs.List.{prefix_len}
 use Rattle.std.proofs.lemmas.List.{length-map, take-map, drop-map, map-append}
 use Rattle.shapers_base.specs.declared.buffer.glyph.hb_glyph_info_t.{hb_glyph_info_t}
 use Rattle.shapers_base.specs.declared.buffer.level.BufferClusterLevel.{BufferClusterLevel}
@@ -8,16 +8,15 @@ use Rattle.shapers_base.specs.declared.buffer.modified_combining_class.TheConsta
 use Rattle.shapers_base.specs.Clusters.{stretch_of, merge_all}
 use Rattle.shapers_base.specs.Glyph.{plain, order_view}
 use Rattle.shapers_base.specs.Places.{pick}
-use Rattle.shapers_clusters.specs.Cuts.{EndWithin}
 use Rattle.shapers_clusters.specs.Flags.{HidesFields}
 use Rattle.shapers_clusters.specs.Laws.{ReorderedHold}
-use Rattle.shapers_clusters.specs.Steps.{Step, run_step, shifted, widened, MovesMerged, Permutes, FitsStep}
+use Rattle.shapers_clusters.specs.Steps.{run_step, shifted, widened, MovesMerged, Permutes}
 use Rattle.shapers_clusters.proofs.Merging.{length-merge_all, merge_all-append, order_view-merge_all, without_flags-twice}
 use Rattle.shapers_clusters.proofs.Permuted.{permutes-widened}
 use Rattle.shapers_clusters.proofs.Proved.{reordered_hold}
 use Rattle.shapers_clusters.proofs.Widened.{moves-widened, fits-widened, pick-widened}
 use Rattle.shapers_arabic.specs.declared.ot_shaper_arabic.marks.Parts.{Parts}
-use Rattle.shapers_arabic.specs.MarkParts.{lengths_of, passed_by}
+use Rattle.shapers_arabic.specs.MarkParts.{lengths_of}
 use Rattle.shapers_arabic.specs.Marks.{Marks, split_marks, front_of, behind, is_below, is_modifier_of, in_class, with_modifiers_first, marks_reordered, merged_for, passed, mark_step, text_step, marks_merged, without_class}
 use Rattle.shapers_arabic.proofs.MarkLists.{joined_parts, parts_moved, split-joined, pick-moved}
 use Rattle.shapers_arabic.proofs.MarkMoves.{step_of, moves-merged, moves-permute}
