@@ -130,12 +130,10 @@ two_merges level s a m b n gs ms ns first second =
     let last_is : s + (a + m + b + n) ≡ s + a + m + b + n = omega arith in
     let one_is : shifted s one ≡ merged_for m s (s + a + m) = shifted-merged_for s m 0 (a + m) ∙ ap (λ p. merged_for m p (s + (a + m))) zero_is ∙ ap (merged_for m s) end_is in
     let two_is : shifted s two ≡ merged_for n (s + m) (s + a + m + b + n) = shifted-merged_for s n m (a + m + b + n) ∙ ap (merged_for n (s + m)) last_is in
-    sym (ap (λ sts. merge_all level sts gs) (map-append (λ st. (s + st.0, s + st.1)) one two)
-    ∙ merge_all-append level (shifted s one) (shifted s two) gs
-    ∙ ap (λ sts. merge_all level (shifted s two) (merge_all level sts gs)) one_is
-    ∙ ap (λ sts. merge_all level sts (merge_all level (merged_for m s (s + a + m)) gs)) two_is
-    ∙ ap (merge_all level (merged_for n (s + m) (s + a + m + b + n))) (sym first)
-    ∙ sym second)
+    let cut : shifted s (passed a m b n) ≡ shifted s one ++ shifted s two = map-append (λ st. (s + st.0, s + st.1)) one two in
+    let both : merge_all level (shifted s one) gs ≡ ms = ap (λ sts. merge_all level sts gs) one_is ∙ sym first in
+    let all : merge_all level (shifted s (passed a m b n)) gs ≡ merge_all level (shifted s two) (merge_all level (shifted s one) gs) = ap (λ sts. merge_all level sts gs) cut ∙ merge_all-append level (shifted s one) (shifted s two) gs in
+    sym (all ∙ ap (merge_all level (shifted s two)) both ∙ ap (λ sts. merge_all level sts ms) two_is ∙ sym second)
 
 -- the order view is reordered as the marks are
 classed-plain : (class : ℕ) (gs : List hb_glyph_info_t) → order_view (map (in_class class) gs) ≡ map (in_class class) (order_view gs)

@@ -8,7 +8,7 @@ use Rattle.shapers_base.specs.declared.buffer.level.BufferClusterLevel.{BufferCl
 use Rattle.shapers_base.specs.declared.buffer.level.BufferClusterLevel.TheVariants.{MonotoneGraphemes, MonotoneCharacters, Characters}
 use Rattle.shapers_base.specs.declared.buffer.modified_combining_class.TheConstants.{CCC22, CCC26}
 use Rattle.shapers_clusters.specs.Steps.{run_step}
-use Rattle.shapers_arabic.specs.declared.ot_shaper_arabic.marks.TheConstants.{ABOVE, MODIFIERS}
+use Rattle.shapers_arabic.specs.declared.ot_shaper_arabic.marks.TheConstants.{ABOVE}
 use Rattle.shapers_arabic.specs.MarkParts.{lengths_of, passed_by, last_first}
 use Rattle.shapers_arabic.specs.Marks.{modifiers, is_below, is_modifier_of, split_marks, with_modifiers_first, marks_reordered, marks_merged, merged_for, passed, places_moved, mark_step, text_step, without_class}
 
@@ -52,9 +52,6 @@ of_another_class = refl
 -- the list, mark by mark
 the_modifiers : modifiers ≡ 1620 ∷ 1621 ∷ 1624 ∷ 1756 ∷ 1763 ∷ 1767 ∷ 1768 ∷ 2250 ∷ 2251 ∷ 2253 ∷ 2254 ∷ 2255 ∷ 2259 ∷ 2291 ∷ []
 the_modifiers = refl
-
-the_same_in_code : MODIFIERS ≡ modifiers
-the_same_in_code = refl
 
 above : ABOVE ≡ 230
 above = refl
