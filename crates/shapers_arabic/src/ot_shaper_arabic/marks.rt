@@ -22,9 +22,9 @@ const MODIFIERS: [u32; 14] = [
 /// The class of marks above.
 const ABOVE: u8 = 230;
 
-/// Among the marks from `start` to `end`, brings those that modify a letter to the front, in classes
-/// of their own: first the ones below it, then the ones above it. What they pass merges with them.
-/// It can't refuse and takes no memory.
+/// Among the marks from `start` to `end`, brings those that modify a letter to the front, in
+/// classes of their own: first the ones below it, then the ones above it. What they pass merges with
+/// them. It can't refuse and takes no memory. (Unicode Technical Report 53.)
 pub fn reorder_marks(_plan: &hb_ot_shape_plan_t, buffer: &mut hb_buffer_t, start: usize, end: usize)
     requires in_order { start ≤ end }
     requires in_range { end ≤ length buffer.old.glyphs }
@@ -53,7 +53,8 @@ impl GlyphWalk for MarkOrder {
 
     ghost can_walk = { λ w gs. (w.start ≤ w.end) × (w.end ≤ length gs) };
 
-    ghost walks = { λ v w gs hs. hs ≡ marks_reordered v.start v.end (marks_merged v.level v.start v.end gs) };
+    ghost walks = { λ v w gs hs.
+        hs ≡ marks_reordered v.start v.end (marks_merged v.level v.start v.end gs) };
 
     fn walk(&mut self, glyphs: &mut [hb_glyph_info_t]) {
         order_marks(self.level, glyphs, self.start, self.end);
