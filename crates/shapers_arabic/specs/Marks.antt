@@ -90,9 +90,10 @@ text_step start end gs = widened start end (length gs) (mark_step (split_marks (
 abbrev pub marks_merged : BufferClusterLevel → ℕ → ℕ → List hb_glyph_info_t → List hb_glyph_info_t
 marks_merged level start end gs = merge_all level (text_step start end gs).merged_first gs
 
--- what the reordering promises of the buffer before and after it, whatever becomes of the classes: no glyph is lost, and the laws of clusters and flags hold
+-- the view that hides classes
 abbrev pub without_class : hb_glyph_info_t → hb_glyph_info_t
 without_class g = record g { modified_combining_class = 0 }
 
+-- what the reordering promises of the buffer before and after it, through that view: no glyph is lost, and the laws of clusters and flags hold
 abbrev pub MarksReordered : ℕ → ℕ → Buffer → Buffer → Type 0
 MarksReordered start end old new = ReorderedHold without_class old.level (text_step start end old.glyphs ∷ []) old.glyphs new.glyphs
