@@ -6,6 +6,9 @@ pub mod JoiningLists
 mod JoiningRows
 pub mod JoiningTable
 pub mod JoiningWalk
+pub mod MarkLaws
+pub mod MarkLists
+pub mod MarkMoves
 mod MarkRows
 mod PlanRows
 mod RequestRows

@@ -1,11 +1,16 @@
 -- The order of marks, computed on values written out from the rule.
-use Rattle.std.specs.Prelude.{◌≡◌, ℕ, List, [], ◌∷◌, map, length, true, false, refl}
+use Rattle.std.specs.Prelude.{◌≡◌, ℕ, List, [], ◌∷◌, map, length, replicate, true, false, refl}
+use Rattle.std.specs.List.{range_with_len}
 use Rattle.shapers_base.specs.Glyph.{default_glyph, clusters}
+use Rattle.shapers_base.specs.declared.buffer.category.hb_unicode_general_category_t.TheVariants.{Mn}
 use Rattle.shapers_base.specs.declared.buffer.glyph.hb_glyph_info_t.{hb_glyph_info_t}
-use Rattle.shapers_base.specs.declared.buffer.level.BufferClusterLevel.TheVariants.{MonotoneGraphemes, Characters}
+use Rattle.shapers_base.specs.declared.buffer.level.BufferClusterLevel.{BufferClusterLevel}
+use Rattle.shapers_base.specs.declared.buffer.level.BufferClusterLevel.TheVariants.{MonotoneGraphemes, MonotoneCharacters, Characters}
 use Rattle.shapers_base.specs.declared.buffer.modified_combining_class.TheConstants.{CCC22, CCC26}
 use Rattle.shapers_clusters.specs.Steps.{run_step}
-use Rattle.shapers_arabic.specs.Marks.{modifiers, is_modifier_of, split_marks, with_modifiers_first, mark_step}
+use Rattle.shapers_arabic.specs.declared.ot_shaper_arabic.marks.TheConstants.{ABOVE}
+use Rattle.shapers_arabic.specs.MarkParts.{lengths_of, passed_by, last_first}
+use Rattle.shapers_arabic.specs.Marks.{modifiers, is_below, is_modifier_of, split_marks, with_modifiers_first, marks_reordered, marks_merged, merged_for, passed, places_moved, mark_step, text_step, without_class}
 
 abbrev mark : ℕ × ℕ × ℕ → hb_glyph_info_t
 mark p = record default_glyph { glyph_id = p.0; modified_combining_class = p.1; cluster = p.2 }
@@ -43,3 +48,151 @@ clusters_at_characters = refl
 -- the class decides, and the list
 of_another_class : map (is_modifier_of 220) (map mark ((0x0655, 220, 0) ∷ (0x0655, 230, 0) ∷ (0x0656, 220, 0) ∷ (0x08F3, 220, 0) ∷ [])) ≡ true ∷ false ∷ false ∷ true ∷ []
 of_another_class = refl
+
+-- the list, mark by mark
+the_modifiers : modifiers ≡ 1620 ∷ 1621 ∷ 1624 ∷ 1756 ∷ 1763 ∷ 1767 ∷ 1768 ∷ 2250 ∷ 2251 ∷ 2253 ∷ 2254 ∷ 2255 ∷ 2259 ∷ 2291 ∷ []
+the_modifiers = refl
+
+above : ABOVE ≡ 230
+above = refl
+
+-- a bound is no class below it
+bounds : map (is_below 220) (map mark ((0x064E, 219, 0) ∷ (0x064E, 220, 0) ∷ (0x064E, 0, 0) ∷ [])) ≡ true ∷ false ∷ true ∷ []
+bounds = refl
+
+-- the five parts
+abbrev parts : List hb_glyph_info_t → List (List (ℕ × ℕ))
+parts gs = let s = split_marks gs in view s.low ∷ view s.modifiers_below ∷ view s.middle ∷ view s.modifiers_above ∷ view s.rest ∷ []
+
+parts_of_five : parts five ≡ ((0x064E, 31) ∷ []) ∷ ((0x0655, 220) ∷ []) ∷ ((0x065C, 220) ∷ []) ∷ ((0x0654, 230) ∷ []) ∷ ((0x0653, 230) ∷ []) ∷ []
+parts_of_five = refl
+
+-- modifiers behind another mark of 220 are in no part of theirs, nor those of 230 behind another of 230
+hidden : List hb_glyph_info_t
+hidden = map mark ((0x065C, 220, 0) ∷ (0x0655, 220, 1) ∷ (0x0653, 230, 2) ∷ (0x0654, 230, 3) ∷ (0x0655, 220, 4) ∷ [])
+
+none_comes_forward : view (with_modifiers_first (split_marks hidden)) ≡ view hidden
+unfolding hidden
+none_comes_forward = refl
+
+no_parts : parts hidden ≡ [] ∷ [] ∷ ((0x065C, 220) ∷ (0x0655, 220) ∷ []) ∷ [] ∷ ((0x0653, 230) ∷ (0x0654, 230) ∷ (0x0655, 220) ∷ []) ∷ []
+unfolding hidden
+no_parts = refl
+
+-- a class above 230 ends all parts but the last
+ended : parts (map mark ((0x0654, 232, 0) ∷ (0x0654, 230, 1) ∷ [])) ≡ [] ∷ [] ∷ [] ∷ [] ∷ ((0x0654, 232) ∷ (0x0654, 230) ∷ []) ∷ []
+ended = refl
+
+-- what merges: nothing for modifiers that aren't there
+passed_rows : passed 1 2 3 4 ∷ passed 1 0 3 4 ∷ passed 1 2 3 0 ∷ passed 1 0 3 0 ∷ [] ≡ ((0, 3) ∷ (2, 10) ∷ []) ∷ ((0, 8) ∷ []) ∷ ((0, 3) ∷ []) ∷ [] ∷ []
+passed_rows = refl
+
+merged_for_rows : merged_for 0 3 5 ∷ merged_for 1 3 5 ∷ merged_for 2 3 5 ∷ [] ≡ [] ∷ ((3, 5) ∷ []) ∷ ((3, 5) ∷ []) ∷ []
+merged_for_rows = refl
+
+places_row : places_moved 1 2 3 1 2 ≡ 1 ∷ 2 ∷ 6 ∷ 0 ∷ 3 ∷ 4 ∷ 5 ∷ 7 ∷ 8 ∷ []
+places_row = refl
+
+step_row : mark_step (split_marks five) ≡ record { merged_first = (0, 2) ∷ (1, 4) ∷ []; places = 1 ∷ 3 ∷ 0 ∷ 2 ∷ 4 ∷ []; merged_then = [] }
+step_row = refl
+
+-- with a base before and a letter behind: the step over all places, and the whole text
+abbrev text : List ℕ → List hb_glyph_info_t
+text (a ∷ (b ∷ (c ∷ (d ∷ (e ∷ (f ∷ (g ∷ []))))))) = map mark ((0x0628, 0, a) ∷ (0x064E, 31, b) ∷ (0x0655, 220, c) ∷ (0x065C, 220, d) ∷ (0x0654, 230, e) ∷ (0x0653, 230, f) ∷ (0x0628, 0, g) ∷ [])
+text _ = []
+
+abbrev rising : List hb_glyph_info_t
+rising = text (0 ∷ 1 ∷ 2 ∷ 3 ∷ 4 ∷ 5 ∷ 6 ∷ [])
+
+abbrev reordered : BufferClusterLevel → List ℕ → List hb_glyph_info_t
+reordered level cs = marks_reordered 1 6 (marks_merged level 1 6 (text cs))
+
+text_step_row : text_step 1 6 rising ≡ record { merged_first = (1, 3) ∷ (2, 5) ∷ []; places = 0 ∷ 2 ∷ 4 ∷ 1 ∷ 3 ∷ 5 ∷ 6 ∷ []; merged_then = [] }
+text_step_row = refl
+
+text_row : view (reordered MonotoneGraphemes (0 ∷ 1 ∷ 2 ∷ 3 ∷ 4 ∷ 5 ∷ 6 ∷ [])) ≡ (0x0628, 0) ∷ (0x0655, 25) ∷ (0x0654, 26) ∷ (0x064E, 31) ∷ (0x065C, 220) ∷ (0x0653, 230) ∷ (0x0628, 0) ∷ []
+text_row = refl
+
+-- its clusters at each level, rising, falling and repeated
+graphemes_rising : clusters (reordered MonotoneGraphemes (0 ∷ 1 ∷ 2 ∷ 3 ∷ 4 ∷ 5 ∷ 6 ∷ [])) ≡ 0 ∷ 1 ∷ 1 ∷ 1 ∷ 1 ∷ 5 ∷ 6 ∷ []
+graphemes_rising = refl
+
+characters_rising : clusters (reordered MonotoneCharacters (0 ∷ 1 ∷ 2 ∷ 3 ∷ 4 ∷ 5 ∷ 6 ∷ [])) ≡ 0 ∷ 1 ∷ 1 ∷ 1 ∷ 1 ∷ 5 ∷ 6 ∷ []
+characters_rising = refl
+
+unmerged_rising : clusters (reordered Characters (0 ∷ 1 ∷ 2 ∷ 3 ∷ 4 ∷ 5 ∷ 6 ∷ [])) ≡ 0 ∷ 2 ∷ 4 ∷ 1 ∷ 3 ∷ 5 ∷ 6 ∷ []
+unmerged_rising = refl
+
+graphemes_falling : clusters (reordered MonotoneGraphemes (6 ∷ 5 ∷ 4 ∷ 3 ∷ 2 ∷ 1 ∷ 0 ∷ [])) ≡ 6 ∷ 2 ∷ 2 ∷ 2 ∷ 2 ∷ 1 ∷ 0 ∷ []
+graphemes_falling = refl
+
+characters_falling : clusters (reordered MonotoneCharacters (6 ∷ 5 ∷ 4 ∷ 3 ∷ 2 ∷ 1 ∷ 0 ∷ [])) ≡ 6 ∷ 2 ∷ 2 ∷ 2 ∷ 2 ∷ 1 ∷ 0 ∷ []
+characters_falling = refl
+
+unmerged_falling : clusters (reordered Characters (6 ∷ 5 ∷ 4 ∷ 3 ∷ 2 ∷ 1 ∷ 0 ∷ [])) ≡ 6 ∷ 4 ∷ 2 ∷ 5 ∷ 3 ∷ 1 ∷ 0 ∷ []
+unmerged_falling = refl
+
+-- a merge reaches back and on over the clusters of its ends
+graphemes_repeated : clusters (reordered MonotoneGraphemes (3 ∷ 3 ∷ 2 ∷ 2 ∷ 1 ∷ 1 ∷ 1 ∷ [])) ≡ 1 ∷ 1 ∷ 1 ∷ 1 ∷ 1 ∷ 1 ∷ 1 ∷ []
+graphemes_repeated = refl
+
+unmerged_repeated : clusters (reordered Characters (3 ∷ 3 ∷ 2 ∷ 2 ∷ 1 ∷ 1 ∷ 1 ∷ [])) ≡ 3 ∷ 2 ∷ 1 ∷ 3 ∷ 2 ∷ 1 ∷ 1 ∷ []
+unmerged_repeated = refl
+
+-- with modifiers of one class alone one stretch merges
+one_merge : clusters (marks_reordered 0 3 (marks_merged MonotoneGraphemes 0 3 (map mark ((0x064E, 31, 0) ∷ (0x0655, 220, 1) ∷ (0x0653, 230, 2) ∷ [])))) ≡ 0 ∷ 0 ∷ 2 ∷ []
+one_merge = refl
+
+hamza_above_merged : clusters (marks_reordered 0 2 (marks_merged MonotoneGraphemes 0 2 two)) ≡ 0 ∷ 0 ∷ []
+hamza_above_merged = refl
+
+-- glyph flags go where the cluster falls, and other fields of a moved mark stay
+abbrev full : hb_glyph_info_t
+full = record {
+  glyph_id = 0x0655;
+  cluster = 7;
+  mask = 23;
+  syllable = 33;
+  category = 5;
+  auxiliary = 6;
+  general_category = Mn;
+  modified_combining_class = 220;
+  lig_comp = 3;
+  substituted = true;
+  ligated = true;
+  multiplied = true;
+  ignorable = true;
+  continuation = true;
+}
+
+kept_fields : marks_reordered 0 2 (marks_merged MonotoneGraphemes 0 2 (mark (0x064E, 31, 5) ∷ full ∷ [])) ≡ record full { mask = 16; cluster = 5; modified_combining_class = 25 } ∷ mark (0x064E, 31, 5) ∷ []
+kept_fields = refl
+
+-- an empty stretch, and one of 32 modifiers
+empty_stretch : marks_reordered 3 3 (marks_merged MonotoneGraphemes 3 3 rising) ≡ rising
+empty_stretch = refl
+
+abbrev many : List hb_glyph_info_t
+many = map (λ i. mark (0x0655, 220, i)) (range_with_len 0 32)
+
+many_split : lengths_of (split_marks many) ≡ record { low = 0; modifiers_below = 32; middle = 0; modifiers_above = 0 }
+many_split = refl
+
+many_classes : view (marks_reordered 0 32 (marks_merged MonotoneGraphemes 0 32 many)) ≡ replicate 32 (0x0655, 25)
+many_classes = refl
+
+many_clusters : clusters (marks_reordered 0 32 (marks_merged MonotoneGraphemes 0 32 many)) ≡ replicate 32 0
+many_clusters = refl
+
+many_unmerged : clusters (marks_reordered 0 32 (marks_merged Characters 0 32 many)) ≡ range_with_len 0 32
+many_unmerged = refl
+
+-- words of the code
+passed_by_row : passed_by (record { low = 1; modifiers_below = 2; middle = 3; modifiers_above = 4 }) ≡ (0, 3) ∷ (2, 10) ∷ []
+passed_by_row = refl
+
+last_first_row : view (last_first 2 25 five) ≡ (0x0654, 25) ∷ (0x0653, 25) ∷ (0x064E, 31) ∷ (0x0655, 220) ∷ (0x065C, 220) ∷ []
+last_first_row = refl
+
+hidden_class : without_class full ≡ record full { modified_combining_class = 0 }
+hidden_class = refl

@@ -1,6 +1,7 @@
 pub mod JoinedText
 pub mod Joining
 pub mod JoiningWalk
+pub mod MarkParts
 pub mod Marks
 pub mod PlanData
 pub mod Requests

@@ -1,9 +1,13 @@
 -- The order of Arabic marks: marks that modify a letter come to the front. (Unicode Technical Report 53.)
-use Rattle.std.specs.Prelude.{ℕ, ◌+◌, ◌==◌, nat_lt, Bool, ◌&&◌, List, [], ◌∷◌, ◌++◌, length, map, take, drop}
+use Rattle.std.specs.Prelude.{ℕ, zero, suc, ◌+◌, ◌==◌, nat_lt, Bool, ◌&&◌, List, [], ◌∷◌, ◌++◌, length, map, take, drop}
 use Rattle.std.specs.List.{list_any, prefix_len, range_with_len}
 use Rattle.shapers_base.specs.declared.buffer.glyph.hb_glyph_info_t.{hb_glyph_info_t}
 use Rattle.shapers_base.specs.declared.buffer.modified_combining_class.TheConstants.{CCC22, CCC26}
-use Rattle.shapers_clusters.specs.Steps.{Step}
+use Rattle.shapers_base.specs.declared.buffer.level.BufferClusterLevel.{BufferClusterLevel}
+use Rattle.shapers_base.specs.Buffer.{Buffer}
+use Rattle.shapers_base.specs.Clusters.{stretch_of, with_stretch, merge_all}
+use Rattle.shapers_clusters.specs.Laws.{ReorderedHold}
+use Rattle.shapers_clusters.specs.Steps.{Step, widened}
 
 -- the marks that modify a letter
 abbrev pub modifiers : List ℕ
@@ -52,20 +56,44 @@ in_class class g = record g { modified_combining_class = class }
 abbrev pub with_modifiers_first : Marks → List hb_glyph_info_t
 with_modifiers_first s = map (in_class CCC22) s.modifiers_below ++ (map (in_class CCC26) s.modifiers_above ++ (s.low ++ (s.middle ++ s.rest)))
 
--- the stretch from p to q, unless nothing is moved over it
-abbrev pub merged_for : List hb_glyph_info_t → ℕ → ℕ → List (ℕ × ℕ)
-merged_for [] p q = []
-merged_for (g ∷ gs) p q = (p, q) ∷ []
+-- the same of the marks from place start to place end
+abbrev pub marks_reordered : ℕ → ℕ → List hb_glyph_info_t → List hb_glyph_info_t
+marks_reordered start end gs = with_stretch start end (λ marks. with_modifiers_first (split_marks marks)) gs
 
--- the same as a step over the places of the marks, from 0 on: what the modifiers of 220 pass merges with them, and then what those of 230 pass
+-- the stretch from p to q, unless nothing moves over it
+abbrev pub merged_for : ℕ → ℕ → ℕ → List (ℕ × ℕ)
+merged_for zero p q = []
+merged_for (suc k) p q = (p, q) ∷ []
+
+-- What merges, by the lengths of the first four parts: the modifiers of 220 with what they pass, and then those of 230 with what they pass.
+abbrev pub passed : ℕ → ℕ → ℕ → ℕ → List (ℕ × ℕ)
+passed a m b n = merged_for m 0 (a + m) ++ merged_for n m (a + m + b + n)
+
+-- the places of the five parts, in their new order
+abbrev pub places_moved : ℕ → ℕ → ℕ → ℕ → ℕ → List ℕ
+places_moved a m b n c = range_with_len a m ++ (range_with_len (a + m + b) n ++ (range_with_len 0 a ++ (range_with_len (a + m) b ++ range_with_len (a + m + b + n) c)))
+
+-- the same as a step over the places of the marks, from 0 on
 abbrev pub mark_step : Marks → Step
 mark_step s =
     let a = length s.low in
     let m = length s.modifiers_below in
     let b = length s.middle in
     let n = length s.modifiers_above in
-    record {
-      merged_first = merged_for s.modifiers_below 0 (a + m) ++ merged_for s.modifiers_above m (a + m + b + n);
-      places = range_with_len a m ++ (range_with_len (a + m + b) n ++ (range_with_len 0 a ++ (range_with_len (a + m) b ++ range_with_len (a + m + b + n) (length s.rest))));
-      merged_then = [];
-    }
+    record { merged_first = passed a m b n; places = places_moved a m b n (length s.rest); merged_then = [] }
+
+-- and over all places of a text, of which the marks stand from start to end
+abbrev pub text_step : ℕ → ℕ → List hb_glyph_info_t → Step
+text_step start end gs = widened start end (length gs) (mark_step (split_marks (stretch_of start end gs)))
+
+-- what merges of a text: the step's stretches, one after another
+abbrev pub marks_merged : BufferClusterLevel → ℕ → ℕ → List hb_glyph_info_t → List hb_glyph_info_t
+marks_merged level start end gs = merge_all level (text_step start end gs).merged_first gs
+
+-- the view that hides classes
+abbrev pub without_class : hb_glyph_info_t → hb_glyph_info_t
+without_class g = record g { modified_combining_class = 0 }
+
+-- what the reordering promises of the buffer before and after it, through that view: no glyph is lost, and the laws of clusters and flags hold
+abbrev pub MarksReordered : ℕ → ℕ → Buffer → Buffer → Type 0
+MarksReordered start end old new = ReorderedHold without_class old.level (text_step start end old.glyphs ∷ []) old.glyphs new.glyphs

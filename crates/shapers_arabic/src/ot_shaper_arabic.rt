@@ -20,12 +20,14 @@ pub mod arabic_action_t;
 mod data;
 mod joining;
 mod look_ups;
+mod marks;
 mod masks;
 mod walk;
 
 pub use data::{create_data, data_create_arabic};
 use joining::nearest_in;
 pub use look_ups::LookUps;
+pub use marks::reorder_marks;
 pub use shapers_base::plan::{arabic_shape_plan_t, hb_arabic_joining_type_t};
 use walk::JoiningWalk;
 

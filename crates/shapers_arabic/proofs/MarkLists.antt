@@ -1,0 +1,121 @@
+-- What the moves make of a list of marks, given by its five parts.
+use Rattle.std.proofs.Common.{◌≡◌, ℕ, ◌+◌, ◌-◌, List, [], ◌++◌, map, length, take, drop, refl, ap, sym, ◌∙◌, arith, append_assoc, length-append}
+use Rattle.std.specs.List.{range_with_len, prefix_len}
+use Rattle.std.proofs.lemmas.List.{length-map, take_at, drop_at, take-append-drop, append-nil}
+use borrow.Rule.Slice.PartMut.{put_mid}
+use Rattle.shapers_base.specs.declared.buffer.glyph.hb_glyph_info_t.{hb_glyph_info_t}
+use Rattle.shapers_base.specs.declared.buffer.modified_combining_class.TheConstants.{CCC22, CCC26}
+use Rattle.shapers_base.specs.Places.{pick}
+use Rattle.shapers_clusters.proofs.Picks.{pick-append, pick-range}
+use Rattle.shapers_arabic.specs.MarkParts.{last_first}
+use Rattle.shapers_arabic.specs.Marks.{Marks, split_marks, front_of, behind, is_below, is_modifier_of, in_class, with_modifiers_first, places_moved}
+
+-- the five parts in their old order, and in the new one with the classes as they were
+abbrev pub joined_parts : Marks → List hb_glyph_info_t
+joined_parts s = s.low ++ (s.modifiers_below ++ (s.middle ++ (s.modifiers_above ++ s.rest)))
+
+abbrev pub parts_moved : Marks → List hb_glyph_info_t
+parts_moved s = s.modifiers_below ++ (s.modifiers_above ++ (s.low ++ (s.middle ++ s.rest)))
+
+-- the parts are the marks
+pub split-joined : (gs : List hb_glyph_info_t) → joined_parts (split_marks gs) ≡ gs
+split-joined gs =
+    let second = behind (is_below 220) gs in
+    let third = behind (is_modifier_of 220) second in
+    let fourth = behind (is_below 230) third in
+    let a = front_of (is_below 220) gs in
+    let m = front_of (is_modifier_of 220) second in
+    let b = front_of (is_below 230) third in
+    let fourth_is = take-append-drop (prefix_len (is_modifier_of 230) fourth) fourth in
+    let third_is = take-append-drop (prefix_len (is_below 230) third) third in
+    let second_is = take-append-drop (prefix_len (is_modifier_of 220) second) second in
+    ap (λ xs. a ++ (m ++ (b ++ xs))) fourth_is
+    ∙ ap (λ xs. a ++ (m ++ xs)) third_is
+    ∙ ap (λ xs. a ++ xs) second_is
+    ∙ take-append-drop (prefix_len (is_below 220) gs) gs
+
+last_first-parts : (k class : ℕ) (front back : List hb_glyph_info_t) → length back ≡ k → last_first k class (front ++ back) ≡ map (in_class class) back ++ front
+last_first-parts k class front back h =
+    let n : length front ≡ length (front ++ back) - k = omega (arith, length-append front back) in
+    ap (λ xs. map (in_class class) xs ++ take (length (front ++ back) - k) (front ++ back)) (drop_at front back (length (front ++ back) - k) n)
+    ∙ ap (λ xs. map (in_class class) back ++ xs) (take_at front back (length (front ++ back) - k) n)
+
+-- two moves, of the second part over the first, and of the fourth over the first and third
+pub two_moves : (s : Marks) (xs one two : List hb_glyph_info_t) (a m b n : ℕ) → a ≡ length s.low → m ≡ length s.modifiers_below → b ≡ length s.middle → n ≡ length s.modifiers_above → xs ≡ joined_parts s → one ≡ last_first m CCC22 (take (a + m) xs) → two ≡ last_first n CCC26 (take (a + m + b + n - m) (drop m (one ++ drop (a + m) xs))) → put_mid m (a + m + b + n - m) (one ++ drop (a + m) xs) two ≡ with_modifiers_first s
+two_moves s xs one two a m b n ea em eb en h first second =
+    let low = s.low in
+    let below = s.modifiers_below in
+    let middle = s.middle in
+    let above = s.modifiers_above in
+    let rest = s.rest in
+    let behind = middle ++ (above ++ rest) in
+    let below' = map (in_class CCC22) below in
+    let above' = map (in_class CCC26) above in
+    let k = a + m + b + n - m in
+    let passed = low ++ (middle ++ above) in
+    let an : length (low ++ below) ≡ a + m = length-append low below ∙ omega arith in
+    let bn : length below' ≡ m = length-map below (in_class CCC22) ∙ sym em in
+    let cn : length passed ≡ k = length-append low (middle ++ above) ∙ omega (arith, length-append middle above) in
+    let is : xs ≡ (low ++ below) ++ behind = h ∙ sym (append_assoc low below behind) in
+    let taken : take (a + m) xs ≡ low ++ below = ap (take (a + m)) is ∙ take_at (low ++ below) behind (a + m) an in
+    let left : drop (a + m) xs ≡ behind = ap (drop (a + m)) is ∙ drop_at (low ++ below) behind (a + m) an in
+    let one_is : one ≡ below' ++ low = first ∙ ap (last_first m CCC22) taken ∙ last_first-parts m CCC22 low below (sym em) in
+    let turned : low ++ behind ≡ passed ++ rest = sym (append_assoc low (middle ++ above) rest ∙ ap (λ zs. low ++ zs) (append_assoc middle above rest)) in
+    let ys = one ++ drop (a + m) xs in
+    let ys_is : ys ≡ below' ++ (passed ++ rest) =
+    ap (λ zs. zs ++ drop (a + m) xs) one_is ∙ ap (λ zs. (below' ++ low) ++ zs) left ∙ append_assoc below' low behind ∙ ap (λ zs. below' ++ zs) turned in
+    let front : take m ys ≡ below' = ap (take m) ys_is ∙ take_at below' (passed ++ rest) m bn in
+    let back : drop m ys ≡ passed ++ rest = ap (drop m) ys_is ∙ drop_at below' (passed ++ rest) m bn in
+    let inner : take k (drop m ys) ≡ (low ++ middle) ++ above = ap (take k) back ∙ take_at passed rest k cn ∙ sym (append_assoc low middle above) in
+    let two_is : two ≡ above' ++ (low ++ middle) = second ∙ ap (last_first n CCC26) inner ∙ last_first-parts n CCC26 (low ++ middle) above (sym en) in
+    let last : drop k (drop m ys) ≡ rest = ap (drop k) back ∙ drop_at passed rest k cn in
+    ap (λ zs. zs ++ (two ++ drop k (drop m ys))) front
+    ∙ ap (λ zs. below' ++ (zs ++ drop k (drop m ys))) two_is
+    ∙ ap (λ zs. below' ++ ((above' ++ (low ++ middle)) ++ zs)) last
+    ∙ ap (λ zs. below' ++ zs) (append_assoc above' (low ++ middle) rest ∙ ap (λ zs. above' ++ zs) (append_assoc low middle rest))
+
+-- what is picked at the places of one part
+pick-part : (a k : ℕ) (front part back xs : List hb_glyph_info_t) → length front ≡ a → length part ≡ k → xs ≡ front ++ (part ++ back) → pick (range_with_len a k) xs ≡ part
+pick-part a k front part back xs ea ek h =
+    let long = ap length h ∙ length-append front (part ++ back) in
+    pick-range a k xs (omega (arith, length-append part back))
+    ∙ ap (λ zs. take k (drop a zs)) h
+    ∙ ap (take k) (drop_at front (part ++ back) a ea)
+    ∙ take_at part back k ek
+
+-- the places of the parts bring them into the new order
+pub pick-moved : (s : Marks) (xs : List hb_glyph_info_t) → xs ≡ joined_parts s → pick (places_moved (length s.low) (length s.modifiers_below) (length s.middle) (length s.modifiers_above) (length s.rest)) xs ≡ parts_moved s
+pick-moved s xs h =
+    let low = s.low in
+    let below = s.modifiers_below in
+    let middle = s.middle in
+    let above = s.modifiers_above in
+    let rest = s.rest in
+    let a = length low in
+    let m = length below in
+    let b = length middle in
+    let n = length above in
+    let c = length rest in
+    let h2 : xs ≡ (low ++ below) ++ (middle ++ (above ++ rest)) = h ∙ sym (append_assoc low below (middle ++ (above ++ rest))) in
+    let h3 : xs ≡ ((low ++ below) ++ middle) ++ (above ++ rest) = h2 ∙ sym (append_assoc (low ++ below) middle (above ++ rest)) in
+    let h4 : xs ≡ (((low ++ below) ++ middle) ++ above) ++ (rest ++ []) = h3 ∙ sym (append_assoc ((low ++ below) ++ middle) above rest) ∙ ap (λ zs. (((low ++ below) ++ middle) ++ above) ++ zs) (sym (append-nil rest)) in
+    let n2 : length (low ++ below) ≡ a + m = length-append low below in
+    let n3 : length ((low ++ below) ++ middle) ≡ a + m + b = length-append (low ++ below) middle ∙ ap (λ k. k + b) n2 in
+    let n4 : length (((low ++ below) ++ middle) ++ above) ≡ a + m + b + n = length-append ((low ++ below) ++ middle) above ∙ ap (λ k. k + n) n3 in
+    let r0 = range_with_len a m in
+    let r1 = range_with_len (a + m + b) n in
+    let r2 = range_with_len 0 a in
+    let r3 = range_with_len (a + m) b in
+    let r4 = range_with_len (a + m + b + n) c in
+    pick-append r0 (r1 ++ (r2 ++ (r3 ++ r4))) xs
+    ∙ ap (λ zs. zs ++ pick (r1 ++ (r2 ++ (r3 ++ r4))) xs) (pick-part a m low below (middle ++ (above ++ rest)) xs refl refl h)
+    ∙ ap (λ zs. below ++ zs)
+    (pick-append r1 (r2 ++ (r3 ++ r4)) xs
+    ∙ ap (λ zs. zs ++ pick (r2 ++ (r3 ++ r4)) xs) (pick-part (a + m + b) n ((low ++ below) ++ middle) above rest xs n3 refl h3)
+    ∙ ap (λ zs. above ++ zs)
+    (pick-append r2 (r3 ++ r4) xs
+    ∙ ap (λ zs. zs ++ pick (r3 ++ r4) xs) (pick-part 0 a [] low (below ++ (middle ++ (above ++ rest))) xs refl refl h)
+    ∙ ap (λ zs. low ++ zs)
+    (pick-append r3 r4 xs
+    ∙ ap (λ zs. zs ++ pick r4 xs) (pick-part (a + m) b (low ++ below) middle (above ++ rest) xs n2 refl h2)
+    ∙ ap (λ zs. middle ++ zs) (pick-part (a + m + b + n) c (((low ++ below) ++ middle) ++ above) rest [] xs n4 refl h4))))

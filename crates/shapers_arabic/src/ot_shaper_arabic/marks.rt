@@ -1,0 +1,202 @@
+//! The order of Arabic marks: those that modify a letter come first. (Unicode Technical Report 53.)
+ghost use Rattle.std.specs.Prelude.{◌≡◌, ◌==◌, ◌+◌, ◌≤◌, length, map};
+ghost use Rattle.std.specs.List.{list_any, prefix_len};
+ghost use Rattle.shapers_base.specs.Clusters.{merge_all};
+ghost use Rattle.shapers_base.specs.Glyph.{order_view};
+ghost use Rattle.shapers_clusters.specs.Steps.{shifted};
+ghost use Rattle.shapers_arabic.specs.MarkParts.{lengths_of, end_of, passed_by, last_first};
+ghost use Rattle.shapers_arabic.specs.Marks.{MarksReordered, in_class, is_below, is_modifier_of, marks_merged, marks_reordered, merged_for, modifiers, split_marks, with_modifiers_first};
+
+use shapers_base::buffer::modified_combining_class::{BELOW, CCC22, CCC26};
+use shapers_base::buffer::{
+    BufferClusterLevel, GlyphWalk, hb_buffer_t, hb_glyph_info_t, merge_clusters_in,
+};
+use shapers_base::plan::hb_ot_shape_plan_t;
+
+/// The marks that modify a letter.
+const MODIFIERS: [u32; 14] = [
+    0x0654, 0x0655, 0x0658, 0x06DC, 0x06E3, 0x06E7, 0x06E8, 0x08CA, 0x08CB, 0x08CD, 0x08CE, 0x08CF,
+    0x08D3, 0x08F3,
+];
+
+/// The class of marks above.
+const ABOVE: u8 = 230;
+
+/// Among the marks from `start` to `end`, brings those that modify a letter to the front, in
+/// classes of their own: first the ones below it, then the ones above it. What they pass merges with
+/// them. It can't refuse and takes no memory. (Unicode Technical Report 53.)
+pub fn reorder_marks(_plan: &hb_ot_shape_plan_t, buffer: &mut hb_buffer_t, start: usize, end: usize)
+    requires in_order { start ≤ end }
+    requires in_range { end ≤ length buffer.old.glyphs }
+    requires at_most_32 { end ≤ start + 32 }
+    ensures marks { let merged = marks_merged buffer.old.level start end buffer.old.glyphs in
+        buffer.new ≡ record buffer.old { glyphs = marks_reordered start end merged } }
+    ensures order { let view = order_view buffer.old.glyphs in
+        order_view buffer.new.glyphs ≡ marks_reordered start end view }
+    ensures laws { MarksReordered start end buffer.old buffer.new }
+{
+    let level = buffer.cluster_level();
+    buffer.walk(&mut MarkOrder { level, start, end });
+}
+
+// Where the marks stand, and whether clusters merge.
+#[derive(Drop)]
+struct MarkOrder {
+    level: BufferClusterLevel,
+    start: usize,
+    end: usize,
+}
+
+impl GlyphWalk for MarkOrder {
+    ghost use Rattle.std.specs.Prelude.{◌≡◌, ◌≤◌, length};
+    ghost use Rattle.shapers_arabic.specs.Marks.{marks_merged, marks_reordered};
+
+    ghost can_walk = { λ w gs. (w.start ≤ w.end) × (w.end ≤ length gs) };
+
+    ghost walks = { λ v w gs hs.
+        hs ≡ marks_reordered v.start v.end (marks_merged v.level v.start v.end gs) };
+
+    fn walk(&mut self, glyphs: &mut [hb_glyph_info_t]) {
+        order_marks(self.level, glyphs, self.start, self.end);
+    }
+}
+
+// Orders the marks from `start` to `end`.
+fn order_marks(level: BufferClusterLevel, glyphs: &mut [hb_glyph_info_t], start: usize, end: usize)
+    requires in_order { start ≤ end }
+    requires in_range { end ≤ length glyphs.old }
+    ensures { glyphs.new ≡ marks_reordered start end (marks_merged level start end glyphs.old) }
+{
+    let parts = parts_of(&glyphs[start..end]);
+    merge_passed(level, glyphs, start, parts);
+    bring_forward(&mut glyphs[start..end], parts);
+}
+
+// How many marks stand in the first four of the five parts.
+#[derive(Clone, Copy)]
+struct Parts {
+    low: usize,
+    modifiers_below: usize,
+    middle: usize,
+    modifiers_above: usize,
+}
+
+// The lengths of the parts of these marks.
+fn parts_of(marks: &[hb_glyph_info_t]) -> Parts
+    ensures lengths { result ≡ lengths_of (split_marks marks.now) }
+    ensures within { end_of result ≤ length marks.now }
+{
+    let low = count_below(BELOW, marks);
+    let second = &marks[low..];
+    let modifiers_below = count_modifiers(BELOW, second);
+    let third = &second[modifiers_below..];
+    let middle = count_below(ABOVE, third);
+    let modifiers_above = count_modifiers(ABOVE, &third[middle..]);
+    Parts {
+        low,
+        modifiers_below,
+        middle,
+        modifiers_above,
+    }
+}
+
+// How many marks in front are of classes below this one.
+fn count_below(class: u8, marks: &[hb_glyph_info_t]) -> usize
+    ensures counted { result ≡ prefix_len (is_below class) marks.now }
+    ensures within { result ≤ length marks.now }
+{
+    marks
+        .iter()
+        .take_while(|mark| mark.modified_combining_class < class)
+        .count()
+}
+
+// How many marks in front are of this class and modify a letter.
+fn count_modifiers(class: u8, marks: &[hb_glyph_info_t]) -> usize
+    ensures counted { result ≡ prefix_len (is_modifier_of class) marks.now }
+    ensures within { result ≤ length marks.now }
+{
+    marks
+        .iter()
+        .take_while(|mark| is_modifier_of(class, mark))
+        .count()
+}
+
+// Whether a mark is of this class and modifies a letter.
+fn is_modifier_of(class: u8, mark: &hb_glyph_info_t) -> bool
+    ensures { result ≡ is_modifier_of class mark.now }
+{
+    mark.modified_combining_class == class && modifies(mark.glyph_id)
+}
+
+// Whether this mark modifies a letter.
+fn modifies(character: u32) -> bool
+    ensures { result ≡ list_any (λ c. c == character) modifiers }
+{
+    MODIFIERS.iter().any(|c| *c == character)
+}
+
+// Merges what the modifiers pass with them.
+fn merge_passed(
+    level: BufferClusterLevel,
+    glyphs: &mut [hb_glyph_info_t],
+    start: usize,
+    parts: Parts,
+)
+    requires { start + end_of parts ≤ length glyphs.old }
+    ensures { glyphs.new ≡ merge_all level (shifted start (passed_by parts)) glyphs.old }
+{
+    let second = start + parts.modifiers_below;
+    let third = start + parts.low + parts.modifiers_below;
+    merge_for(level, glyphs, parts.modifiers_below, start, third);
+    let last = third + parts.middle + parts.modifiers_above;
+    merge_for(level, glyphs, parts.modifiers_above, second, last);
+}
+
+// Merges the glyphs from `s` to `e`, unless no marks move.
+fn merge_for(
+    level: BufferClusterLevel,
+    glyphs: &mut [hb_glyph_info_t],
+    moved: usize,
+    s: usize,
+    e: usize,
+)
+    requires in_order { s ≤ e }
+    requires in_range { e ≤ length glyphs.old }
+    ensures { glyphs.new ≡ merge_all level (merged_for moved s e) glyphs.old }
+{
+    if moved == 0 {
+        return;
+    }
+    merge_clusters_in(level, glyphs, s, e);
+}
+
+// Brings the modifiers to the front, those below first.
+fn bring_forward(marks: &mut [hb_glyph_info_t], parts: Parts)
+    requires { parts ≡ lengths_of (split_marks marks.old) }
+    ensures { marks.new ≡ with_modifiers_first (split_marks marks.old) }
+{
+    let first = parts.modifiers_below;
+    let passed = parts.low + parts.modifiers_below;
+    bring_last(&mut marks[..passed], first, CCC22);
+    let last = passed + parts.middle + parts.modifiers_above;
+    bring_last(&mut marks[first..last], parts.modifiers_above, CCC26);
+}
+
+// Brings the last `count` marks before the others, and gives them a class.
+fn bring_last(marks: &mut [hb_glyph_info_t], count: usize, class: u8)
+    requires { count ≤ length marks.old }
+    ensures { marks.new ≡ last_first count class marks.old }
+{
+    marks.rotate_right(count);
+    set_class(&mut marks[..count], class);
+}
+
+// Gives all these marks a class.
+fn set_class(marks: &mut [hb_glyph_info_t], class: u8)
+    ensures { marks.new ≡ map (in_class class) marks.old }
+{
+    for mark in marks.iter_mut() {
+        mark.modified_combining_class = class;
+    }
+}
