@@ -1,11 +1,13 @@
 -- What each hook does, shaper by shaper. Where a shaper lacks a hook, nothing changes and the answer is None.
-use Rattle.std.specs.Prelude.{ℕ, List, true, false, ◌≡◌, length, Option, None, Some, Result, IsOk}
+use Rattle.std.specs.Prelude.{ℕ, ◌+◌, ◌≤◌, List, true, false, ◌≡◌, length, Option, None, Some, Result, IsOk}
 use Rattle.std.specs.Char.{IsScalar}
 use Rattle.std.specs.List.{All, list_any}
 use Rattle.shapers_base.specs.Buffer.{Buffer}
 use Rattle.shapers_base.specs.Font.{CharacterTables, Font}
 use Rattle.shapers_base.specs.Glyph.{clusters}
 use Rattle.shapers_base.specs.Refusals.{RefusesLength}
+use Rattle.shapers_arabic.specs.Marks as arabic
+use Rattle.shapers_arabic.specs.Marks.{marks_merged, marks_reordered}
 use Rattle.shapers_arabic.specs.JoinedText.{CutsAsHalves, IsJoined}
 use Rattle.shapers_arabic.specs.PlanData.{arabic_plan, IsArabic, masks_of}
 use Rattle.shapers_base.specs.declared.buffer.glyph.hb_glyph_info_t.{hb_glyph_info_t}
@@ -72,6 +74,18 @@ GlyphsFit Myanmar gs = Unit {0}
 GlyphsFit MyanmarZawgyi gs = Unit {0}
 GlyphsFit Thai gs = Unit {0}
 GlyphsFit Universal gs = Unit {0}
+
+-- what reordering marks asks of the stretch: for Arabic at most 32 places
+abbrev pub MarksFit : hb_ot_shaper_t → ℕ → ℕ → Type 0
+MarksFit Arabic start end = end ≤ start + 32
+MarksFit Hangul start end = Unit {0}
+MarksFit Hebrew start end = Unit {0}
+MarksFit Indic start end = Unit {0}
+MarksFit Khmer start end = Unit {0}
+MarksFit Myanmar start end = Unit {0}
+MarksFit MyanmarZawgyi start end = Unit {0}
+MarksFit Thai start end = Unit {0}
+MarksFit Universal start end = Unit {0}
 
 -- what preprocessing answers
 abbrev pub preprocess_answer : hb_ot_shaper_t → Option Preprocess
@@ -183,7 +197,7 @@ MasksSet Universal plan tables old new = Unbuilt
 
 -- the buffer before and after the marks from start to end are reordered
 abbrev pub MarksReordered : hb_ot_shaper_t → ℕ → ℕ → Buffer → Buffer → Type 0
-MarksReordered Arabic start end old new = Unbuilt
+MarksReordered Arabic start end old new = new ≡ record old { glyphs = marks_reordered start end (marks_merged old.level start end old.glyphs) }
 MarksReordered Hangul start end old new = new ≡ old
 MarksReordered Hebrew start end old new = new ≡ record old { glyphs = run_step old.level (mark_step start end old.glyphs) old.glyphs }
 MarksReordered Indic start end old new = new ≡ old
@@ -195,7 +209,7 @@ MarksReordered Universal start end old new = new ≡ old
 
 -- that no mark is lost, exact cuts, the cluster law and the flag law
 abbrev pub MarksKeep : hb_ot_shaper_t → ℕ → ℕ → Buffer → Buffer → Type 0
-MarksKeep Arabic start end old new = Unbuilt
+MarksKeep Arabic start end old new = arabic.MarksReordered start end old new
 MarksKeep Hangul start end old new = new ≡ old
 MarksKeep Hebrew start end old new = hebrew.MarksReordered start end old new
 MarksKeep Indic start end old new = new ≡ old

@@ -4,6 +4,7 @@ pub mod Records
 pub mod Standing
 -- what the public clauses cite of the crates below
 pub use Rattle.shapers_arabic.specs.JoinedText
+pub use Rattle.shapers_arabic.specs.Marks
 pub use Rattle.shapers_arabic.specs.PlanData
 pub use Rattle.shapers_base.specs.Buffer
 pub use Rattle.shapers_base.specs.Clusters

@@ -3,7 +3,7 @@
 ghost use Rattle.std.specs.Prelude.{◌≡◌, ◌≤◌, [], length, IfOk, IsOk, IsNone, is_some, IsOkUnless, OnOk, OnErr};
 ghost use Rattle.shapers_base.specs.declared.buffer.refusal.ShaperError.TheVariants.{Memory};
 ghost use Rattle.shapers_arabic.specs.Requests.{rclt};
-ghost use Rattle.rustybuzz_shapers.specs.Hooks.{CanAsk, Composed, DataCreated, Decomposed, GlyphsFit, MasksSet, MarksKeep, MarksReordered, PlanFits, Postprocessed, Preprocessed, PreprocessKeeps, preprocess_answer, RefusesPostprocess, RefusesPreprocess};
+ghost use Rattle.rustybuzz_shapers.specs.Hooks.{CanAsk, Composed, DataCreated, Decomposed, GlyphsFit, MasksSet, MarksFit, MarksKeep, MarksReordered, PlanFits, Postprocessed, Preprocessed, PreprocessKeeps, preprocess_answer, RefusesPostprocess, RefusesPreprocess};
 ghost use Rattle.rustybuzz_shapers.specs.Records.{asked, collected, if_there, normalizes, overridden, places_marks, wants_gpos_script, zeroes_marks};
 ghost use Rattle.rustybuzz_shapers.specs.Standing.{is_there, standing};
 
@@ -300,7 +300,8 @@ impl hb_ot_shaper_t {
     }
 
     /// Reorders the marks from `start` to `end`: for Hebrew, at the first three neighbours of its
-    /// classes, the last two merge and change places. It can't refuse and takes no memory.
+    /// classes, the last two merge and change places; for Arabic, over at most 32 places, marks that
+    /// modify a letter come to the front. It can't refuse and takes no memory.
     pub fn reorder_marks(
         self,
         plan: &hb_ot_shape_plan_t,
@@ -312,13 +313,14 @@ impl hb_ot_shaper_t {
         requires in_order { start ≤ end }
         requires in_range { end ≤ length buffer.old.glyphs }
         requires settled { CanAsk self Hook.ReorderMarks }
+        requires few { MarksFit self start end }
         ensures answer { is_some result ≡ is_there (standing self Hook.ReorderMarks) }
         ensures marks { MarksReordered self start end buffer.old buffer.new }
         ensures laws { MarksKeep self start end buffer.old buffer.new }
     {
         match self {
+            Self::Arabic => Some(ot_shaper_arabic::reorder_marks(plan, buffer, start, end)),
             Self::Hebrew => Some(ot_shaper_hebrew::reorder_marks(plan, buffer, start, end)),
-            Self::Arabic => unreachable!(),
             Self::Hangul
             | Self::Indic
             | Self::Khmer

@@ -158,11 +158,7 @@ full = record {
   general_category = Mn;
   modified_combining_class = 220;
   lig_comp = 3;
-  substituted = true;
-  ligated = true;
-  multiplied = true;
-  ignorable = true;
-  continuation = true;
+  marks = record { 0 = 31 };
 }
 
 kept_fields : marks_reordered 0 2 (marks_merged MonotoneGraphemes 0 2 (mark (0x064E, 31, 5) ∷ full ∷ [])) ≡ record full { mask = 16; cluster = 5; modified_combining_class = 25 } ∷ mark (0x064E, 31, 5) ∷ []

@@ -70,6 +70,7 @@ impl Session {
         self.check_no_positions()?;
         check(start <= end && end <= self.buffer.len())?;
         check_hook(shaper, Hook::ReorderMarks)?;
+        check(shaper.marks_fit(start, end))?;
         let plan = shaper.with_data(self.settings.plan()?);
         let answer = shaper.reorder_marks(&plan, &mut self.buffer, start, end);
         self.answer_if_absent(answer)

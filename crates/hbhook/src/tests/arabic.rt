@@ -116,3 +116,43 @@ fn masks_letters(rt: HostRuntime) -> Result<(), Fail> {
         ],
     )
 }
+
+// A modifier below, one above, and what they pass; at most 32 marks.
+#[test]
+fn orders_marks(rt: HostRuntime) -> Result<(), Fail> {
+    let alloc = rt.alloc();
+    let marks = "set shaper arabic\ntext 064E 0655 065C 0654 0653\nat 0 class 31\nat 1 class 220\n\
+                 at 2 class 220\nat 3 class 230\nat 4 class 230\n";
+    let ordered = "0655 0 00000000 00 0 0 25\n0654 0 00000000 00 0 0 26\n064e 0 00000000 00 0 0 31\n\
+                   065c 0 00000000 00 0 0 220\n0653 4 00000000 00 0 0 230\n";
+    let unmerged = "0655 1 00000000 00 0 0 25\n0654 3 00000000 00 0 0 26\n\
+                    064e 0 00000000 00 0 0 31\n065c 2 00000000 00 0 0 220\n\
+                    0653 4 00000000 00 0 0 230\n";
+    let same = "064e 0 00000000 00 0 0 31\n0655 1 00000000 00 0 0 220\n\
+                065c 2 00000000 00 0 0 220\n0654 3 00000000 00 0 0 230\n\
+                0653 4 00000000 00 0 0 230\n";
+    let whole = format!(in alloc; "{marks}run marks 0 5\n")?;
+    let level_2 = format!(in alloc; "{marks}set level 2\nrun marks 0 5\n")?;
+    let empty = format!(in alloc; "{marks}run marks 2 2\n")?;
+    let mut many = String::from_str(alloc, "set shaper arabic\ntext")?;
+    for _ in 0..33 {
+        many.push_str(" 41")?;
+    }
+    many.push_str("\nrun marks 0 33\n")?;
+    expect_rows(
+        &rt,
+        alloc,
+        &[
+            (
+                "set shaper arabic\ntext 064E 0654\nat 0 class 31\nat 1 class 230\nrun marks 0 2\n",
+                "0654 0 00000000 00 0 0 26\n064e 0 00000000 00 0 0 31\n",
+                "",
+                0,
+            ),
+            (&whole, ordered, "", 0),
+            (&level_2, unmerged, "", 0),
+            (&empty, same, "", 0),
+            (&many, "", "line 3: unreadable\n", 2),
+        ],
+    )
+}

@@ -1,5 +1,5 @@
 //! What the hooks ask of their callers: the plan's data, and tests of the rest.
-ghost use Rattle.std.specs.Prelude.{◌≡◌, ◌↔◌, All, IsTrue};
+ghost use Rattle.std.specs.Prelude.{◌≡◌, ◌≤◌, ◌↔◌, All, IsTrue};
 ghost use Rattle.std.specs.Char.{IsScalar};
 
 use super::hb_ot_shaper_t;
@@ -9,7 +9,7 @@ use shapers_base::plan::hb_ot_shape_plan_t;
 use shapers_hangul::ot_shaper_hangul;
 
 impl hb_ot_shaper_t {
-    ghost use Rattle.rustybuzz_shapers.specs.Hooks.{GlyphsFit, PlanFits};
+    ghost use Rattle.rustybuzz_shapers.specs.Hooks.{GlyphsFit, MarksFit, PlanFits};
 
     /// The plan with the data that the shaper's hooks read, where it keeps any.
     pub fn with_data(self, mut plan: hb_ot_shape_plan_t) -> hb_ot_shape_plan_t
@@ -28,6 +28,24 @@ impl hb_ot_shaper_t {
             | Self::Universal => {}
         }
         plan
+    }
+
+    /// Whether `reorder_marks` takes so many marks: for Arabic at most 32.
+    pub fn marks_fit(self, start: usize, end: usize) -> bool
+        requires { start ≤ end }
+        ensures { IsTrue result ↔ MarksFit self start end }
+    {
+        match self {
+            Self::Arabic => end - start <= 32,
+            Self::Hangul
+            | Self::Hebrew
+            | Self::Indic
+            | Self::Khmer
+            | Self::Myanmar
+            | Self::MyanmarZawgyi
+            | Self::Thai
+            | Self::Universal => true,
+        }
     }
 
     /// Whether the glyphs are such as `setup_masks` asks for: for Arabic, characters.

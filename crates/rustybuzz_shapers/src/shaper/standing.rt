@@ -88,7 +88,7 @@ impl hb_ot_shaper_t {
                 create_data: Has,
                 postprocess_glyphs: WillHave,
                 setup_masks: Has,
-                reorder_marks: WillHave,
+                reorder_marks: Has,
                 ..NO_HOOKS
             },
             Self::Hangul => Hooks {
