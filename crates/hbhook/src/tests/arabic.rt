@@ -123,7 +123,8 @@ fn orders_marks(rt: HostRuntime) -> Result<(), Fail> {
     let alloc = rt.alloc();
     let marks = "set shaper arabic\ntext 064E 0655 065C 0654 0653\nat 0 class 31\nat 1 class 220\n\
                  at 2 class 220\nat 3 class 230\nat 4 class 230\n";
-    let ordered = "0655 0 00000000 00 0 0 25\n0654 0 00000000 00 0 0 26\n064e 0 00000000 00 0 0 31\n\
+    let ordered =
+        "0655 0 00000000 00 0 0 25\n0654 0 00000000 00 0 0 26\n064e 0 00000000 00 0 0 31\n\
                    065c 0 00000000 00 0 0 220\n0653 4 00000000 00 0 0 230\n";
     let unmerged = "0655 1 00000000 00 0 0 25\n0654 3 00000000 00 0 0 26\n\
                     064e 0 00000000 00 0 0 31\n065c 2 00000000 00 0 0 220\n\
