@@ -1,6 +1,6 @@
 -- Hooks that a shaper lacks, computed: nothing changes, and the answer is None; and what preprocessing answers.
 use Rattle.std.specs.Prelude.{◌≡◌, ℕ, [], ◌∷◌, map, None, Some, refl}
-use Rattle.shapers_base.specs.Buffer.{Buffer}
+use Rattle.shapers_buffer.specs.Buffer.{Buffer}
 use Rattle.shapers_base.specs.Font.{CharacterTables, Font}
 use Rattle.shapers_base.specs.declared.plan.hb_ot_shape_plan_t.{hb_ot_shape_plan_t}
 use Rattle.shapers_base.specs.declared.plan.Preprocess.TheVariants.{CallerRunsVowelConstraints, Done}

@@ -1,6 +1,6 @@
 -- The records of the nine shapers, computed: each constant by its name, and which lists they have.
 use Rattle.std.specs.Prelude.{◌≡◌, true, false, List, [], ◌∷◌, map, None, Some, codes, is_some, refl}
-use Rattle.shapers_base.specs.declared.buffer.tag.hb_tag_t.{hb_tag_t}
+use Rattle.shapers_buffer.specs.declared.buffer.tag.hb_tag_t.{hb_tag_t}
 use Rattle.shapers_base.specs.declared.plan.record.NormalizationMode.TheVariants as mode
 use Rattle.shapers_base.specs.declared.plan.record.ZeroWidthMarks.TheVariants as zeroing
 use Rattle.shapers_base.specs.Planner.{bare_pause, disabled, enabled}

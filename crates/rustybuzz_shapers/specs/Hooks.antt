@@ -2,16 +2,16 @@
 use Rattle.std.specs.Prelude.{ℕ, ◌+◌, ◌≤◌, List, true, false, ◌≡◌, length, Option, None, Some, Result, IsOk}
 use Rattle.std.specs.Char.{IsScalar}
 use Rattle.std.specs.List.{All, list_any}
-use Rattle.shapers_base.specs.Buffer.{Buffer}
+use Rattle.shapers_buffer.specs.Buffer.{Buffer}
 use Rattle.shapers_base.specs.Font.{CharacterTables, Font}
-use Rattle.shapers_base.specs.Glyph.{clusters}
-use Rattle.shapers_base.specs.Refusals.{RefusesLength}
+use Rattle.shapers_buffer.specs.Glyph.{clusters}
+use Rattle.shapers_buffer.specs.Refusals.{RefusesLength}
 use Rattle.shapers_arabic.specs.Marks as arabic
 use Rattle.shapers_arabic.specs.Marks.{marks_merged, marks_reordered}
 use Rattle.shapers_arabic.specs.JoinedText.{CutsAsHalves, IsJoined}
 use Rattle.shapers_arabic.specs.PlanData.{arabic_plan, IsArabic, masks_of}
-use Rattle.shapers_base.specs.declared.buffer.glyph.hb_glyph_info_t.{hb_glyph_info_t}
-use Rattle.shapers_base.specs.declared.buffer.refusal.ShaperError.{ShaperError}
+use Rattle.shapers_buffer.specs.declared.buffer.glyph.hb_glyph_info_t.{hb_glyph_info_t}
+use Rattle.shapers_buffer.specs.declared.buffer.refusal.ShaperError.{ShaperError}
 use Rattle.shapers_base.specs.declared.plan.hb_ot_shape_plan_t.{hb_ot_shape_plan_t}
 use Rattle.shapers_base.specs.declared.plan.PlanData.{PlanData}
 use Rattle.shapers_base.specs.declared.plan.PlanData.TheVariants as data_of

@@ -1,12 +1,12 @@
 -- What each pause does to the buffer.
 use Rattle.std.specs.Prelude.{ℕ, ◌≡◌, Bool, true, false, List, map, Result, IsOk}
-use Rattle.shapers_base.specs.Buffer.{Buffer}
+use Rattle.shapers_buffer.specs.Buffer.{Buffer}
 use Rattle.shapers_base.specs.Font.{Font}
-use Rattle.shapers_base.specs.Refusals.{RefusesInput}
-use Rattle.shapers_base.specs.Syllabic.{with_unsafe_syllables, unsubstituted}
-use Rattle.shapers_base.specs.Syllables.{in_syllable, spans_refusal, with_spans}
-use Rattle.shapers_base.specs.declared.buffer.refusal.ShaperError.{ShaperError}
-use Rattle.shapers_base.specs.declared.buffer.syllables.Span.{Span}
+use Rattle.shapers_buffer.specs.Refusals.{RefusesInput}
+use Rattle.shapers_syllabic.specs.Syllabic.{with_unsafe_syllables, unsubstituted}
+use Rattle.shapers_buffer.specs.Syllables.{in_syllable, spans_refusal, with_spans}
+use Rattle.shapers_buffer.specs.declared.buffer.refusal.ShaperError.{ShaperError}
+use Rattle.shapers_buffer.specs.declared.buffer.syllables.Span.{Span}
 use Rattle.shapers_base.specs.declared.plan.hb_ot_shape_plan_t.{hb_ot_shape_plan_t}
 use Rattle.shapers_base.specs.declared.plan.pause.Pause.{Pause}
 use Rattle.shapers_base.specs.declared.plan.pause.Pause.TheVariants.{SetupSyllablesIndic, SetupSyllablesKhmer, SetupSyllablesMyanmar, SetupSyllablesUse, InitialReordering, ReorderKhmer, ReorderMyanmar, ReorderUse, FinalReordering, RecordStch, RecordRphf, RecordPref, SyllabicClearVar, ClearSubstitutionFlags, ArabicFallbackShape}

@@ -2,8 +2,8 @@
 use Rattle.std.specs.Prelude.{Bool, true, false, List, Option, None, Some, codes}
 use Rattle.std.specs.Option.{option_map}
 use Rattle.shapers_base.specs.Planner.{Planner, with_requests}
-use Rattle.shapers_base.specs.declared.buffer.tag.hb_tag_t.{hb_tag_t}
-use Rattle.shapers_base.specs.declared.buffer.tag.Script.{Script}
+use Rattle.shapers_buffer.specs.declared.buffer.tag.hb_tag_t.{hb_tag_t}
+use Rattle.shapers_buffer.specs.declared.buffer.tag.Script.{Script}
 use Rattle.shapers_base.specs.declared.plan.planner.Request.{Request}
 use Rattle.shapers_base.specs.declared.plan.record.NormalizationMode.{NormalizationMode}
 use Rattle.shapers_base.specs.declared.plan.record.NormalizationMode.TheVariants as mode

@@ -4,8 +4,9 @@
 pub mod shaper;
 
 pub use shapers_arabic::ot_shaper_arabic;
-pub use shapers_base::{buffer, font, map, ot_shaper_syllabic, plan};
+pub use shapers_base::{buffer, font, map, plan};
 pub use shapers_hangul::ot_shaper_hangul;
 pub use shapers_indic::ot_shaper_indic;
 pub use shapers_regroup::{ot_shaper_khmer, ot_shaper_myanmar, ot_shaper_use};
+pub use shapers_syllabic::ot_shaper_syllabic;
 pub use shapers_text::{ot_shaper_hebrew, ot_shaper_thai};

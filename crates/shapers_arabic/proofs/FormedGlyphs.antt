@@ -6,15 +6,15 @@ use Rattle.std.specs.Int.Bits.{bit_or, or_zero_r}
 use Rattle.std.proofs.lemmas.Bool.{eq-eqb, ne_eqb}
 use Rattle.std.proofs.lemmas.Nat.{or_shr}
 use Rattle.std.proofs.lemmas.Nat.Bits.{bit_at_or, same_from_bits}
-use Rattle.shapers_base.specs.declared.buffer.glyph.hb_glyph_info_t.{hb_glyph_info_t}
+use Rattle.shapers_buffer.specs.declared.buffer.glyph.hb_glyph_info_t.{hb_glyph_info_t}
 use Rattle.shapers_base.specs.declared.plan.joining.hb_arabic_joining_type_t.{hb_arabic_joining_type_t}
 use Rattle.std.proofs.lemmas.List.{get_or-map}
 use Rattle.shapers_base.specs.declared.plan.joining.hb_arabic_joining_type_t.TheVariants.{U}
-use Rattle.shapers_base.specs.Clusters.{least, stretch_of}
-use Rattle.shapers_base.specs.Glyph.{clusters}
-use Rattle.shapers_base.specs.Clusters.{with_stretch}
-use Rattle.shapers_base.specs.GlyphFlags.{with_bits, with_bits_off, flagged, unsafe_to_concat_in, tatweel_inside}
-use Rattle.shapers_base.proofs.ClusterLemmas.{three_parts}
+use Rattle.shapers_buffer.specs.Clusters.{least, stretch_of}
+use Rattle.shapers_buffer.specs.Glyph.{clusters}
+use Rattle.shapers_buffer.specs.Clusters.{with_stretch}
+use Rattle.shapers_buffer.specs.GlyphFlags.{with_bits, with_bits_off, flagged, unsafe_to_concat_in, tatweel_inside}
+use Rattle.shapers_buffer.proofs.ClusterLemmas.{three_parts}
 use Rattle.shapers_arabic.specs.declared.ot_shaper_arabic.arabic_action_t.TheConstants.{NONE}
 use Rattle.shapers_arabic.specs.Joining.{resolved}
 use Rattle.shapers_arabic.specs.JoinedText.{stored_types, AreCharacters}

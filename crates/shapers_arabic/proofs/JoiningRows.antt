@@ -1,11 +1,11 @@
 -- The joining rule, the selector rule and the table, computed on values written out from the rules.
 use Rattle.std.specs.Prelude.{◌≡◌, ℕ, List, [], ◌∷◌, length, map, replicate, Option, None, Some, true, false, codes, slice_index_or, ◌==◌, if◌then◌else◌, refl}
-use Rattle.shapers_base.specs.Buffer.{Buffer, new_buffer}
-use Rattle.shapers_base.specs.Glyph.{default_glyph}
-use Rattle.shapers_base.specs.declared.buffer.category.hb_unicode_general_category_t.{hb_unicode_general_category_t}
-use Rattle.shapers_base.specs.declared.buffer.category.hb_unicode_general_category_t.TheVariants as gc
-use Rattle.shapers_base.specs.declared.buffer.glyph.hb_glyph_info_t.{hb_glyph_info_t}
-use Rattle.shapers_base.specs.declared.buffer.tag.Script.{Script}
+use Rattle.shapers_buffer.specs.Buffer.{Buffer, new_buffer}
+use Rattle.shapers_buffer.specs.Glyph.{default_glyph}
+use Rattle.shapers_buffer.specs.declared.buffer.category.hb_unicode_general_category_t.{hb_unicode_general_category_t}
+use Rattle.shapers_buffer.specs.declared.buffer.category.hb_unicode_general_category_t.TheVariants as gc
+use Rattle.shapers_buffer.specs.declared.buffer.glyph.hb_glyph_info_t.{hb_glyph_info_t}
+use Rattle.shapers_buffer.specs.declared.buffer.tag.Script.{Script}
 use Rattle.shapers_base.specs.declared.plan.joining.hb_arabic_joining_type_t.{hb_arabic_joining_type_t}
 use Rattle.shapers_base.specs.declared.plan.joining.hb_arabic_joining_type_t.TheVariants.{U, L, R, D, GroupAlaph, GroupDalathRish, T, X}
 use Rattle.shapers_arabic.specs.declared.ot_shaper_arabic.arabic_action_t.TheConstants.{ISOL, FINA, FIN2, FIN3, MEDI, MED2, INIT, NONE, STRETCHING_FIXED, STRETCHING_REPEATING}

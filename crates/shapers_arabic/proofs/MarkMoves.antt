@@ -6,7 +6,7 @@ use Rattle.std.proofs.lemmas.List.FromFn.{length-range_with_len}
 use Rattle.std.proofs.lemmas.List.Sorted.{IsPermutation-append_comm, IsPermutation-append_left, IsPermutation-append_right, IsPermutation-trans}
 use Rattle.std.proofs.lemmas.Bool.{cases_lt}
 use Rattle.std.proofs.lemmas.Bool.Decides.{nat_tests}
-use Rattle.shapers_base.proofs.MappedLists.{all-append, all-range}
+use Rattle.shapers_buffer.proofs.MappedLists.{all-append, all-range}
 use Rattle.shapers_clusters.specs.Cuts.{EndWithin, held}
 use Rattle.shapers_clusters.specs.Steps.{Step, HeldBetween, MovesMerged, Permutes}
 use Rattle.shapers_clusters.proofs.Widened.{range-append}

@@ -1,12 +1,12 @@
 -- The order of marks, computed on values written out from the rule.
 use Rattle.std.specs.Prelude.{◌≡◌, ℕ, List, [], ◌∷◌, map, length, replicate, true, false, refl}
 use Rattle.std.specs.List.{range_with_len}
-use Rattle.shapers_base.specs.Glyph.{default_glyph, clusters}
-use Rattle.shapers_base.specs.declared.buffer.category.hb_unicode_general_category_t.TheVariants.{Mn}
-use Rattle.shapers_base.specs.declared.buffer.glyph.hb_glyph_info_t.{hb_glyph_info_t}
-use Rattle.shapers_base.specs.declared.buffer.level.BufferClusterLevel.{BufferClusterLevel}
-use Rattle.shapers_base.specs.declared.buffer.level.BufferClusterLevel.TheVariants.{MonotoneGraphemes, MonotoneCharacters, Characters}
-use Rattle.shapers_base.specs.declared.buffer.modified_combining_class.TheConstants.{CCC22, CCC26}
+use Rattle.shapers_buffer.specs.Glyph.{default_glyph, clusters}
+use Rattle.shapers_buffer.specs.declared.buffer.category.hb_unicode_general_category_t.TheVariants.{Mn}
+use Rattle.shapers_buffer.specs.declared.buffer.glyph.hb_glyph_info_t.{hb_glyph_info_t}
+use Rattle.shapers_buffer.specs.declared.buffer.level.BufferClusterLevel.{BufferClusterLevel}
+use Rattle.shapers_buffer.specs.declared.buffer.level.BufferClusterLevel.TheVariants.{MonotoneGraphemes, MonotoneCharacters, Characters}
+use Rattle.shapers_buffer.specs.declared.buffer.modified_combining_class.TheConstants.{CCC22, CCC26}
 use Rattle.shapers_clusters.specs.Steps.{run_step}
 use Rattle.shapers_arabic.specs.declared.ot_shaper_arabic.marks.TheConstants.{ABOVE}
 use Rattle.shapers_arabic.specs.MarkParts.{lengths_of, passed_by, last_first}

@@ -1,10 +1,10 @@
 -- Words for the walk along the letters of a text, which the contracts of its steps cite: the table's cells and states, and what holds after some places.
 use Rattle.std.specs.Prelude.{◌≡◌, ℕ, ◌+◌, ◌<◌, ◌==◌, map, bit_or, false, List, [], ◌∷◌, ◌++◌, length, take, reverse, slice_set, slice_index, slice_index_or, Option, None, Some, if◌then◌else◌}
 use Rattle.std.specs.List.{AllZip, AllByRecursion}
-use Rattle.shapers_base.specs.declared.buffer.glyph.hb_glyph_info_t.{hb_glyph_info_t}
+use Rattle.shapers_buffer.specs.declared.buffer.glyph.hb_glyph_info_t.{hb_glyph_info_t}
 use Rattle.shapers_base.specs.declared.plan.joining.hb_arabic_joining_type_t.{hb_arabic_joining_type_t}
 use Rattle.shapers_base.specs.declared.plan.joining.hb_arabic_joining_type_t.TheVariants.{U, L, R, D, GroupAlaph, GroupDalathRish}
-use Rattle.shapers_base.specs.declared.buffer.tag.Script.{Script}
+use Rattle.shapers_buffer.specs.declared.buffer.tag.Script.{Script}
 use Rattle.shapers_arabic.specs.declared.ot_shaper_arabic.arabic_action_t.TheConstants.{NONE}
 use Rattle.shapers_arabic.specs.declared.ot_shaper_arabic.joining.TheConstants.{STATE_TABLE}
 use Rattle.shapers_arabic.specs.declared.ot_shaper_arabic.joining.Transition.{Transition}

@@ -1,6 +1,6 @@
 -- Words for the code that orders marks, which the contracts of its steps cite.
 use Rattle.std.specs.Prelude.{ℕ, ◌+◌, ◌-◌, List, ◌++◌, length, map, take, drop}
-use Rattle.shapers_base.specs.declared.buffer.glyph.hb_glyph_info_t.{hb_glyph_info_t}
+use Rattle.shapers_buffer.specs.declared.buffer.glyph.hb_glyph_info_t.{hb_glyph_info_t}
 use Rattle.shapers_arabic.specs.declared.ot_shaper_arabic.marks.Parts.{Parts}
 use Rattle.shapers_arabic.specs.Marks.{Marks, in_class, passed}
 

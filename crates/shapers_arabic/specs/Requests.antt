@@ -1,8 +1,8 @@
 -- What Arabic asks of the map.
 use Rattle.std.specs.Prelude.{ℕ, Bool, List, [], ◌∷◌, ◌++◌, map, bit_or, Option, None, Some, codes, false, nat_eq, if◌then◌else◌}
 use Rattle.std.specs.Cmp.Lexicographic.{pointwise}
-use Rattle.shapers_base.specs.declared.buffer.tag.hb_tag_t.{hb_tag_t}
-use Rattle.shapers_base.specs.declared.buffer.tag.Script.{Script}
+use Rattle.shapers_buffer.specs.declared.buffer.tag.hb_tag_t.{hb_tag_t}
+use Rattle.shapers_buffer.specs.declared.buffer.tag.Script.{Script}
 use Rattle.shapers_base.specs.declared.map.TheConstants.{F_NONE, F_HAS_FALLBACK, F_MANUAL_ZWJ}
 use Rattle.shapers_base.specs.declared.plan.pause.Pause.TheVariants.{RecordStch, ArabicFallbackShape}
 use Rattle.shapers_base.specs.declared.plan.planner.Request.{Request}

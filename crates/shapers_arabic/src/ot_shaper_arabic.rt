@@ -1,6 +1,6 @@
 //! The shaper of Arabic and of the scripts that join like it.
 ghost use Rattle.std.specs.Prelude.{◌≡◌, ◌+◌, ◌<◌, OnOk, OnErr, IsOkUnless, if◌then◌else◌};
-ghost use Rattle.shapers_base.specs.declared.buffer.refusal.ShaperError.TheVariants.{Memory};
+ghost use Rattle.shapers_buffer.specs.declared.buffer.refusal.ShaperError.TheVariants.{Memory};
 ghost use Rattle.shapers_base.specs.Planner.{with_requests};
 ghost use Rattle.shapers_arabic.specs.Requests.{arabic_list, is_arabic, joining_list, rclt};
 ghost use Rattle.shapers_arabic.specs.JoinedText.{AreCharacters, CopiedContextsCut, CopiedContextsShow, CutsAsHalves, IsJoined, look_ups, text_of};

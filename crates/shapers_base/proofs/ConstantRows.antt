@@ -1,9 +1,5 @@
--- The constants that the syllabic shapers share, by their numbers.
-use Rattle.std.specs.Prelude.{◌≡◌, [], ◌∷◌, map, refl}
-use Rattle.shapers_base.specs.declared.buffer.TheConstants.{CONTEXT_LENGTH}
-use Rattle.shapers_base.specs.declared.buffer.flags.TheConstants.BufferFlags as flags
-use Rattle.shapers_base.specs.declared.buffer.glyph_flags.glyph_flag.TheConstants as glyph_flag
-use Rattle.shapers_base.specs.declared.buffer.modified_combining_class.TheConstants as class
+-- Constants by their numbers: categories, positions, feature flags.
+use Rattle.std.specs.Prelude.{◌≡◌, [], ◌∷◌, refl}
 use Rattle.shapers_base.specs.declared.map.TheConstants as feature
 use Rattle.shapers_base.specs.declared.plan.ot_category_t.TheConstants as ot
 use Rattle.shapers_base.specs.declared.plan.ot_position_t.TheConstants as pos
@@ -16,22 +12,6 @@ ot_category_t = refl
 ot_position_t : pos.POS_START ∷ pos.POS_RA_TO_BECOME_REPH ∷ pos.POS_PRE_M ∷ pos.POS_PRE_C ∷ pos.POS_BASE_C ∷ pos.POS_AFTER_MAIN ∷ pos.POS_ABOVE_C ∷ pos.POS_BEFORE_SUB ∷ pos.POS_BELOW_C ∷ pos.POS_AFTER_SUB ∷ pos.POS_BEFORE_POST ∷ pos.POS_POST_C ∷ pos.POS_AFTER_POST ∷ pos.POS_SMVD ∷ pos.POS_END ∷ [] ≡ 0 ∷ 1 ∷ 2 ∷ 3 ∷ 4 ∷ 5 ∷ 6 ∷ 7 ∷ 8 ∷ 9 ∷ 10 ∷ 11 ∷ 12 ∷ 13 ∷ 14 ∷ []
 ot_position_t = refl
 
--- the modified combining classes
-modified_classes : class.CCC10 ∷ class.CCC14 ∷ class.CCC17 ∷ class.CCC18 ∷ class.CCC22 ∷ class.CCC26 ∷ class.BELOW ∷ [] ≡ 22 ∷ 23 ∷ 20 ∷ 21 ∷ 25 ∷ 26 ∷ 220 ∷ []
-modified_classes = refl
-
--- the glyph flags
-glyph_flags : glyph_flag.UNSAFE_TO_BREAK ∷ glyph_flag.UNSAFE_TO_CONCAT ∷ glyph_flag.SAFE_TO_INSERT_TATWEEL ∷ [] ≡ 1 ∷ 2 ∷ 4 ∷ []
-glyph_flags = refl
-
--- what the caller asks of the shapers
-buffer_flags : map (λ f. f.0) (flags.DO_NOT_INSERT_DOTTED_CIRCLE ∷ flags.PRODUCE_UNSAFE_TO_CONCAT ∷ flags.PRODUCE_SAFE_TO_INSERT_TATWEEL ∷ []) ≡ 0x20 ∷ 0x40 ∷ 0x80 ∷ []
-buffer_flags = refl
-
 -- what a shaper asks of a feature
 feature_flags : feature.F_NONE ∷ feature.F_GLOBAL ∷ feature.F_HAS_FALLBACK ∷ feature.F_MANUAL_ZWNJ ∷ feature.F_MANUAL_ZWJ ∷ feature.F_MANUAL_JOINERS ∷ feature.F_PER_SYLLABLE ∷ [] ≡ 0 ∷ 1 ∷ 2 ∷ 4 ∷ 8 ∷ 12 ∷ 64 ∷ []
 feature_flags = refl
-
--- how many characters a context keeps
-context_length : CONTEXT_LENGTH ≡ 5
-context_length = refl

@@ -1,6 +1,6 @@
 -- The questions to a map and the words for requests, computed on small ones.
 use Rattle.std.specs.Prelude.{◌≡◌, ◌==◌, true, false, [], ◌∷◌, Some, None, codes, refl}
-use Rattle.shapers_base.specs.declared.buffer.tag.hb_tag_t.{hb_tag_t}
+use Rattle.shapers_buffer.specs.declared.buffer.tag.hb_tag_t.{hb_tag_t}
 use Rattle.shapers_base.specs.declared.map.TheConstants.{F_MANUAL_JOINERS}
 use Rattle.shapers_base.specs.declared.plan.planner.Request.TheVariants.{Feature}
 use Rattle.shapers_base.specs.Map.{Map, can_be_map, mask_of, stage_of, lookups_of, would}

@@ -2,7 +2,7 @@
 use Prim.Native.String.{String}
 use Rattle.std.specs.Prelude.{ℕ, List, [], ◌∷◌, ◌++◌, Option, None, Some, bit_or, codes}
 use Rattle.std.specs.List.{flat_map}
-use Rattle.shapers_base.specs.declared.buffer.tag.Script.{Script}
+use Rattle.shapers_buffer.specs.declared.buffer.tag.Script.{Script}
 use Rattle.shapers_base.specs.declared.map.TheConstants.{F_GLOBAL}
 use Rattle.shapers_base.specs.declared.plan.pause.Pause as pauses
 use Rattle.shapers_base.specs.declared.plan.planner.Request.{Request}

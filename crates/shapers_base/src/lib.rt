@@ -1,7 +1,8 @@
+//! What a shaper is given: the buffer, the font, the Unicode tables, the map and the plan.
 #![tactic(auto)]
 
-pub mod buffer;
 pub mod font;
 pub mod map;
-pub mod ot_shaper_syllabic;
 pub mod plan;
+
+pub use shapers_buffer::buffer;

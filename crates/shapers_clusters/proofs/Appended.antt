@@ -4,14 +4,14 @@ use Rattle.std.specs.List.{AllByRecursion}
 use Rattle.std.proofs.lemmas.List.{length-map, get_or-reverse, take-append-le, drop-append-le}
 use Rattle.std.proofs.lemmas.Bool.{cases_eq}
 use Rattle.std.proofs.lemmas.Bool.Decides.{nat_tests}
-use Rattle.shapers_base.specs.declared.buffer.glyph.hb_glyph_info_t.{hb_glyph_info_t}
-use Rattle.shapers_base.specs.declared.buffer.level.BufferClusterLevel.{BufferClusterLevel}
-use Rattle.shapers_base.specs.Glyph.{clusters, default_glyph}
-use Rattle.shapers_base.specs.Clusters.{least, first_cluster, last_cluster, in_cluster, flooded, merge, merge_all, merges, stretch_of}
-use Rattle.shapers_base.proofs.MappedLists.{map-reverse}
+use Rattle.shapers_buffer.specs.declared.buffer.glyph.hb_glyph_info_t.{hb_glyph_info_t}
+use Rattle.shapers_buffer.specs.declared.buffer.level.BufferClusterLevel.{BufferClusterLevel}
+use Rattle.shapers_buffer.specs.Glyph.{clusters, default_glyph}
+use Rattle.shapers_buffer.specs.Clusters.{least, first_cluster, last_cluster, in_cluster, flooded, merge, merge_all, merges, stretch_of}
+use Rattle.shapers_buffer.proofs.MappedLists.{map-reverse}
 use Rattle.shapers_clusters.proofs.Joined.{opening, opening-at, opening-clusters, least-le}
 use Rattle.shapers_clusters.proofs.Merging.{length-merge}
-use Rattle.shapers_base.proofs.ClusterLemmas.{flood_merged, merge_is}
+use Rattle.shapers_buffer.proofs.ClusterLemmas.{flood_merged, merge_is}
 
 flooded-same : (c : ℕ) (gs : List hb_glyph_info_t) → flooded c c gs ≡ gs
 flooded-same c [] = refl

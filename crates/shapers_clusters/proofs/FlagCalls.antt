@@ -4,13 +4,13 @@ use Rattle.std.specs.List.{AllByRecursion, AllZip}
 use Rattle.std.specs.Int.Bits.{bit_or, or_zero_r}
 use Rattle.std.proofs.lemmas.Nat.{or_shr, or_mod, le_or_l}
 use Rattle.std.proofs.lemmas.List.{map-append}
-use Rattle.shapers_base.specs.declared.buffer.glyph.hb_glyph_info_t.{hb_glyph_info_t}
-use Rattle.shapers_base.specs.Glyph.{plain, without_flags, clusters}
-use Rattle.shapers_base.specs.Clusters.{with_stretch, least, stretch_of}
-use Rattle.shapers_base.specs.GlyphFlags.{with_bits, with_bits_off, flagged, unsafe_inside, unsafe_to_concat_in, unsafe_all, tatweel_inside, FlagCall, UnsafeToBreak, UnsafeToConcat, SafeToInsertTatweel, flag_called, flags_called}
+use Rattle.shapers_buffer.specs.declared.buffer.glyph.hb_glyph_info_t.{hb_glyph_info_t}
+use Rattle.shapers_buffer.specs.Glyph.{plain, without_flags, clusters}
+use Rattle.shapers_buffer.specs.Clusters.{with_stretch, least, stretch_of}
+use Rattle.shapers_buffer.specs.GlyphFlags.{with_bits, with_bits_off, flagged, unsafe_inside, unsafe_to_concat_in, unsafe_all, tatweel_inside, FlagCall, UnsafeToBreak, UnsafeToConcat, SafeToInsertTatweel, flag_called, flags_called}
 use Rattle.shapers_clusters.specs.Flags.{FlagsAlone, bit_at, KeepsBits, InOrder}
 use Rattle.shapers_clusters.proofs.Falls.{all_append, all_over}
-use Rattle.shapers_base.proofs.ClusterLemmas.{three_parts}
+use Rattle.shapers_buffer.proofs.ClusterLemmas.{three_parts}
 
 -- bits below 8 are glyph flags
 pub without_flags-or : (m bits : ℕ) → bits / 8 ≡ 0 → without_flags (bit_or m bits) ≡ without_flags m

@@ -7,13 +7,13 @@ use Rattle.std.proofs.lemmas.List.{map-append, length-map, length-take-le, lengt
 use Rattle.std.proofs.lemmas.List.Elements.{recursion_from_All, All-from_get_or}
 use Rattle.std.proofs.lemmas.Nat.{and_or_self}
 use Rattle.std.proofs.Math.Seq.{drop-append-add}
-use Rattle.shapers_base.specs.declared.buffer.glyph.hb_glyph_info_t.{hb_glyph_info_t}
-use Rattle.shapers_base.specs.Glyph.{clusters}
-use Rattle.shapers_base.specs.Clusters.{least, stretch_of}
-use Rattle.shapers_base.specs.GlyphFlags.{with_bits, with_bits_off, flagged, unsafe_inside, unsafe_all}
+use Rattle.shapers_buffer.specs.declared.buffer.glyph.hb_glyph_info_t.{hb_glyph_info_t}
+use Rattle.shapers_buffer.specs.Glyph.{clusters}
+use Rattle.shapers_buffer.specs.Clusters.{least, stretch_of}
+use Rattle.shapers_buffer.specs.GlyphFlags.{with_bits, with_bits_off, flagged, unsafe_inside, unsafe_all}
 use Rattle.shapers_clusters.proofs.FlagCalls.{map-flagged}
 use Rattle.shapers_clusters.proofs.Joined.{least-le, least-among}
-use Rattle.shapers_base.proofs.ClusterLemmas.{three_parts}
+use Rattle.shapers_buffer.proofs.ClusterLemmas.{three_parts}
 
 -- a stretch of one place, or none, has no flags
 flagged_few : (bits : ℕ) (gs : List hb_glyph_info_t) → length gs ≤ 1 → flagged bits gs ≡ gs

@@ -5,20 +5,20 @@ use Rattle.std.proofs.lemmas.List.{append-nil, map-append, length-map, length-re
 use Rattle.std.proofs.lemmas.List.Sums.{sum_by-cons, fold-append}
 use Rattle.std.proofs.lemmas.List.Elements.{All-head, All-tail, All-nil, All-cons, All-from_get_or, All-contains_itself}
 use Rattle.std.proofs.lemmas.Bool.{cases_eq}
-use Rattle.shapers_base.specs.declared.buffer.glyph.hb_glyph_info_t.{hb_glyph_info_t}
-use Rattle.shapers_base.specs.declared.buffer.level.BufferClusterLevel.{BufferClusterLevel}
-use Rattle.shapers_base.specs.Glyph.{clusters}
-use Rattle.shapers_base.specs.Clusters.{least, first_cluster, last_cluster, in_cluster, flooded, merge, merge_all, merges, stretch_of}
+use Rattle.shapers_buffer.specs.declared.buffer.glyph.hb_glyph_info_t.{hb_glyph_info_t}
+use Rattle.shapers_buffer.specs.declared.buffer.level.BufferClusterLevel.{BufferClusterLevel}
+use Rattle.shapers_buffer.specs.Glyph.{clusters}
+use Rattle.shapers_buffer.specs.Clusters.{least, first_cluster, last_cluster, in_cluster, flooded, merge, merge_all, merges, stretch_of}
 use Rattle.shapers_clusters.proofs.Merging.{length-merge, length-merge_all}
 use Rattle.shapers_clusters.specs.Cuts.{EndWithin, ShareNone}
-use Rattle.shapers_base.specs.Places.{pick}
+use Rattle.shapers_buffer.specs.Places.{pick}
 use Rattle.shapers_clusters.specs.Steps.{Step, run_step, run_steps, FitsStep, FitSteps, shifted, widened, steps_along}
 use Rattle.shapers_clusters.proofs.Picks.{length-pick, pick-map}
 use Rattle.shapers_clusters.proofs.Moves.{clusters-merge_all, clusters-run_steps, all-joined, all-joined_steps, all-picked}
 use Rattle.shapers_clusters.proofs.Widened.{pick-parts, fits-widened, range-append, map-range, all_along}
 use Rattle.shapers_clusters.proofs.Falls.{flooded-hit, flooded-miss}
 use Rattle.shapers_clusters.proofs.Appended.{assembled, two_sides}
-use Rattle.shapers_base.proofs.ClusterLemmas.{flood_merged, merge_is}
+use Rattle.shapers_buffer.proofs.ClusterLemmas.{flood_merged, merge_is}
 
 -- P holds of the cluster of each glyph
 abbrev pub Each : (ℕ → Type 0) → List hb_glyph_info_t → Type 0

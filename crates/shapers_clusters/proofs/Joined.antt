@@ -3,12 +3,12 @@ use Rattle.std.proofs.Common.{ℕ, zero, suc, ◌-◌, ◌==◌, ◌<◌, ◌≤
 use Rattle.std.proofs.lemmas.List.{map-append, take-map, drop-map}
 use Rattle.std.proofs.lemmas.Bool.{cases_lt, cases_eq}
 use Rattle.std.proofs.lemmas.Bool.Decides.{nat_tests}
-use Rattle.shapers_base.specs.declared.buffer.glyph.hb_glyph_info_t.{hb_glyph_info_t}
-use Rattle.shapers_base.specs.declared.buffer.level.BufferClusterLevel.{BufferClusterLevel}
-use Rattle.shapers_base.specs.Glyph.{clusters}
-use Rattle.shapers_base.proofs.MappedLists.{map-reverse}
-use Rattle.shapers_base.specs.Clusters.{least, first_cluster, in_cluster, flooded, merge, merges, stretch_of}
-use Rattle.shapers_base.proofs.ClusterLemmas.{flood_merged, merge_is}
+use Rattle.shapers_buffer.specs.declared.buffer.glyph.hb_glyph_info_t.{hb_glyph_info_t}
+use Rattle.shapers_buffer.specs.declared.buffer.level.BufferClusterLevel.{BufferClusterLevel}
+use Rattle.shapers_buffer.specs.Glyph.{clusters}
+use Rattle.shapers_buffer.proofs.MappedLists.{map-reverse}
+use Rattle.shapers_buffer.specs.Clusters.{least, first_cluster, in_cluster, flooded, merge, merges, stretch_of}
+use Rattle.shapers_buffer.proofs.ClusterLemmas.{flood_merged, merge_is}
 use Rattle.shapers_clusters.specs.Joined.{of_cluster, joined}
 
 -- the first of a list of numbers, 0 where there is none

@@ -3,9 +3,9 @@ use Rattle.std.proofs.Common.{ℕ, ◌+◌, ◌-◌, ◌%◌, ◌<◌, ◌≤◌
 use Rattle.std.specs.List.{All, AllByRecursion, AllZip, Contains, enumerate_from}
 use Rattle.std.proofs.lemmas.List.{get_or_append_left, get_or-append_right, drop_more, length-drop}
 use Rattle.std.proofs.lemmas.List.Elements.{All-get_or}
-use Rattle.shapers_base.specs.declared.buffer.glyph.hb_glyph_info_t.{hb_glyph_info_t}
-use Rattle.shapers_base.specs.Glyph.{default_glyph, clusters}
-use Rattle.shapers_base.specs.Places.{pick}
+use Rattle.shapers_buffer.specs.declared.buffer.glyph.hb_glyph_info_t.{hb_glyph_info_t}
+use Rattle.shapers_buffer.specs.Glyph.{default_glyph, clusters}
+use Rattle.shapers_buffer.specs.Places.{pick}
 use Rattle.shapers_clusters.proofs.Picks.{pick-within}
 use Rattle.shapers_clusters.proofs.Moves.{held_by}
 use Rattle.shapers_clusters.specs.Flags.{FlagsFall, ShowsClusters}

@@ -3,12 +3,12 @@ use Rattle.std.proofs.Common.{ℕ, ◌-◌, ◌<◌, ◌≤◌, ◌≡◌, ◌==
 use Rattle.std.proofs.lemmas.List.{length-reverse, length-map, map-append, reverse-reverse}
 use Rattle.std.proofs.lemmas.Bool.Decides.{nat_tests}
 use Rattle.std.specs.List.{AllByRecursion}
-use Rattle.shapers_base.specs.declared.buffer.glyph.hb_glyph_info_t.{hb_glyph_info_t}
-use Rattle.shapers_base.specs.declared.buffer.level.BufferClusterLevel.{BufferClusterLevel}
-use Rattle.shapers_base.specs.Glyph.{plain, without_flags, order_view}
-use Rattle.shapers_base.proofs.MappedLists.{map-reverse}
-use Rattle.shapers_base.specs.Clusters.{in_cluster, flooded, merge, merge_all, merges, stretch_of}
-use Rattle.shapers_base.proofs.ClusterLemmas.{flood_merged, merge_is, three_parts}
+use Rattle.shapers_buffer.specs.declared.buffer.glyph.hb_glyph_info_t.{hb_glyph_info_t}
+use Rattle.shapers_buffer.specs.declared.buffer.level.BufferClusterLevel.{BufferClusterLevel}
+use Rattle.shapers_buffer.specs.Glyph.{plain, without_flags, order_view}
+use Rattle.shapers_buffer.proofs.MappedLists.{map-reverse}
+use Rattle.shapers_buffer.specs.Clusters.{in_cluster, flooded, merge, merge_all, merges, stretch_of}
+use Rattle.shapers_buffer.proofs.ClusterLemmas.{flood_merged, merge_is, three_parts}
 
 -- a stretch of at least two places merges, or nothing changes
 two_cases : (n : ℕ) (a : Bool) {X : Type 0} (P : X → Type 0) (x y : X) → P y → (1 < n → P x) → P (if a && not (nat_lt n 2) then x else y)

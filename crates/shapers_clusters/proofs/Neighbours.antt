@@ -1,8 +1,8 @@
 -- What merges do to any clusters: none rises, neighbours that share one still do, and so do the places of a stretch.
 use Rattle.std.proofs.Common.{ℕ, zero, suc, ◌+◌, ◌-◌, ◌<◌, ◌≤◌, ◌≡◌, ◌==◌, min, max, Bool, true, false, ◌||◌, nat_lt, ◌&&◌, ◌⊎◌, inl, inr, List, [], ◌∷◌, length, get_or, slice_index, refl, sym, ◌∙◌, ap, subst, arith}
 use Rattle.std.proofs.lemmas.Bool.{cases_lt, ltb-true, eqb-true}
-use Rattle.shapers_base.specs.declared.buffer.level.BufferClusterLevel.{BufferClusterLevel}
-use Rattle.shapers_base.specs.Clusters.{merges}
+use Rattle.shapers_buffer.specs.declared.buffer.level.BufferClusterLevel.{BufferClusterLevel}
+use Rattle.shapers_buffer.specs.Clusters.{merges}
 use Rattle.shapers_clusters.specs.Joined.{joined, joined_all}
 use Rattle.shapers_clusters.proofs.Spread.{Spread, joined_cases}
 use Rattle.shapers_clusters.specs.Cuts.{EndWithin, held, linked, ShareCluster}

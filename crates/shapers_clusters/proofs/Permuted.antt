@@ -5,11 +5,11 @@ use Rattle.std.specs.List.Sorted.{IsPermutation}
 use Rattle.std.proofs.lemmas.List.{length-map}
 use Rattle.std.proofs.lemmas.List.FromFn.{length-range_with_len}
 use Rattle.std.proofs.lemmas.List.Sorted.{IsPermutation-refl, IsPermutation-trans, IsPermutation-map, IsPermutation-append_left, IsPermutation-append_right, IsPermutation-swap}
-use Rattle.shapers_base.specs.declared.buffer.glyph.hb_glyph_info_t.{hb_glyph_info_t}
-use Rattle.shapers_base.specs.declared.buffer.level.BufferClusterLevel.{BufferClusterLevel}
-use Rattle.shapers_base.specs.Glyph.{plain, order_view}
-use Rattle.shapers_base.proofs.MappedLists.{all-mapped}
-use Rattle.shapers_base.specs.Places.{pick}
+use Rattle.shapers_buffer.specs.declared.buffer.glyph.hb_glyph_info_t.{hb_glyph_info_t}
+use Rattle.shapers_buffer.specs.declared.buffer.level.BufferClusterLevel.{BufferClusterLevel}
+use Rattle.shapers_buffer.specs.Glyph.{plain, order_view}
+use Rattle.shapers_buffer.proofs.MappedLists.{all-mapped}
+use Rattle.shapers_buffer.specs.Places.{pick}
 use Rattle.shapers_clusters.specs.Steps.{Step, run_steps, moved_on, old_places, FitSteps, widened, still_step, swap_step, Permutes}
 use Rattle.shapers_clusters.proofs.Picks.{pick-within, nothing_picked, some_element, length-pick, pick-all, within_range}
 use Rattle.shapers_clusters.proofs.Moves.{order_view-run_steps, within-old_places}

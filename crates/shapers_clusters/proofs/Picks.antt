@@ -5,8 +5,8 @@ use Rattle.std.proofs.lemmas.Option.{slice_get-get_or, slice_get_past, slice_get
 use Rattle.std.proofs.lemmas.List.{drop_more, take_all}
 use Rattle.std.proofs.lemmas.List.Elements.{filter_map-append}
 use Rattle.std.proofs.lemmas.Bool.{cases_lt}
-use Rattle.shapers_base.proofs.MappedLists.{all-range}
-use Rattle.shapers_base.specs.Places.{pick}
+use Rattle.shapers_buffer.proofs.MappedLists.{all-range}
+use Rattle.shapers_buffer.specs.Places.{pick}
 
 pub pick-within : {X : Type 0} (d : X) (p : ℕ) (ps : List ℕ) (xs : List X) → p < length xs → pick (p ∷ ps) xs ≡ get_or xs p d ∷ pick ps xs
 pick-within d p ps xs h = ap (λ o. cons_option o (pick ps xs)) (slice_get-get_or xs p d h)

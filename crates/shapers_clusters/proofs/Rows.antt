@@ -1,13 +1,13 @@
 -- Rows computed: what the definitions give for small lists of clusters.
 use Rattle.std.proofs.Common.{ℕ, true, false, map, ◌%◌, ◌+◌, ◌-◌, ◌≡◌, ◌≤◌, [], ◌∷◌, refl, ap, arith, subst}
 use Rattle.std.specs.List.{AllByRecursion}
-use Rattle.shapers_base.specs.declared.buffer.level.BufferClusterLevel.TheVariants.{MonotoneGraphemes, Characters}
-use Rattle.shapers_base.specs.declared.buffer.glyph.hb_glyph_info_t.{hb_glyph_info_t}
-use Rattle.shapers_base.specs.Glyph.{default_glyph, without_flags}
+use Rattle.shapers_buffer.specs.declared.buffer.level.BufferClusterLevel.TheVariants.{MonotoneGraphemes, Characters}
+use Rattle.shapers_buffer.specs.declared.buffer.glyph.hb_glyph_info_t.{hb_glyph_info_t}
+use Rattle.shapers_buffer.specs.Glyph.{default_glyph, without_flags}
 use Rattle.shapers_clusters.specs.Cuts.{held, linked}
 use Rattle.shapers_clusters.specs.Flags.{HidesFields, bit_at, seen, whole}
 use Rattle.shapers_clusters.specs.Joined.{joined, joined_all}
-use Rattle.shapers_base.specs.Places.{pick}
+use Rattle.shapers_buffer.specs.Places.{pick}
 use Rattle.shapers_clusters.specs.Steps.{Step, joined_steps, old_places, MovesMerged, all_first, shifted, widened, still_step, swap_step, steps_along, reordered_along}
 use Rattle.shapers_clusters.proofs.Merging.{without_flags-twice}
 use Rattle.shapers_clusters.proofs.Moves.{moves_anywhere}

@@ -8,14 +8,14 @@ use Rattle.std.proofs.lemmas.List.Elements.{recursion_from_All}
 use Rattle.std.proofs.lemmas.List.FromFn.{get_or-range_with_len, length-range_with_len}
 use Rattle.std.proofs.lemmas.Bool.{cases_eq}
 use Rattle.std.proofs.lemmas.Bool.Decides.{nat_tests}
-use Rattle.shapers_base.specs.declared.buffer.glyph.hb_glyph_info_t.{hb_glyph_info_t}
-use Rattle.shapers_base.specs.declared.buffer.level.BufferClusterLevel.{BufferClusterLevel}
-use Rattle.shapers_base.specs.Clusters.{merge}
-use Rattle.shapers_base.specs.Glyph.{plain, order_view, default_glyph}
+use Rattle.shapers_buffer.specs.declared.buffer.glyph.hb_glyph_info_t.{hb_glyph_info_t}
+use Rattle.shapers_buffer.specs.declared.buffer.level.BufferClusterLevel.{BufferClusterLevel}
+use Rattle.shapers_buffer.specs.Clusters.{merge}
+use Rattle.shapers_buffer.specs.Glyph.{plain, order_view, default_glyph}
 use Rattle.shapers_clusters.proofs.Merging.{length-merge, order_view-merge}
 use Rattle.shapers_clusters.specs.Cuts.{held}
 use Rattle.shapers_clusters.proofs.Picks.{length-pick, get_or-pick, pick-all, within_range}
-use Rattle.shapers_base.specs.Places.{pick}
+use Rattle.shapers_buffer.specs.Places.{pick}
 use Rattle.shapers_clusters.specs.Steps.{run_step, HeldBetween, MovesMerged, still_step, swap_step}
 
 -- where what stands at place k comes from

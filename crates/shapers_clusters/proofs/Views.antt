@@ -3,10 +3,10 @@ use Rattle.std.proofs.Common.{ℕ, ◌≡◌, List, [], ◌∷◌, map, length, 
 use Rattle.std.specs.List.{AllByRecursion}
 use Rattle.std.specs.List.Sorted.{IsPermutation}
 use Rattle.std.proofs.lemmas.List.Sorted.{IsPermutation-map}
-use Rattle.shapers_base.specs.declared.buffer.glyph.hb_glyph_info_t.{hb_glyph_info_t}
-use Rattle.shapers_base.specs.declared.buffer.level.BufferClusterLevel.{BufferClusterLevel}
-use Rattle.shapers_base.specs.Glyph.{order_view, plain}
-use Rattle.shapers_base.specs.Places.{pick}
+use Rattle.shapers_buffer.specs.declared.buffer.glyph.hb_glyph_info_t.{hb_glyph_info_t}
+use Rattle.shapers_buffer.specs.declared.buffer.level.BufferClusterLevel.{BufferClusterLevel}
+use Rattle.shapers_buffer.specs.Glyph.{order_view, plain}
+use Rattle.shapers_buffer.specs.Places.{pick}
 use Rattle.shapers_clusters.specs.Steps.{Step, run_steps, old_places, FitSteps, Permutes}
 use Rattle.shapers_clusters.specs.Flags.{HidesFields, whole, seen}
 use Rattle.shapers_clusters.proofs.Merging.{without_flags-twice}

@@ -1,8 +1,8 @@
 -- Stretches, what they hold together, and exact cuts.
 use Rattle.std.proofs.Common.{ℕ, ◌-◌, ◌<◌, ◌≤◌, ◌≡◌, ◌==◌, min, max, Bool, true, false, ◌||◌, nat_lt, ◌&&◌, ◌⊎◌, List, length, slice_index, ◌≢◌, ◌↔◌}
 use Rattle.std.specs.List.{AllByRecursion, list_any, AllPairs}
-use Rattle.shapers_base.specs.declared.buffer.glyph.hb_glyph_info_t.{hb_glyph_info_t}
-use Rattle.shapers_base.specs.Glyph.{clusters}
+use Rattle.shapers_buffer.specs.declared.buffer.glyph.hb_glyph_info_t.{hb_glyph_info_t}
+use Rattle.shapers_buffer.specs.Glyph.{clusters}
 
 -- stretches that end within n places
 abbrev pub EndWithin : ℕ → List (ℕ × ℕ) → Type 0

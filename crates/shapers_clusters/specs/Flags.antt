@@ -1,10 +1,10 @@
 -- What becomes of clusters and glyph flags, glyph by glyph; views of glyphs.
 use Rattle.std.proofs.Common.{ℕ, ◌/◌, ◌%◌, ◌^◌, ◌<◌, ◌≤◌, ◌≡◌, List, map}
 use Rattle.std.specs.List.{AllZip}
-use Rattle.shapers_base.specs.declared.buffer.glyph.hb_glyph_info_t.{hb_glyph_info_t}
-use Rattle.shapers_base.specs.Glyph.{clusters, order_view, plain}
-use Rattle.shapers_base.specs.Clusters.{in_cluster}
-use Rattle.shapers_base.specs.GlyphFlags.{FlagCall, UnsafeToBreak, UnsafeToConcat, SafeToInsertTatweel}
+use Rattle.shapers_buffer.specs.declared.buffer.glyph.hb_glyph_info_t.{hb_glyph_info_t}
+use Rattle.shapers_buffer.specs.Glyph.{clusters, order_view, plain}
+use Rattle.shapers_buffer.specs.Clusters.{in_cluster}
+use Rattle.shapers_buffer.specs.GlyphFlags.{FlagCall, UnsafeToBreak, UnsafeToConcat, SafeToInsertTatweel}
 
 -- a glyph falls to another: its cluster is that or a lower one, and if it is lower, the glyph flags are gone
 abbrev pub FallsTo : hb_glyph_info_t → hb_glyph_info_t → Type 0

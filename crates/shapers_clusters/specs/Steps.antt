@@ -1,10 +1,10 @@
 -- Steps: merges and moves of places.
 use Rattle.std.proofs.Common.{ℕ, ◌+◌, ◌-◌, ◌<◌, ◌≤◌, ◌≡◌, ◌++◌, min, max, true, List, [], map, length, slice_index, ◌∷◌, take, drop}
 use Rattle.std.specs.List.{fold, AllByRecursion, flat_map, range_with_len}
-use Rattle.shapers_base.specs.declared.buffer.glyph.hb_glyph_info_t.{hb_glyph_info_t}
-use Rattle.shapers_base.specs.declared.buffer.level.BufferClusterLevel.{BufferClusterLevel}
-use Rattle.shapers_base.specs.Places.{pick}
-use Rattle.shapers_base.specs.Clusters.{merge_all}
+use Rattle.shapers_buffer.specs.declared.buffer.glyph.hb_glyph_info_t.{hb_glyph_info_t}
+use Rattle.shapers_buffer.specs.declared.buffer.level.BufferClusterLevel.{BufferClusterLevel}
+use Rattle.shapers_buffer.specs.Places.{pick}
+use Rattle.shapers_buffer.specs.Clusters.{merge_all}
 use Rattle.shapers_clusters.specs.Joined.{joined_all}
 use Rattle.shapers_clusters.specs.Cuts.{EndWithin, held}
 use Rattle.std.specs.List.Sorted.{IsPermutation}

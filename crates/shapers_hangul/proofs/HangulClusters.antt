@@ -6,15 +6,15 @@ use Rattle.std.proofs.lemmas.List.Concat.{flat_map-append}
 use Rattle.std.proofs.lemmas.List.FromFn.{length-range_with_len}
 use Rattle.std.proofs.lemmas.List.{length-drop}
 use Rattle.std.proofs.lemmas.Simd.{map-map}
-use Rattle.shapers_base.specs.declared.buffer.glyph.hb_glyph_info_t.{hb_glyph_info_t}
-use Rattle.shapers_base.specs.declared.buffer.level.BufferClusterLevel.{BufferClusterLevel}
+use Rattle.shapers_buffer.specs.declared.buffer.glyph.hb_glyph_info_t.{hb_glyph_info_t}
+use Rattle.shapers_buffer.specs.declared.buffer.level.BufferClusterLevel.{BufferClusterLevel}
 use Rattle.std.specs.Prelude.{Result, Ok, Err, OnOk}
-use Rattle.shapers_base.specs.declared.buffer.refusal.ShaperError.{ShaperError}
-use Rattle.shapers_base.specs.Buffer.{Buffer}
-use Rattle.shapers_base.specs.Clusters.{merge_all, merges}
+use Rattle.shapers_buffer.specs.declared.buffer.refusal.ShaperError.{ShaperError}
+use Rattle.shapers_buffer.specs.Buffer.{Buffer}
+use Rattle.shapers_buffer.specs.Clusters.{merge_all, merges}
 use Rattle.shapers_base.specs.Font.{Font}
-use Rattle.shapers_base.specs.Glyph.{clusters}
-use Rattle.shapers_base.proofs.MappedLists.{all-append, all-flat_map, drop-range, places-enumerate_from, Contains-flat_map}
+use Rattle.shapers_buffer.specs.Glyph.{clusters}
+use Rattle.shapers_buffer.proofs.MappedLists.{all-append, all-flat_map, drop-range, places-enumerate_from, Contains-flat_map}
 use Rattle.shapers_clusters.specs.Cuts.{EndWithin, ShareCluster}
 use Rattle.shapers_clusters.specs.Laws.{ClustersMade}
 use Rattle.shapers_clusters.proofs.Made.{Made, all_standing, glyphs-standing, numbered-standing}

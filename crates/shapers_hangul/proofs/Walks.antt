@@ -1,9 +1,9 @@
 -- The walks of the code over the items: what is written, what is merged, what changes.
 use Rattle.std.proofs.Common.{◌≡◌, ℕ, zero, suc, ◌+◌, ◌<◌, ◌≤◌, ◌||◌, ◌&&◌, ◌==◌, not, Bool, true, false, cond, List, [], ◌∷◌, ◌++◌, length, take, drop, refl, sym, ap, subst, ◌∙◌, arith}
 use Rattle.std.proofs.lemmas.List.{append_assoc, append-nil, length-append, length-map, drop-map, take-append-drop}
-use Rattle.shapers_base.specs.declared.buffer.glyph.hb_glyph_info_t.{hb_glyph_info_t}
-use Rattle.shapers_base.specs.declared.buffer.level.BufferClusterLevel.{BufferClusterLevel}
-use Rattle.shapers_base.specs.Clusters.{merge, merge_all}
+use Rattle.shapers_buffer.specs.declared.buffer.glyph.hb_glyph_info_t.{hb_glyph_info_t}
+use Rattle.shapers_buffer.specs.declared.buffer.level.BufferClusterLevel.{BufferClusterLevel}
+use Rattle.shapers_buffer.specs.Clusters.{merge, merge_all}
 use Rattle.shapers_base.specs.Font.{Font}
 use Rattle.shapers_clusters.proofs.Merging.{map-merge_all, merge_all-append, merge_cases}
 use Rattle.shapers_hangul.specs.declared.ot_shaper_hangul.item.Item.{Item}

@@ -1,14 +1,14 @@
 -- What the rewriting makes of clusters and glyph flags, and that it spells the same text.
 use Rattle.std.specs.Prelude.{ℕ, Bool, ◌+◌, ◌==◌, ◌||◌, ◌≡◌, not, true, false, get_or, filter, List, [], ◌∷◌, ◌++◌, map, flat_map, take, length, if◌then◌else◌}
 use Rattle.std.specs.List.{AllZip, range_with_len}
-use Rattle.shapers_base.specs.declared.buffer.glyph.hb_glyph_info_t.{hb_glyph_info_t}
-use Rattle.shapers_base.specs.declared.buffer.level.BufferClusterLevel.{BufferClusterLevel}
-use Rattle.shapers_base.specs.Buffer.{Buffer}
-use Rattle.shapers_base.specs.Clusters.{merge_all, merges}
+use Rattle.shapers_buffer.specs.declared.buffer.glyph.hb_glyph_info_t.{hb_glyph_info_t}
+use Rattle.shapers_buffer.specs.declared.buffer.level.BufferClusterLevel.{BufferClusterLevel}
+use Rattle.shapers_buffer.specs.Buffer.{Buffer}
+use Rattle.shapers_buffer.specs.Clusters.{merge_all, merges}
 use Rattle.shapers_base.specs.Font.{Font}
-use Rattle.shapers_base.specs.Glyph.{clusters}
+use Rattle.shapers_buffer.specs.Glyph.{clusters}
 use Rattle.shapers_clusters.specs.Cuts.{ShareCluster}
-use Rattle.shapers_base.specs.Places.{pick}
+use Rattle.shapers_buffer.specs.Places.{pick}
 use Rattle.shapers_clusters.specs.Flags.{FlagsFall}
 use Rattle.shapers_clusters.specs.Laws.{ClustersMade}
 use Rattle.shapers_hangul.specs.declared.ot_shaper_hangul.item.Item.{Item}

@@ -1,9 +1,9 @@
 -- The masks of Hangul.
 use Rattle.std.specs.Prelude.{ℕ, bit_or, Bool, true, false, List, [], ◌∷◌, map, codes, slice_index}
-use Rattle.shapers_base.specs.declared.buffer.glyph.hb_glyph_info_t.{hb_glyph_info_t}
+use Rattle.shapers_buffer.specs.declared.buffer.glyph.hb_glyph_info_t.{hb_glyph_info_t}
 use Rattle.shapers_base.specs.declared.plan.PlanData.{PlanData}
 use Rattle.shapers_base.specs.declared.plan.PlanData.TheVariants.{Hangul}
-use Rattle.shapers_base.specs.Buffer.{Buffer}
+use Rattle.shapers_buffer.specs.Buffer.{Buffer}
 use Rattle.shapers_base.specs.Map.{Map, mask_of}
 
 -- the masks that the plan keeps: none for unmarked glyphs, then those of leading, vowel and trailing jamo

@@ -1,10 +1,10 @@
 //! The shaper of Hangul.
 ghost use Rattle.std.specs.Prelude.{◌≡◌, ◌%◌, OnOk, OnErr, IsOkUnless, true, map, length, []};
-ghost use Rattle.shapers_base.specs.declared.buffer.refusal.ShaperError.TheVariants.{Memory};
+ghost use Rattle.shapers_buffer.specs.declared.buffer.refusal.ShaperError.TheVariants.{Memory};
 ghost use Rattle.shapers_base.specs.Planner.{with_requests};
 ghost use Rattle.std.specs.List.{All};
 ghost use Rattle.shapers_base.specs.declared.plan.PlanData.TheVariants.{Hangul};
-ghost use Rattle.shapers_base.specs.Refusals.{RefusesLength};
+ghost use Rattle.shapers_buffer.specs.Refusals.{RefusesLength};
 ghost use Rattle.shapers_hangul.specs.Hangul.{rewritten};
 ghost use Rattle.shapers_hangul.specs.HangulLaws.{KeepsClusters, RewrittenLaw, SpellingLaw, SpellsSame};
 ghost use Rattle.shapers_hangul.specs.Masks.{jamo_masks, is_hangul_data, masks_in, with_jamo_masks};
@@ -109,7 +109,7 @@ struct JamoMasks {
 
 impl GlyphChange for JamoMasks {
     ghost use Rattle.std.specs.Prelude.{◌≡◌};
-    ghost use Rattle.shapers_base.specs.Refusals.{RefusesLength};
+    ghost use Rattle.shapers_buffer.specs.Refusals.{RefusesLength};
     ghost use Rattle.shapers_hangul.specs.Hangul.{rewritten};
     ghost use Rattle.shapers_hangul.specs.Masks.{with_jamo_mask};
 

@@ -1,6 +1,6 @@
 //! The shaper of the Indic scripts.
 ghost use Rattle.std.specs.Prelude.{◌≡◌, OnOk, OnErr, IsOkUnless};
-ghost use Rattle.shapers_base.specs.declared.buffer.refusal.ShaperError.TheVariants.{Memory};
+ghost use Rattle.shapers_buffer.specs.declared.buffer.refusal.ShaperError.TheVariants.{Memory};
 ghost use Rattle.shapers_base.specs.Planner.{with_requests};
 ghost use Rattle.shapers_indic.specs.Requests.{indic_list, indic_overrides};
 

@@ -3,12 +3,12 @@ use Rattle.std.proofs.Common.{◌≡◌, ℕ, suc, ◌+◌, ◌-◌, ◌<◌, �
 use Rattle.std.specs.Prelude.{option_map, swap, IfSome, if◌then◌else◌}
 use Rattle.std.proofs.lemmas.List.{drop_more, get_or_read, take-map, drop-map}
 use Rattle.std.proofs.lemmas.List.Edits.{swap_is}
-use Rattle.shapers_base.specs.Glyph.{default_glyph, plain, order_view}
+use Rattle.shapers_buffer.specs.Glyph.{default_glyph, plain, order_view}
 use Rattle.std.proofs.lemmas.Grind.{common_steps}
-use Rattle.shapers_base.specs.declared.buffer.glyph.hb_glyph_info_t.{hb_glyph_info_t}
-use Rattle.shapers_base.specs.Clusters.{stretch_of}
+use Rattle.shapers_buffer.specs.declared.buffer.glyph.hb_glyph_info_t.{hb_glyph_info_t}
+use Rattle.shapers_buffer.specs.Clusters.{stretch_of}
 use Rattle.std.specs.Option.{option_map_or}
-use Rattle.shapers_base.specs.declared.buffer.level.BufferClusterLevel.{BufferClusterLevel}
+use Rattle.shapers_buffer.specs.declared.buffer.level.BufferClusterLevel.{BufferClusterLevel}
 use Rattle.shapers_clusters.specs.Flags.{whole}
 use Rattle.shapers_clusters.specs.Laws.{ReorderedHold}
 use Rattle.shapers_clusters.specs.Steps.{Permutes, MovesMerged, run_step}

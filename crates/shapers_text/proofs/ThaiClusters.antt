@@ -6,15 +6,15 @@ use Rattle.std.proofs.lemmas.List.Elements.{All-cons, All-from_recursion}
 use Rattle.std.proofs.lemmas.List.FromFn.{length-range_with_len}
 use Rattle.std.proofs.lemmas.List.Sums.{suffix_len-le-length}
 use Rattle.std.proofs.lemmas.Simd.{map-map}
-use Rattle.shapers_base.specs.declared.buffer.category.hb_unicode_general_category_t.TheVariants.{Cc}
-use Rattle.shapers_base.specs.declared.buffer.glyph.hb_glyph_info_t.{hb_glyph_info_t}
-use Rattle.shapers_base.specs.declared.buffer.level.BufferClusterLevel.{BufferClusterLevel}
-use Rattle.shapers_base.specs.Glyph.{clusters}
-use Rattle.shapers_base.specs.Clusters.{merge_all, merges}
-use Rattle.shapers_base.specs.Marks.{CONTINUATION}
-use Rattle.shapers_base.specs.Lists.{before_last_run, each_after}
-use Rattle.shapers_base.proofs.MarkLemmas.{cleared_after_set}
-use Rattle.shapers_base.proofs.MappedLists.{all-range, Contains-flat_map, Contains-each_after}
+use Rattle.shapers_buffer.specs.declared.buffer.category.hb_unicode_general_category_t.TheVariants.{Cc}
+use Rattle.shapers_buffer.specs.declared.buffer.glyph.hb_glyph_info_t.{hb_glyph_info_t}
+use Rattle.shapers_buffer.specs.declared.buffer.level.BufferClusterLevel.{BufferClusterLevel}
+use Rattle.shapers_buffer.specs.Glyph.{clusters}
+use Rattle.shapers_buffer.specs.Clusters.{merge_all, merges}
+use Rattle.shapers_buffer.specs.Marks.{CONTINUATION}
+use Rattle.shapers_buffer.specs.Lists.{before_last_run, each_after}
+use Rattle.shapers_buffer.proofs.MarkLemmas.{cleared_after_set}
+use Rattle.shapers_buffer.proofs.MappedLists.{all-range, Contains-flat_map, Contains-each_after}
 use Rattle.shapers_clusters.specs.Cuts.{ShareCluster}
 use Rattle.shapers_clusters.proofs.Made.{Made, all_standing, glyphs-standing, numbered-standing}
 use Rattle.shapers_clusters.specs.Laws.{ClustersMade}

@@ -5,8 +5,8 @@ use Rattle.std.proofs.lemmas.Bool.{or_parts, eqb-true}
 use Rattle.std.proofs.lemmas.List.{append_assoc, append-nil, get_or_at, set_at, reverse-append, length_push}
 use Rattle.std.proofs.lemmas.List.Folds.{list_any-append}
 use Rattle.std.proofs.lemmas.List.Sums.{take_while-cons}
-use Rattle.shapers_base.specs.Lists.{last_run, before_last_run}
-use Rattle.shapers_base.proofs.ListLaws.{last_pass, none_from_count, count_from_none, none_pushed, none_before_push, from_end, suffix_len_yes, suffix_len_no, suffix_len_stop, before_last_run_yes, before_last_run_no, last_run_yes, last_run_no, count_push, last_run_stop, before_last_run_stop}
+use Rattle.shapers_buffer.specs.Lists.{last_run, before_last_run}
+use Rattle.shapers_buffer.proofs.ListLaws.{last_pass, none_from_count, count_from_none, none_pushed, none_before_push, from_end, suffix_len_yes, suffix_len_no, suffix_len_stop, before_last_run_yes, before_last_run_no, last_run_yes, last_run_no, count_push, last_run_stop, before_last_run_stop}
 use Rattle.shapers_text.specs.declared.ot_shaper_thai.forms.Consonant.{Consonant}
 use Rattle.shapers_text.specs.declared.ot_shaper_thai.forms.Consonant.TheVariants.{NC, AC, RC, DC, NotConsonant}
 use Rattle.shapers_text.specs.declared.ot_shaper_thai.forms.Mark.{Mark}

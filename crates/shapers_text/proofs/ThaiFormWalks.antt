@@ -3,11 +3,11 @@ use Rattle.std.proofs.Common.{◌≡◌, ℕ, zero, suc, ◌-◌, ◌+◌, ◌<�
 use Rattle.std.specs.List.{AllByRecursion}
 use Rattle.std.proofs.lemmas.List.{append-nil, length-map, length-take-le, take_more, drop_more, take_all, drop_all, get_or-map, get_or_at}
 use Rattle.std.proofs.lemmas.Simd.{map-map}
-use Rattle.shapers_base.specs.declared.buffer.glyph.hb_glyph_info_t.{hb_glyph_info_t}
-use Rattle.shapers_base.specs.Buffer.{Buffer}
-use Rattle.shapers_base.specs.Glyph.{clusters}
-use Rattle.shapers_base.specs.GlyphFlags.{unsafe_inside, unsafe_all}
-use Rattle.shapers_base.specs.Lists.{each_after}
+use Rattle.shapers_buffer.specs.declared.buffer.glyph.hb_glyph_info_t.{hb_glyph_info_t}
+use Rattle.shapers_buffer.specs.Buffer.{Buffer}
+use Rattle.shapers_buffer.specs.Glyph.{clusters}
+use Rattle.shapers_buffer.specs.GlyphFlags.{unsafe_inside, unsafe_all}
+use Rattle.shapers_buffer.specs.Lists.{each_after}
 use Rattle.shapers_clusters.proofs.FlagCalls.{map-unsafe_inside, map-unsafe_all, without_flags-or}
 use Rattle.shapers_clusters.proofs.Flagging.{unsafe_nothing, unsafe_longer, unsafe_all-append}
 use Rattle.shapers_text.specs.declared.ot_shaper_thai.forms.Action.{Action}

@@ -5,10 +5,10 @@ use Rattle.std.specs.List.Sorted.{IsPermutation}
 use Rattle.std.proofs.lemmas.List.{map-append}
 use Rattle.std.proofs.lemmas.List.Sorted.{IsPermutation-map}
 use Rattle.std.proofs.lemmas.Simd.{map-map}
-use Rattle.shapers_base.specs.declared.buffer.glyph.hb_glyph_info_t.{hb_glyph_info_t}
-use Rattle.shapers_base.specs.declared.buffer.level.BufferClusterLevel.{BufferClusterLevel}
-use Rattle.shapers_base.specs.Glyph.{order_view, plain}
-use Rattle.shapers_base.specs.Clusters.{merge_all}
+use Rattle.shapers_buffer.specs.declared.buffer.glyph.hb_glyph_info_t.{hb_glyph_info_t}
+use Rattle.shapers_buffer.specs.declared.buffer.level.BufferClusterLevel.{BufferClusterLevel}
+use Rattle.shapers_buffer.specs.Glyph.{order_view, plain}
+use Rattle.shapers_buffer.specs.Clusters.{merge_all}
 use Rattle.shapers_clusters.proofs.Merging.{order_view-merge_all, without_flags-twice}
 use Rattle.shapers_text.specs.Thai.{characters, glyphs_in_two, in_parts, is_sara_am, nikhahit, sara_aa, rewritten, sara_am_stretches}
 use Rattle.shapers_text.specs.ThaiForms.{preprocessed, pua_shaped}

@@ -1,12 +1,12 @@
 -- The definitions, computed on small texts.
 use Rattle.std.specs.Prelude.{◌≡◌, ◌==◌, ℕ, true, false, List, [], ◌∷◌, map, refl}
 use Rattle.std.specs.List.{list_any, enumerate_from}
-use Rattle.shapers_base.specs.declared.buffer.category.hb_unicode_general_category_t.TheVariants.{Cc, Mn}
-use Rattle.shapers_base.specs.declared.buffer.glyph.hb_glyph_info_t.{hb_glyph_info_t}
-use Rattle.shapers_base.specs.declared.buffer.level.BufferClusterLevel.{BufferClusterLevel}
-use Rattle.shapers_base.specs.declared.buffer.level.BufferClusterLevel.TheVariants.{MonotoneGraphemes, MonotoneCharacters}
-use Rattle.shapers_base.specs.Glyph.{default_glyph, clusters}
-use Rattle.shapers_base.specs.Marks.{is_continuation}
+use Rattle.shapers_buffer.specs.declared.buffer.category.hb_unicode_general_category_t.TheVariants.{Cc, Mn}
+use Rattle.shapers_buffer.specs.declared.buffer.glyph.hb_glyph_info_t.{hb_glyph_info_t}
+use Rattle.shapers_buffer.specs.declared.buffer.level.BufferClusterLevel.{BufferClusterLevel}
+use Rattle.shapers_buffer.specs.declared.buffer.level.BufferClusterLevel.TheVariants.{MonotoneGraphemes, MonotoneCharacters}
+use Rattle.shapers_buffer.specs.Glyph.{default_glyph, clusters}
+use Rattle.shapers_buffer.specs.Marks.{is_continuation}
 use Rattle.shapers_text.specs.Thai.{characters, sources, sara_am_stretches}
 use Rattle.shapers_text.specs.ThaiForms.{preprocessed}
 use Rattle.shapers_text.specs.ThaiLaws.{new_place}

@@ -3,8 +3,8 @@ use Rattle.std.proofs.Common.{◌≡◌, Bool, ℕ, ◌-◌, ◌+◌, ◌<◌, �
 use Rattle.std.proofs.lemmas.List.{append_assoc, append-nil, take_more, take-append-drop, take-set-le, drop-set, length-set, length-take-le, length_push, drop_all, take_all}
 use Rattle.std.proofs.lemmas.List.Sums.{suffix_len-le-length, suffix_len-take_yes, suffix_len-take_no}
 use Rattle.std.specs.List.{suffix_len}
-use Rattle.shapers_base.specs.declared.buffer.glyph.hb_glyph_info_t.{hb_glyph_info_t}
-use Rattle.shapers_base.proofs.ListLaws.{none_from_count}
+use Rattle.shapers_buffer.specs.declared.buffer.glyph.hb_glyph_info_t.{hb_glyph_info_t}
+use Rattle.shapers_buffer.proofs.ListLaws.{none_from_count}
 use Rattle.shapers_text.specs.Thai.{is_sara_am, is_above_base, in_two, nikhahit, sara_aa, glyphs_in_two, rewritten}
 use Rattle.shapers_text.specs.ThaiWalk.{marks_of, IsUnwritten, Written, whole_of, becomes}
 use Rattle.shapers_text.proofs.ThaiInTwo.{in_two_plain, in_two_push, in_two_push_am, held_push_mark, lengths}

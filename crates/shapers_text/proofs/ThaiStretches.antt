@@ -5,15 +5,15 @@ use Rattle.std.proofs.lemmas.List.Concat.{flat_map-append}
 use Rattle.std.proofs.lemmas.Bool.{or_parts}
 use Rattle.std.proofs.lemmas.List.{append-nil, take-take, take_more, length-take-le, length-map, get_or-map, get_or-take, take_at, length-replicate}
 use Rattle.std.proofs.lemmas.List.Sums.{sum_by-cons}
-use Rattle.shapers_base.specs.declared.buffer.glyph.hb_glyph_info_t.{hb_glyph_info_t}
-use Rattle.shapers_base.specs.declared.buffer.level.BufferClusterLevel.{BufferClusterLevel}
-use Rattle.shapers_base.specs.Glyph.{default_glyph}
-use Rattle.shapers_base.specs.declared.buffer.glyph.GlyphPosition.{GlyphPosition}
-use Rattle.shapers_base.specs.Buffer.{Buffer, grown, more_positions}
-use Rattle.shapers_base.specs.Clusters.{merge_all}
-use Rattle.shapers_base.specs.Lists.{each_after}
-use Rattle.shapers_base.proofs.MappedLists.{all-flat_map, all-each_after, each_after-push, list_any-map}
-use Rattle.shapers_base.proofs.ListLaws.{none_from_count}
+use Rattle.shapers_buffer.specs.declared.buffer.glyph.hb_glyph_info_t.{hb_glyph_info_t}
+use Rattle.shapers_buffer.specs.declared.buffer.level.BufferClusterLevel.{BufferClusterLevel}
+use Rattle.shapers_buffer.specs.Glyph.{default_glyph}
+use Rattle.shapers_buffer.specs.declared.buffer.glyph.GlyphPosition.{GlyphPosition}
+use Rattle.shapers_buffer.specs.Buffer.{Buffer, grown, more_positions}
+use Rattle.shapers_buffer.specs.Clusters.{merge_all}
+use Rattle.shapers_buffer.specs.Lists.{each_after}
+use Rattle.shapers_buffer.proofs.MappedLists.{all-flat_map, all-each_after, each_after-push, list_any-map}
+use Rattle.shapers_buffer.proofs.ListLaws.{none_from_count}
 use Rattle.shapers_clusters.proofs.Merging.{length-merge_all, merge_all-append, map-merge_all}
 use Rattle.shapers_clusters.proofs.Appended.{merge_all-appended}
 use Rattle.shapers_text.specs.Thai.{characters, is_sara_am, is_above_base, glyphs_in_two, rewritten, stretch_of_sara_am, stretches_at, stretches_of_each, sara_am_stretches, joins_before}

@@ -1,14 +1,14 @@
 -- SARA AM of Thai and Lao in two.
 use Rattle.std.specs.Prelude.{ℕ, nat_eq, not, codes, Option, None, Some, ◌-◌, ◌+◌, Bool, ◌||◌, ◌&&◌, ◌==◌, nat_le, nat_lt, bit_and, true, false, List, [], ◌∷◌, ◌++◌, length, map, flat_map, if◌then◌else◌}
 use Rattle.std.specs.List.{suffix_len, enumerate_from}
-use Rattle.shapers_base.specs.declared.buffer.category.hb_unicode_general_category_t.TheVariants.{Mn}
-use Rattle.shapers_base.specs.declared.buffer.glyph.hb_glyph_info_t.{hb_glyph_info_t}
-use Rattle.shapers_base.specs.declared.buffer.level.BufferClusterLevel.{BufferClusterLevel}
-use Rattle.shapers_base.specs.declared.buffer.level.BufferClusterLevel.TheVariants.{MonotoneGraphemes, MonotoneCharacters, Characters}
+use Rattle.shapers_buffer.specs.declared.buffer.category.hb_unicode_general_category_t.TheVariants.{Mn}
+use Rattle.shapers_buffer.specs.declared.buffer.glyph.hb_glyph_info_t.{hb_glyph_info_t}
+use Rattle.shapers_buffer.specs.declared.buffer.level.BufferClusterLevel.{BufferClusterLevel}
+use Rattle.shapers_buffer.specs.declared.buffer.level.BufferClusterLevel.TheVariants.{MonotoneGraphemes, MonotoneCharacters, Characters}
 use Rattle.std.specs.Cmp.Lexicographic.{pointwise}
-use Rattle.shapers_base.specs.declared.buffer.tag.Script.{Script}
-use Rattle.shapers_base.specs.Marks.{CONTINUATION, with_mark}
-use Rattle.shapers_base.specs.Lists.{last_run, before_last_run, each_after, opened_pieces}
+use Rattle.shapers_buffer.specs.declared.buffer.tag.Script.{Script}
+use Rattle.shapers_buffer.specs.Marks.{CONTINUATION, with_mark}
+use Rattle.shapers_buffer.specs.Lists.{last_run, before_last_run, each_after, opened_pieces}
 
 -- SARA AM, of Thai and of Lao
 abbrev pub is_sara_am : ℕ → Bool

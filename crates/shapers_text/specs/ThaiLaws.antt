@@ -2,15 +2,15 @@
 use Rattle.std.specs.Prelude.{ℕ, Bool, ◌+◌, ◌≡◌, true, false, List, ◌∷◌, ◌++◌, map, flat_map, length, ◌<◌}
 use Rattle.std.specs.List.{AllZip, Contains, suffix_len}
 use Rattle.std.specs.List.Sorted.{IsPermutation}
-use Rattle.shapers_base.specs.declared.buffer.glyph.hb_glyph_info_t.{hb_glyph_info_t}
-use Rattle.shapers_base.specs.declared.buffer.level.BufferClusterLevel.{BufferClusterLevel}
-use Rattle.shapers_base.specs.declared.buffer.category.hb_unicode_general_category_t.TheVariants.{Cc}
-use Rattle.shapers_base.specs.Marks.{CONTINUATION, without_mark}
-use Rattle.shapers_base.specs.Lists.{before_last_run}
-use Rattle.shapers_base.specs.Glyph.{clusters, plain, without_flags}
-use Rattle.shapers_base.specs.Clusters.{merge_all, merges}
+use Rattle.shapers_buffer.specs.declared.buffer.glyph.hb_glyph_info_t.{hb_glyph_info_t}
+use Rattle.shapers_buffer.specs.declared.buffer.level.BufferClusterLevel.{BufferClusterLevel}
+use Rattle.shapers_buffer.specs.declared.buffer.category.hb_unicode_general_category_t.TheVariants.{Cc}
+use Rattle.shapers_buffer.specs.Marks.{CONTINUATION, without_mark}
+use Rattle.shapers_buffer.specs.Lists.{before_last_run}
+use Rattle.shapers_buffer.specs.Glyph.{clusters, plain, without_flags}
+use Rattle.shapers_buffer.specs.Clusters.{merge_all, merges}
 use Rattle.shapers_clusters.specs.Cuts.{ShareCluster}
-use Rattle.shapers_base.specs.Places.{pick}
+use Rattle.shapers_buffer.specs.Places.{pick}
 use Rattle.shapers_clusters.specs.Flags.{FlagsFall}
 use Rattle.shapers_clusters.specs.Laws.{ClustersMade}
 use Rattle.shapers_text.specs.ThaiForms.{preprocessed}

@@ -1,9 +1,9 @@
 -- How far the code has come in its walks over a Thai text: the forms from the start on, the rewriting from the end back.
 use Rattle.std.specs.Prelude.{ℕ, ◌+◌, Bool, List, ◌∷◌, ◌++◌, length, slice_index_or, slice_set, Option, None, Some}
 use Rattle.std.specs.List.{suffix_len}
-use Rattle.shapers_base.specs.declared.buffer.glyph.hb_glyph_info_t.{hb_glyph_info_t}
-use Rattle.shapers_base.specs.Glyph.{default_glyph}
-use Rattle.shapers_base.specs.Lists.{last_run, before_last_run}
+use Rattle.shapers_buffer.specs.declared.buffer.glyph.hb_glyph_info_t.{hb_glyph_info_t}
+use Rattle.shapers_buffer.specs.Glyph.{default_glyph}
+use Rattle.shapers_buffer.specs.Lists.{last_run, before_last_run}
 use Rattle.shapers_text.specs.declared.ot_shaper_thai.forms.Mark.{Mark}
 use Rattle.shapers_text.specs.declared.ot_shaper_thai.forms.Mark.TheVariants.{AV, BV, T, NotMark}
 use Rattle.shapers_text.specs.declared.ot_shaper_thai.forms.Action.{Action}

@@ -1,7 +1,7 @@
 //! Hebrew: the order of marks, and the letters that compose with points where the font places no marks.
 ghost use Rattle.std.specs.Prelude.{◌≡◌, ◌==◌, ◌&&◌, ◌≤◌, ◌∷◌, [], find, length, option_map, swap, ◌+◌, ◌^◌, ◌<◌, IfSome, true};
-ghost use Rattle.shapers_base.specs.Clusters.{merge};
-ghost use Rattle.shapers_base.specs.Glyph.{order_view};
+ghost use Rattle.shapers_buffer.specs.Clusters.{merge};
+ghost use Rattle.shapers_buffer.specs.Glyph.{order_view};
 ghost use Rattle.shapers_clusters.specs.Steps.{run_step};
 ghost use Rattle.shapers_text.specs.Hebrew.{mark_step, marks_swapped, MarksReordered, second_of_triple, opens_triple, hebrew_form, composed_in_hebrew, lacks_dagesh, is_in_dagesh_row, pairs};
 

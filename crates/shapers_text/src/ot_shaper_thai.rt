@@ -2,8 +2,8 @@
 //! forms.
 ghost use Rattle.std.specs.Prelude.{◌≡◌, ℕ, [], length, false, is_some, IsOk, OnOk, OnErr};
 ghost use Rattle.std.specs.List.{list_any};
-ghost use Rattle.shapers_base.specs.Glyph.{clusters};
-ghost use Rattle.shapers_base.specs.Refusals.{RefusesLength};
+ghost use Rattle.shapers_buffer.specs.Glyph.{clusters};
+ghost use Rattle.shapers_buffer.specs.Refusals.{RefusesLength};
 ghost use Rattle.shapers_text.specs.Thai.{is_sara_am, characters, rewritten, is_thai};
 ghost use Rattle.shapers_text.specs.ThaiForms.{asks_for_forms, preprocessed_in_thai};
 ghost use Rattle.shapers_text.specs.ThaiLaws.{ClustersInTwo, KeptInTwo, InTwoLaw, FormsLaw};

@@ -5,7 +5,7 @@ ghost use Rattle.rustybuzz_shapers.specs.Pauses.{CanPause, PauseAnswers, Paused,
 use super::standing::Standing;
 use shapers_base::buffer::{ShaperError, Span, hb_buffer_t};
 use shapers_base::font::hb_font_t;
-use shapers_base::ot_shaper_syllabic::{
+use shapers_syllabic::ot_shaper_syllabic::{
     clear_substitution_flags, clear_syllables, indic_syllable, khmer_syllable, myanmar_syllable,
     set_up_syllables,
 };

@@ -1,8 +1,8 @@
 //! The order of Arabic marks: those that modify a letter come first. (Unicode Technical Report 53.)
 ghost use Rattle.std.specs.Prelude.{◌≡◌, ◌==◌, ◌+◌, ◌≤◌, length, map};
 ghost use Rattle.std.specs.List.{list_any, prefix_len};
-ghost use Rattle.shapers_base.specs.Clusters.{merge_all};
-ghost use Rattle.shapers_base.specs.Glyph.{order_view};
+ghost use Rattle.shapers_buffer.specs.Clusters.{merge_all};
+ghost use Rattle.shapers_buffer.specs.Glyph.{order_view};
 ghost use Rattle.shapers_clusters.specs.Steps.{shifted};
 ghost use Rattle.shapers_arabic.specs.MarkParts.{lengths_of, end_of, passed_by, last_first};
 ghost use Rattle.shapers_arabic.specs.Marks.{MarksReordered, in_class, is_below, is_modifier_of, marks_merged, marks_reordered, merged_for, modifiers, split_marks, with_modifiers_first};

@@ -1,8 +1,8 @@
 //! The units of a Hangul text, and the tones that join them.
 ghost use Rattle.std.specs.Prelude.{◌≡◌, ◌+◌, ◌<◌, ◌≤◌, ◌++◌, length, get_or, true, OnOk, OnErr, IfErr, IsOkUnless, not, ◌||◌, ◌&&◌};
-ghost use Rattle.shapers_base.specs.Clusters.{merge_all};
+ghost use Rattle.shapers_buffer.specs.Clusters.{merge_all};
 ghost use Rattle.shapers_base.specs.Font.{has_nominal};
-ghost use Rattle.shapers_base.specs.declared.buffer.refusal.ShaperError.TheVariants.{Memory};
+ghost use Rattle.shapers_buffer.specs.declared.buffer.refusal.ShaperError.TheVariants.{Memory};
 ghost use Rattle.shapers_hangul.specs.Hangul.{is_s, is_lv, has_jamo_of, is_narrow, jamo_two, jamo_three, parts, syllable_unit, lone_tone, first_unit, taken, is_syllable, is_marked, joined_tone, first_item, tone_len, item_len, characters, glyph_copies, unit_output, item_output, marks_merge, item_stretches, output_len, is_kept};
 
 use super::jamo::{

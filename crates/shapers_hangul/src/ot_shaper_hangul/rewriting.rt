@@ -1,8 +1,8 @@
 //! The text rewritten, item after item.
 ghost use Rattle.std.specs.Prelude.{◌≡◌, ◌+◌, ◌<◌, ◌≤◌, ◌++◌, [], drop, length, None, IfSome, OnOk, OnErr, IfOk, IfErr, IsOkUnless, not};
-ghost use Rattle.shapers_base.specs.Clusters.{merge_all};
-ghost use Rattle.shapers_base.specs.Refusals.{RefusesLength};
-ghost use Rattle.shapers_base.specs.declared.buffer.refusal.ShaperError.TheVariants.{Memory, TooLong};
+ghost use Rattle.shapers_buffer.specs.Clusters.{merge_all};
+ghost use Rattle.shapers_buffer.specs.Refusals.{RefusesLength};
+ghost use Rattle.shapers_buffer.specs.declared.buffer.refusal.ShaperError.TheVariants.{Memory, TooLong};
 ghost use Rattle.shapers_hangul.specs.Hangul.{first_item, item_len, items, characters, glyph_copies, outputs, stretches, preprocessed, rewritten, wants_circles, Stays};
 
 use super::item::{Item, first_item};

@@ -2,7 +2,7 @@
 //! would touch are shifted, and a descender that is in the way is left out. (The Thai note.)
 ghost use Rattle.std.specs.Prelude.{◌≡◌, ℕ, ◌+◌, ◌^◌, ◌<◌, ◌≤◌, ◌==◌, [], ◌∷◌, ◌++◌, true, false, length, take, find, is_some, slice_index_or, slice_set};
 ghost use Rattle.shapers_base.specs.Font.{has_nominal};
-ghost use Rattle.shapers_base.specs.GlyphFlags.{unsafe_inside, unsafe_all};
+ghost use Rattle.shapers_buffer.specs.GlyphFlags.{unsafe_inside, unsafe_all};
 ghost use Rattle.shapers_text.specs.Thai.{characters};
 ghost use Rattle.shapers_text.specs.ThaiForms.{consonant_type, mark_type, is_thai_mark, action_of, mappings_of, shaped_by, mark_stretches, with_forms, pua_shaped};
 ghost use Rattle.shapers_text.specs.ThaiWalk.{base_after, target, form_set};

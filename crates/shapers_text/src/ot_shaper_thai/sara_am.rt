@@ -1,8 +1,8 @@
 //! SARA AM in two: NIKHAHIT, which goes before the above-base marks, and SARA AA.
 ghost use Rattle.std.specs.Prelude.{◌≡◌, ℕ, ◌+◌, ◌^◌, ◌<◌, ◌≤◌, [], true, false, length, take, count_by, None, Some, IsOk, OnOk, OnErr};
 ghost use Rattle.std.specs.List.{list_any};
-ghost use Rattle.shapers_base.specs.Clusters.{merge_all};
-ghost use Rattle.shapers_base.specs.Refusals.{RefusesLength};
+ghost use Rattle.shapers_buffer.specs.Clusters.{merge_all};
+ghost use Rattle.shapers_buffer.specs.Refusals.{RefusesLength};
 ghost use Rattle.shapers_text.specs.Thai.{is_sara_am, is_above_base, nikhahit, sara_aa, characters, rewritten, stretches_at, sara_am_stretches};
 ghost use Rattle.shapers_text.specs.ThaiWalk.{marks_of, Written, IsUnwritten, whole_of};
 

@@ -1,5 +1,5 @@
 use Rattle.std.proofs.Common.{◌+◌, ◌≡◌, ◌<◌, ◌∙◌, false, true, sym, arith}
-use Rattle.shapers_base.specs.Glyph.{default_glyph}
+use Rattle.shapers_buffer.specs.Glyph.{default_glyph}
 use Rattle.shapers_text.proofs.HebrewLemmas.{opens_at, opens_read, triple_hit, triple_miss, triple_none}
 use Rattle.shapers_text.proofs.ot_shaper_hebrew.find_triple.Goals as goal
 

@@ -1,6 +1,6 @@
 use Rattle.std.proofs.Common.{◌+◌, ◌≡◌, ◌∙◌, length, length-set, refl, ap, arith}
-use Rattle.shapers_base.specs.Clusters.{merge}
-use Rattle.shapers_base.specs.Buffer.{Buffer}
+use Rattle.shapers_buffer.specs.Clusters.{merge}
+use Rattle.shapers_buffer.specs.Buffer.{Buffer}
 use Rattle.shapers_clusters.proofs.Merging.{length-merge}
 use Rattle.shapers_text.proofs.HebrewLemmas.{swapped}
 use Rattle.shapers_text.proofs.ot_shaper_hebrew.merge_and_swap.Goals as goal

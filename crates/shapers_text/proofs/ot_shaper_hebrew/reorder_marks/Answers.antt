@@ -1,8 +1,8 @@
 use Rattle.std.proofs.Common.{◌≡◌, [], ◌∷◌, ◌+◌, ◌<◌, ◌∙◌, ℕ, Option, Some, None, length, sym, ap, subst, arith}
 use Rattle.std.specs.Prelude.{IfSome, swap}
-use Rattle.shapers_base.specs.Buffer.{Buffer}
-use Rattle.shapers_base.specs.Clusters.{merge}
-use Rattle.shapers_base.specs.Glyph.{order_view}
+use Rattle.shapers_buffer.specs.Buffer.{Buffer}
+use Rattle.shapers_buffer.specs.Clusters.{merge}
+use Rattle.shapers_buffer.specs.Glyph.{order_view}
 use Rattle.shapers_clusters.specs.Flags.{whole}
 use Rattle.shapers_clusters.specs.Laws.{ReorderedHold}
 use Rattle.shapers_clusters.specs.Steps.{run_step}

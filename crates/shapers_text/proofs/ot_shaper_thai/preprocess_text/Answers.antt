@@ -1,7 +1,7 @@
 -- The laws of clusters, and that no glyph is lost, from the two equations.
 use Rattle.std.proofs.Common.{ap}
 use Rattle.shapers_base.specs.Font.{has_nominal}
-use Rattle.shapers_base.specs.Buffer.{Buffer}
+use Rattle.shapers_buffer.specs.Buffer.{Buffer}
 use Rattle.shapers_text.proofs.ThaiClusters.{plain_in_two, shaped_in_two}
 use Rattle.shapers_text.specs.ThaiForms.{asks_for_forms}
 use Rattle.shapers_text.proofs.ThaiKept.{plain_kept, shaped_kept}

@@ -1,6 +1,6 @@
 -- The form of the last letter, and the flags.
 use Rattle.std.proofs.Common.{refl, ap, sym, ◌∙◌, map, subst, arith}
-use Rattle.shapers_base.specs.Buffer.{has_flag}
+use Rattle.shapers_buffer.specs.Buffer.{has_flag}
 use Rattle.shapers_clusters.proofs.FlagCalls.{map-tatweel_inside, map-unsafe_to_concat_in}
 use Rattle.shapers_arabic.specs.JoiningWalk.{OnlyFormed}
 use Rattle.shapers_arabic.proofs.FormedGlyphs.{formed-again, formed-stays, formed-tatweel, formed-concat, given-none, given-some}

@@ -1,6 +1,6 @@
 -- Without a letter before, only flags.
 use Rattle.std.proofs.Common.{refl, ap, sym, ◌∙◌, map, subst, arith}
-use Rattle.shapers_base.specs.Buffer.{has_flag}
+use Rattle.shapers_buffer.specs.Buffer.{has_flag}
 use Rattle.shapers_clusters.proofs.FlagCalls.{map-unsafe_to_concat_in}
 use Rattle.shapers_arabic.specs.JoiningWalk.{OnlyFormed, given_last}
 use Rattle.shapers_arabic.proofs.FormedGlyphs.{formed-stays, formed-concat}

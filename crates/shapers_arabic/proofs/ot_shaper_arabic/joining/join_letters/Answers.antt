@@ -1,7 +1,7 @@
 -- One more place.
 use Rattle.std.proofs.Common.{sym, ◌∙◌, map, arith}
 use Rattle.std.proofs.lemmas.List.{length-map}
-use Rattle.shapers_base.specs.Glyph.{default_glyph}
+use Rattle.shapers_buffer.specs.Glyph.{default_glyph}
 use Rattle.shapers_arabic.specs.Joining.{resolved}
 use Rattle.shapers_arabic.specs.JoinedText.{stored_types}
 use Rattle.shapers_arabic.proofs.FormedGlyphs.{formed-again, formed-stays, length-formed, are_characters-formed, character-at, type-at}

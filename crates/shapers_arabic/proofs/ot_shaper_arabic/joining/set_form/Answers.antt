@@ -1,6 +1,6 @@
 -- One form written.
 use Rattle.std.proofs.lemmas.List.{map-set}
-use Rattle.shapers_base.specs.Glyph.{default_glyph}
+use Rattle.shapers_buffer.specs.Glyph.{default_glyph}
 use Rattle.shapers_arabic.proofs.FormedGlyphs.{formed-set}
 use Rattle.shapers_arabic.proofs.ot_shaper_arabic.joining.set_form.Goals as goal
 

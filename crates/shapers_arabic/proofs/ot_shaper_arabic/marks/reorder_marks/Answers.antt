@@ -1,6 +1,6 @@
 -- The walk's result in the order view, and what the laws say of it.
 use Rattle.std.proofs.Common.{◌∷◌, [], ◌∙◌, ap, sym, subst}
-use Rattle.shapers_base.specs.Glyph.{order_view}
+use Rattle.shapers_buffer.specs.Glyph.{order_view}
 use Rattle.shapers_clusters.specs.Laws.{ReorderedHold}
 use Rattle.shapers_arabic.specs.Marks.{marks_merged, marks_reordered, text_step, without_class}
 use Rattle.shapers_arabic.proofs.MarkLaws.{marks_view, mark_laws}

@@ -1,7 +1,7 @@
 -- One more item.
 use Rattle.std.proofs.Common.{◌≡◌, ◌+◌, ◌∙◌, sym, ap, subst, length, arith}
 use Rattle.std.proofs.lemmas.List.{length-map}
-use Rattle.shapers_base.specs.Clusters.{merge_all}
+use Rattle.shapers_buffer.specs.Clusters.{merge_all}
 use Rattle.shapers_hangul.specs.Hangul.{characters, items, item_stretches, stretches}
 use Rattle.shapers_hangul.proofs.Items.{items_at}
 use Rattle.shapers_hangul.proofs.Walks.{merging_next, characters-merge_all}

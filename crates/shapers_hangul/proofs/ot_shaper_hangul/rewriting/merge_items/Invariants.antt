@@ -1,6 +1,6 @@
 -- What the items from here on merge makes the whole of what is merged so far.
 use Rattle.std.proofs.Common.{◌≡◌, ◌≤◌, ◌-◌, length}
-use Rattle.shapers_base.specs.Clusters.{merge_all}
+use Rattle.shapers_buffer.specs.Clusters.{merge_all}
 use Rattle.shapers_hangul.specs.Hangul.{characters, items, stretches}
 use Rattle.shapers_hangul.proofs.Items.{items_at}
 use Rattle.shapers_hangul.proofs.ot_shaper_hangul.rewriting.merge_items.Given as goal

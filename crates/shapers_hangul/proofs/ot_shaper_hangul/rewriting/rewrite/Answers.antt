@@ -1,8 +1,8 @@
 -- The refusals, a text that stays, and the whole.
 use Rattle.std.proofs.Common.{rules, ◌≡◌, List, length, OnOk, ap, subst}
-use Rattle.shapers_base.specs.Buffer.{Buffer}
-use Rattle.shapers_base.specs.Refusals.{RefusesLength}
-use Rattle.shapers_base.specs.declared.buffer.glyph.hb_glyph_info_t.{hb_glyph_info_t}
+use Rattle.shapers_buffer.specs.Buffer.{Buffer}
+use Rattle.shapers_buffer.specs.Refusals.{RefusesLength}
+use Rattle.shapers_buffer.specs.declared.buffer.glyph.hb_glyph_info_t.{hb_glyph_info_t}
 use Rattle.shapers_hangul.specs.Hangul.{characters, glyph_copies, items, outputs, preprocessed, wants_circles, Stays}
 use Rattle.shapers_hangul.proofs.Outputs.{told_by_text, stays_by, fits_by, told_memory, preprocessed-read}
 use Rattle.shapers_hangul.proofs.ot_shaper_hangul.rewriting.rewrite.Goals as goal

@@ -1,7 +1,7 @@
 -- The copy, merged, and what its items become.
 use Rattle.std.proofs.Common.{rules, ◌≡◌, ◌∙◌, ◌++◌, ◌≤◌, ℕ, List, length, take, drop, ap, arith}
 use Rattle.std.proofs.lemmas.List.{append-nil, drop_all, take_all}
-use Rattle.shapers_base.specs.declared.buffer.glyph.hb_glyph_info_t.{hb_glyph_info_t}
+use Rattle.shapers_buffer.specs.declared.buffer.glyph.hb_glyph_info_t.{hb_glyph_info_t}
 use Rattle.shapers_hangul.specs.Hangul.{characters, glyph_copies, items, outputs}
 use Rattle.shapers_hangul.proofs.Outputs.{rewritten_all}
 use Rattle.shapers_hangul.proofs.ot_shaper_hangul.rewriting.rewritten.Goals as goal

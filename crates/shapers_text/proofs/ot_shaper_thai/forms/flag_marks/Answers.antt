@@ -1,7 +1,7 @@
 -- One more place of the walk, and the end.
 use Rattle.std.proofs.Common.{◌≡◌, ◌∙◌, cond, refl, sym, ap, arith}
-use Rattle.shapers_base.specs.Buffer.{Buffer}
-use Rattle.shapers_base.specs.GlyphFlags.{unsafe_inside}
+use Rattle.shapers_buffer.specs.Buffer.{Buffer}
+use Rattle.shapers_buffer.specs.GlyphFlags.{unsafe_inside}
 use Rattle.shapers_text.specs.ThaiForms.{is_thai_mark}
 use Rattle.shapers_text.proofs.ThaiStretches.{with_glyphs, same_fields}
 use Rattle.shapers_text.proofs.ThaiFormWalks.{flagged_at, flagging_none, flagging_step, flagging_all}

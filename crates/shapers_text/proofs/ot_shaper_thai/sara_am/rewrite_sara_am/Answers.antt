@@ -1,8 +1,8 @@
 -- A text without SARA AM stays; otherwise the growth, the merges and the writing.
 use Rattle.std.proofs.Common.{◌≡◌, ◌∙◌, ◌+◌, sym, ap, subst, length, arith, rules}
-use Rattle.shapers_base.specs.Buffer.{Buffer}
-use Rattle.shapers_base.specs.Refusals.{RefusesLength}
-use Rattle.shapers_base.proofs.ListLaws.{count_from_none}
+use Rattle.shapers_buffer.specs.Buffer.{Buffer}
+use Rattle.shapers_buffer.specs.Refusals.{RefusesLength}
+use Rattle.shapers_buffer.proofs.ListLaws.{count_from_none}
 use Rattle.shapers_text.specs.Thai.{is_sara_am, rewritten}
 use Rattle.shapers_text.proofs.ThaiStretches.{unchanged, length-rewritten, room_made, all_written}
 use Rattle.shapers_text.proofs.ot_shaper_thai.sara_am.rewrite_sara_am.Goals as goal

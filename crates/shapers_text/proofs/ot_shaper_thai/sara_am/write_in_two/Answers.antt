@@ -1,7 +1,7 @@
 -- The start, one more step, and the end.
 use Rattle.std.proofs.Common.{◌∙◌, List, None, take, sym, ap, refl, subst}
-use Rattle.shapers_base.specs.Buffer.{Buffer}
-use Rattle.shapers_base.specs.declared.buffer.glyph.hb_glyph_info_t.{hb_glyph_info_t}
+use Rattle.shapers_buffer.specs.Buffer.{Buffer}
+use Rattle.shapers_buffer.specs.declared.buffer.glyph.hb_glyph_info_t.{hb_glyph_info_t}
 use Rattle.shapers_text.specs.Thai.{rewritten}
 use Rattle.shapers_text.specs.ThaiWalk.{Written}
 use Rattle.shapers_text.proofs.ThaiSaraAm.{written_none, written_all}

@@ -1,7 +1,7 @@
 -- A SARA AM with its marks, or another glyph.
 use Rattle.std.proofs.Common.{◌∙◌, ◌-◌, List, None, sym, ap, subst}
-use Rattle.shapers_base.specs.Buffer.{Buffer}
-use Rattle.shapers_base.specs.declared.buffer.glyph.hb_glyph_info_t.{hb_glyph_info_t}
+use Rattle.shapers_buffer.specs.Buffer.{Buffer}
+use Rattle.shapers_buffer.specs.declared.buffer.glyph.hb_glyph_info_t.{hb_glyph_info_t}
 use Rattle.shapers_text.specs.ThaiWalk.{Written, whole_of}
 use Rattle.shapers_text.proofs.ThaiSaraAm.{written_other, written_am}
 use Rattle.shapers_text.proofs.ot_shaper_thai.sara_am.Unwritten.write_last.Goals as goal

@@ -1,7 +1,7 @@
 -- The start, one more mark, and the NIKHAHIT.
 use Rattle.std.proofs.Common.{◌≡◌, ◌-◌, ◌+◌, None, Some, refl, sym, ap, subst, ◌∙◌, List, arith}
-use Rattle.shapers_base.specs.Buffer.{Buffer}
-use Rattle.shapers_base.specs.declared.buffer.glyph.hb_glyph_info_t.{hb_glyph_info_t}
+use Rattle.shapers_buffer.specs.Buffer.{Buffer}
+use Rattle.shapers_buffer.specs.declared.buffer.glyph.hb_glyph_info_t.{hb_glyph_info_t}
 use Rattle.shapers_text.specs.ThaiWalk.{Written, whole_of}
 use Rattle.shapers_text.proofs.ThaiSaraAm.{MarksLeft, marks_fit, marks_next, marks_done}
 use Rattle.shapers_text.proofs.ThaiStretches.{same_fields}

@@ -1,6 +1,0 @@
-use Rattle.std.proofs.lemmas.List.{reverse-reverse}
-use Rattle.shapers_base.proofs.ClusterLemmas.{flooded_itself}
-use Rattle.shapers_base.proofs.buffer.merging.flood_before.Goals as goal
-
-pub returns-then-from-to : goal.returns-then-from-to
-returns-then-from-to c = rw (c.if-from-to.true, flooded_itself, reverse-reverse)

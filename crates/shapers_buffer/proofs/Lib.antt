@@ -1,0 +1,16 @@
+mod BufferRows
+mod CategoryRows
+pub mod ClusterLemmas
+mod ConstantRows
+mod GlyphFlagRows
+pub mod ListLaws
+pub mod MappedLists
+pub mod MarkLemmas
+mod MarkRows
+pub mod PieceLaws
+pub mod PlaceLaws
+mod PlaceRows
+mod Rows
+pub mod SyllableLaws
+pub mod SyllableLemmas
+mod SyllableRows

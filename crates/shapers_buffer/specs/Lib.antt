@@ -1,0 +1,11 @@
+pub mod Buffer
+pub mod Category
+pub mod Clusters
+pub mod Glyph
+pub mod GlyphFlags
+pub mod Lists
+pub mod Marks
+pub mod Places
+pub mod Refusals
+pub mod SyllableLaws
+pub mod Syllables

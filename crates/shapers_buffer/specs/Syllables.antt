@@ -1,0 +1,80 @@
+-- Syllables: longest runs of equal syllable bytes, and the spans that set them.
+use Rattle.std.specs.Prelude.{ℕ, suc, ◌+◌, ◌*◌, ◌%◌, ◌==◌, nat_lt, Bool, ◌&&◌, ◌||◌, List, [], ◌∷◌, ◌++◌, length, position, replicate, sum_by, None, Option, option_map, Some, if◌then◌else◌}
+use Rattle.std.specs.List.{list_all, list_any, prefix_len}
+use Rattle.shapers_buffer.specs.declared.buffer.glyph.hb_glyph_info_t.{hb_glyph_info_t}
+use Rattle.shapers_buffer.specs.declared.buffer.refusal.ShaperError.{ShaperError}
+use Rattle.shapers_buffer.specs.declared.buffer.refusal.ShaperError.TheVariants.{SpansDontCover, UnknownSyllable}
+use Rattle.shapers_buffer.specs.declared.buffer.syllables.Span.{Span}
+use Rattle.shapers_buffer.specs.Buffer.{Buffer}
+
+-- whether the glyph has this syllable byte
+abbrev pub has_byte : ℕ → hb_glyph_info_t → Bool
+has_byte byte g = g.syllable == byte
+
+-- how long the syllable is that opens the list: the longest run of its first byte
+abbrev pub first_syllable_len : List hb_glyph_info_t → ℕ
+first_syllable_len [] = 0
+first_syllable_len (g ∷ gs) = suc (prefix_len (has_byte g.syllable) gs)
+
+-- these pieces with g in front: in the first piece, if that has g's byte, else as a piece of its own
+abbrev pub with_opening : hb_glyph_info_t → List (List hb_glyph_info_t) → List (List hb_glyph_info_t)
+with_opening g [] = (g ∷ []) ∷ []
+with_opening g ([] ∷ pieces) = (g ∷ []) ∷ pieces
+with_opening g ((h ∷ piece) ∷ pieces) = if h.syllable == g.syllable then (g ∷ (h ∷ piece)) ∷ pieces else (g ∷ []) ∷ ((h ∷ piece) ∷ pieces)
+
+-- the syllables: the list cut between neighbours of different bytes
+abbrev pub syllables : List hb_glyph_info_t → List (List hb_glyph_info_t)
+syllables [] = []
+syllables (g ∷ gs) = with_opening g (syllables gs)
+
+-- the places of pieces that follow one another from place s on: start and end of each
+abbrev pub places_from : {X : Type 0} → ℕ → List (List X) → List (ℕ × ℕ)
+places_from s [] = []
+places_from s (piece ∷ pieces) = (s, s + length piece) ∷ places_from (s + length piece) pieces
+
+-- the places of the syllables: start and end of each
+abbrev pub syllable_places : List hb_glyph_info_t → List (ℕ × ℕ)
+syllable_places gs = places_from 0 (syllables gs)
+
+-- the kind of a syllable byte: its low four bits
+abbrev pub kind_of : ℕ → ℕ
+kind_of byte = byte % 16
+
+-- the first place of the first syllable of unknown kind, one above the last known: the first place of such a kind
+abbrev pub unknown_syllable : ℕ → List hb_glyph_info_t → Option ℕ
+unknown_syllable last gs = position (λ g. nat_lt last (kind_of g.syllable)) gs
+
+-- the refusal that it gives, if there is one
+abbrev pub unknown_refusal : ℕ → List hb_glyph_info_t → Option ShaperError
+unknown_refusal last gs = option_map (λ place. UnknownSyllable place) (unknown_syllable last gs)
+
+-- the byte of the span at place i of the list: serial 1 to 15 and then 1 again, times 16, and the kind
+abbrev pub span_byte : ℕ → Span → ℕ
+span_byte i span = (i % 15 + 1) * 16 + span.kind
+
+-- the byte of each place that these spans cover, the first of them at place i of the list
+abbrev pub span_bytes : ℕ → List Span → List ℕ
+span_bytes i [] = []
+span_bytes i (span ∷ spans) = replicate span.len (span_byte i span) ++ span_bytes (suc i) spans
+
+-- the glyph with this syllable byte
+abbrev pub in_syllable : ℕ → hb_glyph_info_t → hb_glyph_info_t
+in_syllable byte g = record g { syllable = byte }
+
+-- the glyphs with these syllable bytes, one after another
+abbrev pub with_bytes : List hb_glyph_info_t → List ℕ → List hb_glyph_info_t
+with_bytes [] bytes = []
+with_bytes (g ∷ gs) [] = g ∷ gs
+with_bytes (g ∷ gs) (byte ∷ bytes) = in_syllable byte g ∷ with_bytes gs bytes
+
+-- whether no span is empty and the lengths add up to n
+abbrev pub spans_cover : ℕ → List Span → Bool
+spans_cover n spans = list_all (λ span. nat_lt 0 span.len) spans && (sum_by (λ span. span.len) spans == n)
+
+-- the refusal that they give where they don't
+abbrev pub spans_refusal : List Span → Buffer → Option ShaperError
+spans_refusal spans b = if spans_cover (length b.glyphs) spans then None else Some SpansDontCover
+
+-- the buffer with the spans' bytes; where a span has the broken kind, with its mark
+abbrev pub with_spans : List Span → ℕ → Buffer → Buffer
+with_spans spans broken_kind b = record b { glyphs = with_bytes b.glyphs (span_bytes 0 spans); broken = list_any (λ span. span.kind == broken_kind) spans || b.broken }

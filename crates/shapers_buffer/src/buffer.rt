@@ -1,0 +1,221 @@
+//! The buffer of glyphs: what the shapers read and rewrite.
+ghost use Rattle.std.specs.Prelude.{◌≡◌, ◌==◌, ◌+◌, ◌<◌, ◌≤◌, [], ◌++◌, ◌∷◌, length, take, slice_index_or, slice_set, OnOk, OnErr, IfOk, IfErr};
+ghost use Rattle.shapers_buffer.specs.Buffer.{grown, new_buffer};
+ghost use Rattle.shapers_buffer.specs.Refusals.{RefusesLength};
+ghost use Rattle.shapers_buffer.specs.declared.buffer.refusal.ShaperError.TheVariants.{Memory};
+
+use arrayvec::ArrayVec;
+use placement::make_room;
+use std::alloc::Global;
+use std::marker::Model;
+
+mod category;
+mod fields;
+mod flags;
+mod glyph;
+mod glyph_flags;
+mod glyph_marks;
+mod level;
+mod merging;
+pub mod modified_combining_class;
+mod placement;
+mod refusal;
+mod replacing;
+mod reversing;
+mod syllables;
+mod tag;
+mod walking;
+
+pub use category::hb_unicode_general_category_t;
+pub use flags::BufferFlags;
+pub use glyph::{GlyphPosition, hb_glyph_info_t};
+pub use glyph_flags::{
+    glyph_flag, safe_to_insert_tatweel_in, unsafe_to_break_in, unsafe_to_concat_in,
+};
+pub use glyph_marks::{GlyphMarks, marks_are_set_alone};
+pub use level::{BufferClusterLevel, Direction};
+pub use merging::merge_clusters_in;
+pub use refusal::ShaperError;
+pub use syllables::{
+    Span, has_span_of_kind, set_syllable, spans_cover, syllable_run_len, syllables_are_runs,
+};
+
+pub use tag::{Script, hb_tag_t};
+pub use walking::{GlyphChange, GlyphWalk};
+
+/// How many characters of context a buffer keeps on each side.
+pub const CONTEXT_LENGTH: usize = 5;
+
+/// A list of glyphs, with positions or without, its settings, the text on both sides and marks
+/// that one hook leaves for a later one. Its length never passes `max_len`.
+#[derive(Drop)]
+pub struct hb_buffer_t {
+    info: Vec<hb_glyph_info_t>,
+    pos: Vec<GlyphPosition>,
+    direction: Direction,
+    script: Option<Script>,
+    cluster_level: BufferClusterLevel,
+    flags: BufferFlags,
+    pre_context: ArrayVec<char, CONTEXT_LENGTH>,
+    post_context: ArrayVec<char, CONTEXT_LENGTH>,
+    has_broken_syllable: bool,
+    has_stch: bool,
+    max_len: usize,
+    // for each glyph at least one place, and room for one glyph, so that a reordering takes no memory
+    places: Vec<usize>,
+    spare: Vec<hb_glyph_info_t>,
+}
+
+impl Model for hb_buffer_t {
+    ghost use Rattle.std.specs.Prelude.{length};
+    ghost use Rattle.shapers_buffer.specs.Buffer.{Buffer, IsBuffer};
+    ghost use Rattle.shapers_buffer.specs.Places.{without_last_zeros};
+
+    ghost Value = { Buffer };
+
+    ghost view = { λ b. record { glyphs = b.info.items; positions = b.pos.items; direction = b.direction; script = b.script; level = b.cluster_level; flags = b.flags; before = b.pre_context.items; after = b.post_context.items; broken = b.has_broken_syllable; stch = b.has_stch; max_len = b.max_len; places = without_last_zeros b.places.items } };
+
+    ghost invariant = { λ b. IsBuffer (record { glyphs = b.info.items; positions = b.pos.items; direction = b.direction; script = b.script; level = b.cluster_level; flags = b.flags; before = b.pre_context.items; after = b.post_context.items; broken = b.has_broken_syllable; stch = b.has_stch; max_len = b.max_len; places = without_last_zeros b.places.items }) (length b.places.items) (length b.spare.items) };
+}
+
+impl hb_buffer_t {
+    /// An empty buffer, whose text runs from left to right. It takes no memory.
+    pub fn new(alloc: Global, max_len: usize) -> Self
+        ensures { result ≡ new_buffer max_len }
+    {
+        hb_buffer_t {
+            info: Vec::new(alloc),
+            pos: Vec::new(alloc),
+            direction: Direction::LeftToRight,
+            script: None,
+            cluster_level: BufferClusterLevel::MonotoneGraphemes,
+            flags: BufferFlags(0),
+            pre_context: ArrayVec::new(),
+            post_context: ArrayVec::new(),
+            has_broken_syllable: false,
+            has_stch: false,
+            max_len,
+            places: Vec::new(alloc),
+            spare: Vec::new(alloc),
+        }
+    }
+
+    /// The allocator that the buffer was made with.
+    pub fn alloc(&self) -> Global {
+        *self.info.allocator()
+    }
+
+    /// The number of glyphs.
+    pub fn len(&self) -> usize
+        ensures length { result ≡ length self.now.glyphs }
+        ensures fits { length self.now.glyphs ≤ self.now.max_len }
+    {
+        self.info.len()
+    }
+
+    /// Whether there is no glyph.
+    pub fn is_empty(&self) -> bool
+        ensures { result ≡ (length self.now.glyphs == 0) }
+    {
+        self.info.is_empty()
+    }
+
+    /// The glyphs, from the first to the last.
+    pub fn glyphs(&self) -> &[hb_glyph_info_t]
+        ensures { result.now ≡ self.now.glyphs }
+    {
+        self.info.as_slice()
+    }
+
+    /// The glyph at place `i`.
+    pub fn get(&self, i: usize) -> hb_glyph_info_t
+        requires { i < length self.now.glyphs }
+        ensures { result ≡ slice_index_or self.now.glyphs i result }
+    {
+        self.info[i]
+    }
+
+    /// Puts a glyph at place `i`.
+    pub fn set(&mut self, i: usize, glyph: hb_glyph_info_t)
+        requires { i < length self.old.glyphs }
+        ensures { self.new ≡ record self.old { glyphs = slice_set self.old.glyphs i glyph } }
+    {
+        self.info[i] = glyph;
+    }
+
+    /// Adds a glyph at the end of a buffer without positions.
+    pub fn push(&mut self, glyph: hb_glyph_info_t) -> Result<(), ShaperError>
+        requires { self.old.positions ≡ [] }
+        ensures ok { OnOk result (self.new ≡ record self.old { glyphs = self.old.glyphs ++ glyph ∷ [] }) }
+        ensures length { RefusesLength self.old.max_len (length self.old.glyphs + 1) result }
+        ensures err { OnErr result (self.new ≡ self.old) }
+    {
+        if self.info.len() == self.max_len {
+            return Err(ShaperError::TooLong);
+        }
+        make_room(&mut self.places, &mut self.spare, self.info.len() + 1)?;
+        self.info.push(glyph).map_err(|_| ShaperError::Memory)?;
+        Ok(())
+    }
+
+    /// Adds `n` default glyphs at the end and, unless there are no positions, `n` zero positions.
+    pub fn grow(&mut self, n: usize) -> Result<(), ShaperError>
+        ensures ok { OnOk result (self.new ≡ grown n self.old) }
+        ensures length { RefusesLength self.old.max_len (length self.old.glyphs + n) result }
+        ensures err { OnErr result (self.new ≡ self.old) }
+    {
+        if self.max_len - self.info.len() < n {
+            return Err(ShaperError::TooLong);
+        }
+        let len = self.info.len() + n;
+        make_room(&mut self.places, &mut self.spare, len)?;
+        self.info.reserve(n)?;
+        if !self.pos.is_empty() {
+            self.pos.resize(len, GlyphPosition::ZERO)?;
+        }
+        self.info.resize(len, hb_glyph_info_t::DEFAULT).unwrap();
+        Ok(())
+    }
+
+    /// Keeps the first `n` glyphs, with their positions.
+    pub fn truncate(&mut self, n: usize)
+        requires { n ≤ length self.old.glyphs }
+        ensures { self.new ≡ record self.old { glyphs = take n self.old.glyphs; positions = take n self.old.positions } }
+    {
+        self.info.truncate(n);
+        self.pos.truncate(n);
+    }
+
+    /// An equal buffer.
+    pub fn copy(&self) -> Result<Self, ShaperError>
+        ensures ok { IfOk result (λ copy. copy ≡ self.now) }
+        ensures err { IfErr result (λ e. e ≡ Memory) }
+    {
+        let alloc = self.alloc();
+        Ok(hb_buffer_t {
+            info: Vec::from_slice(alloc, self.info.as_slice())?,
+            pos: Vec::from_slice(alloc, self.pos.as_slice())?,
+            direction: self.direction,
+            script: self.script,
+            cluster_level: self.cluster_level,
+            flags: self.flags,
+            pre_context: context(self.pre_context.as_slice()),
+            post_context: context(self.post_context.as_slice()),
+            has_broken_syllable: self.has_broken_syllable,
+            has_stch: self.has_stch,
+            max_len: self.max_len,
+            places: Vec::from_slice(alloc, self.places.as_slice())?,
+            spare: Vec::from_slice(alloc, self.info.as_slice())?,
+        })
+    }
+}
+
+// The five nearest of these characters, which are nearest first.
+fn context(chars: &[char]) -> ArrayVec<char, CONTEXT_LENGTH>
+    ensures nearest { result.items ≡ take 5 chars.now }
+{
+    let nearest = &chars[..chars.len().min(CONTEXT_LENGTH)];
+    let mut context = ArrayVec::new();
+    context.try_extend_from_slice(nearest).unwrap();
+    context
+}

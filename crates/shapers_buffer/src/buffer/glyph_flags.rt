@@ -1,0 +1,117 @@
+//! The glyph flags: the low three bits of a mask, which tell line breakers and the like what a
+//! change of the text at a glyph would do.
+ghost use Rattle.std.specs.Prelude.{◌≡◌, ◌<◌, ◌≤◌, ◌==◌, length, map};
+ghost use Rattle.shapers_buffer.specs.Buffer.{asks, has_flag};
+ghost use Rattle.shapers_buffer.specs.GlyphFlags.{flagged, with_bits, unsafe_inside, unsafe_to_concat_in, tatweel_inside};
+
+use super::glyph::hb_glyph_info_t;
+use super::merging::least_cluster;
+use super::{BufferFlags, hb_buffer_t};
+use bitflags::Flags;
+
+/// The glyph flags, by their bits.
+pub mod glyph_flag {
+    /// A line broken before the glyph's cluster wants shaping again.
+    pub const UNSAFE_TO_BREAK: u32 = 1;
+    /// A text cut or joined before the glyph's cluster wants shaping again.
+    pub const UNSAFE_TO_CONCAT: u32 = 2;
+    /// A tatweel may be put in before the glyph's cluster.
+    pub const SAFE_TO_INSERT_TATWEEL: u32 = 4;
+}
+
+use glyph_flag::{SAFE_TO_INSERT_TATWEEL, UNSAFE_TO_BREAK, UNSAFE_TO_CONCAT};
+
+impl hb_buffer_t {
+    /// Flags the places from `s` to `e` whose cluster isn't the least one there: unsafe to break,
+    /// and unsafe to concatenate.
+    pub fn unsafe_to_break(&mut self, s: usize, e: usize)
+        requires in_order { s ≤ e }
+        requires in_range { e ≤ length self.old.glyphs }
+        ensures { self.new ≡ record self.old { glyphs = unsafe_inside s e self.old.glyphs } }
+    {
+        unsafe_to_break_in(&mut self.info, s, e);
+    }
+
+    /// Flags every place from `s` to `e` as unsafe to concatenate, where the buffer asks for that flag.
+    pub fn unsafe_to_concat(&mut self, s: usize, e: usize)
+        requires in_order { s ≤ e }
+        requires in_range { e ≤ length self.old.glyphs }
+        ensures { self.new ≡ record self.old { glyphs = unsafe_to_concat_in (asks 0x40 self.old) s e self.old.glyphs } }
+    {
+        unsafe_to_concat_in(self.flags, &mut self.info, s, e);
+    }
+
+    /// Flags the places from `s` to `e` whose cluster isn't the least one there: safe to insert a
+    /// tatweel, where the buffer asks for that flag, else as `unsafe_to_break`.
+    pub fn safe_to_insert_tatweel(&mut self, s: usize, e: usize)
+        requires in_order { s ≤ e }
+        requires in_range { e ≤ length self.old.glyphs }
+        ensures { self.new ≡ record self.old { glyphs = tatweel_inside (asks 0x80 self.old) s e self.old.glyphs } }
+    {
+        safe_to_insert_tatweel_in(self.flags, &mut self.info, s, e);
+    }
+}
+
+/// No break inside the stretch, over glyphs in a slice, as `hb_buffer_t::unsafe_to_break`.
+pub fn unsafe_to_break_in(glyphs: &mut [hb_glyph_info_t], s: usize, e: usize)
+    requires in_order { s ≤ e }
+    requires in_range { e ≤ length glyphs.old }
+    ensures { glyphs.new ≡ unsafe_inside s e glyphs.old }
+{
+    flag(&mut glyphs[s..e], UNSAFE_TO_BREAK | UNSAFE_TO_CONCAT);
+}
+
+/// No concatenation in the stretch, where the flags ask for that, over glyphs in a slice, as
+/// `hb_buffer_t::unsafe_to_concat`.
+pub fn unsafe_to_concat_in(flags: BufferFlags, glyphs: &mut [hb_glyph_info_t], s: usize, e: usize)
+    requires in_order { s ≤ e }
+    requires in_range { e ≤ length glyphs.old }
+    ensures { glyphs.new ≡ unsafe_to_concat_in (has_flag 0x40 flags) s e glyphs.old }
+{
+    if flags.contains(BufferFlags::PRODUCE_UNSAFE_TO_CONCAT) {
+        flag_all(&mut glyphs[s..e], UNSAFE_TO_CONCAT);
+    }
+}
+
+/// A join inside the stretch, over glyphs in a slice, as `hb_buffer_t::safe_to_insert_tatweel`.
+pub fn safe_to_insert_tatweel_in(
+    flags: BufferFlags,
+    glyphs: &mut [hb_glyph_info_t],
+    s: usize,
+    e: usize,
+)
+    requires in_order { s ≤ e }
+    requires in_range { e ≤ length glyphs.old }
+    ensures { glyphs.new ≡ tatweel_inside (has_flag 0x80 flags) s e glyphs.old }
+{
+    let bits = if flags.contains(BufferFlags::PRODUCE_SAFE_TO_INSERT_TATWEEL) {
+        SAFE_TO_INSERT_TATWEEL
+    } else {
+        UNSAFE_TO_BREAK | UNSAFE_TO_CONCAT
+    };
+    flag(&mut glyphs[s..e], bits);
+}
+
+// Adds mask bits to every glyph whose cluster isn't the least one of the stretch.
+fn flag(stretch: &mut [hb_glyph_info_t], bits: u32)
+    ensures { stretch.new ≡ flagged bits stretch.old }
+{
+    if stretch.is_empty() {
+        return;
+    }
+    let least = least_cluster(stretch);
+    for glyph in stretch.iter_mut() {
+        if glyph.cluster != least {
+            glyph.mask |= bits;
+        }
+    }
+}
+
+// Adds mask bits to every glyph of the stretch.
+fn flag_all(stretch: &mut [hb_glyph_info_t], bits: u32)
+    ensures { stretch.new ≡ map (with_bits bits) stretch.old }
+{
+    for glyph in stretch.iter_mut() {
+        glyph.mask |= bits;
+    }
+}

@@ -1,0 +1,27 @@
+//! The buffer backwards.
+ghost use Rattle.std.specs.Prelude.{◌≡◌, ◌<◌, ◌≤◌, length, reverse};
+ghost use Rattle.shapers_buffer.specs.Clusters.{with_stretch};
+
+use super::hb_buffer_t;
+
+impl hb_buffer_t {
+    /// Turns the glyphs round, with their positions.
+    pub fn reverse(&mut self)
+        ensures { self.new ≡ record self.old { glyphs = reverse self.old.glyphs; positions = reverse self.old.positions } }
+    {
+        self.info.reverse();
+        self.pos.reverse();
+    }
+
+    /// Turns the glyphs from `s` to `e` round, with their positions.
+    pub fn reverse_range(&mut self, s: usize, e: usize)
+        requires in_order { s ≤ e }
+        requires in_range { e ≤ length self.old.glyphs }
+        ensures { self.new ≡ record self.old { glyphs = with_stretch s e reverse self.old.glyphs; positions = with_stretch s e reverse self.old.positions } }
+    {
+        self.info[s..e].reverse();
+        if !self.pos.is_empty() {
+            self.pos[s..e].reverse();
+        }
+    }
+}

@@ -1,0 +1,61 @@
+//! Changes and walks of the glyphs in place, over the slice that the buffer keeps them in.
+ghost use Rattle.std.specs.Prelude.{◌≡◌, ◌<◌, ◌≤◌, List, length, map};
+ghost use Rattle.shapers_buffer.specs.Clusters.{with_stretch};
+
+use super::glyph::hb_glyph_info_t;
+use super::hb_buffer_t;
+
+/// A change of one glyph, which looks at nothing else.
+pub trait GlyphChange {
+    ghost use Rattle.shapers_buffer.specs.declared.buffer.glyph.hb_glyph_info_t.{hb_glyph_info_t};
+
+    ghost changed: { Self → hb_glyph_info_t → hb_glyph_info_t };
+
+    /// Changes the glyph.
+    fn change(&self, glyph: &mut hb_glyph_info_t)
+        ensures { glyph.new ≡ changed self.now glyph.old };
+}
+
+/// A walk over all glyphs, which may carry a state from one to the next and keep what it found.
+pub trait GlyphWalk {
+    ghost use Rattle.shapers_buffer.specs.declared.buffer.glyph.hb_glyph_info_t.{hb_glyph_info_t};
+
+    ghost can_walk: { Self → List hb_glyph_info_t → Type 0 };
+
+    ghost walks: { Self → Self → List hb_glyph_info_t → List hb_glyph_info_t → Type 0 };
+
+    /// Walks over the glyphs.
+    fn walk(&mut self, glyphs: &mut [hb_glyph_info_t])
+        requires { can_walk self.old glyphs.old }
+        ensures { walks self.old self.new glyphs.old glyphs.new };
+}
+
+impl hb_buffer_t {
+    /// Changes each glyph from `s` to `e`. It takes no memory.
+    pub fn change_each<C: GlyphChange>(&mut self, s: usize, e: usize, change: &C)
+        requires in_order { s ≤ e }
+        requires in_range { e ≤ length self.old.glyphs }
+        ensures { self.new ≡ record self.old { glyphs = with_stretch s e (map (C.changed change.now)) self.old.glyphs } }
+    {
+        change_all(&mut self.info[s..e], change);
+    }
+
+    /// Walks over all glyphs. It takes no memory.
+    pub fn walk<W: GlyphWalk>(&mut self, walk: &mut W)
+        requires { W.can_walk walk.old self.old.glyphs }
+        ensures walked { W.walks walk.old walk.new self.old.glyphs self.new.glyphs }
+        ensures same_length { length self.new.glyphs ≡ length self.old.glyphs }
+        ensures others { self.new ≡ record self.old { glyphs = self.new.glyphs } }
+    {
+        walk.walk(&mut self.info);
+    }
+}
+
+// Changes all these glyphs.
+fn change_all<C: GlyphChange>(glyphs: &mut [hb_glyph_info_t], change: &C)
+    ensures { glyphs.new ≡ map (C.changed change.now) glyphs.old }
+{
+    for glyph in glyphs.iter_mut() {
+        change.change(glyph);
+    }
+}

@@ -1,0 +1,4 @@
+//! The buffer of glyphs, and what every hook needs of it.
+#![tactic(auto)]
+
+pub mod buffer;

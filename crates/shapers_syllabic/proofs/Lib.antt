@@ -1,0 +1,4 @@
+pub mod CircleLaws
+mod CircleRows
+pub mod SyllabicLemmas
+mod SyllabicRows

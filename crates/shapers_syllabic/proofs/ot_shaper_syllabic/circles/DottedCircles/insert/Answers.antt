@@ -1,0 +1,40 @@
+use Rattle.std.proofs.Common.{◌≤◌, ◌∙◌, ap, sym, arith, length, rules}
+use Rattle.shapers_syllabic.specs.Circles.{count_of_kind, with_circles}
+use Rattle.shapers_syllabic.proofs.CircleLaws.{with_circles-none, length-with_circles, no_circles, with_glyphs}
+use Rattle.shapers_syllabic.proofs.ot_shaper_syllabic.circles.DottedCircles.insert.Goals as goal
+
+pub returns-then-count-eq0-clause-ok : goal.returns-then-count-eq0-clause-ok
+returns-then-count-eq0-clause-ok c =
+    let counted = c.count-count.ensures ∙ ap (count_of_kind c.args.self.now.broken_kind) c.glyphs.ensures in
+    ap (with_glyphs c.args.buffer.now) (sym (with_circles-none c.args.self.now c.args.buffer.now.glyphs (omega arith)))
+
+pub returns-then-count-eq0-clause-length : goal.returns-then-count-eq0-clause-length
+returns-then-count-eq0-clause-length c =
+    let counted = c.count-count.ensures ∙ ap (count_of_kind c.args.self.now.broken_kind) c.glyphs.ensures in
+    omega (arith, length-with_circles c.args.self.now c.args.buffer.now.glyphs)
+
+pub returns-then-room-count-clause-length : goal.returns-then-room-count-clause-length
+returns-then-room-count-clause-length c =
+    let counted = c.count-count.ensures ∙ ap (count_of_kind c.args.self.now.broken_kind) c.glyphs.ensures in
+    omega (arith, length-with_circles c.args.self.now c.args.buffer.now.glyphs)
+
+pub returns-then-room-count-clause-free : goal.returns-then-room-count-clause-free
+returns-then-room-count-clause-free c same =
+    let counted = c.count-count.ensures ∙ ap (count_of_kind c.args.self.now.broken_kind) c.glyphs.ensures in
+    absurd (omega (arith, no_circles c.args.self.now c.args.buffer.now.glyphs same))
+
+pub returns-in_err-glyphs-clause-length : goal.returns-in_err-glyphs-clause-length
+returns-in_err-glyphs-clause-length c =
+    let counted = c.count-count.ensures ∙ ap (count_of_kind c.args.self.now.broken_kind) c.glyphs.ensures in
+    let fits : length (with_circles c.args.self.now c.args.buffer.now.glyphs) ≤ c.args.buffer.now.max_len = omega (arith, length-with_circles c.args.self.now c.args.buffer.now.glyphs) in
+    search rules
+
+pub returns-in_err-glyphs-clause-free : goal.returns-in_err-glyphs-clause-free
+returns-in_err-glyphs-clause-free c same =
+    let counted = c.count-count.ensures ∙ ap (count_of_kind c.args.self.now.broken_kind) c.glyphs.ensures in
+    absurd (omega (arith, no_circles c.args.self.now c.args.buffer.now.glyphs same))
+
+pub returns-clause-free : goal.returns-clause-free
+returns-clause-free c same =
+    let counted = c.count-count.ensures ∙ ap (count_of_kind c.args.self.now.broken_kind) c.glyphs.ensures in
+    absurd (omega (arith, no_circles c.args.self.now c.args.buffer.now.glyphs same))

@@ -1,0 +1,43 @@
+-- What dotted circles add to a text, and that nothing else changes.
+use Rattle.std.specs.Prelude.{◌≡◌, Bool, true, false, List, [], ◌∷◌, ◌++◌, take, drop, map, filter, All, Contains, if◌then◌else◌}
+use Rattle.std.specs.List.{flat_map}
+use Rattle.shapers_buffer.specs.declared.buffer.glyph.hb_glyph_info_t.{hb_glyph_info_t}
+use Rattle.shapers_syllabic.specs.declared.ot_shaper_syllabic.circles.DottedCircles.{DottedCircles}
+use Rattle.shapers_syllabic.specs.Circles.{is_of_kind, rephas_len, circle_in, with_circles}
+use Rattle.shapers_buffer.specs.Glyph.{clusters}
+use Rattle.shapers_buffer.specs.Syllables.{syllables}
+
+-- the elements of a list that aren't marked, and those that are
+abbrev pub unmarked : {X : Type 0} → List Bool → List X → List X
+unmarked [] xs = xs
+unmarked (mark ∷ marks) [] = []
+unmarked (mark ∷ marks) (x ∷ xs) = if mark then unmarked marks xs else x ∷ unmarked marks xs
+
+abbrev pub marked : {X : Type 0} → List Bool → List X → List X
+marked [] xs = []
+marked (mark ∷ marks) [] = []
+marked (mark ∷ marks) (x ∷ xs) = if mark then x ∷ marked marks xs else marked marks xs
+
+-- no mark for any of these glyphs
+abbrev pub no_marks : List hb_glyph_info_t → List Bool
+no_marks gs = map (λ g. false) gs
+
+-- for each glyph of what a syllable becomes, whether it is the circle
+abbrev pub marks_in : DottedCircles → List hb_glyph_info_t → List Bool
+marks_in rule gs = if is_of_kind rule.broken_kind gs then no_marks (take (rephas_len rule.repha gs) gs) ++ true ∷ no_marks (drop (rephas_len rule.repha gs) gs) else no_marks gs
+
+-- for each place of the text with its circles, whether a circle stands there
+abbrev pub circle_marks : DottedCircles → List hb_glyph_info_t → List Bool
+circle_marks rule gs = flat_map (marks_in rule) (syllables gs)
+
+-- the circles: one for each broken syllable, in order
+abbrev pub circles_of : DottedCircles → List hb_glyph_info_t → List hb_glyph_info_t
+circles_of rule gs = map (λ piece. circle_in piece rule.circle) (filter (is_of_kind rule.broken_kind) (syllables gs))
+
+-- the unmarked places of the text with its circles are the text, and the marked ones its circles
+abbrev pub CirclesCanBeErased : Type 0
+CirclesCanBeErased = (rule : DottedCircles) (gs : List hb_glyph_info_t) → (unmarked (circle_marks rule gs) (with_circles rule gs) ≡ gs) × (marked (circle_marks rule gs) (with_circles rule gs) ≡ circles_of rule gs)
+
+-- each cluster of the text with its circles is one that the text had
+abbrev pub CirclesKeepClusters : Type 0
+CirclesKeepClusters = (rule : DottedCircles) (gs : List hb_glyph_info_t) → All (Contains (clusters gs)) (clusters (with_circles rule gs))

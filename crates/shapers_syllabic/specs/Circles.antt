@@ -1,0 +1,54 @@
+-- Dotted circles: each broken syllable gets one, and where it stands.
+use Rattle.std.specs.Prelude.{ℕ, ◌==◌, Bool, ◌&&◌, false, not, List, [], ◌∷◌, ◌++◌, take, drop, count_by, Option, Some, None, unwrap_or, if◌then◌else◌}
+use Rattle.std.specs.List.{flat_map, prefix_len}
+use Rattle.shapers_buffer.specs.declared.buffer.glyph.hb_glyph_info_t.{hb_glyph_info_t}
+use Rattle.shapers_base.specs.declared.font.GlyphId.{GlyphId}
+use Rattle.shapers_syllabic.specs.declared.ot_shaper_syllabic.circles.DottedCircles.{DottedCircles}
+use Rattle.shapers_buffer.specs.Buffer.{Buffer, asks}
+use Rattle.shapers_buffer.specs.Glyph.{default_glyph}
+use Rattle.shapers_buffer.specs.Syllables.{syllables, kind_of}
+
+-- whether a syllable is of kind k
+abbrev pub is_of_kind : ℕ → List hb_glyph_info_t → Bool
+is_of_kind k [] = false
+is_of_kind k (g ∷ gs) = kind_of g.syllable == k
+
+-- how many glyphs of a syllable stand in front of its circle: the leading rephas, where there is a category of rephas
+abbrev pub rephas_len : Option ℕ → List hb_glyph_info_t → ℕ
+rephas_len None gs = 0
+rephas_len (Some repha) gs = prefix_len (λ g. g.category == repha) gs
+
+-- the circle of a syllable: it takes cluster, mask and syllable byte from the first glyph
+abbrev pub circle_in : List hb_glyph_info_t → hb_glyph_info_t → hb_glyph_info_t
+circle_in [] circle = circle
+circle_in (g ∷ gs) circle = record circle { cluster = g.cluster; mask = g.mask; syllable = g.syllable }
+
+-- the syllable with its circle: the leading rephas, the circle, the rest
+abbrev pub with_circle : DottedCircles → List hb_glyph_info_t → List hb_glyph_info_t
+with_circle rule gs = take (rephas_len rule.repha gs) gs ++ circle_in gs rule.circle ∷ drop (rephas_len rule.repha gs) gs
+
+-- what a syllable becomes: with its circle, if it is broken
+abbrev pub circled_syllable : DottedCircles → List hb_glyph_info_t → List hb_glyph_info_t
+circled_syllable rule gs = if is_of_kind rule.broken_kind gs then with_circle rule gs else gs
+
+-- the circle rule: the text with one circle for each broken syllable
+abbrev pub with_circles : DottedCircles → List hb_glyph_info_t → List hb_glyph_info_t
+with_circles rule gs = flat_map (circled_syllable rule) (syllables gs)
+
+-- how many syllables of a text are of kind k
+abbrev pub count_of_kind : ℕ → List hb_glyph_info_t → ℕ
+count_of_kind k gs = count_by (is_of_kind k) (syllables gs)
+
+-- whether broken syllables may get circles: there is one, and the caller doesn't forbid it
+abbrev pub wants_circles : Buffer → Bool
+wants_circles b = b.broken && not (asks 0x20 b)
+
+-- the circles that a buffer gets, where the font has this glyph for them: of a kind of broken syllables, with a category and an auxiliary byte, behind rephas of a category
+abbrev pub circles_for : Option GlyphId → ℕ → ℕ → Option ℕ → Option ℕ → Buffer → Option DottedCircles
+circles_for None k sort repha place b = None
+circles_for (Some glyph) k sort repha place b = if wants_circles b then Some (record { broken_kind = k; circle = record default_glyph { glyph_id = glyph.0; category = sort; auxiliary = unwrap_or place 0 }; repha = repha }) else None
+
+-- the text with these circles, and without any
+abbrev pub circled : Option DottedCircles → List hb_glyph_info_t → List hb_glyph_info_t
+circled None gs = gs
+circled (Some rule) gs = with_circles rule gs

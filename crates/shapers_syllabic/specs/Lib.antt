@@ -1,0 +1,4 @@
+pub mod CircleLaws
+pub mod Circles
+pub mod FirstBroken
+pub mod Syllabic

@@ -1,0 +1,33 @@
+-- What the shapers of syllabic scripts do to the whole text.
+use Rattle.std.specs.Prelude.{ℕ, ◌≤◌, List, length, map, All, IsTrue}
+use Rattle.std.specs.List.{flat_map}
+use Rattle.shapers_buffer.specs.declared.buffer.glyph.hb_glyph_info_t.{hb_glyph_info_t}
+use Rattle.shapers_buffer.specs.declared.buffer.syllables.Span.{Span}
+use Rattle.shapers_buffer.specs.Buffer.{Buffer}
+use Rattle.shapers_buffer.specs.GlyphFlags.{flagged}
+use Rattle.shapers_buffer.specs.Marks.{SUBSTITUTED, without_mark}
+use Rattle.shapers_buffer.specs.Syllables.{syllables, in_syllable, span_bytes, spans_cover, with_bytes}
+
+-- the glyphs with the inside of each syllable unsafe to break and to concatenate
+abbrev pub unsafe_syllables : List hb_glyph_info_t → List hb_glyph_info_t
+unsafe_syllables gs = flat_map (flagged 3) (syllables gs)
+
+-- so for the buffer
+abbrev pub with_unsafe_syllables : Buffer → Buffer
+with_unsafe_syllables b = record b { glyphs = unsafe_syllables b.glyphs }
+
+-- whether spans cut these glyphs: they cover them, and each has a kind that fits its four bits
+abbrev pub CanCut : List Span → List hb_glyph_info_t → Type 0
+CanCut spans gs = IsTrue (spans_cover (length gs) spans) × All (λ span. span.kind ≤ 15) spans
+
+-- the glyphs cut into these spans, with the inside of each syllable unsafe
+abbrev pub unsafe_spans : List Span → List hb_glyph_info_t → List hb_glyph_info_t
+unsafe_spans spans gs = unsafe_syllables (with_bytes gs (span_bytes 0 spans))
+
+-- the glyphs as one syllable of this byte, its inside unsafe
+abbrev pub in_unsafe_syllable : ℕ → List hb_glyph_info_t → List hb_glyph_info_t
+in_unsafe_syllable byte gs = flagged 3 (map (in_syllable byte) gs)
+
+-- the glyph without the mark that a lookup substituted it
+abbrev pub unsubstituted : hb_glyph_info_t → hb_glyph_info_t
+unsubstituted g = record g { marks = without_mark SUBSTITUTED g.marks }

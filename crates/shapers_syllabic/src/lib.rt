@@ -1,0 +1,4 @@
+//! What the shapers of syllabic scripts share.
+#![tactic(auto)]
+
+pub mod ot_shaper_syllabic;

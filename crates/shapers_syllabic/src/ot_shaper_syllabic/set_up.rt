@@ -1,0 +1,89 @@
+//! Cutting a text into syllables.
+ghost use Rattle.std.specs.Prelude.{◌≡◌, ◌==◌, ◌≤◌, All, IfErr, IsTrue, OnErr, OnOk, is_ok, length, map};
+ghost use Rattle.std.specs.List.{list_any};
+ghost use Rattle.shapers_buffer.specs.Clusters.{with_stretch};
+ghost use Rattle.shapers_buffer.specs.GlyphFlags.{flagged};
+ghost use Rattle.shapers_syllabic.specs.Syllabic.{in_unsafe_syllable, unsafe_spans, with_unsafe_syllables};
+ghost use Rattle.shapers_buffer.specs.Refusals.{RefusesInput};
+ghost use Rattle.shapers_buffer.specs.Syllables.{in_syllable, spans_cover, spans_refusal, with_spans};
+
+use shapers_base::buffer::{
+    GlyphWalk, ShaperError, Span, has_span_of_kind, hb_buffer_t, hb_glyph_info_t, set_syllable,
+    spans_cover, unsafe_to_break_in,
+};
+
+/// Cuts the text into the syllables of these spans, marks whether one is of the broken kind, and
+/// flags the inside of each syllable as unsafe to break. Refuses with `SpansDontCover` where a span
+/// is empty or the lengths don't add up to the buffer's. It takes no memory.
+pub fn set_up_syllables(
+    spans: &[Span],
+    broken_kind: u8,
+    buffer: &mut hb_buffer_t,
+) -> Result<(), ShaperError>
+    requires { All (λ span. span.kind ≤ 15) spans.now }
+    ensures refusal { RefusesInput (spans_refusal spans.now buffer.old) result }
+    ensures ok { let cut = with_spans spans.now broken_kind buffer.old in
+        OnOk result (buffer.new ≡ with_unsafe_syllables cut) }
+    ensures err { OnErr result (buffer.new ≡ buffer.old) }
+{
+    if !spans_cover(buffer.len(), spans) {
+        return Err(ShaperError::SpansDontCover);
+    }
+    buffer.walk(&mut SetUp { spans });
+    if has_span_of_kind(spans, broken_kind) {
+        buffer.set_has_broken_syllable(true);
+    }
+    Ok(())
+}
+
+// The spans that a text is cut into.
+#[derive(Clone, Copy)]
+struct SetUp<'a> {
+    spans: &'a [Span],
+}
+
+impl<'a> GlyphWalk for SetUp<'a> {
+    ghost use Rattle.std.specs.Prelude.{◌≡◌};
+    ghost use Rattle.shapers_syllabic.specs.Syllabic.{CanCut, unsafe_spans};
+
+    ghost can_walk = { λ walk glyphs. CanCut walk.spans.now glyphs };
+
+    ghost walks = { λ walk _ old new. new ≡ unsafe_spans walk.spans.now old };
+
+    fn walk(&mut self, glyphs: &mut [hb_glyph_info_t]) {
+        set_up_spans(glyphs, self.spans);
+    }
+}
+
+// Gives each place the byte of the span that covers it, and flags the inside of each span.
+fn set_up_spans(glyphs: &mut [hb_glyph_info_t], spans: &[Span])
+    requires covered { IsTrue (spans_cover (length glyphs.old) spans.now) }
+    requires kinds { All (λ span. span.kind ≤ 15) spans.now }
+    ensures { glyphs.new ≡ unsafe_spans spans.now glyphs.old }
+{
+    let mut start = 0;
+    for (i, span) in spans.iter().enumerate() {
+        let serial = (i % 15 + 1) as u8;
+        let end = start + span.len;
+        set_up_span_in(glyphs, start, end, serial * 16 + span.kind);
+        start = end;
+    }
+}
+
+// Makes one syllable of the glyphs from `s` to `e`.
+fn set_up_span_in(glyphs: &mut [hb_glyph_info_t], s: usize, e: usize, byte: u8)
+    requires in_order { s ≤ e }
+    requires in_range { e ≤ length glyphs.old }
+    ensures { glyphs.new ≡ with_stretch s e (in_unsafe_syllable byte) glyphs.old }
+{
+    set_up_span(&mut glyphs[s..e], byte);
+}
+
+// Makes one syllable of these glyphs: gives them this byte, and flags its inside.
+fn set_up_span(glyphs: &mut [hb_glyph_info_t], byte: u8)
+    ensures { glyphs.new ≡ in_unsafe_syllable byte glyphs.old }
+{
+    set_syllable(glyphs, byte);
+    let len = glyphs.len();
+    unsafe_to_break_in(glyphs, 0, len);
+}
