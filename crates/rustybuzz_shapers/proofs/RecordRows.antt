@@ -5,7 +5,9 @@ use Rattle.shapers_base.specs.declared.plan.record.NormalizationMode.TheVariants
 use Rattle.shapers_base.specs.declared.plan.record.ZeroWidthMarks.TheVariants as zeroing
 use Rattle.shapers_base.specs.Planner.{bare_pause, disabled, enabled}
 use Rattle.shapers_indic.specs.Requests.{indic_list, indic_overrides}
-use Rattle.shapers_regroup.specs.Requests.{khmer_list, khmer_overrides, myanmar_list, universal_list}
+use Rattle.shapers_khmer.specs.Requests.{khmer_list, khmer_overrides}
+use Rattle.shapers_myanmar.specs.Requests.{myanmar_list}
+use Rattle.shapers_universal.specs.Requests.{universal_list}
 use Rattle.shapers_arabic.specs.Requests.{arabic_list}
 use Rattle.shapers_hangul.specs.Requests.{hangul_list, hangul_overrides}
 use Rattle.rustybuzz_shapers.specs.Records.{asked, collected, if_there, normalizes, overridden, places_marks, wants_gpos_script, zeroes_marks}

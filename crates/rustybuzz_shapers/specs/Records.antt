@@ -11,7 +11,9 @@ use Rattle.shapers_base.specs.declared.plan.record.ZeroWidthMarks.{ZeroWidthMark
 use Rattle.shapers_base.specs.declared.plan.record.ZeroWidthMarks.TheVariants as zeroing
 use Rattle.shapers_arabic.specs.Requests.{arabic_list, is_arabic}
 use Rattle.shapers_hangul.specs.Requests.{hangul_list, hangul_overrides}
-use Rattle.shapers_regroup.specs.Requests.{khmer_list, khmer_overrides, myanmar_list, universal_list}
+use Rattle.shapers_khmer.specs.Requests.{khmer_list, khmer_overrides}
+use Rattle.shapers_myanmar.specs.Requests.{myanmar_list}
+use Rattle.shapers_universal.specs.Requests.{universal_list}
 use Rattle.shapers_indic.specs.Requests.{indic_list, indic_overrides}
 use Rattle.rustybuzz_shapers.specs.declared.shaper.hb_ot_shaper_t.{hb_ot_shaper_t}
 use Rattle.rustybuzz_shapers.specs.declared.shaper.hb_ot_shaper_t.TheVariants.{Arabic, Hangul, Hebrew, Indic, Khmer, Myanmar, MyanmarZawgyi, Thai, Universal}

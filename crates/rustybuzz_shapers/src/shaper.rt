@@ -20,7 +20,9 @@ use shapers_arabic::ot_shaper_arabic;
 pub use shapers_base::plan::{NormalizationMode, Pause, PlanData, Preprocess, ZeroWidthMarks};
 use shapers_hangul::ot_shaper_hangul;
 use shapers_indic::ot_shaper_indic;
-use shapers_regroup::{ot_shaper_khmer, ot_shaper_myanmar, ot_shaper_use};
+use shapers_khmer::ot_shaper_khmer;
+use shapers_myanmar::ot_shaper_myanmar;
+use shapers_universal::ot_shaper_use;
 use shapers_text::{ot_shaper_hebrew, ot_shaper_thai};
 pub use standing::{Hook, Hooks, Standing};
 

@@ -1,4 +1,5 @@
 pub mod CircleLaws
 pub mod Circles
 pub mod FirstBroken
+pub mod Reordering
 pub mod Syllabic

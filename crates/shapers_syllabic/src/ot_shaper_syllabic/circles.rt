@@ -8,11 +8,11 @@ ghost use Rattle.shapers_buffer.specs.Refusals.{RefusesLength};
 ghost use Rattle.shapers_buffer.specs.Syllables.{first_syllable_len, has_byte};
 ghost use Rattle.shapers_buffer.specs.declared.buffer.refusal.ShaperError.TheVariants.{Memory};
 
+use bitflags::Flags;
 use shapers_base::buffer::{
     BufferFlags, ShaperError, hb_buffer_t, hb_glyph_info_t, syllable_run_len,
 };
 use shapers_base::font::hb_font_t;
-use bitflags::Flags;
 use std::alloc::Global;
 
 // The character of the dotted circle.

@@ -2,7 +2,7 @@
 ghost use Rattle.std.specs.Prelude.{◌≡◌, OnOk, OnErr, IsOkUnless};
 ghost use Rattle.shapers_buffer.specs.declared.buffer.refusal.ShaperError.TheVariants.{Memory};
 ghost use Rattle.shapers_base.specs.Planner.{with_requests};
-ghost use Rattle.shapers_regroup.specs.Requests.{khmer_list, khmer_overrides};
+ghost use Rattle.shapers_khmer.specs.Requests.{khmer_list, khmer_overrides};
 
 use shapers_base::buffer::hb_tag_t;
 use shapers_base::map::{F_GLOBAL, F_MANUAL_JOINERS, F_PER_SYLLABLE};

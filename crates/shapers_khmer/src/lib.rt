@@ -1,0 +1,4 @@
+//! The shaper of Khmer.
+#![tactic(auto)]
+
+pub mod ot_shaper_khmer;

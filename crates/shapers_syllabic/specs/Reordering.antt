@@ -1,0 +1,35 @@
+-- Reordering syllable by syllable: what a syllable becomes, and the merges and moves that lead there.
+use Rattle.std.specs.Prelude.{ℕ, ◌%◌, ◌≡◌, List, length, map}
+use Rattle.std.specs.List.{flat_map}
+use Rattle.shapers_buffer.specs.declared.buffer.glyph.hb_glyph_info_t.{hb_glyph_info_t}
+use Rattle.shapers_buffer.specs.Buffer.{Buffer, but_places}
+use Rattle.shapers_buffer.specs.Clusters.{stretch_of, with_stretch}
+use Rattle.shapers_buffer.specs.Glyph.{order_view}
+use Rattle.shapers_buffer.specs.Marks.{no_marks}
+use Rattle.shapers_buffer.specs.Syllables.{syllables}
+use Rattle.shapers_clusters.specs.Steps.{Step, run_steps, steps_along, widened}
+
+-- The view of what a reordering carries along: it hides feature masks, category, auxiliary byte and marks, which it may change.
+abbrev pub carried : hb_glyph_info_t → hb_glyph_info_t
+carried g = record g { mask = g.mask % 8; category = 0; auxiliary = 0; marks = no_marks }
+
+-- what a text becomes whose syllables each become what the meaning says: the text order
+abbrev pub text_order : (List hb_glyph_info_t → List hb_glyph_info_t) → List hb_glyph_info_t → List hb_glyph_info_t
+text_order meaning gs = flat_map meaning (syllables gs)
+
+-- the steps of all syllables of a text, one after another, as steps over its places
+abbrev pub text_steps : (List hb_glyph_info_t → List Step) → List hb_glyph_info_t → List Step
+text_steps steps gs = steps_along (length gs) 0 (map (λ syl. (length syl, steps syl)) (syllables gs))
+
+-- The buffer before and after the syllable from s to e is reordered: its order view becomes what the meaning says, and to the
+-- view of what is carried along, cluster and glyph flags among it, the glyphs are those that the steps lead to.
+pub record SyllableReordered (meaning : List hb_glyph_info_t → List hb_glyph_info_t) (steps : List hb_glyph_info_t → List Step) (s e : ℕ) (old new : Buffer) : Type 0 where
+  pub others : but_places new ≡ record (but_places old) { glyphs = new.glyphs }
+  pub order : order_view new.glyphs ≡ with_stretch s e meaning (order_view old.glyphs)
+  pub moved : map carried new.glyphs ≡ map carried (run_steps old.level (map (widened s e (length old.glyphs)) (steps (stretch_of s e (order_view old.glyphs)))) old.glyphs)
+
+-- The same of a whole text: the order view is the text order, and the glyphs are those that all steps lead to, syllable by syllable.
+pub record SyllablesReordered (meaning : List hb_glyph_info_t → List hb_glyph_info_t) (steps : List hb_glyph_info_t → List Step) (old new : Buffer) : Type 0 where
+  pub others : but_places new ≡ record (but_places old) { glyphs = new.glyphs }
+  pub order : order_view new.glyphs ≡ text_order meaning (order_view old.glyphs)
+  pub moved : map carried new.glyphs ≡ map carried (run_steps old.level (text_steps steps (order_view old.glyphs)) old.glyphs)

@@ -1,0 +1,50 @@
+//! Reordering a text syllable by syllable.
+ghost use Rattle.std.specs.Prelude.{◌≡◌, ◌≤◌, [], length, OnOk};
+ghost use Rattle.shapers_buffer.specs.Clusters.{stretch_of};
+ghost use Rattle.shapers_buffer.specs.Glyph.{order_view};
+ghost use Rattle.shapers_buffer.specs.Refusals.{RefusesMemoryIf};
+ghost use Rattle.shapers_syllabic.specs.Reordering.{SyllableReordered};
+
+use shapers_base::buffer::{ShaperError, hb_buffer_t};
+
+/// How one syllable is reordered. What a syllable becomes, and the merges and moves that lead there,
+/// are functions of that syllable and the buffer's script alone.
+pub trait Reorder {
+    ghost use Rattle.std.specs.Prelude.{ℕ, ◌≡◌, List, Option, length};
+    ghost use Rattle.std.specs.List.{AllByRecursion};
+    ghost use Rattle.shapers_buffer.specs.declared.buffer.glyph.hb_glyph_info_t.{hb_glyph_info_t};
+    ghost use Rattle.shapers_buffer.specs.declared.buffer.tag.Script.{Script};
+    ghost use Rattle.shapers_buffer.specs.Places.{pick};
+    ghost use Rattle.shapers_clusters.specs.Flags.{seen};
+    ghost use Rattle.shapers_clusters.specs.Steps.{FitSteps, Permutes, Step, old_places};
+    ghost use Rattle.shapers_syllabic.specs.Reordering.{carried};
+
+    ghost meaning: { Self → Option Script → List hb_glyph_info_t → List hb_glyph_info_t };
+
+    ghost steps: { Self → Option Script → List hb_glyph_info_t → List Step };
+
+    ghost can_reorder: { Self → List hb_glyph_info_t → Type 0 };
+
+    ghost may_refuse: { Self → Type 0 };
+
+    /// Reorders the syllable from `start` to `end`. The only refusal is `Memory`.
+    fn reorder(&self, buffer: &mut hb_buffer_t, start: usize, end: usize) -> Result<(), ShaperError>
+        requires in_order { start ≤ end }
+        requires in_range { end ≤ length buffer.old.glyphs }
+        requires without_positions { buffer.old.positions ≡ [] }
+        requires can { can_reorder self.now (stretch_of start end (order_view buffer.old.glyphs)) }
+        ensures ok { OnOk result (SyllableReordered
+            (meaning self.now buffer.old.script) (steps self.now buffer.old.script)
+            start end buffer.old buffer.new) }
+        ensures refusal { RefusesMemoryIf (may_refuse self.now) result };
+
+    ghost fits: { (self : Self) (script : Option Script) (gs : List hb_glyph_info_t) →
+        FitSteps (length gs) (steps self script gs) };
+
+    ghost permutes: { (self : Self) (script : Option Script) (gs : List hb_glyph_info_t) →
+        AllByRecursion (Permutes (length gs)) (steps self script gs) };
+
+    ghost agrees: { (self : Self) (script : Option Script) (gs : List hb_glyph_info_t) →
+        seen carried (meaning self script gs)
+        ≡ pick (old_places (length gs) (steps self script gs)) (seen carried gs) };
+}

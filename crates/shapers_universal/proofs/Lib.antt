@@ -1,0 +1,2 @@
+mod ConstantRows
+mod RequestRows

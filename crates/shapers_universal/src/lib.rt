@@ -1,0 +1,4 @@
+//! The universal shaper.
+#![tactic(auto)]
+
+pub mod ot_shaper_use;
