@@ -1,75 +1,8 @@
 //! Reads lines from standard input, carries them out on a buffer of glyphs and prints the buffer.
 #![tactic(auto)]
 
-mod command;
-mod fault;
-mod font;
-mod printing;
-mod session;
-mod settings;
-mod tables;
-#[cfg(test)]
-mod tests;
-
-use command::Command;
-use fault::{Fault, LineFault};
-use printing::{report, write_text};
-use rustybuzz_shapers::buffer::ShaperError;
-use session::Session;
-use std::alloc::Global;
-use std::io::{self, ErrorKind, Read, Write};
+use hbhook_lines::run_lines;
 use std::process::ExitCode;
-
-/// Carries out the lines of the input and prints the buffer that they leave. A refusal or a fault
-/// ends the run with nothing but a message among the faults. The answer is the status to end with:
-/// 0, 1 for a refusal, and 2 for a line that doesn't read, and without a message for a reader or
-/// a writer that fails.
-pub fn run_lines<I, O, F>(alloc: Global, input: I, output: O, faults: F) -> u8
-where
-    I: Read + Drop,
-    O: Write + Drop,
-    F: Write + Drop,
-{
-    match run(alloc, input, output) {
-        Ok(()) => 0,
-        Err(fault) => report(faults, fault),
-    }
-}
-
-fn run<I, O>(alloc: Global, mut input: I, output: O) -> Result<(), Fault>
-where
-    I: Read + Drop,
-    O: Write + Drop,
-{
-    let mut bytes = Vec::new(alloc);
-    input.read_to_end(&mut bytes).map_err(input_fault)?;
-    let mut session = Session::new(alloc);
-    carry_out_lines(alloc, &mut session, &bytes)?;
-    let text = session.printed()?;
-    write_text(output, text.as_str()).map_err(|_| Fault::Broken)
-}
-
-// Why the input can't be read: no memory for it, or a broken reader.
-fn input_fault(error: io::Error) -> Fault {
-    match error.kind() {
-        ErrorKind::OutOfMemory => Fault::Refused(ShaperError::Memory),
-        _ => Fault::Broken,
-    }
-}
-
-// Carries out the lines in order, to the first fault.
-fn carry_out_lines(alloc: Global, session: &mut Session, input: &[u8]) -> Result<(), Fault> {
-    for (i, line) in input.split_inclusive(|byte| *byte == b'\n').enumerate() {
-        let line = line.strip_suffix(b"\n").unwrap_or(line);
-        carry_out(alloc, session, line).map_err(|fault| Fault::on_line(fault, i + 1))?;
-    }
-    Ok(())
-}
-
-fn carry_out(alloc: Global, session: &mut Session, line: &[u8]) -> Result<(), LineFault> {
-    let line = str::from_utf8(line).map_err(|_| LineFault::Unreadable)?;
-    session.carry_out(Command::parse(alloc, line)?)
-}
 
 fn main(rt: HostRuntime) -> ExitCode {
     ExitCode::from(run_lines(rt.alloc(), rt.stdin(), rt.stdout(), rt.stderr()))

@@ -53,7 +53,7 @@ impl hb_font_t for LineFont {
     ghost use Rattle.std.specs.Prelude.{false, pos, unwrap_or};
     ghost use Rattle.std.specs.Ordering.{nat_cmp};
     ghost use Rattle.std.specs.BTreeMap.{get};
-    ghost use Rattle.hbhook.specs.Font.{some_applies};
+    ghost use Rattle.hbhook_lines.specs.Font.{some_applies};
 
     ghost font = { λ font. record {
       nominal = λ c. get nat_cmp font.glyphs c;

@@ -1,6 +1,6 @@
 //! The tables that the lines `table` and `pair` describe.
 ghost use Rattle.std.specs.Prelude.{◌≡◌, ◌==◌, ◌&&◌, find};
-ghost use Rattle.hbhook.specs.Tables.{entry_of};
+ghost use Rattle.hbhook_lines.specs.Tables.{entry_of};
 
 use rustybuzz_shapers::buffer::hb_unicode_general_category_t;
 use rustybuzz_shapers::font::Tables;
@@ -75,7 +75,7 @@ fn entry(tables: &LineTables, c: u32) -> CharacterEntry
 }
 
 impl Tables for LineTables {
-    ghost use Rattle.hbhook.specs.Tables.{entry_of, whole_of, parts_of};
+    ghost use Rattle.hbhook_lines.specs.Tables.{entry_of, whole_of, parts_of};
 
     ghost tables = { λ tables. record {
       joining = λ c. (entry_of tables.entries c).joining_type;

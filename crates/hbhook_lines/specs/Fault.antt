@@ -1,7 +1,7 @@
 -- How a run with a fault ends.
 use Rattle.std.specs.Prelude.{ℕ}
-use Rattle.hbhook.specs.declared.fault.Fault.{Fault}
-use Rattle.hbhook.specs.declared.fault.Fault.TheVariants.{Unreadable, Refused, Broken}
+use Rattle.hbhook_lines.specs.declared.fault.Fault.{Fault}
+use Rattle.hbhook_lines.specs.declared.fault.Fault.TheVariants.{Unreadable, Refused, Broken}
 
 -- the status that a run with a fault ends with
 abbrev pub status_of : Fault → ℕ

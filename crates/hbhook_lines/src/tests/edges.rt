@@ -70,6 +70,7 @@ fn ends_on_broken_streams(rt: HostRuntime) -> Result<(), Fail> {
 #[test]
 fn tells_of_edges(rt: HostRuntime) -> Result<(), Fail> {
     let rows = [
+        ("", "", "", 0),
         ("text 41", "0041 0 00000000 00 0 0 0\n", "", 0),
         ("text 41\n", "0041 0 00000000 00 0 0 0\n", "", 0),
         ("\n", "", "line 1: unreadable\n", 2),

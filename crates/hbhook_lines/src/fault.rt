@@ -52,7 +52,7 @@ impl From<AllocError> for Fault {
 
 impl Fault {
     ghost use Rattle.std.specs.Prelude.{◌≡◌};
-    ghost use Rattle.hbhook.specs.Fault.{status_of};
+    ghost use Rattle.hbhook_lines.specs.Fault.{status_of};
 
     /// The fault of the line of this number.
     pub fn on_line(fault: LineFault, number: usize) -> Self {

@@ -2,8 +2,8 @@
 use Rattle.std.specs.Prelude.{ℕ, ◌==◌, ◌&&◌, List, Option, option_map, unwrap_or, find}
 use Rattle.std.specs.Ordering.{nat_cmp}
 use Rattle.std.specs.BTreeMap.{get, BTreeMap}
-use Rattle.hbhook.specs.declared.tables.CanonicalPair.{CanonicalPair}
-use Rattle.hbhook.specs.declared.tables.CharacterEntry.{CharacterEntry}
+use Rattle.hbhook_lines.specs.declared.tables.CanonicalPair.{CanonicalPair}
+use Rattle.hbhook_lines.specs.declared.tables.CharacterEntry.{CharacterEntry}
 use Rattle.rustybuzz_shapers.specs.hb_unicode_general_category_t.TheVariants.{Lo}
 use Rattle.rustybuzz_shapers.specs.hb_arabic_joining_type_t.TheVariants.{U}
 

@@ -1,11 +1,5 @@
 //! Runs of the program: what lines print, and how a run ends.
-mod arabic;
 mod edges;
-mod hangul;
-mod hebrew;
-mod hooks;
-mod lines;
-mod thai;
 
 use crate::run_lines;
 use std::alloc::Global;

@@ -1,5 +1,5 @@
 use Rattle.std.specs.Prelude.{◌≡◌, []}
-use Rattle.hbhook.proofs.session.Session.set_text.Given as goal
+use Rattle.hbhook_lines.proofs.session.Session.set_text.Given as goal
 
 -- The buffer has no positions.
 abbrev pub invariant-loop-i : goal.invariant-loop-i

@@ -1,7 +1,7 @@
 -- What the font of the lines answers.
 use Rattle.std.specs.Prelude.{ℕ, ◌==◌, ◌&&◌, Bool, List}
 use Rattle.std.specs.List.{list_any}
-use Rattle.hbhook.specs.declared.font.Applied.{Applied}
+use Rattle.hbhook_lines.specs.declared.font.Applied.{Applied}
 use Rattle.rustybuzz_shapers.specs.GlyphId.{GlyphId}
 use lib.Pointwise.{pointwise}
 
