@@ -1,9 +1,10 @@
-//! The vectors: worked rows of every rule, and each call that may want memory run once with plenty.
-//! Their values come from the rules, and nothing here is called by a program.
+//! The vectors: each call that may want memory run once with plenty, and rows that no line of the
+//! program can say. Their values come from the rules. `calling` shows how a pipeline calls a hook.
 #![tactic(auto)]
 
 #[cfg(test)]
 mod buffer;
+pub mod calling;
 #[cfg(test)]
 mod circles;
 #[cfg(test)]
