@@ -1,4 +1,5 @@
 pub mod CircleLaws
 mod CircleRows
+pub mod ReorderingLemmas
 pub mod SyllabicLemmas
 mod SyllabicRows
