@@ -3,6 +3,7 @@ mod CircleRows
 pub mod ReorderingCuts
 pub mod ReorderingLaws
 pub mod ReorderingLemmas
+mod ReorderingRows
 pub mod ReorderingWalk
 pub mod SyllabicLemmas
 mod SyllabicRows
