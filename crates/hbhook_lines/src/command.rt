@@ -3,8 +3,6 @@ mod fields;
 mod glyph_field;
 mod hook;
 mod setting;
-#[cfg(test)]
-mod tests;
 
 use crate::fault::LineFault;
 use crate::tables::{CanonicalPair, CharacterEntry};

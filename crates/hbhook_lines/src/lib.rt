@@ -1,15 +1,13 @@
 //! The lines of the program: reads them, carries them out on a buffer of glyphs and prints the buffer.
 #![tactic(auto)]
 
-mod command;
-mod fault;
-mod font;
+pub mod command;
+pub mod fault;
+pub mod font;
 mod printing;
-mod session;
-mod settings;
-mod tables;
-#[cfg(test)]
-mod tests;
+pub mod session;
+pub mod settings;
+pub mod tables;
 
 use command::Command;
 use fault::{Fault, LineFault};

@@ -1,7 +1,5 @@
 //! Carries out the lines.
 mod hooks;
-#[cfg(test)]
-mod tests;
 
 use crate::command::{Command, GlyphField, Setting, Side};
 use crate::fault::LineFault;
@@ -12,7 +10,7 @@ use rustybuzz_shapers::font::{GlyphId, Tables, hb_font_t};
 use std::alloc::{AllocError, Global};
 
 /// The greatest length of a buffer before a line sets it.
-const MAX_LEN: usize = 1_000_000;
+pub const MAX_LEN: usize = 1_000_000;
 
 /// What the lines so far have set, and the buffer that they made.
 #[derive(Drop)]
@@ -30,6 +28,16 @@ impl Session {
             buffer: hb_buffer_t::new(alloc, MAX_LEN),
             answers: String::new(alloc),
         }
+    }
+
+    /// What the lines have set.
+    pub fn settings(&self) -> &Settings {
+        &self.settings
+    }
+
+    /// The buffer that they made.
+    pub fn buffer(&self) -> &hb_buffer_t {
+        &self.buffer
     }
 
     /// Carries out a line.

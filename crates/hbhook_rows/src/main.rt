@@ -5,6 +5,9 @@
 //! a run that ends in a fault.
 #![tactic(auto)]
 
+#[cfg(test)]
+mod tests;
+
 use hbhook_lines::run_lines;
 use std::alloc::{AllocError, Global};
 use std::{fs, io};
@@ -78,7 +81,11 @@ fn push_line(text: &mut String, line: &str) -> Result<(), AllocError> {
 fn rows_of(alloc: Global, text: &str) -> Result<Vec<Row>, AllocError> {
     let mut rows = Vec::new(alloc);
     let mut ended = true;
-    for (i, line) in text.lines().enumerate().filter(|(_, line)| !line.starts_with('#')) {
+    for (i, line) in text
+        .lines()
+        .enumerate()
+        .filter(|(_, line)| !line.starts_with('#'))
+    {
         if ended && !line.is_empty() {
             rows.push(Row::new(alloc, i + 1))?;
         }

@@ -1,6 +1,7 @@
 //! What lines leave in the settings and the buffer, of which no line of output tells.
-use super::{Command, MAX_LEN, Session};
-use crate::fault::LineFault;
+use hbhook_lines::command::Command;
+use hbhook_lines::fault::LineFault;
+use hbhook_lines::session::{MAX_LEN, Session};
 use rustybuzz_shapers::buffer::{
     BufferClusterLevel, BufferFlags, Direction, Script, hb_tag_t, hb_unicode_general_category_t,
 };
@@ -24,24 +25,24 @@ fn session_of(alloc: Global, lines: &[&str]) -> Result<Session, LineFault> {
 fn begins_with_nothing_set(rt: HostRuntime) -> Result<(), Fail> {
     let session = Session::new(rt.alloc());
     assert_eq!(rt; MAX_LEN, 1_000_000);
-    assert_eq!(rt; session.buffer.max_len(), MAX_LEN);
-    assert_eq!(rt; session.buffer.direction(), Direction::LeftToRight);
-    assert_eq!(rt; session.buffer.script(), None);
-    assert_eq!(rt; session.buffer.flags(), BufferFlags(0));
+    assert_eq!(rt; session.buffer().max_len(), MAX_LEN);
+    assert_eq!(rt; session.buffer().direction(), Direction::LeftToRight);
+    assert_eq!(rt; session.buffer().script(), None);
+    assert_eq!(rt; session.buffer().flags(), BufferFlags(0));
     assert_eq!(rt;
-        session.buffer.cluster_level(),
+        session.buffer().cluster_level(),
         BufferClusterLevel::MonotoneGraphemes
     );
-    assert_eq!(rt; session.buffer.pre_context().len(), 0);
-    assert_eq!(rt; session.buffer.post_context().len(), 0);
-    let plan = session.settings.plan()?;
+    assert_eq!(rt; session.buffer().pre_context().len(), 0);
+    assert_eq!(rt; session.buffer().post_context().len(), 0);
+    let plan = session.settings().plan()?;
     assert_eq!(rt; plan.script, None);
     assert!(rt; !plan.has_gpos_mark);
     assert!(rt; !plan.ot_map.found_script(TableIndex::GSUB));
     assert_eq!(rt; plan.ot_map.chosen_script(TableIndex::GSUB), None);
     assert_eq!(rt; plan.ot_map.get_global_mask(), 0);
     assert_eq!(rt; plan.ot_map.get_1_mask(hb_tag_t(*b"rphf")), 0);
-    let tables = &session.settings.tables;
+    let tables = &session.settings().tables;
     assert_eq!(rt; tables.joining_type('a'), hb_arabic_joining_type_t::U);
     assert_eq!(rt;
         tables.general_category('a'),
@@ -69,9 +70,9 @@ fn sets_the_plan_and_the_buffer(rt: HostRuntime) -> Result<(), Fail> {
         "context 1 63",
     ];
     let session = session_of(rt.alloc(), &lines)?;
-    let plan = session.settings.plan()?;
+    let plan = session.settings().plan()?;
     assert_eq!(rt; plan.script, Some(Script(*b"Thai")));
-    assert_eq!(rt; session.buffer.script(), Some(Script(*b"Thai")));
+    assert_eq!(rt; session.buffer().script(), Some(Script(*b"Thai")));
     assert_eq!(rt;
         plan.ot_map.chosen_script(TableIndex::GSUB),
         Some(hb_tag_t(*b"thai"))
@@ -79,15 +80,15 @@ fn sets_the_plan_and_the_buffer(rt: HostRuntime) -> Result<(), Fail> {
     assert!(rt; plan.ot_map.found_script(TableIndex::GSUB));
     assert!(rt; plan.has_gpos_mark);
     assert_eq!(rt; plan.ot_map.get_global_mask(), 0x8000_0000);
-    assert_eq!(rt; session.buffer.direction(), Direction::RightToLeft);
+    assert_eq!(rt; session.buffer().direction(), Direction::RightToLeft);
     assert_eq!(rt;
-        session.buffer.cluster_level(),
+        session.buffer().cluster_level(),
         BufferClusterLevel::MonotoneCharacters
     );
-    assert_eq!(rt; session.buffer.flags(), BufferFlags(0xA0));
-    assert_eq!(rt; session.buffer.max_len(), 7);
-    assert_eq!(rt; session.buffer.pre_context(), ['a', 'b'].as_slice());
-    assert_eq!(rt; session.buffer.post_context(), ['c'].as_slice());
+    assert_eq!(rt; session.buffer().flags(), BufferFlags(0xA0));
+    assert_eq!(rt; session.buffer().max_len(), 7);
+    assert_eq!(rt; session.buffer().pre_context(), ['a', 'b'].as_slice());
+    assert_eq!(rt; session.buffer().post_context(), ['c'].as_slice());
     Ok(())
 }
 
@@ -100,7 +101,7 @@ fn sets_levels_and_directions(rt: HostRuntime) -> Result<(), Fail> {
     ];
     for (line, level) in levels {
         let session = session_of(rt.alloc(), &["set level 1", line])?;
-        assert_eq!(rt; session.buffer.cluster_level(), level, "{line}");
+        assert_eq!(rt; session.buffer().cluster_level(), level, "{line}");
     }
     let directions = [
         ("set direction ltr", Direction::LeftToRight),
@@ -108,7 +109,7 @@ fn sets_levels_and_directions(rt: HostRuntime) -> Result<(), Fail> {
     ];
     for (line, direction) in directions {
         let session = session_of(rt.alloc(), &["set direction rtl", line])?;
-        assert_eq!(rt; session.buffer.direction(), direction, "{line}");
+        assert_eq!(rt; session.buffer().direction(), direction, "{line}");
     }
     Ok(())
 }
@@ -126,23 +127,31 @@ fn makes_glyphs(rt: HostRuntime) -> Result<(), Fail> {
         "at 1 gc 29",
     ];
     let mut session = session_of(rt.alloc(), &lines)?;
-    assert!(rt; session.buffer.len() == 2);
-    assert_eq!(rt; session.buffer.pre_context(), ['b'].as_slice());
+    let buffer = session.buffer();
+    assert!(rt; buffer.len() == 2);
+    assert_eq!(rt; buffer.pre_context(), ['b'].as_slice());
     let categories = [
         hb_unicode_general_category_t::Mn,
         hb_unicode_general_category_t::Zs,
     ];
     for i in 0..2 {
-        let glyph = session.buffer.get(i);
+        let glyph = buffer.get(i);
         assert_eq!(rt; glyph.general_category, categories[i]);
         assert_eq!(rt; glyph.lig_comp, 0);
         assert!(rt; !glyph.marks.is_substituted());
     }
-    session.buffer.set_has_broken_syllable(true);
-    session.buffer.set_has_stch(true);
+    let broken = [
+        "set shaper khmer",
+        "text 61",
+        "span 1 1",
+        "run pause setup_syllables_khmer",
+    ];
+    for line in broken {
+        session.carry_out(Command::parse(rt.alloc(), line)?)?;
+    }
+    assert!(rt; session.buffer().has_broken_syllable());
     session.carry_out(Command::parse(rt.alloc(), "text 61")?)?;
-    assert!(rt; !session.buffer.has_broken_syllable());
-    assert!(rt; !session.buffer.has_stch());
+    assert!(rt; !session.buffer().has_broken_syllable());
     Ok(())
 }
 
@@ -160,8 +169,9 @@ fn sets_marks_by_letter(rt: HostRuntime) -> Result<(), Fail> {
     for (line, marks) in rows {
         let lines = ["text 61", "at 0 marks slmic", "at 0 comp 5", line];
         let session = session_of(rt.alloc(), &lines)?;
-        assert!(rt; session.buffer.len() == 1);
-        let glyph = session.buffer.get(0);
+        let buffer = session.buffer();
+        assert!(rt; buffer.len() == 1);
+        let glyph = buffer.get(0);
         assert_eq!(rt; glyph.marks.is_substituted(), marks.0, "{line}");
         assert_eq!(rt; glyph.marks.is_ligated(), marks.1, "{line}");
         assert_eq!(rt; glyph.marks.is_multiplied(), marks.2, "{line}");
@@ -182,7 +192,7 @@ fn describes_a_font(rt: HostRuntime) -> Result<(), Fail> {
         "applies 3 7 8 9",
     ];
     let session = session_of(rt.alloc(), &lines)?;
-    let font = &session.settings.font;
+    let font = &session.settings().font;
     assert_eq!(rt; font.get_nominal_glyph(0x61), Some(GlyphId(8)));
     assert_eq!(rt; font.get_nominal_glyph(0x62), Some(GlyphId(7)));
     assert_eq!(rt; font.get_nominal_glyph(0x63), None);
@@ -212,7 +222,7 @@ fn describes_tables(rt: HostRuntime) -> Result<(), Fail> {
         "pair 65 66 63",
     ];
     let session = session_of(rt.alloc(), &lines)?;
-    let tables = &session.settings.tables;
+    let tables = &session.settings().tables;
     assert_eq!(rt; tables.joining_type('a'), hb_arabic_joining_type_t::X);
     assert_eq!(rt;
         tables.general_category('a'),
@@ -247,7 +257,7 @@ fn numbers_joining_types(rt: HostRuntime) -> Result<(), Fail> {
     for (line, joining_type) in types {
         let session = session_of(rt.alloc(), &[line])?;
         assert_eq!(rt;
-            session.settings.tables.joining_type('a'),
+            session.settings().tables.joining_type('a'),
             joining_type,
             "{line}"
         );
@@ -267,7 +277,7 @@ fn describes_features(rt: HostRuntime) -> Result<(), Fail> {
         "stage rphf 2 5",
     ];
     let session = session_of(rt.alloc(), &lines)?;
-    let map = session.settings.plan()?.ot_map;
+    let map = session.settings().plan()?.ot_map;
     let (rphf, blwf) = (hb_tag_t(*b"rphf"), hb_tag_t(*b"blwf"));
     assert_eq!(rt; map.get_1_mask(rphf), 0x10);
     assert_eq!(rt; map.get_1_mask(blwf), 0x20);
@@ -299,7 +309,7 @@ fn names_shapers(rt: HostRuntime) -> Result<(), Fail> {
     ];
     for (line, shaper) in rows {
         let session = session_of(rt.alloc(), &[line])?;
-        assert_eq!(rt; session.settings.shaper, Some(shaper), "{line}");
+        assert_eq!(rt; session.settings().shaper, Some(shaper), "{line}");
     }
     Ok(())
 }

@@ -1,7 +1,9 @@
-//! Runs of the program: what lines print, and how a run ends.
+//! What no row can say: how lines and streams end, and what lines leave that no output tells of.
 mod edges;
+mod pauses;
+mod session;
 
-use crate::run_lines;
+use hbhook_lines::run_lines;
 use std::alloc::Global;
 use std::process::Abort;
 use std::test::Fail;

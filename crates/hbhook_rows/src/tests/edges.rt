@@ -1,6 +1,6 @@
 //! Where lines end, what isn't text, refusals, and streams that break.
 use super::{expect_rows, expect_run};
-use crate::run_lines;
+use hbhook_lines::run_lines;
 use std::io::{self, ErrorKind, Read, Write};
 use std::test::Fail;
 

@@ -1,5 +1,5 @@
 //! The pauses by their names.
-use super::{Command, HookCall};
+use hbhook_lines::command::{Command, HookCall};
 use rustybuzz_shapers::plan::Pause;
 use std::test::Fail;
 
