@@ -10,6 +10,6 @@ pub use clearing::{clear_substitution_flags, clear_syllables};
 pub use kinds::{indic_syllable, khmer_syllable, myanmar_syllable, use_syllable};
 pub use reordering::{
     Reorder, reorder_syllables, reordering_cuts_at_borders, reordering_loses_nothing,
-    text_reordered_law,
+    serials_dont_count, text_reordered_law,
 };
-pub use set_up::set_up_syllables;
+pub use set_up::{set_up_syllables, spans_cut_law};
