@@ -1,5 +1,5 @@
 -- Reordering syllable by syllable, computed on small texts.
-use Rattle.std.specs.Prelude.{◌≡◌, ℕ, List, [], ◌∷◌, length, map, reverse, Some, None, refl}
+use Rattle.std.specs.Prelude.{◌≡◌, ℕ, List, [], ◌∷◌, length, map, reverse, Option, Some, None, pos, true, false, ◌==◌, if◌then◌else◌, refl}
 use Rattle.std.proofs.Common.{arith, ap, slice_index}
 use Rattle.std.specs.List.{flat_map, range_with_len}
 use Rattle.shapers_buffer.specs.declared.buffer.category.hb_unicode_general_category_t.TheVariants.{Mn}
@@ -10,7 +10,11 @@ use Rattle.shapers_buffer.specs.Buffer.{new_buffer}
 use Rattle.shapers_buffer.specs.Glyph.{clusters, default_glyph}
 use Rattle.shapers_clusters.specs.Steps.{Step, run_steps}
 use Rattle.shapers_syllabic.specs.declared.ot_shaper_syllabic.circles.DottedCircles.{DottedCircles}
-use Rattle.shapers_syllabic.specs.Reordering.{carried, text_order, text_steps}
+use Rattle.shapers_syllabic.specs.Reordering.{carried, circles_of_sort, first_unknown, kind_refusal, text_order, text_steps}
+use Rattle.shapers_syllabic.specs.declared.ot_shaper_syllabic.pause.CircleSort.{CircleSort}
+use Rattle.shapers_base.specs.Font.{Font}
+use Rattle.shapers_base.specs.declared.font.GlyphId.{GlyphId}
+use Rattle.shapers_buffer.specs.declared.buffer.refusal.ShaperError.TheVariants.{UnknownSyllable}
 use Rattle.shapers_syllabic.specs.Borders.{MeetAtBorder, SameButSerials, spans_set_up, unnumbered}
 use Rattle.shapers_syllabic.specs.ReorderingLaws.{paused_carried, paused_order}
 
@@ -141,3 +145,32 @@ set_up_first = refl
 
 set_up_second : set_up_of ((2, 1) ∷ []) (3 ∷ 4 ∷ []) ≡ (3, 0x11, 0) ∷ (4, 0x11, 3) ∷ []
 set_up_second = refl
+
+-- the circles of a shaper in a buffer, by the font's glyph
+abbrev sort : CircleSort
+sort = record { broken_kind = 4; category = 11; repha = Some 14; position = Some 3 }
+
+abbrev font_of : Option GlyphId → Font
+font_of glyph = record { nominal = λ c. (if c == 0x25CC then glyph else None); advance = λ g. pos 0; applies = λ lookup gs context. false; offers = λ tag. false }
+
+circles_wanted : circles_of_sort sort (font_of (Some (record { 0 = 7 }))) (record (new_buffer 9) { broken = true }) ≡ Some (record { broken_kind = 4; circle = record default_glyph { glyph_id = 7; category = 11; auxiliary = 3 }; repha = Some 14 })
+circles_wanted = refl
+
+circles_without_broken : circles_of_sort sort (font_of (Some (record { 0 = 7 }))) (new_buffer 9) ≡ None
+circles_without_broken = refl
+
+circles_without_glyph : circles_of_sort sort (font_of None) (record (new_buffer 9) { broken = true }) ≡ None
+circles_without_glyph = refl
+
+-- unknown kinds: those above the last known, the first place of the first such syllable
+kinds_known : kind_refusal (Some 4) three ≡ None
+kinds_known = refl
+
+kind_unknown : kind_refusal (Some 3) three ≡ Some (UnknownSyllable 2)
+kind_unknown = refl
+
+kinds_all_known : kind_refusal None (text ((1, 0, 0x1F) ∷ [])) ≡ None
+kinds_all_known = refl
+
+kind_at_once : map (λ last. first_unknown (Some last) (text ((1, 0, 0x12) ∷ (2, 0, 0x12) ∷ (3, 0, 0x21) ∷ []))) (0 ∷ 1 ∷ 2 ∷ []) ≡ Some 0 ∷ Some 0 ∷ None ∷ []
+kind_at_once = refl
