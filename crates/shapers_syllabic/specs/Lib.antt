@@ -1,3 +1,4 @@
+pub mod Borders
 pub mod CircleLaws
 pub mod Circles
 pub mod FirstBroken
