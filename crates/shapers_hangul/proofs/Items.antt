@@ -1,5 +1,5 @@
 -- Units and items: how far they reach, one after another.
-use Rattle.std.proofs.Common.{◌≡◌, ◌⊎◌, inl, inr, ℕ, zero, suc, ◌+◌, ◌-◌, ◌<◌, ◌≤◌, ◌&&◌, not, Bool, true, false, cond, List, [], ◌∷◌, length, get_or, drop, refl, sym, ap, ◌∙◌, arith}
+use Rattle.std.proofs.Common.{◌≡◌, ◌⊎◌, inl, inr, ℕ, zero, suc, ◌+◌, ◌-◌, ◌<◌, ◌≤◌, ◌&&◌, ◌==◌, not, Bool, true, false, cond, List, [], ◌∷◌, length, get_or, drop, refl, sym, ap, subst, ◌∙◌, arith}
 use Rattle.std.proofs.lemmas.List.{drop_all, length-drop}
 use Rattle.std.proofs.Math.Seq.{drop-nil}
 use Rattle.shapers_base.specs.Font.{Font, has_nominal}
@@ -7,7 +7,7 @@ use Rattle.shapers_hangul.specs.declared.ot_shaper_hangul.item.Item.{Item}
 use Rattle.shapers_hangul.specs.declared.ot_shaper_hangul.item.JoinedTone.TheVariants.{Absent, Before, Behind}
 use Rattle.shapers_hangul.specs.declared.ot_shaper_hangul.item.Unit.{Unit}
 use Rattle.shapers_hangul.specs.declared.ot_shaper_hangul.item.Unit.TheVariants.{ComposedTwo, ComposedThree, JamoTwo, JamoThree, PartsTwo, PartsThree, PartsBeforeT, Syllable, ToneCircle, CircleTone, Other}
-use Rattle.shapers_hangul.specs.Hangul.{is_l, is_v, is_t, combines_l, combines_v, combines_t, is_s, is_lv, is_tone, with_v, with_t, lead, vowel, trail, has_jamo_of, is_narrow, jamo_two, jamo_three, parts, syllable_unit, lone_tone, first_unit, taken, is_syllable, joined_tone, first_item, tone_len, item_len, items_from}
+use Rattle.shapers_hangul.specs.Hangul.{is_l, is_v, is_t, combines_l, combines_v, combines_t, is_s, is_lv, is_tone, with_v, with_t, lead, vowel, trail, has_jamo_of, is_narrow, jamo_two, jamo_three, parts, syllable_unit, lone_tone, first_unit, taken, is_syllable, is_marked, joined_tone, is_split, first_item, tone_len, item_len, items_from, items, Fit}
 
 -- both of two tests that pass together; a choice of two units
 pub both : (a b : Bool) → a && b ≡ true → (a ≡ true) × (b ≡ true)
@@ -114,6 +114,22 @@ tone_within font x us within =
 pub first_item-within : (font : Font) (circles : Bool) (us : List ℕ) → 0 < length us → item_len (first_item font circles us) ≤ length us
 first_item-within font circles us some = tone_within font (first_unit font circles (get_or us 0 0) (get_or us 1 0) (get_or us 2 0)) us (unit_within font circles us some)
 
+-- so does what it flags
+number : (Q : ℕ → Type 0) (b : Bool) (x y : ℕ) → (b ≡ true → Q x) → (b ≡ false → Q y) → Q (cond b x y)
+number Q b x y passes fails = elim b as (λ a. b ≡ a → Q (cond a x y)) [ true ↦ passes | false ↦ fails ] refl
+
+pub first_item-unsafe : (font : Font) (circles : Bool) (us : List ℕ) → 0 < length us → (first_item font circles us).unsafe_len ≤ length us
+first_item-unsafe font circles us some =
+    let u = get_or us 0 0 in
+    let v = get_or us 1 0 in
+    let x = first_unit font circles u v (get_or us 2 0) in
+    let tone = joined_tone font x (get_or us (taken x) 0) in
+    let Q : ℕ → Type 0 = λ n. n ≤ length us in
+    let within = unit_within font circles us some in
+    number Q (is_l u && is_v v) (taken x) _ (λ _. within)
+    (λ _. number Q (is_marked x && tone_len tone == 1) (taken x) _ (λ _. within)
+    (λ _. number Q (is_split font u v) 2 0 (λ h. omega (arith, there us 1 (above is_t v refl (both (is_lv u) (is_t v) (both (is_lv u && is_t v) _ h).0).1))) (λ _. omega arith)))
+
 -- the items from a place on: what the item before took is skipped, and then the first item opens the rest
 skipped : (read : List ℕ → Item) (place skip : ℕ) (us : List ℕ) → items_from read place skip us ≡ items_from read (place + skip) 0 (drop skip us)
 skipped read place zero [] = refl
@@ -153,3 +169,17 @@ items_at_next font circles us place item inside is =
 
 pub items_at_end : (font : Font) (circles : Bool) (us : List ℕ) (place : ℕ) → length us ≤ place → items_at font circles us place ≡ []
 items_at_end font circles us place past = ap (items_from (first_item font circles) place 0) (drop_all place us past)
+
+-- all items stand within the text, with what they flag
+items_fit_from : (font : Font) (circles : Bool) (place skip : ℕ) (us : List ℕ) → Fit (place + length us) (items_from (first_item font circles) place skip us)
+items_fit_from font circles place skip [] = tt
+items_fit_from font circles place zero (u ∷ us) =
+    let read = first_item font circles (u ∷ us) in
+    let same : place + 1 + length us ≡ place + length (u ∷ us) = omega arith in
+    ((omega (arith, first_item-within font circles (u ∷ us) (omega arith)), omega (arith, first_item-unsafe font circles (u ∷ us) (omega arith))), subst (λ n. Fit n (items_from (first_item font circles) (place + 1) (item_len read - 1) us)) same (items_fit_from font circles (place + 1) (item_len read - 1) us))
+items_fit_from font circles place (suc skip) (u ∷ us) =
+    let same : place + 1 + length us ≡ place + length (u ∷ us) = omega arith in
+    subst (λ n. Fit n (items_from (first_item font circles) (place + 1) skip us)) same (items_fit_from font circles (place + 1) skip us)
+
+pub items_fit : (font : Font) (circles : Bool) (us : List ℕ) → Fit (length us) (items font circles us)
+items_fit font circles us = let none : 0 + length us ≡ length us = omega arith in subst (λ n. Fit n (items font circles us)) none (items_fit_from font circles 0 0 us)
