@@ -99,11 +99,21 @@ syllable_unit font s v =
 abbrev pub lone_tone : Font → Bool → ℕ → Unit
 lone_tone font circles u = if circles && has_nominal font 0x25CC then (if is_narrow font u then CircleTone else ToneCircle) else Other
 
+abbrev pub jamo_unit : Font → ℕ → ℕ → ℕ → Unit
+jamo_unit font l v t = if is_t t then jamo_three font l v t else jamo_two font l v
+
 abbrev pub first_unit : Font → Bool → ℕ → ℕ → ℕ → Unit
 first_unit font circles u v t =
     if is_tone u then lone_tone font circles u
-    else if is_l u && is_v v then (if is_t t then jamo_three font u v t else jamo_two font u v)
+    else if is_l u && is_v v then jamo_unit font u v t
     else if is_s u then syllable_unit font u v
+    else Other
+
+-- in the code: the same of a character that no jamo follows
+abbrev pub lone_unit : Font → Bool → ℕ → Unit
+lone_unit font circles u =
+    if is_s u then (if has_nominal font u then Syllable else if has_jamo_of font u then parts u else Other)
+    else if is_tone u then lone_tone font circles u
     else Other
 
 -- how many characters a unit takes

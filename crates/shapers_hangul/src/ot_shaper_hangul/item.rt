@@ -2,10 +2,10 @@
 ghost use Rattle.std.specs.Prelude.{◌≡◌, ◌+◌, ◌<◌, ◌≤◌, ◌++◌, ◌∷◌, [], length, get_or, true, OnOk, OnErr, IfErr, IsOkUnless, not, ◌||◌, ◌&&◌};
 ghost use Rattle.shapers_base.specs.Font.{has_nominal};
 ghost use Rattle.shapers_buffer.specs.declared.buffer.refusal.ShaperError.TheVariants.{Memory};
-ghost use Rattle.shapers_hangul.specs.Hangul.{is_s, is_lv, has_jamo_of, is_narrow, jamo_two, jamo_three, parts, syllable_unit, lone_tone, first_unit, taken, is_syllable, is_marked, joined_tone, is_split, unsafe_len, first_item, tone_len, item_len, characters, glyph_copies, unit_output, item_output, is_merged, item_joined, output_len, is_kept};
+ghost use Rattle.shapers_hangul.specs.Hangul.{is_s, is_lv, has_jamo_of, is_narrow, jamo_two, jamo_three, jamo_unit, parts, syllable_unit, lone_tone, lone_unit, first_unit, taken, is_syllable, is_marked, joined_tone, is_split, unsafe_len, first_item, tone_len, item_len, characters, glyph_copies, unit_output, item_output, is_merged, item_joined, output_len, is_kept};
 
 use super::jamo::{
-    compose_three, compose_two, decompose, is_combined_s, is_combining_l, is_combining_t,
+    compose_three, compose_two, decompose, follows, is_combined_s, is_combining_l, is_combining_t,
     is_combining_v, is_hangul_tone, is_l, is_lv, is_t, is_v,
 };
 use shapers_base::buffer::{
@@ -174,6 +174,35 @@ fn syllable_unit<F: hb_font_t>(face: &F, s: u32, v: u32) -> Unit
     Unit::Other
 }
 
+// L V, and L V T.
+fn jamo_unit<F: hb_font_t>(face: &F, l: u32, v: u32, t: u32) -> Unit
+    ensures { result ≡ jamo_unit (F.font face.now) l v t }
+{
+    if is_t(t) {
+        return jamo_three(face, l, v, t);
+    }
+    jamo_two(face, l, v)
+}
+
+// The unit of a character that no jamo follows.
+fn lone_unit<F: hb_font_t>(face: &F, circles: bool, u: u32) -> Unit
+    ensures { result ≡ lone_unit (F.font face.now) circles u }
+{
+    if is_combined_s(u) {
+        if face.has_glyph(u) {
+            return Unit::Syllable;
+        }
+        if has_jamo_of(face, u) {
+            return parts(u);
+        }
+        return Unit::Other;
+    }
+    if is_hangul_tone(u) {
+        return lone_tone(face, circles, u);
+    }
+    Unit::Other
+}
+
 // The unit that the character `u` and the next two open.
 fn first_unit<F: hb_font_t>(face: &F, circles: bool, u: u32, v: u32, t: u32) -> Unit
     ensures { result ≡ first_unit (F.font face.now) circles u v t }
@@ -182,10 +211,7 @@ fn first_unit<F: hb_font_t>(face: &F, circles: bool, u: u32, v: u32, t: u32) -> 
         return lone_tone(face, circles, u);
     }
     if is_l(u) && is_v(v) {
-        if is_t(t) {
-            return jamo_three(face, u, v, t);
-        }
-        return jamo_two(face, u, v);
+        return jamo_unit(face, u, v, t);
     }
     if is_combined_s(u) {
         return syllable_unit(face, u, v);
@@ -235,14 +261,29 @@ fn unsafe_len<F: hb_font_t>(face: &F, unit: Unit, tone: JoinedTone, u: u32, v: u
     0
 }
 
-// The item that opens the text.
-pub(super) fn first_item<F: hb_font_t>(face: &F, circles: bool, glyphs: &[hb_glyph_info_t]) -> Item
+// The item that opens the text. A character that jamo or a tone doesn't follow is told by itself.
+fn read_item<F: hb_font_t>(face: &F, circles: bool, glyphs: &[hb_glyph_info_t]) -> Item
     requires { 0 < length glyphs.now }
-    ensures item { result ≡ first_item (F.font face.now) circles (characters glyphs.now) }
-    ensures within { item_len result ≤ length glyphs.now }
+    ensures { result ≡ first_item (F.font face.now) circles (characters glyphs.now) }
 {
     let u = character_at(glyphs, 0);
     let v = character_at(glyphs, 1);
+    if is_l(u) && is_v(v) {
+        let unit = jamo_unit(face, u, v, character_at(glyphs, 2));
+        let tone = joined_tone(face, unit, character_at(glyphs, unit.taken()));
+        return Item {
+            unit,
+            tone,
+            unsafe_len: unit.taken(),
+        };
+    }
+    if !follows(v) {
+        return Item {
+            unit: lone_unit(face, circles, u),
+            tone: JoinedTone::Absent,
+            unsafe_len: 0,
+        };
+    }
     let unit = first_unit(face, circles, u, v, character_at(glyphs, 2));
     let tone = joined_tone(face, unit, character_at(glyphs, unit.taken()));
     Item {
@@ -250,6 +291,15 @@ pub(super) fn first_item<F: hb_font_t>(face: &F, circles: bool, glyphs: &[hb_gly
         tone,
         unsafe_len: unsafe_len(face, unit, tone, u, v),
     }
+}
+
+// The same, which stands within the text.
+pub(super) fn first_item<F: hb_font_t>(face: &F, circles: bool, glyphs: &[hb_glyph_info_t]) -> Item
+    requires { 0 < length glyphs.now }
+    ensures item { result ≡ first_item (F.font face.now) circles (characters glyphs.now) }
+    ensures within { item_len result ≤ length glyphs.now }
+{
+    read_item(face, circles, glyphs)
 }
 
 impl JoinedTone {
