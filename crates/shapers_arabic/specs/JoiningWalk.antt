@@ -7,6 +7,7 @@ use Rattle.shapers_base.specs.declared.plan.joining.hb_arabic_joining_type_t.The
 use Rattle.shapers_buffer.specs.declared.buffer.tag.Script.{Script}
 use Rattle.shapers_arabic.specs.declared.ot_shaper_arabic.arabic_action_t.TheConstants.{NONE}
 use Rattle.shapers_arabic.specs.declared.ot_shaper_arabic.joining.TheConstants.{STATE_TABLE}
+use Rattle.shapers_arabic.specs.declared.ot_shaper_arabic.joining.Letters.{Letters}
 use Rattle.shapers_arabic.specs.declared.ot_shaper_arabic.joining.Transition.{Transition}
 use Rattle.shapers_arabic.specs.JoinedText.{AllFormed, forms_of, stored_types}
 use Rattle.shapers_arabic.specs.Joining.{is_transparent, nearest, forms, is_selector, joins_on}
@@ -76,6 +77,14 @@ abbrev pub given_last : Option ℕ → ℕ → List ℕ → List ℕ
 given_last None given fs = fs
 given_last (Some k) given fs = if given == NONE then fs else slice_set fs k given
 
+-- the forms, where the letter at place i joins the last one by this cell: that takes the form that it is given, and the letter its own
+abbrev pub joined_at : Option ℕ → Transition → ℕ → List ℕ → List ℕ
+joined_at last step i fs = slice_set (given_last last step.0 fs) i step.1
+
+-- the forms that are written in glyphs
+abbrev pub written : List hb_glyph_info_t → List ℕ
+written gs = map (λ g. g.auxiliary) gs
+
 -- what holds after i places
 pub record Walked (before types : List hb_arabic_joining_type_t) (i state : ℕ) (last : Option ℕ) (fs : List ℕ) : Type 0 where
   pub last_is : LastIs before (take i types) state last
@@ -83,8 +92,16 @@ pub record Walked (before types : List hb_arabic_joining_type_t) (i state : ℕ)
   pub long : length fs ≡ length types
 
 -- a step over the glyph at place i, which has this type: what held before it holds after it
-abbrev pub WalksOn : ℕ → hb_arabic_joining_type_t → ℕ → Option ℕ → List hb_glyph_info_t → ℕ → Option ℕ → List hb_glyph_info_t → Type 0
-WalksOn i t state last gs next_state next_last hs = (before types : List hb_arabic_joining_type_t) → i < length types → slice_index_or types i U ≡ t → Walked before types i state last (map (λ g. g.auxiliary) gs) → Walked before types (i + 1) next_state next_last (map (λ g. g.auxiliary) hs)
+abbrev pub WalksOn : ℕ → hb_arabic_joining_type_t → Letters → List hb_glyph_info_t → Letters → List hb_glyph_info_t → Type 0
+WalksOn i t letters gs next hs = (before types : List hb_arabic_joining_type_t) → i < length types → slice_index_or types i U ≡ t → Walked before types i letters.state letters.last (written gs) → Walked before types (i + 1) next.state next.last (written hs)
+
+-- the walk over all glyphs from this state on, behind all contexts that leave it
+abbrev pub WalksAll : (ℕ → hb_arabic_joining_type_t) → ℕ → List hb_glyph_info_t → Letters → List hb_glyph_info_t → Type 0
+WalksAll joining state gs letters hs = (before : List hb_arabic_joining_type_t) → state ≡ state_at_start (nearest before) → Walked before (stored_types joining gs) (length gs) letters.state letters.last (written hs)
+
+-- the forms by the joining rule, between all contexts with these nearest types
+abbrev pub JoinsTo : (ℕ → hb_arabic_joining_type_t) → Option hb_arabic_joining_type_t → Option hb_arabic_joining_type_t → List hb_glyph_info_t → List hb_glyph_info_t → Type 0
+JoinsTo joining before after gs hs = (front behind : List hb_arabic_joining_type_t) → nearest front ≡ before → nearest behind ≡ after → written hs ≡ forms front (stored_types joining gs) behind
 
 -- the last letter stands before place i
 abbrev pub IsWithin : Option ℕ → ℕ → Type 0

@@ -1,6 +1,6 @@
 -- What the hook makes of clusters and glyph flags, by the law of made glyphs.
-use Rattle.std.proofs.Common.{◌≡◌, ℕ, zero, suc, ◌+◌, ◌-◌, ◌<◌, ◌≤◌, ◌||◌, not, Bool, true, false, cond, List, [], ◌∷◌, ◌++◌, length, map, take, drop, refl, sym, ap, ◌∙◌, subst, arith}
-use Rattle.std.specs.List.{range_with_len, AllByRecursion, Contains}
+use Rattle.std.proofs.Common.{◌≡◌, ℕ, zero, suc, ◌+◌, ◌-◌, ◌<◌, ◌≤◌, Bool, true, false, cond, List, [], ◌∷◌, ◌++◌, length, get_or, map, take, drop, refl, sym, ap, ◌∙◌, subst, arith}
+use Rattle.std.specs.List.{range_with_len, AllByRecursion, AllZip, Contains}
 use Rattle.std.proofs.lemmas.List.Elements.{All-from_recursion, Contains-append_right}
 use Rattle.std.proofs.lemmas.List.Concat.{flat_map-append}
 use Rattle.std.proofs.lemmas.List.FromFn.{length-range_with_len}
@@ -14,10 +14,12 @@ use Rattle.shapers_buffer.specs.Buffer.{Buffer}
 use Rattle.shapers_buffer.specs.Clusters.{merge_all, merges}
 use Rattle.shapers_base.specs.Font.{Font}
 use Rattle.shapers_buffer.specs.Glyph.{clusters}
+use Rattle.shapers_buffer.specs.Places.{pick}
 use Rattle.shapers_buffer.proofs.MappedLists.{all-append, all-flat_map, drop-range, places-enumerate_from, Contains-flat_map}
 use Rattle.shapers_clusters.specs.Cuts.{EndWithin, ShareCluster}
 use Rattle.shapers_clusters.specs.Laws.{ClustersMade}
-use Rattle.shapers_clusters.proofs.Made.{Made, all_standing, glyphs-standing, numbered-standing}
+use Rattle.shapers_clusters.specs.Flags.{FlagsFall}
+use Rattle.shapers_clusters.proofs.Made.{Made, AreMade, are_made, all_standing, glyphs-standing, numbered-standing}
 use Rattle.shapers_clusters.proofs.Merging.{length-merge_all}
 use Rattle.shapers_clusters.proofs.Proved.{made_hold_by, part_shares}
 use Rattle.shapers_hangul.specs.declared.ot_shaper_hangul.item.Item.{Item}
@@ -25,22 +27,11 @@ use Rattle.shapers_hangul.specs.declared.ot_shaper_hangul.item.JoinedTone.{Joine
 use Rattle.shapers_hangul.specs.declared.ot_shaper_hangul.item.JoinedTone.TheVariants.{Absent, Before, Behind}
 use Rattle.shapers_hangul.specs.declared.ot_shaper_hangul.item.Unit.{Unit}
 use Rattle.shapers_hangul.specs.declared.ot_shaper_hangul.item.Unit.TheVariants.{ComposedTwo, ComposedThree, JamoTwo, JamoThree, PartsTwo, PartsThree, PartsBeforeT, Syllable, ToneCircle, CircleTone, Other}
-use Rattle.shapers_hangul.specs.Hangul.{taken, output_len, tone_len, item_len, marks_merge, is_marked, first_item, items_from, items, Copying, unit_output, with_tone, item_output, outputs, unit_stretch, tone_stretch, item_stretches, stretches, glyph_copies, characters, preprocessed, rewritten, wants_circles}
+use Rattle.shapers_hangul.specs.Hangul.{taken, output_len, tone_len, item_len, items, Fit, Copying, unit_output, with_tone, item_output, outputs, is_merged, unit_stretch, tone_stretch, item_stretches, stretches, all_joined, glyph_copies, characters, rewritten, wants_circles}
 use Rattle.shapers_hangul.specs.HangulLaws.{place_copies, sources, KeepsClusters, unnamed, RewrittenLaw}
-use Rattle.shapers_hangul.proofs.Items.{first_item-within}
+use Rattle.shapers_hangul.proofs.Items.{items_fit}
 use Rattle.shapers_hangul.proofs.Outputs.{Leads, outputs-map}
-use Rattle.shapers_hangul.proofs.Walks.{length-characters, length-item_output}
-
--- all items stand within the text, and so do their stretches
-items_within : (font : Font) (circles : Bool) (place skip : ℕ) (us : List ℕ) → AllByRecursion (λ p. p.0 + item_len p.1 ≤ place + length us) (items_from (first_item font circles) place skip us)
-items_within font circles place skip [] = tt
-items_within font circles place zero (u ∷ us) =
-    let read = first_item font circles (u ∷ us) in
-    let same : place + 1 + length us ≡ place + length (u ∷ us) = omega arith in
-    (omega (arith, first_item-within font circles (u ∷ us) (omega arith)), subst (λ n. AllByRecursion (λ p. p.0 + item_len p.1 ≤ n) (items_from (first_item font circles) (place + 1) (item_len read - 1) us)) same (items_within font circles (place + 1) (item_len read - 1) us))
-items_within font circles place (suc skip) (u ∷ us) =
-    let same : place + 1 + length us ≡ place + length (u ∷ us) = omega arith in
-    subst (λ n. AllByRecursion (λ p. p.0 + item_len p.1 ≤ n) (items_from (first_item font circles) (place + 1) skip us)) same (items_within font circles (place + 1) skip us)
+use Rattle.shapers_hangul.proofs.Walks.{length-characters, length-item_output, length-all_joined, clusters-all_joined}
 
 unit_ends : (b : Bool) (s e n : ℕ) → e ≤ n → EndWithin n (cond b ((s, e) ∷ []) [])
 unit_ends true s e n within = (within, tt)
@@ -53,13 +44,11 @@ tone_ends Behind s e n within = tt
 
 item_ends : (level : BufferClusterLevel) (unit : Unit) (tone : JoinedTone) (s n : ℕ) → s + (taken unit + tone_len tone) ≤ n → EndWithin n (unit_stretch level unit s ++ tone_stretch tone s (s + taken unit))
 item_ends level unit tone s n within =
-    all-append (λ st. st.1 ≤ n) (unit_stretch level unit s) (tone_stretch tone s (s + taken unit)) (unit_ends (marks_merge level || not (is_marked unit)) s (s + taken unit) n (omega arith)) (tone_ends tone s (s + taken unit) n (omega arith))
+    all-append (λ st. st.1 ≤ n) (unit_stretch level unit s) (tone_stretch tone s (s + taken unit)) (unit_ends (is_merged level unit) s (s + taken unit) n (omega arith)) (tone_ends tone s (s + taken unit) n (omega arith))
 
 stretches_within : (font : Font) (circles : Bool) (level : BufferClusterLevel) (us : List ℕ) → EndWithin (length us) (stretches level (items font circles us))
 stretches_within font circles level us =
-    let none : 0 + length us ≡ length us = omega arith in
-    all-flat_map (λ p. p.0 + item_len p.1 ≤ length us) (λ st. st.1 ≤ length us) (λ p. item_stretches level p.1 p.0) (λ p within. item_ends level p.1.unit p.1.tone p.0 (length us) within) (items font circles us)
-    (subst (λ n. AllByRecursion (λ p. p.0 + item_len p.1 ≤ n) (items font circles us)) none (items_within font circles 0 0 us))
+    all-flat_map (λ p. (p.0 + item_len p.1 ≤ length us) × (p.0 + p.1.unsafe_len ≤ length us)) (λ st. st.1 ≤ length us) (λ p. item_stretches level p.1 p.0) (λ p within. item_ends level p.1.unit p.1.tone p.0 (length us) within.0) (items font circles us) (items_fit font circles us)
 
 -- an element of a list that all elements say something of
 all-at : {X : Type 0} (P : X → Type 0) (xs : List X) (x : X) (ys : List X) → AllByRecursion P (xs ++ x ∷ ys) → P x
@@ -131,7 +120,7 @@ shares font circles level us cs js made m before place item after split moves =
     let cut = items font circles us in
     let st : ℕ × ℕ = (place, place + taken item.unit + 1) in
     let inside = item_output place_copies item (drop place (range_with_len 0 n)) in
-    let within : place + item_len item ≤ 0 + n = all-at (λ p. p.0 + item_len p.1 ≤ 0 + n) before (place, item) after (subst (AllByRecursion (λ p. p.0 + item_len p.1 ≤ 0 + n)) split (items_within font circles 0 0 us)) in
+    let within : place + item_len item ≤ n = (all-at (λ p. (p.0 + item_len p.1 ≤ n) × (p.0 + p.1.unsafe_len ≤ n)) before (place, item) after (subst (Fit n) split (items_fit font circles us))).0 in
     let one : tone_len item.tone ≡ 1 = ap tone_len moves in
     let many = length-item_output place_copies item (drop place (range_with_len 0 n)) (omega (arith, within, length-drop place (range_with_len 0 n), length-range_with_len 0 n)) in
     part_shares made m st (sources before n) inside (sources after n)
@@ -147,30 +136,62 @@ made_copies gs = record {
   as_jamo = λ feature m. record m { glyph = glyph_copies.as_jamo feature m.glyph; same = m.same };
 }
 
+-- clusters that no one of which rises
+none_rises : (gs ps rs : List hb_glyph_info_t) → AllZip FlagsFall gs ps → clusters ps ≡ clusters rs → AllZip (λ old new. new.cluster ≤ old.cluster) gs rs
+none_rises [] [] [] falls same = tt
+none_rises [] [] (r ∷ rs) falls same = absurd (omega (arith, ap length same))
+none_rises [] (p ∷ ps) rs falls same = absurd falls
+none_rises (g ∷ gs) [] rs falls same = absurd falls
+none_rises (g ∷ gs) (p ∷ ps) [] falls same = absurd (omega (arith, ap length same))
+none_rises (g ∷ gs) (p ∷ ps) (r ∷ rs) falls same = (omega (arith, falls.0.at_most, ap (λ cs. get_or cs 0 0) same), none_rises gs ps rs falls.1 (ap (drop 1) same))
+
+-- glyphs that are written from these, which stand in their places, have their clusters
+clusters-outputs : (cut : List (ℕ × Item)) (gs : List hb_glyph_info_t) → clusters (outputs glyph_copies cut gs) ≡ outputs place_copies cut (clusters gs)
+clusters-outputs cut gs = let leads : Leads (λ g. g.cluster) glyph_copies place_copies = record { character = λ u g. refl; jamo = λ n g. refl } in outputs-map (λ g. g.cluster) glyph_copies place_copies leads cut gs
+
+-- what is written from these glyphs, with the places that it comes of
+record Written (cut : List (ℕ × Item)) (ms : List hb_glyph_info_t) : Type 0 where
+  pub made : List (Made unnamed ms)
+  pub from : map (λ m. m.place) made ≡ sources cut (length ms)
+  pub glyphs : map (λ m. m.glyph) made ≡ outputs glyph_copies cut ms
+
+written_from : (cut : List (ℕ × Item)) (ms : List hb_glyph_info_t) → Written cut ms
+written_from cut ms =
+    let standing = all_standing unnamed ms in
+    let places : map (λ m. m.place) standing ≡ range_with_len 0 (length ms) =
+    sym (map-map (λ p. p.0) (λ m. (m.place, m.glyph.glyph_id)) standing)
+    ∙ ap (map (λ p. p.0)) (numbered-standing (λ g. g.glyph_id) unnamed ms)
+    ∙ places-enumerate_from 0 (characters ms)
+    ∙ ap (range_with_len 0) (length-characters ms) in
+    let to_places : Leads (λ m. m.place) (made_copies ms) place_copies = record { character = λ u m. refl; jamo = λ n m. refl } in
+    let to_glyphs : Leads (λ m. m.glyph) (made_copies ms) glyph_copies = record { character = λ u m. refl; jamo = λ n m. refl } in
+    record {
+      made = outputs (made_copies ms) cut standing;
+      from = outputs-map (λ m. m.place) (made_copies ms) place_copies to_places cut standing ∙ ap (outputs place_copies cut) places;
+      glyphs = outputs-map (λ m. m.glyph) (made_copies ms) glyph_copies to_glyphs cut standing ∙ ap (outputs glyph_copies cut) (glyphs-standing unnamed ms);
+    }
+
 pub rewritten_holds : RewrittenLaw
 rewritten_holds font circles level gs =
     let us = characters gs in
     let cut = items font circles us in
     let sts = stretches level cut in
     let ms = merge_all level sts gs in
-    let standing = all_standing unnamed ms in
-    let made = outputs (made_copies ms) cut standing in
+    let ns = all_joined level cut gs in
+    let rs = outputs glyph_copies cut ns in
     let within = subst (λ n. EndWithin n sts) (length-characters gs) (stretches_within font circles level us) in
-    let places : map (λ m. m.place) standing ≡ range_with_len 0 (length gs) =
-    sym (map-map (λ p. p.0) (λ m. (m.place, m.glyph.glyph_id)) standing)
-    ∙ ap (map (λ p. p.0)) (numbered-standing (λ g. g.glyph_id) unnamed ms)
-    ∙ places-enumerate_from 0 (characters ms)
-    ∙ ap (range_with_len 0) (length-characters ms ∙ length-merge_all level sts gs within) in
-    let to_places : Leads (λ m. m.place) (made_copies ms) place_copies = record { character = λ u m. refl; jamo = λ n m. refl } in
-    let to_glyphs : Leads (λ m. m.glyph) (made_copies ms) glyph_copies = record { character = λ u m. refl; jamo = λ n m. refl } in
-    let from : map (λ m. m.place) made ≡ sources cut (length gs) = outputs-map (λ m. m.place) (made_copies ms) place_copies to_places cut standing ∙ ap (outputs place_copies cut) places in
-    let glyphs : map (λ m. m.glyph) made ≡ preprocessed font circles level gs = outputs-map (λ m. m.glyph) (made_copies ms) glyph_copies to_glyphs cut standing ∙ ap (outputs glyph_copies cut) (glyphs-standing unnamed ms) in
-    let (same, h) = made_hold_by unnamed (record { cluster = λ g. refl; flags = λ g. refl }) level sts (sources cut (length gs)) gs (preprocessed font circles level gs) within made from glyphs in
-    let by_characters = subst (λ n. ClustersMade level sts (sources cut n) (clusters gs) (clusters (preprocessed font circles level gs))) (sym (length-characters gs)) h.clusters_made in
+    let merged = written_from cut ms in
+    let (same, h) = made_hold_by unnamed (record { cluster = λ g. refl; flags = λ g. refl }) level sts (sources cut (length gs)) gs (outputs glyph_copies cut ms) within merged.made (merged.from ∙ ap (sources cut) (length-merge_all level sts gs within)) merged.glyphs in
+    let joined = written_from cut ns in
+    let a = subst (λ ps. AreMade unnamed ns ps rs) (joined.from ∙ ap (sources cut) (length-all_joined level cut gs)) (subst (AreMade unnamed ns (map (λ m. m.place) joined.made)) joined.glyphs (are_made unnamed ns joined.made)) in
+    let as_merged : clusters (outputs glyph_copies cut ms) ≡ clusters rs =
+    clusters-outputs cut ms ∙ ap (outputs place_copies cut) (sym (clusters-all_joined level cut gs)) ∙ sym (clusters-outputs cut ns) in
+    let made = subst (ClustersMade level sts (sources cut (length gs)) (clusters gs)) as_merged h.clusters_made in
+    let by_characters = subst (λ n. ClustersMade level sts (sources cut n) (clusters gs) (clusters rs)) (sym (length-characters gs)) made in
     record {
-      made = same;
-      in_clusters = record { made = by_characters; cluster_law = shares font circles level us (clusters gs) (clusters (preprocessed font circles level gs)) by_characters };
-      falls = h.falls;
+      made = a.same;
+      in_clusters = record { made = by_characters; cluster_law = shares font circles level us (clusters gs) (clusters rs) by_characters };
+      none_rises = none_rises (pick (sources cut (length gs)) gs) (outputs glyph_copies cut ms) rs h.falls as_merged;
     }
 
 -- the whole hook

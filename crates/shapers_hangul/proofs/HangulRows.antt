@@ -194,6 +194,57 @@ copied_whole = refl
 marked_whole : preprocessed (wide []) true Characters (full_glyph 0x1100 4 ∷ full_glyph 0x1161 3 ∷ []) ≡ (let g : hb_glyph_info_t = record (full_glyph 0x1100 4) { auxiliary = 1 } in g) ∷ (let g : hb_glyph_info_t = record (full_glyph 0x1161 3) { auxiliary = 2 } in g) ∷ []
 marked_whole = refl
 
+-- FLAGS. The glyph flags of each glyph of the result, at the three levels; none is left inside what merges
+abbrev flags_at : Font → List ℕ → BufferClusterLevel → List ℕ
+flags_at font us level = map (λ g. g.mask) (preprocessed font true level (text us))
+
+abbrev flags : Font → List ℕ → List (List ℕ)
+flags font us = map (flags_at font us) (MonotoneGraphemes ∷ MonotoneCharacters ∷ Characters ∷ [])
+
+-- jamo of one syllable
+flags_of_jamo : flags (wide []) (0x115F ∷ 0x1160 ∷ 0x11A8 ∷ []) ≡ (0 ∷ 0 ∷ 0 ∷ []) ∷ (0 ∷ 3 ∷ 3 ∷ []) ∷ (0 ∷ 3 ∷ 3 ∷ []) ∷ []
+flags_of_jamo = refl
+
+flags_of_two_syllables : flags (wide []) (0x115F ∷ 0x1160 ∷ 0x1100 ∷ 0x1161 ∷ 0x41 ∷ []) ≡ (0 ∷ 0 ∷ 0 ∷ 0 ∷ 0 ∷ []) ∷ (0 ∷ 3 ∷ 0 ∷ 3 ∷ 0 ∷ []) ∷ (0 ∷ 3 ∷ 0 ∷ 3 ∷ 0 ∷ []) ∷ []
+flags_of_two_syllables = refl
+
+-- in one: the syllable character copies the first jamo, which is flagged where its cluster isn't the least
+flags_of_composed : map (λ level. map (λ g. g.mask) (preprocessed (wide (0xAC00 ∷ [])) true level (full_glyph 0x1100 4 ∷ full_glyph 0x1161 3 ∷ []))) (MonotoneGraphemes ∷ MonotoneCharacters ∷ Characters ∷ []) ≡ (0x18 ∷ []) ∷ (0x18 ∷ []) ∷ (0x1F ∷ []) ∷ []
+flags_of_composed = refl
+
+flags_of_composed_falling : map (λ level. map (λ g. g.mask) (preprocessed (wide (0xAC00 ∷ [])) true level (record default_glyph { glyph_id = 0x1100; cluster = 1 } ∷ record default_glyph { glyph_id = 0x1161 } ∷ []))) (MonotoneGraphemes ∷ MonotoneCharacters ∷ Characters ∷ []) ≡ (0 ∷ []) ∷ (0 ∷ []) ∷ (3 ∷ []) ∷ []
+flags_of_composed_falling = refl
+
+flags_of_joined : flags (wide (0xAC00 ∷ 0xAC01 ∷ [])) (0xAC00 ∷ 0x11A8 ∷ []) ≡ (0 ∷ []) ∷ (0 ∷ []) ∷ (0 ∷ []) ∷ []
+flags_of_joined = refl
+
+-- LV and a T that combines, where the font lacks the whole: marked jamo, LV alone marked, or neither
+flags_of_split : flags (wide (0x1100 ∷ 0x1161 ∷ 0xAC00 ∷ [])) (0xAC00 ∷ 0x11A8 ∷ []) ≡ (0 ∷ 0 ∷ 0 ∷ []) ∷ (0 ∷ 0 ∷ 3 ∷ []) ∷ (0 ∷ 0 ∷ 3 ∷ []) ∷ []
+flags_of_split = refl
+
+flags_of_split_lv_lacks : flags (wide (0x1100 ∷ 0x1161 ∷ [])) (0xAC00 ∷ 0x11A8 ∷ []) ≡ (0 ∷ 0 ∷ 3 ∷ []) ∷ (0 ∷ 0 ∷ 3 ∷ []) ∷ (0 ∷ 0 ∷ 3 ∷ []) ∷ []
+flags_of_split_lv_lacks = refl
+
+flags_of_split_jamo_lack : flags (wide (0xAC00 ∷ [])) (0xAC00 ∷ 0x11A8 ∷ []) ≡ (0 ∷ 3 ∷ []) ∷ (0 ∷ 3 ∷ []) ∷ (0 ∷ 3 ∷ []) ∷ []
+flags_of_split_jamo_lack = refl
+
+-- LV and a T that doesn't combine: where the font lacks the jamo of LV; with them, only if a tone follows
+flags_of_old_t_jamo_lack : flags (wide []) (0xAC00 ∷ 0x11C3 ∷ []) ≡ (0 ∷ 3 ∷ []) ∷ (0 ∷ 3 ∷ []) ∷ (0 ∷ 3 ∷ []) ∷ []
+flags_of_old_t_jamo_lack = refl
+
+flags_of_old_t : flags (wide (0x1100 ∷ 0x1161 ∷ 0xAC00 ∷ [])) (0xAC00 ∷ 0x11C3 ∷ []) ≡ (0 ∷ 0 ∷ 0 ∷ []) ∷ (0 ∷ 0 ∷ 0 ∷ []) ∷ (0 ∷ 0 ∷ 0 ∷ []) ∷ []
+flags_of_old_t = refl
+
+flags_of_old_t_narrow_tone : flags (narrow (0x1100 ∷ 0x1161 ∷ 0xAC00 ∷ 0x302E ∷ [])) (0xAC00 ∷ 0x11C3 ∷ 0x302E ∷ []) ≡ (0 ∷ 0 ∷ 0 ∷ 0 ∷ []) ∷ (0 ∷ 0 ∷ 3 ∷ 0 ∷ []) ∷ (0 ∷ 0 ∷ 3 ∷ 0 ∷ []) ∷ []
+flags_of_old_t_narrow_tone = refl
+
+flags_of_old_t_tone : flags (wide (0x1100 ∷ 0x1161 ∷ 0xAC00 ∷ [])) (0xAC00 ∷ 0x11C3 ∷ 0x302E ∷ []) ≡ (0 ∷ 0 ∷ 0 ∷ 0 ∷ []) ∷ (0 ∷ 0 ∷ 0 ∷ 0 ∷ []) ∷ (0 ∷ 0 ∷ 0 ∷ 3 ∷ []) ∷ []
+flags_of_old_t_tone = refl
+
+-- no other: a whole syllable before T, parts of one, a tone behind a syllable, one alone
+flags_of_others : flags (wide (0xAC01 ∷ 0x1100 ∷ 0x1161 ∷ 0x11A9 ∷ 0x25CC ∷ [])) (0xAC01 ∷ 0x11A8 ∷ 0xAC02 ∷ 0xAC01 ∷ 0x302E ∷ 0x302F ∷ []) ≡ map (λ level. 0 ∷ 0 ∷ 0 ∷ 0 ∷ 0 ∷ 0 ∷ 0 ∷ 0 ∷ 0 ∷ []) (MonotoneGraphemes ∷ MonotoneCharacters ∷ Characters ∷ [])
+flags_of_others = refl
+
 -- MASKS, by the auxiliary byte, which stays with all else
 abbrev masked : (n : ℕ) → hb_glyph_info_t
 masked n = record default_glyph { mask = 3; auxiliary = n }

@@ -9,7 +9,6 @@ use Rattle.std.proofs.lemmas.List.Elements.{filter-append}
 use Rattle.std.proofs.Math.Seq.{drop-nil}
 use Rattle.std.specs.Prelude.{Result, Ok, Err, OnOk}
 use Rattle.shapers_buffer.specs.Buffer.{Buffer}
-use Rattle.shapers_buffer.specs.Clusters.{merge_all}
 use Rattle.shapers_buffer.specs.declared.buffer.glyph.hb_glyph_info_t.{hb_glyph_info_t}
 use Rattle.shapers_buffer.specs.declared.buffer.level.BufferClusterLevel.{BufferClusterLevel}
 use Rattle.shapers_buffer.specs.declared.buffer.refusal.ShaperError.{ShaperError}
@@ -17,10 +16,10 @@ use Rattle.shapers_base.specs.Font.{Font, has_nominal}
 use Rattle.shapers_hangul.specs.declared.ot_shaper_hangul.item.JoinedTone.TheVariants.{Absent, Before, Behind}
 use Rattle.shapers_hangul.specs.declared.ot_shaper_hangul.item.Unit.{Unit}
 use Rattle.shapers_hangul.specs.declared.ot_shaper_hangul.item.Unit.TheVariants.{ComposedTwo, ComposedThree, JamoTwo, JamoThree, PartsTwo, PartsThree, PartsBeforeT, Syllable, ToneCircle, CircleTone, Other}
-use Rattle.shapers_hangul.specs.Hangul.{is_between, is_l, is_v, is_t, combines_l, combines_v, combines_t, is_s, is_lv, is_tone, with_v, with_t, lead, vowel, trail, has_jamo_of, is_narrow, jamo_two, jamo_three, parts, syllable_unit, lone_tone, opening_unit, taken, is_syllable, joined_tone, first_item, tone_len, item_len, items_from, items, marked_from, unit_output, with_tone, item_output, outputs, stretches, glyph_copies, character_copies, characters, preprocessed, wants_circles, rewritten}
+use Rattle.shapers_hangul.specs.Hangul.{is_between, is_l, is_v, is_t, combines_l, combines_v, combines_t, is_s, is_lv, is_tone, with_v, with_t, lead, vowel, trail, has_jamo_of, is_narrow, jamo_two, jamo_three, parts, syllable_unit, lone_tone, opening_unit, taken, is_syllable, joined_tone, first_item, tone_len, item_len, items_from, items, marked_from, unit_output, with_tone, item_output, outputs, all_joined, glyph_copies, character_copies, characters, preprocessed, wants_circles, rewritten}
 use Rattle.shapers_hangul.specs.HangulLaws.{jamo_of, full, spelled, SpellingLaw, SpellsSame}
 use Rattle.shapers_hangul.proofs.Outputs.{Leads, outputs-map}
-use Rattle.shapers_hangul.proofs.Walks.{characters-merge_all}
+use Rattle.shapers_hangul.proofs.Walks.{characters-all_joined}
 use Rattle.shapers_hangul.proofs.Items.{both, either, taken_some, drop_more_of, there, above, unit_within}
 
 true_is_not : true ≡ false → ⊥
@@ -304,9 +303,9 @@ spells font circles us = record { unit = unit_spells font circles us; whole = re
 pub same_spelled : (font : Font) (circles : Bool) (level : BufferClusterLevel) (gs : List hb_glyph_info_t) → spelled (characters (preprocessed font circles level gs)) ≡ spelled (characters gs)
 same_spelled font circles level gs =
     let cut = items font circles (characters gs) in
-    let ms = merge_all level (stretches level cut) gs in
+    let ms = all_joined level cut gs in
     let leads : Leads (λ g. g.glyph_id) glyph_copies character_copies = record { character = λ u g. refl; jamo = λ n g. refl } in
-    ap spelled (outputs-map (λ g. g.glyph_id) glyph_copies character_copies leads cut ms ∙ ap (outputs character_copies cut) (characters-merge_all level (stretches level cut) gs)) ∙ (spells font circles (characters gs)).whole
+    ap spelled (outputs-map (λ g. g.glyph_id) glyph_copies character_copies leads cut ms ∙ ap (outputs character_copies cut) (characters-all_joined level cut gs)) ∙ (spells font circles (characters gs)).whole
 
 pub on_spelled : {T : Type 0} (r : Result T ShaperError) (font : Font) (old new : Buffer) → OnOk r (new ≡ rewritten font old) → OnOk r (SpellsSame old new)
 on_spelled (Ok x) font old new is = subst (SpellsSame old) (sym is) (same_spelled font (wants_circles old) old.level old.glyphs)

@@ -1,13 +1,15 @@
 -- Units and items: how far they reach, one after another.
-use Rattle.std.proofs.Common.{◌≡◌, ◌⊎◌, inl, inr, ℕ, zero, suc, ◌+◌, ◌-◌, ◌<◌, ◌≤◌, ◌&&◌, not, Bool, true, false, cond, List, [], ◌∷◌, length, get_or, drop, refl, sym, ap, ◌∙◌, arith}
+use Rattle.std.proofs.Common.{◌≡◌, ◌⊎◌, inl, inr, ℕ, zero, suc, ◌+◌, ◌-◌, ◌<◌, ◌≤◌, ◌&&◌, ◌||◌, ◌==◌, not, Bool, true, false, cond, List, [], ◌∷◌, length, get_or, drop, refl, sym, ap, subst, ◌∙◌, arith}
+use Rattle.std.proofs.lemmas.Bool.Decides.{nat_tests}
 use Rattle.std.proofs.lemmas.List.{drop_all, length-drop}
 use Rattle.std.proofs.Math.Seq.{drop-nil}
 use Rattle.shapers_base.specs.Font.{Font, has_nominal}
 use Rattle.shapers_hangul.specs.declared.ot_shaper_hangul.item.Item.{Item}
+use Rattle.shapers_hangul.specs.declared.ot_shaper_hangul.item.JoinedTone.{JoinedTone}
 use Rattle.shapers_hangul.specs.declared.ot_shaper_hangul.item.JoinedTone.TheVariants.{Absent, Before, Behind}
 use Rattle.shapers_hangul.specs.declared.ot_shaper_hangul.item.Unit.{Unit}
 use Rattle.shapers_hangul.specs.declared.ot_shaper_hangul.item.Unit.TheVariants.{ComposedTwo, ComposedThree, JamoTwo, JamoThree, PartsTwo, PartsThree, PartsBeforeT, Syllable, ToneCircle, CircleTone, Other}
-use Rattle.shapers_hangul.specs.Hangul.{is_l, is_v, is_t, combines_l, combines_v, combines_t, is_s, is_lv, is_tone, with_v, with_t, lead, vowel, trail, has_jamo_of, is_narrow, jamo_two, jamo_three, parts, syllable_unit, lone_tone, first_unit, taken, is_syllable, joined_tone, first_item, tone_len, item_len, items_from}
+use Rattle.shapers_hangul.specs.Hangul.{is_l, is_v, is_t, combines_l, combines_v, combines_t, is_s, is_lv, is_tone, with_v, with_t, lead, vowel, trail, has_jamo_of, is_narrow, jamo_two, jamo_three, jamo_unit, parts, syllable_unit, lone_tone, lone_unit, first_unit, unsafe_len, taken, is_syllable, is_marked, joined_tone, is_split, first_item, tone_len, item_len, items_from, items, Fit}
 
 -- both of two tests that pass together; a choice of two units
 pub both : (a b : Bool) → a && b ≡ true → (a ≡ true) × (b ≡ true)
@@ -114,6 +116,104 @@ tone_within font x us within =
 pub first_item-within : (font : Font) (circles : Bool) (us : List ℕ) → 0 < length us → item_len (first_item font circles us) ≤ length us
 first_item-within font circles us some = tone_within font (first_unit font circles (get_or us 0 0) (get_or us 1 0) (get_or us 2 0)) us (unit_within font circles us some)
 
+-- what the cases come to for a character that no jamo and no tone follows
+abbrev item_of : Unit → JoinedTone → ℕ → Item
+item_of unit tone n = record { unit = unit; tone = tone; unsafe_len = n }
+
+neither : (a b : Bool) → a || b ≡ false → (a ≡ false) × (b ≡ false)
+neither false b h = (refl, h)
+neither true b h = absurd cc
+
+never : {X : Type 0} (b : Bool) (x y : X) → cond (b && false) x y ≡ y
+never true x y = refl
+never false x y = refl
+
+never_so : {X : Type 0} (b c : Bool) (x y : X) → cond ((b && false) && c) x y ≡ y
+never_so true c x y = refl
+never_so false c x y = refl
+
+-- T that combines is T
+combines_no : (v : ℕ) → is_t v ≡ false → combines_t v ≡ false
+combines_no v h = grind (arith, nat_tests)
+
+tone_no_syllable : (u : ℕ) → is_tone u ≡ true → is_s u ≡ false
+tone_no_syllable u h = grind (arith, nat_tests)
+
+turned : {X : Type 0} (a b c : Bool) (x y z : X) → (b ≡ true → a ≡ false) → cond b y (cond a x z) ≡ cond a x (cond b y z)
+turned true true c x y z apart = absurd (let h = apart refl in cc)
+turned true false c x y z apart = refl
+turned false true c x y z apart = refl
+turned false false c x y z apart = refl
+
+has_or_parts : (has jamo : Bool) (p : Unit) → cond (not has && jamo) p (cond has Syllable Other) ≡ cond has Syllable (cond jamo p Other)
+has_or_parts true jamo p = refl
+has_or_parts false true p = refl
+has_or_parts false false p = refl
+
+syllable_lone : (font : Font) (s v : ℕ) → is_t v ≡ false → syllable_unit font s v ≡ cond (has_nominal font s) Syllable (cond (has_jamo_of font s) (parts s) Other)
+syllable_lone font s v no_t =
+    let has = has_nominal font s in
+    let jamo = has_jamo_of font s in
+    let split = cond ((is_lv s && is_t v) && jamo) (PartsBeforeT (lead s) (vowel s)) (cond has Syllable Other) in
+    ap (λ x. cond ((is_lv s && x) && has_nominal font (with_t s v)) (ComposedTwo (with_t s v)) (cond (not has && jamo) (parts s) split)) (combines_no v no_t)
+    ∙ never_so (is_lv s) (has_nominal font (with_t s v)) (ComposedTwo (with_t s v)) (cond (not has && jamo) (parts s) split)
+    ∙ ap (cond (not has && jamo) (parts s)) (ap (λ x. cond ((is_lv s && x) && jamo) (PartsBeforeT (lead s) (vowel s)) (cond has Syllable Other)) no_t ∙ never_so (is_lv s) jamo (PartsBeforeT (lead s) (vowel s)) (cond has Syllable Other))
+    ∙ has_or_parts has jamo (parts s)
+
+unit_lone : (font : Font) (circles : Bool) (u v t : ℕ) → is_v v ≡ false → is_t v ≡ false → first_unit font circles u v t ≡ lone_unit font circles u
+unit_lone font circles u v t no_v no_t =
+    let tone = lone_tone font circles u in
+    ap (λ x. cond (is_tone u) tone (cond (is_l u && x) (jamo_unit font u v t) (cond (is_s u) (syllable_unit font u v) Other))) no_v
+    ∙ ap (cond (is_tone u) tone) (never (is_l u) (jamo_unit font u v t) (cond (is_s u) (syllable_unit font u v) Other) ∙ ap (λ x. cond (is_s u) x Other) (syllable_lone font u v no_t))
+    ∙ turned (is_s u) (is_tone u) true (cond (has_nominal font u) Syllable (cond (has_jamo_of font u) (parts u) Other)) tone Other (tone_no_syllable u)
+
+parts_taken : (s : ℕ) → taken (parts s) ≡ 1
+parts_taken s = either (λ x. taken x ≡ 1) (is_lv s) (PartsTwo (lead s) (vowel s)) (PartsThree (lead s) (vowel s) (trail s)) (λ _. refl) (λ _. refl)
+
+lone_taken : (font : Font) (circles : Bool) (u : ℕ) → taken (lone_unit font circles u) ≡ 1
+lone_taken font circles u =
+    let Q : Unit → Type 0 = λ x. taken x ≡ 1 in
+    either Q (is_s u) _ _ (λ _. either Q (has_nominal font u) Syllable _ (λ _. refl) (λ _. either Q (has_jamo_of font u) (parts u) Other (λ _. parts_taken u) (λ _. refl)))
+    (λ _. either Q (is_tone u) (lone_tone font circles u) Other (λ _. either Q (circles && has_nominal font 0x25CC) _ Other (λ _. either Q (is_narrow font u) CircleTone ToneCircle (λ _. refl) (λ _. refl)) (λ _. refl)) (λ _. refl))
+
+pub lone_first : (font : Font) (circles : Bool) (us : List ℕ) (unit : Unit) → is_v (get_or us 1 0) || (is_t (get_or us 1 0) || is_tone (get_or us 1 0)) ≡ false → unit ≡ lone_unit font circles (get_or us 0 0) → item_of unit Absent 0 ≡ first_item font circles us
+lone_first font circles us unit free is =
+    let a = get_or us 0 0 in
+    let b = get_or us 1 0 in
+    let (no_v, others) = neither (is_v b) (is_t b || is_tone b) free in
+    let (no_t, no_tone) = neither (is_t b) (is_tone b) others in
+    let whole : first_unit font circles a b (get_or us 2 0) ≡ unit = unit_lone font circles a b (get_or us 2 0) no_v no_t ∙ sym is in
+    let one : taken unit ≡ 1 = ap taken is ∙ lone_taken font circles a in
+    let alone : joined_tone font unit (get_or us (taken unit) 0) ≡ Absent =
+    ap (λ n. joined_tone font unit (get_or us n 0)) one
+    ∙ ap (λ x. cond (is_syllable unit && x) (cond (is_narrow font b) Behind Before) Absent) no_tone
+    ∙ never (is_syllable unit) (cond (is_narrow font b) Behind Before) Absent in
+    let rest : unsafe_len font unit Absent a b ≡ 0 =
+    ap (λ x. cond (is_l a && x) (taken unit) (cond (is_marked unit && false) (taken unit) (cond (is_split font a b) 2 0))) no_v
+    ∙ never (is_l a) (taken unit) (cond (is_marked unit && false) (taken unit) (cond (is_split font a b) 2 0))
+    ∙ never (is_marked unit) (taken unit) (cond (is_split font a b) 2 0)
+    ∙ ap (λ x. cond ((is_lv a && x) && cond (combines_t b) (not (has_nominal font (with_t a b))) (not (has_jamo_of font a))) 2 0) no_t
+    ∙ never_so (is_lv a) (cond (combines_t b) (not (has_nominal font (with_t a b))) (not (has_jamo_of font a))) 2 0 in
+    sym (ap (λ x. item_of x (joined_tone font x (get_or us (taken x) 0)) (unsafe_len font x (joined_tone font x (get_or us (taken x) 0)) a b)) whole
+    ∙ ap (λ y. item_of unit y (unsafe_len font unit y a b)) alone
+    ∙ ap (item_of unit Absent) rest)
+
+-- what an item flags stands within the text, too
+number : (Q : ℕ → Type 0) (b : Bool) (x y : ℕ) → (b ≡ true → Q x) → (b ≡ false → Q y) → Q (cond b x y)
+number Q b x y passes fails = elim b as (λ a. b ≡ a → Q (cond a x y)) [ true ↦ passes | false ↦ fails ] refl
+
+pub first_item-unsafe : (font : Font) (circles : Bool) (us : List ℕ) → 0 < length us → (first_item font circles us).unsafe_len ≤ length us
+first_item-unsafe font circles us some =
+    let u = get_or us 0 0 in
+    let v = get_or us 1 0 in
+    let x = first_unit font circles u v (get_or us 2 0) in
+    let tone = joined_tone font x (get_or us (taken x) 0) in
+    let Q : ℕ → Type 0 = λ n. n ≤ length us in
+    let within = unit_within font circles us some in
+    number Q (is_l u && is_v v) (taken x) _ (λ _. within)
+    (λ _. number Q (is_marked x && tone_len tone == 1) (taken x) _ (λ _. within)
+    (λ _. number Q (is_split font u v) 2 0 (λ h. omega (arith, there us 1 (above is_t v refl (both (is_lv u) (is_t v) (both (is_lv u && is_t v) _ h).0).1))) (λ _. omega arith)))
+
 -- the items from a place on: what the item before took is skipped, and then the first item opens the rest
 skipped : (read : List ℕ → Item) (place skip : ℕ) (us : List ℕ) → items_from read place skip us ≡ items_from read (place + skip) 0 (drop skip us)
 skipped read place zero [] = refl
@@ -153,3 +253,17 @@ items_at_next font circles us place item inside is =
 
 pub items_at_end : (font : Font) (circles : Bool) (us : List ℕ) (place : ℕ) → length us ≤ place → items_at font circles us place ≡ []
 items_at_end font circles us place past = ap (items_from (first_item font circles) place 0) (drop_all place us past)
+
+-- all items stand within the text, with what they flag
+items_fit_from : (font : Font) (circles : Bool) (place skip : ℕ) (us : List ℕ) → Fit (place + length us) (items_from (first_item font circles) place skip us)
+items_fit_from font circles place skip [] = tt
+items_fit_from font circles place zero (u ∷ us) =
+    let read = first_item font circles (u ∷ us) in
+    let same : place + 1 + length us ≡ place + length (u ∷ us) = omega arith in
+    ((omega (arith, first_item-within font circles (u ∷ us) (omega arith)), omega (arith, first_item-unsafe font circles (u ∷ us) (omega arith))), subst (λ n. Fit n (items_from (first_item font circles) (place + 1) (item_len read - 1) us)) same (items_fit_from font circles (place + 1) (item_len read - 1) us))
+items_fit_from font circles place (suc skip) (u ∷ us) =
+    let same : place + 1 + length us ≡ place + length (u ∷ us) = omega arith in
+    subst (λ n. Fit n (items_from (first_item font circles) (place + 1) skip us)) same (items_fit_from font circles (place + 1) skip us)
+
+pub items_fit : (font : Font) (circles : Bool) (us : List ℕ) → Fit (length us) (items font circles us)
+items_fit font circles us = let none : 0 + length us ≡ length us = omega arith in subst (λ n. Fit n (items font circles us)) none (items_fit_from font circles 0 0 us)

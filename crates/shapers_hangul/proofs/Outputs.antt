@@ -8,15 +8,14 @@ use Rattle.std.proofs.lemmas.List.{map-append, drop-map}
 use Rattle.std.specs.List.{take-map}
 use Rattle.shapers_buffer.specs.declared.buffer.glyph.hb_glyph_info_t.{hb_glyph_info_t}
 use Rattle.shapers_buffer.specs.declared.buffer.level.BufferClusterLevel.{BufferClusterLevel}
-use Rattle.shapers_buffer.specs.Clusters.{merge_all}
 use Rattle.shapers_base.specs.Font.{Font}
 use Rattle.shapers_hangul.specs.declared.ot_shaper_hangul.item.Item.{Item}
 use Rattle.shapers_hangul.specs.declared.ot_shaper_hangul.item.JoinedTone.{JoinedTone}
 use Rattle.shapers_hangul.specs.declared.ot_shaper_hangul.item.JoinedTone.TheVariants.{Absent, Before, Behind}
 use Rattle.shapers_hangul.specs.declared.ot_shaper_hangul.item.Unit.{Unit}
 use Rattle.shapers_hangul.specs.declared.ot_shaper_hangul.item.Unit.TheVariants.{ComposedTwo, ComposedThree, JamoTwo, JamoThree, PartsTwo, PartsThree, PartsBeforeT, Syllable, ToneCircle, CircleTone, Other}
-use Rattle.shapers_hangul.specs.Hangul.{taken, items, Copying, marked_from, unit_output, with_tone, item_output, outputs, stretches, glyph_copies, character_copies, characters, preprocessed, Stays}
-use Rattle.shapers_hangul.proofs.Walks.{characters-merge_all, length-characters}
+use Rattle.shapers_hangul.specs.Hangul.{taken, items, Copying, marked_from, unit_output, with_tone, item_output, outputs, all_joined, glyph_copies, character_copies, characters, preprocessed, Stays}
+use Rattle.shapers_hangul.proofs.Walks.{characters-all_joined, length-characters}
 
 -- f leads what the one copying makes to what the other makes
 pub record Leads {X Y : Type 0} (f : X → Y) (c : Copying X) (d : Copying Y) : Type 0 where
@@ -74,28 +73,19 @@ outputs-map f c d leads (p ∷ cut) xs =
     ∙ ap (λ ys. ys ++ map f (outputs c cut xs)) (item_output-map f c d leads p.1 (drop p.0 xs) ∙ ap (item_output d p.1) (sym (drop-map f p.0 xs)))
     ∙ ap (λ ys. item_output d p.1 (drop p.0 (map f xs)) ++ ys) (outputs-map f c d leads cut xs)
 
--- merges change no length
+-- flags and merges change no length
 pub length-preprocessed : (font : Font) (circles : Bool) (level : BufferClusterLevel) (gs : List hb_glyph_info_t) → length (preprocessed font circles level gs) ≡ length (outputs glyph_copies (items font circles (characters gs)) gs)
 length-preprocessed font circles level gs =
     let cut = items font circles (characters gs) in
-    let ms = merge_all level (stretches level cut) gs in
+    let ms = all_joined level cut gs in
     let leads : Leads (λ g. g.glyph_id) glyph_copies character_copies = record { character = λ u g. refl; jamo = λ n g. refl } in
     sym (length-characters (outputs glyph_copies cut ms))
-    ∙ ap length (outputs-map (λ g. g.glyph_id) glyph_copies character_copies leads cut ms ∙ ap (outputs character_copies cut) (characters-merge_all level (stretches level cut) gs) ∙ sym (outputs-map (λ g. g.glyph_id) glyph_copies character_copies leads cut gs))
+    ∙ ap length (outputs-map (λ g. g.glyph_id) glyph_copies character_copies leads cut ms ∙ ap (outputs character_copies cut) (characters-all_joined level cut gs) ∙ sym (outputs-map (λ g. g.glyph_id) glyph_copies character_copies leads cut gs))
     ∙ length-characters (outputs glyph_copies cut gs)
-
--- what is merged and then written is the whole
-pub rewritten_all : (font : Font) (circles : Bool) (level : BufferClusterLevel) (gs ms ns list : List hb_glyph_info_t) → ms ≡ gs → ns ≡ merge_all level (stretches level (items font circles (characters ms))) ms → list ≡ outputs glyph_copies (items font circles (characters ns)) ns → list ≡ preprocessed font circles level gs
-rewritten_all font circles level gs ms ns list copied merged written =
-    let cut = items font circles (characters gs) in
-    let now : ns ≡ merge_all level (stretches level cut) gs = merged ∙ ap (λ xs. merge_all level (stretches level (items font circles (characters xs))) xs) copied in
-    written
-    ∙ ap (λ xs. outputs glyph_copies (items font circles (characters xs)) xs) now
-    ∙ ap (λ us. outputs glyph_copies (items font circles us) (merge_all level (stretches level cut) gs)) (characters-merge_all level (stretches level cut) gs)
 
 -- where all stays, so does the text
 pub preprocessed-stays : (font : Font) (circles : Bool) (level : BufferClusterLevel) (gs : List hb_glyph_info_t) → Stays (items font circles (characters gs)) gs → preprocessed font circles level gs ≡ gs
-preprocessed-stays font circles level gs stays = ap (outputs glyph_copies (items font circles (characters gs))) (stays.unmerged level) ∙ stays.same
+preprocessed-stays font circles level gs stays = ap (outputs glyph_copies (items font circles (characters gs))) (stays.unjoined level) ∙ stays.same
 
 -- a refusal by the length of the result, told by the text before its merges
 pub told_by_text : {T : Type 0} (font : Font) (circles : Bool) (level : BufferClusterLevel) (limit : ℕ) (gs : List hb_glyph_info_t) (asked : Bool) (most : ℕ) (read : List hb_glyph_info_t) (r : Result T ShaperError) → asked ≡ circles → most ≡ limit → read ≡ gs → RefusesLength most (length (outputs glyph_copies (items font asked (characters read)) read)) r → RefusesLength limit (length (preprocessed font circles level gs)) r

@@ -1,9 +1,17 @@
 -- The walks of the code over the items: what is written, what is merged, what changes.
-use Rattle.std.proofs.Common.{◌≡◌, ℕ, zero, suc, ◌+◌, ◌<◌, ◌≤◌, ◌||◌, ◌&&◌, ◌==◌, not, Bool, true, false, cond, List, [], ◌∷◌, ◌++◌, length, take, drop, refl, sym, ap, subst, ◌∙◌, arith}
+use Rattle.std.proofs.Common.{◌≡◌, ℕ, zero, suc, ◌+◌, ◌<◌, ◌≤◌, ◌||◌, ◌&&◌, ◌==◌, not, nat_lt, Bool, true, false, cond, List, [], ◌∷◌, ◌++◌, length, map, take, drop, refl, sym, ap, subst, ◌∙◌, arith}
+use Rattle.std.specs.Prelude.{slice_index_or}
+use Rattle.std.proofs.lemmas.Bool.{eqb-true}
 use Rattle.std.proofs.lemmas.List.{append_assoc, append-nil, length-append, length-map, drop-map, take-append-drop}
 use Rattle.shapers_buffer.specs.declared.buffer.glyph.hb_glyph_info_t.{hb_glyph_info_t}
 use Rattle.shapers_buffer.specs.declared.buffer.level.BufferClusterLevel.{BufferClusterLevel}
 use Rattle.shapers_buffer.specs.Clusters.{merge, merge_all}
+use Rattle.shapers_buffer.specs.Glyph.{clusters}
+use Rattle.shapers_buffer.specs.GlyphFlags.{with_bits, unsafe_inside, unsafe_all}
+use Rattle.shapers_clusters.specs.Joined.{joined_all}
+use Rattle.shapers_clusters.proofs.FlagCalls.{map-unsafe_inside}
+use Rattle.shapers_clusters.proofs.Flagging.{unsafe_few}
+use Rattle.shapers_clusters.proofs.Moves.{clusters-merge_all}
 use Rattle.shapers_base.specs.Font.{Font}
 use Rattle.shapers_clusters.proofs.Merging.{map-merge_all, merge_all-append, merge_cases}
 use Rattle.shapers_hangul.specs.declared.ot_shaper_hangul.item.Item.{Item}
@@ -11,7 +19,7 @@ use Rattle.shapers_hangul.specs.declared.ot_shaper_hangul.item.JoinedTone.{Joine
 use Rattle.shapers_hangul.specs.declared.ot_shaper_hangul.item.JoinedTone.TheVariants.{Absent, Before, Behind}
 use Rattle.shapers_hangul.specs.declared.ot_shaper_hangul.item.Unit.{Unit}
 use Rattle.shapers_hangul.specs.declared.ot_shaper_hangul.item.Unit.TheVariants.{ComposedTwo, ComposedThree, JamoTwo, JamoThree, PartsTwo, PartsThree, PartsBeforeT, Syllable, ToneCircle, CircleTone, Other}
-use Rattle.shapers_hangul.specs.Hangul.{taken, output_len, tone_len, item_len, keeps, is_kept, first_item, items, Copying, unit_output, with_tone, item_output, outputs, item_stretches, stretches, marks_merge, glyph_copies, characters, Stays}
+use Rattle.shapers_hangul.specs.Hangul.{taken, output_len, tone_len, item_len, keeps, is_kept, first_item, items, Fit, Copying, unit_output, with_tone, item_output, outputs, is_merged, item_stretches, stretches, unsafe_stretches, item_joined, all_joined, glyph_copies, characters, Stays}
 use Rattle.shapers_hangul.proofs.Items.{drop_more_of, items_at, items_at_next, items_at_end}
 
 pub characters-merge_all : (level : BufferClusterLevel) (sts : List (ℕ × ℕ)) (gs : List hb_glyph_info_t) → characters (merge_all level sts gs) ≡ characters gs
@@ -28,31 +36,61 @@ glyphs_next font circles gs us place item same inside is =
 pub glyphs_end : (font : Font) (circles : Bool) (gs : List hb_glyph_info_t) (us : List ℕ) (place : ℕ) → us ≡ characters gs → length gs ≤ place → items_at font circles us place ≡ []
 glyphs_end font circles gs us place same past = items_at_end font circles us place (omega (arith, length-characters gs, ap length same))
 
--- WRITING
-pub writing_next : (font : Font) (circles : Bool) (gs start list longer : List hb_glyph_info_t) (place : ℕ) (item : Item) → place < length gs → item ≡ first_item font circles (characters (drop place gs)) → list ++ outputs glyph_copies (items_at font circles (characters gs) place) gs ≡ start → longer ≡ list ++ item_output glyph_copies item (drop place gs) → longer ++ outputs glyph_copies (items_at font circles (characters gs) (place + item_len item)) gs ≡ start
-writing_next font circles gs start list longer place item inside is so_far written =
+-- RECORDING
+pub recording_next : (font : Font) (circles : Bool) (gs : List hb_glyph_info_t) (list longer start : List (ℕ × Item)) (place : ℕ) (item : Item) → place < length gs → item ≡ first_item font circles (characters (drop place gs)) → list ++ items_at font circles (characters gs) place ≡ start → longer ≡ list ++ (place, item) ∷ [] → longer ++ items_at font circles (characters gs) (place + item_len item) ≡ start
+recording_next font circles gs list longer start place item inside is so_far added =
     let rest = items_at font circles (characters gs) (place + item_len item) in
-    ap (λ l. l ++ outputs glyph_copies rest gs) written
-    ∙ append_assoc list (item_output glyph_copies item (drop place gs)) (outputs glyph_copies rest gs)
-    ∙ ap (λ cut. list ++ outputs glyph_copies cut gs) (sym (glyphs_next font circles gs (characters gs) place item refl inside is))
+    ap (λ l. l ++ rest) added
+    ∙ append_assoc list ((place, item) ∷ []) rest
+    ∙ ap (λ cut. list ++ cut) (sym (glyphs_next font circles gs (characters gs) place item refl inside is))
     ∙ so_far
 
-pub writing_all : (font : Font) (circles : Bool) (gs start list : List hb_glyph_info_t) (place : ℕ) → length gs ≤ place → list ++ outputs glyph_copies (items_at font circles (characters gs) place) gs ≡ start → list ≡ start
-writing_all font circles gs start list place past so_far =
-    sym (append-nil list) ∙ ap (λ cut. list ++ outputs glyph_copies cut gs) (sym (glyphs_end font circles gs (characters gs) place refl past)) ∙ so_far
+pub recording_all : (font : Font) (circles : Bool) (gs : List hb_glyph_info_t) (list start : List (ℕ × Item)) (place : ℕ) → length gs ≤ place → list ++ items_at font circles (characters gs) place ≡ start → list ≡ start
+recording_all font circles gs list start place past so_far = sym (append-nil list) ∙ ap (λ cut. list ++ cut) (sym (glyphs_end font circles gs (characters gs) place refl past)) ∙ so_far
 
--- MERGING
-pub merging_next : (font : Font) (circles : Bool) (level : BufferClusterLevel) (us : List ℕ) (gs now whole : List hb_glyph_info_t) (place : ℕ) (item : Item) → us ≡ characters gs → place < length gs → item ≡ first_item font circles (characters (drop place gs)) → merge_all level (stretches level (items_at font circles us place)) gs ≡ whole → now ≡ merge_all level (item_stretches level item place) gs → merge_all level (stretches level (items_at font circles us (place + item_len item))) now ≡ whole
-merging_next font circles level us gs now whole place item same inside is so_far done =
-    let rest = items_at font circles us (place + item_len item) in
-    ap (merge_all level (stretches level rest)) done
-    ∙ sym (merge_all-append level (item_stretches level item place) (stretches level rest) gs)
-    ∙ ap (λ cut. merge_all level (stretches level cut) gs) (sym (glyphs_next font circles gs us place item same inside is))
-    ∙ so_far
+-- JOINING
+pub map-unsafe : {Y : Type 0} (f : hb_glyph_info_t → Y) → ((g : hb_glyph_info_t) → f (with_bits 3 g) ≡ f g) → (level : BufferClusterLevel) (item : Item) (s : ℕ) (gs : List hb_glyph_info_t) → map f (unsafe_all (unsafe_stretches level item s) gs) ≡ map f gs
+map-unsafe f keeps level item s gs =
+    elim (not (is_merged level item.unit) || nat_lt (taken item.unit) item.unsafe_len) as (λ b. map f (unsafe_all (cond b ((s, s + item.unsafe_len) ∷ []) []) gs) ≡ map f gs) [
+      | true ↦ map-unsafe_inside f keeps s (s + item.unsafe_len) gs (omega arith)
+      | false ↦ refl
+    ]
 
-pub merging_all : (font : Font) (circles : Bool) (level : BufferClusterLevel) (us : List ℕ) (gs whole : List hb_glyph_info_t) (place : ℕ) → us ≡ characters gs → length gs ≤ place → merge_all level (stretches level (items_at font circles us place)) gs ≡ whole → gs ≡ whole
-merging_all font circles level us gs whole place same past so_far =
-    ap (λ cut. merge_all level (stretches level cut) gs) (sym (glyphs_end font circles gs us place same past)) ∙ so_far
+pub characters-item_joined : (level : BufferClusterLevel) (s : ℕ) (item : Item) (gs : List hb_glyph_info_t) → characters (item_joined level s item gs) ≡ characters gs
+characters-item_joined level s item gs =
+    characters-merge_all level (item_stretches level item s) (unsafe_all (unsafe_stretches level item s) gs) ∙ map-unsafe (λ g. g.glyph_id) (λ g. refl) level item s gs
+
+pub characters-all_joined : (level : BufferClusterLevel) (cut : List (ℕ × Item)) (gs : List hb_glyph_info_t) → characters (all_joined level cut gs) ≡ characters gs
+characters-all_joined level [] gs = refl
+characters-all_joined level (p ∷ cut) gs = characters-all_joined level cut (item_joined level p.0 p.1 gs) ∙ characters-item_joined level p.0 p.1 gs
+
+pub length-item_joined : (level : BufferClusterLevel) (s : ℕ) (item : Item) (gs : List hb_glyph_info_t) → length (item_joined level s item gs) ≡ length gs
+length-item_joined level s item gs = sym (length-characters (item_joined level s item gs)) ∙ ap length (characters-item_joined level s item gs) ∙ length-characters gs
+
+pub length-all_joined : (level : BufferClusterLevel) (cut : List (ℕ × Item)) (gs : List hb_glyph_info_t) → length (all_joined level cut gs) ≡ length gs
+length-all_joined level cut gs = sym (length-characters (all_joined level cut gs)) ∙ ap length (characters-all_joined level cut gs) ∙ length-characters gs
+
+-- flags change no cluster
+pub clusters-all_joined : (level : BufferClusterLevel) (cut : List (ℕ × Item)) (gs : List hb_glyph_info_t) → clusters (all_joined level cut gs) ≡ clusters (merge_all level (stretches level cut) gs)
+clusters-all_joined level [] gs = refl
+clusters-all_joined level (p ∷ cut) gs =
+    let sts = item_stretches level p.1 p.0 in
+    let flags = unsafe_all (unsafe_stretches level p.1 p.0) gs in
+    clusters-all_joined level cut (merge_all level sts flags)
+    ∙ clusters-merge_all level (stretches level cut) (merge_all level sts flags)
+    ∙ ap (joined_all level (stretches level cut)) (clusters-merge_all level sts flags ∙ ap (joined_all level sts) (map-unsafe (λ g. g.cluster) (λ g. refl) level p.1 p.0 gs) ∙ sym (clusters-merge_all level sts gs))
+    ∙ sym (clusters-merge_all level (stretches level cut) (merge_all level sts gs))
+    ∙ ap clusters (sym (merge_all-append level sts (stretches level cut) gs))
+
+-- what a list of items answers past its end
+abbrev pub default_entry : ℕ × Item
+default_entry = (0, record { unit = ComposedTwo 0; tone = Absent; unsafe_len = 0 })
+
+-- one of the items that fit
+pub fit-at : (n : ℕ) (cut : List (ℕ × Item)) (k : ℕ) (p : ℕ × Item) → k < length cut → Fit n cut → ((slice_index_or cut k p).0 + item_len (slice_index_or cut k p).1 ≤ n) × ((slice_index_or cut k p).0 + (slice_index_or cut k p).1.unsafe_len ≤ n)
+fit-at n [] k p inside fit = absurd (omega arith)
+fit-at n (q ∷ cut) zero p inside fit = fit.0
+fit-at n (q ∷ cut) (suc k) p inside fit = fit-at n cut k p (omega arith) fit.1
 
 -- LENGTHS
 length-unit_output : {X : Type 0} (c : Copying X) (unit : Unit) (xs : List X) → taken unit ≤ length xs → length (unit_output c unit xs) ≡ output_len unit
@@ -109,7 +147,7 @@ length_end font circles gs place past = ap (λ cut. length (outputs glyph_copies
 -- WHAT STAYS
 -- from a place on: nothing is merged, and every output is what it was
 pub record StaysFrom (cut : List (ℕ × Item)) (place : ℕ) (gs : List hb_glyph_info_t) : Type 0 where
-  pub unmerged : (level : BufferClusterLevel) → merge_all level (stretches level cut) gs ≡ gs
+  pub unjoined : (level : BufferClusterLevel) → all_joined level cut gs ≡ gs
   pub same : outputs glyph_copies cut gs ≡ drop place gs
 
 drop_none : {X : Type 0} (n : ℕ) (xs : List X) → length xs ≤ n → drop n xs ≡ []
@@ -120,46 +158,50 @@ drop_none (suc n) (x ∷ xs) past = drop_none n xs (omega arith)
 
 pub stays_end : (font : Font) (circles : Bool) (gs : List hb_glyph_info_t) (place : ℕ) → length gs ≤ place → StaysFrom (items_at font circles (characters gs) place) place gs
 stays_end font circles gs place past =
-    subst (λ (cut : List (ℕ × Item)). StaysFrom cut place gs) (sym (glyphs_end font circles gs (characters gs) place refl past)) (record { unmerged = λ level. refl; same = sym (drop_none place gs past) })
+    subst (λ (cut : List (ℕ × Item)). StaysFrom cut place gs) (sym (glyphs_end font circles gs (characters gs) place refl past)) (record { unjoined = λ level. refl; same = sym (drop_none place gs past) })
 
 -- one place merges nothing
 alone : (level : BufferClusterLevel) (s : ℕ) (gs : List hb_glyph_info_t) → merge level s (s + 1) gs ≡ gs
 alone level s gs = merge_cases (λ (xs : List hb_glyph_info_t). xs ≡ gs) level s (s + 1) gs refl (λ two. absurd (omega arith))
 
--- an item that is kept is a syllable character or another one, without a tone
-kept_cases : (P : Item → Type 0) → P (record { unit = Syllable; tone = Absent }) → P (record { unit = Other; tone = Absent }) → (unit : Unit) (tone : JoinedTone) → keeps unit && tone_len tone == 0 ≡ true → P (record { unit = unit; tone = tone })
-kept_cases P s o (ComposedTwo x) tone k = absurd cc
-kept_cases P s o (ComposedThree x) tone k = absurd cc
-kept_cases P s o JamoTwo tone k = absurd cc
-kept_cases P s o JamoThree tone k = absurd cc
-kept_cases P s o (PartsTwo l v) tone k = absurd cc
-kept_cases P s o (PartsThree l v t) tone k = absurd cc
-kept_cases P s o (PartsBeforeT l v) tone k = absurd cc
-kept_cases P s o ToneCircle tone k = absurd cc
-kept_cases P s o CircleTone tone k = absurd cc
-kept_cases P s o Syllable Absent k = s
-kept_cases P s o Syllable Before k = absurd cc
-kept_cases P s o Syllable Behind k = absurd cc
-kept_cases P s o Other Absent k = o
-kept_cases P s o Other Before k = absurd cc
-kept_cases P s o Other Behind k = absurd cc
+-- an item that is kept is a syllable character or another one, without a tone or a flag
+kept_cases : (P : Item → Type 0) → P (record { unit = Syllable; tone = Absent; unsafe_len = 0 }) → P (record { unit = Other; tone = Absent; unsafe_len = 0 }) → (unit : Unit) (tone : JoinedTone) (n : ℕ) → keeps unit && (tone_len tone == 0 && n == 0) ≡ true → P (record { unit = unit; tone = tone; unsafe_len = n })
+kept_cases P s o (ComposedTwo x) tone n k = absurd cc
+kept_cases P s o (ComposedThree x) tone n k = absurd cc
+kept_cases P s o JamoTwo tone n k = absurd cc
+kept_cases P s o JamoThree tone n k = absurd cc
+kept_cases P s o (PartsTwo l v) tone n k = absurd cc
+kept_cases P s o (PartsThree l v t) tone n k = absurd cc
+kept_cases P s o (PartsBeforeT l v) tone n k = absurd cc
+kept_cases P s o ToneCircle tone n k = absurd cc
+kept_cases P s o CircleTone tone n k = absurd cc
+kept_cases P s o Syllable Absent zero k = s
+kept_cases P s o Syllable Absent (suc n) k = absurd (omega (arith, eqb-true (suc n) 0 k))
+kept_cases P s o Syllable Before n k = absurd cc
+kept_cases P s o Syllable Behind n k = absurd cc
+kept_cases P s o Other Absent zero k = o
+kept_cases P s o Other Absent (suc n) k = absurd (omega (arith, eqb-true (suc n) 0 k))
+kept_cases P s o Other Before n k = absurd cc
+kept_cases P s o Other Behind n k = absurd cc
 
-one_unmerged : (level : BufferClusterLevel) (s : ℕ) (gs : List hb_glyph_info_t) (b : Bool) → merge_all level (cond b ((s, s + 1) ∷ []) [] ++ []) gs ≡ gs
-one_unmerged level s gs true = alone level s gs
-one_unmerged level s gs false = refl
+one_unjoined : (level : BufferClusterLevel) (s : ℕ) (gs : List hb_glyph_info_t) (a b : Bool) → merge_all level (cond a ((s, s + 1) ∷ []) [] ++ []) (unsafe_all (cond b ((s, s + 0) ∷ []) []) gs) ≡ gs
+one_unjoined level s gs true true = alone level s (unsafe_inside s (s + 0) gs) ∙ unsafe_few s (s + 0) gs (omega arith) (omega arith)
+one_unjoined level s gs true false = alone level s gs
+one_unjoined level s gs false true = unsafe_few s (s + 0) gs (omega arith) (omega arith)
+one_unjoined level s gs false false = refl
 
--- what is kept takes one place, merges nothing, and becomes itself
+-- what is kept takes one place, flags and merges nothing, and becomes itself
 record Keeps (item : Item) : Type 0 where
   pub one : item_len item ≡ 1
-  pub unmerged : (level : BufferClusterLevel) (s : ℕ) (gs : List hb_glyph_info_t) → merge_all level (item_stretches level item s) gs ≡ gs
+  pub unjoined : (level : BufferClusterLevel) (s : ℕ) (gs : List hb_glyph_info_t) → item_joined level s item gs ≡ gs
   pub itself : (gs : List hb_glyph_info_t) → item_output glyph_copies item gs ≡ take 1 gs
 
 kept_stays : (item : Item) → is_kept item ≡ true → Keeps item
 kept_stays item kept =
     kept_cases Keeps
-    (record { one = refl; unmerged = λ level s gs. one_unmerged level s gs (marks_merge level || true); itself = λ gs. refl })
-    (record { one = refl; unmerged = λ level s gs. one_unmerged level s gs (marks_merge level || true); itself = λ gs. refl })
-    item.unit item.tone kept
+    (record { one = refl; unjoined = λ level s gs. one_unjoined level s gs (is_merged level Syllable) (not (is_merged level Syllable) || false); itself = λ gs. refl })
+    (record { one = refl; unjoined = λ level s gs. one_unjoined level s gs (is_merged level Other) (not (is_merged level Other) || false); itself = λ gs. refl })
+    item.unit item.tone item.unsafe_len kept
 
 pub stays_next : (font : Font) (circles : Bool) (gs : List hb_glyph_info_t) (place : ℕ) (item : Item) → place < length gs → item ≡ first_item font circles (characters (drop place gs)) → is_kept item ≡ true → StaysFrom (items_at font circles (characters gs) (place + item_len item)) (place + item_len item) gs → StaysFrom (items_at font circles (characters gs) place) place gs
 stays_next font circles gs place item inside is kept later =
@@ -167,7 +209,7 @@ stays_next font circles gs place item inside is kept later =
     let keeps = kept_stays item kept in
     let next = glyphs_next font circles gs (characters gs) place item refl inside is in
     subst (λ (cut : List (ℕ × Item)). StaysFrom cut place gs) (sym next) (record {
-      unmerged = λ level. merge_all-append level (item_stretches level item place) (stretches level cut) gs ∙ ap (merge_all level (stretches level cut)) (keeps.unmerged level place gs) ∙ later.unmerged level;
+      unjoined = λ level. ap (all_joined level cut) (keeps.unjoined level place gs) ∙ later.unjoined level;
       same =
           ap (λ l. l ++ outputs glyph_copies cut gs) (keeps.itself (drop place gs))
           ∙ ap (λ l. take 1 (drop place gs) ++ l) (later.same ∙ ap (λ n. drop (place + n) gs) keeps.one ∙ sym (drop_more_of place 1 gs))
@@ -181,4 +223,4 @@ neither false false h = absurd cc
 
 -- the whole
 pub stays_all : (font : Font) (circles : Bool) (gs : List hb_glyph_info_t) → StaysFrom (items_at font circles (characters gs) 0) 0 gs → Stays (items font circles (characters gs)) gs
-stays_all font circles gs stays = record { unmerged = stays.unmerged; same = stays.same }
+stays_all font circles gs stays = record { unjoined = stays.unjoined; same = stays.same }

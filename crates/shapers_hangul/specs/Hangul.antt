@@ -1,11 +1,13 @@
 -- Hangul: jamo, syllables and tones (The Unicode Standard, "Conjoining Jamo Behavior"; OpenType's notes on Hangul).
-use Rattle.std.specs.Prelude.{ℕ, ◌+◌, ◌-◌, ◌*◌, ◌/◌, ◌%◌, ◌==◌, ◌≡◌, nat_le, nat_abs, zero, suc, get_or, not, Bool, true, false, ◌||◌, ◌&&◌, List, [], ◌∷◌, ◌++◌, map, flat_map, take, drop, if◌then◌else◌}
+use Rattle.std.specs.Prelude.{ℕ, ◌+◌, ◌-◌, ◌*◌, ◌/◌, ◌%◌, ◌==◌, ◌≡◌, ◌≤◌, nat_le, nat_lt, nat_abs, zero, suc, get_or, not, Bool, true, false, ◌||◌, ◌&&◌, List, [], ◌∷◌, ◌++◌, map, flat_map, take, drop, if◌then◌else◌}
 use Rattle.std.specs.Option.{option_map_or}
+use Rattle.std.specs.List.{AllByRecursion}
 use Rattle.shapers_buffer.specs.declared.buffer.glyph.hb_glyph_info_t.{hb_glyph_info_t}
 use Rattle.shapers_buffer.specs.declared.buffer.level.BufferClusterLevel.{BufferClusterLevel}
 use Rattle.shapers_buffer.specs.declared.buffer.level.BufferClusterLevel.TheVariants.{MonotoneGraphemes, MonotoneCharacters, Characters}
 use Rattle.shapers_buffer.specs.Buffer.{Buffer, asks}
 use Rattle.shapers_buffer.specs.Clusters.{merge_all}
+use Rattle.shapers_buffer.specs.GlyphFlags.{unsafe_all}
 use Rattle.shapers_base.specs.Font.{Font, has_nominal}
 use Rattle.shapers_hangul.specs.declared.ot_shaper_hangul.item.Item.{Item}
 use Rattle.shapers_hangul.specs.declared.ot_shaper_hangul.item.JoinedTone.{JoinedTone}
@@ -97,11 +99,21 @@ syllable_unit font s v =
 abbrev pub lone_tone : Font → Bool → ℕ → Unit
 lone_tone font circles u = if circles && has_nominal font 0x25CC then (if is_narrow font u then CircleTone else ToneCircle) else Other
 
+abbrev pub jamo_unit : Font → ℕ → ℕ → ℕ → Unit
+jamo_unit font l v t = if is_t t then jamo_three font l v t else jamo_two font l v
+
 abbrev pub first_unit : Font → Bool → ℕ → ℕ → ℕ → Unit
 first_unit font circles u v t =
     if is_tone u then lone_tone font circles u
-    else if is_l u && is_v v then (if is_t t then jamo_three font u v t else jamo_two font u v)
+    else if is_l u && is_v v then jamo_unit font u v t
     else if is_s u then syllable_unit font u v
+    else Other
+
+-- in the code: the same of a character that no jamo follows
+abbrev pub lone_unit : Font → Bool → ℕ → Unit
+lone_unit font circles u =
+    if is_s u then (if has_nominal font u then Syllable else if has_jamo_of font u then parts u else Other)
+    else if is_tone u then lone_tone font circles u
     else Other
 
 -- how many characters a unit takes
@@ -152,6 +164,24 @@ is_marked _ = false
 abbrev pub joined_tone : Font → Unit → ℕ → JoinedTone
 joined_tone font unit w = if is_syllable unit && is_tone w then (if is_narrow font w then Behind else Before) else Absent
 
+abbrev pub tone_len : JoinedTone → ℕ
+tone_len Absent = 0
+tone_len Before = 1
+tone_len Behind = 1
+
+-- LV and the T behind it, where the font can't join them, and can't part LV if that T doesn't combine
+abbrev pub is_split : Font → ℕ → ℕ → Bool
+is_split font s v = (is_lv s && is_t v) && (if combines_t v then not (has_nominal font (with_t s v)) else not (has_jamo_of font s))
+
+-- how many characters from u on are unsafe to break inside: jamo L V and L V T, marked or in one; marked jamo with a tone; LV and
+-- T that are split
+abbrev pub unsafe_len : Font → Unit → JoinedTone → ℕ → ℕ → ℕ
+unsafe_len font unit tone u v =
+    if is_l u && is_v v then taken unit
+    else if is_marked unit && tone_len tone == 1 then taken unit
+    else if is_split font u v then 2
+    else 0
+
 -- the unit that opens a text, and the item
 abbrev pub opening_unit : Font → Bool → List ℕ → Unit
 opening_unit font circles us = first_unit font circles (get_or us 0 0) (get_or us 1 0) (get_or us 2 0)
@@ -159,12 +189,8 @@ opening_unit font circles us = first_unit font circles (get_or us 0 0) (get_or u
 abbrev pub first_item : Font → Bool → List ℕ → Item
 first_item font circles us =
     let opening = opening_unit font circles us in
-    record { unit = opening; tone = joined_tone font opening (get_or us (taken opening) 0) }
-
-abbrev pub tone_len : JoinedTone → ℕ
-tone_len Absent = 0
-tone_len Before = 1
-tone_len Behind = 1
+    let tone = joined_tone font opening (get_or us (taken opening) 0) in
+    record { unit = opening; tone = tone; unsafe_len = unsafe_len font opening tone (get_or us 0 0) (get_or us 1 0) }
 
 abbrev pub item_len : Item → ℕ
 item_len item = taken item.unit + tone_len item.tone
@@ -176,7 +202,7 @@ keeps Other = true
 keeps _ = false
 
 abbrev pub is_kept : Item → Bool
-is_kept item = keeps item.unit && tone_len item.tone == 0
+is_kept item = keeps item.unit && (tone_len item.tone == 0 && item.unsafe_len == 0)
 
 -- the items of a text, each with the place of its first character; the first skip characters belong to the item before
 abbrev pub items_from : (List ℕ → Item) → ℕ → ℕ → List ℕ → List (ℕ × Item)
@@ -186,6 +212,10 @@ items_from read place (suc skip) (u ∷ us) = items_from read (place + 1) skip u
 
 abbrev pub items : Font → Bool → List ℕ → List (ℕ × Item)
 items font circles us = items_from (first_item font circles) 0 0 us
+
+-- in the code: items that stand within n characters, with what they flag
+abbrev pub Fit : ℕ → List (ℕ × Item) → Type 0
+Fit n cut = AllByRecursion (λ p. (p.0 + item_len p.1 ≤ n) × (p.0 + p.1.unsafe_len ≤ n)) cut
 
 -- OUTPUT, of anything that can be copied as another character and as a jamo: leading 1, vowel 2, trailing 3.
 pub record Copying (X : Type 0) : Type 0 where
@@ -228,15 +258,14 @@ item_output c item xs = with_tone item.tone (take 1 (drop (taken item.unit) xs))
 abbrev pub outputs : {X : Type 0} → Copying X → List (ℕ × Item) → List X → List X
 outputs c cut xs = flat_map (λ p. item_output c p.1 (drop p.0 xs)) cut
 
--- MERGES. Whether marked glyphs merge
-abbrev pub marks_merge : BufferClusterLevel → Bool
-marks_merge MonotoneGraphemes = true
-marks_merge MonotoneCharacters = false
-marks_merge Characters = false
+-- MERGES. Whether all that a unit takes merges: at level MonotoneCharacters only where its glyphs aren't marked
+abbrev pub is_merged : BufferClusterLevel → Unit → Bool
+is_merged MonotoneGraphemes unit = true
+is_merged MonotoneCharacters unit = not (is_marked unit)
+is_merged Characters unit = false
 
--- what a unit merges, from place s on: all that it takes; where its glyphs are marked, only at level MonotoneGraphemes
 abbrev pub unit_stretch : BufferClusterLevel → Unit → ℕ → List (ℕ × ℕ)
-unit_stretch level unit s = if marks_merge level || not (is_marked unit) then (s, s + taken unit) ∷ [] else []
+unit_stretch level unit s = if is_merged level unit then (s, s + taken unit) ∷ [] else []
 
 -- a tone that moves merges with the whole syllable
 abbrev pub tone_stretch : JoinedTone → ℕ → ℕ → List (ℕ × ℕ)
@@ -250,6 +279,18 @@ item_stretches level item s = unit_stretch level item.unit s ++ tone_stretch ite
 abbrev pub stretches : BufferClusterLevel → List (ℕ × Item) → List (ℕ × ℕ)
 stretches level cut = flat_map (λ p. item_stretches level p.1 p.0) cut
 
+-- FLAGS. The stretch of an item that is unsafe to break; inside one that merges, flags would go again
+abbrev pub unsafe_stretches : BufferClusterLevel → Item → ℕ → List (ℕ × ℕ)
+unsafe_stretches level item s = if not (is_merged level item.unit) || nat_lt (taken item.unit) item.unsafe_len then (s, s + item.unsafe_len) ∷ [] else []
+
+-- the glyphs where they stand, joined by an item at place s: flags, then merges; by all items, one after another
+abbrev pub item_joined : BufferClusterLevel → ℕ → Item → List hb_glyph_info_t → List hb_glyph_info_t
+item_joined level s item gs = merge_all level (item_stretches level item s) (unsafe_all (unsafe_stretches level item s) gs)
+
+abbrev pub all_joined : BufferClusterLevel → List (ℕ × Item) → List hb_glyph_info_t → List hb_glyph_info_t
+all_joined level [] gs = gs
+all_joined level (p ∷ cut) gs = all_joined level cut (item_joined level p.0 p.1 gs)
+
 -- THE RULE ON GLYPHS
 abbrev pub glyph_copies : Copying hb_glyph_info_t
 glyph_copies = record { as_character = λ u g. record g { glyph_id = u }; as_jamo = λ feature g. record g { auxiliary = feature } }
@@ -262,11 +303,11 @@ character_copies = record { as_character = λ u v. u; as_jamo = λ feature u. u 
 abbrev pub characters : List hb_glyph_info_t → List ℕ
 characters gs = map (λ g. g.glyph_id) gs
 
--- the merges of all items, on the old places, and then their outputs
+-- all items joined, on the old places, and then their outputs
 abbrev pub preprocessed : Font → Bool → BufferClusterLevel → List hb_glyph_info_t → List hb_glyph_info_t
 preprocessed font circles level gs =
     let cut = items font circles (characters gs) in
-    outputs glyph_copies cut (merge_all level (stretches level cut) gs)
+    outputs glyph_copies cut (all_joined level cut gs)
 
 -- whether the caller lets circles be inserted
 abbrev pub wants_circles : Buffer → Bool
@@ -276,7 +317,7 @@ wants_circles b = not (asks 0x20 b)
 abbrev pub rewritten : Font → Buffer → Buffer
 rewritten font b = record b { glyphs = preprocessed font (wants_circles b) b.level b.glyphs }
 
--- where nothing is merged and every output is what it was: at any level
+-- where nothing is flagged or merged and every output is what it was: at any level
 pub record Stays (cut : List (ℕ × Item)) (gs : List hb_glyph_info_t) : Type 0 where
-  pub unmerged : (level : BufferClusterLevel) → merge_all level (stretches level cut) gs ≡ gs
+  pub unjoined : (level : BufferClusterLevel) → all_joined level cut gs ≡ gs
   pub same : outputs glyph_copies cut gs ≡ gs

@@ -1,19 +1,18 @@
 -- What the rewriting makes of clusters and glyph flags, and that it spells the same text.
-use Rattle.std.specs.Prelude.{ℕ, Bool, ◌+◌, ◌==◌, ◌||◌, ◌≡◌, not, true, false, get_or, filter, List, [], ◌∷◌, ◌++◌, map, flat_map, take, length, if◌then◌else◌}
+use Rattle.std.specs.Prelude.{ℕ, Bool, ◌+◌, ◌==◌, ◌≤◌, ◌||◌, ◌≡◌, not, true, false, get_or, filter, List, [], ◌∷◌, ◌++◌, map, flat_map, take, length, if◌then◌else◌}
 use Rattle.std.specs.List.{AllZip, range_with_len}
 use Rattle.shapers_buffer.specs.declared.buffer.glyph.hb_glyph_info_t.{hb_glyph_info_t}
 use Rattle.shapers_buffer.specs.declared.buffer.level.BufferClusterLevel.{BufferClusterLevel}
 use Rattle.shapers_buffer.specs.Buffer.{Buffer}
-use Rattle.shapers_buffer.specs.Clusters.{merge_all, merges}
+use Rattle.shapers_buffer.specs.Clusters.{merges}
 use Rattle.shapers_base.specs.Font.{Font}
 use Rattle.shapers_buffer.specs.Glyph.{clusters}
 use Rattle.shapers_clusters.specs.Cuts.{ShareCluster}
 use Rattle.shapers_buffer.specs.Places.{pick}
-use Rattle.shapers_clusters.specs.Flags.{FlagsFall}
 use Rattle.shapers_clusters.specs.Laws.{ClustersMade}
 use Rattle.shapers_hangul.specs.declared.ot_shaper_hangul.item.Item.{Item}
 use Rattle.shapers_hangul.specs.declared.ot_shaper_hangul.item.JoinedTone.TheVariants.{Before}
-use Rattle.shapers_hangul.specs.Hangul.{lead, vowel, trail, is_s, is_lv, is_tone, opening_unit, taken, Copying, unit_output, outputs, output_len, items, stretches, character_copies, characters, preprocessed, wants_circles}
+use Rattle.shapers_hangul.specs.Hangul.{lead, vowel, trail, is_s, is_lv, is_tone, opening_unit, taken, Copying, unit_output, outputs, output_len, items, stretches, all_joined, character_copies, characters, preprocessed, wants_circles}
 
 -- the rule on places: a copy has the place of what it copies
 abbrev pub place_copies : Copying ℕ
@@ -38,12 +37,12 @@ KeepsClusters font old new = ClustersRewritten font (wants_circles old) old.leve
 abbrev pub unnamed : hb_glyph_info_t → hb_glyph_info_t
 unnamed g = record g { glyph_id = 0; auxiliary = 0 }
 
--- What it gives: rs. Each glyph is its source after the merges in all but character and feature; so no cluster rises, and glyph
--- flags stay unless it fell.
+-- What it gives: rs. Each glyph is its source, after the items were joined where they stood, in all but character and feature.
+-- No cluster rises.
 pub record RewrittenHolds (font : Font) (circles : Bool) (level : BufferClusterLevel) (gs rs : List hb_glyph_info_t) : Type 0 where
-  pub made : map unnamed rs ≡ map unnamed (pick (sources (items font circles (characters gs)) (length gs)) (merge_all level (stretches level (items font circles (characters gs))) gs))
+  pub made : map unnamed rs ≡ map unnamed (pick (sources (items font circles (characters gs)) (length gs)) (all_joined level (items font circles (characters gs)) gs))
   pub in_clusters : ClustersRewritten font circles level (characters gs) (clusters gs) (clusters rs)
-  pub falls : AllZip FlagsFall (pick (sources (items font circles (characters gs)) (length gs)) gs) rs
+  pub none_rises : AllZip (λ old new. new.cluster ≤ old.cluster) (pick (sources (items font circles (characters gs)) (length gs)) gs) rs
 
 abbrev pub RewrittenLaw : Type 0
 RewrittenLaw = (font : Font) (circles : Bool) (level : BufferClusterLevel) (gs : List hb_glyph_info_t) → RewrittenHolds font circles level gs (preprocessed font circles level gs)

@@ -1,11 +1,10 @@
 //! Joining: each letter takes the form that its neighbours ask for. (The Unicode Standard, "Cursive
 //! Joining"; for Alaph, Dalath and Rish the OpenType specification for Syriac.)
-ghost use Rattle.std.specs.Prelude.{◌≡◌, ℕ, ◌+◌, ◌<◌, ◌≤◌, List, length, map, Some, slice_set};
+ghost use Rattle.std.specs.Prelude.{◌≡◌, ◌+◌, ◌<◌, ◌≤◌, length, Some, slice_set};
 ghost use Rattle.std.specs.Char.{IsScalar};
-ghost use Rattle.shapers_base.specs.declared.plan.joining.hb_arabic_joining_type_t.{hb_arabic_joining_type_t};
-ghost use Rattle.shapers_arabic.specs.Joining.{forms, is_passed_over, is_transparent, joins_back, nearest, resolved};
-ghost use Rattle.shapers_arabic.specs.JoinedText.{AreCharacters, context_types, seen, stored_types};
-ghost use Rattle.shapers_arabic.specs.JoiningWalk.{IsWithin, OnlyFormed, Walked, WalksOn, cell, column_of, given_last, state_at_start};
+ghost use Rattle.shapers_arabic.specs.Joining.{is_passed_over, nearest, resolved};
+ghost use Rattle.shapers_arabic.specs.JoinedText.{AreCharacters, context_types, seen};
+ghost use Rattle.shapers_arabic.specs.JoiningWalk.{IsWithin, JoinsTo, OnlyFormed, WalksAll, WalksOn, cell, column_of, given_last, joined_at, state_at_start, written};
 
 use super::arabic_action_t::{FIN2, FIN3, FINA, INIT, ISOL, MED2, MEDI, NONE};
 use super::look_ups::{LookUps, look_up};
@@ -24,7 +23,7 @@ struct Transition(u8, u8, usize);
 
 /// By the state that the letter before left, and by the letter's type: U, L, R, D, Alaph, Dalath or
 /// Rish.
-const STATE_TABLE: [[Transition; 6]; 7] = [
+static STATE_TABLE: [[Transition; 6]; 7] = [
     // 0: after U, which joins nothing.
     [
         Transition(NONE, NONE, 0),
@@ -173,7 +172,8 @@ fn stored_type<T: Tables, L: Ledger>(
     count: &mut LookUps<L>,
 ) -> hb_arabic_joining_type_t
     requires { IsScalar glyph.now.glyph_id }
-    ensures type_is { result ≡ resolved ((T.tables tables.now).joining glyph.now.glyph_id) glyph.now.general_category }
+    ensures type_is { let own = (T.tables tables.now).joining glyph.now.glyph_id in
+        result ≡ resolved own glyph.now.general_category }
     ensures counted { count.new ≡ count.old + 1 }
 {
     let c = char::from_u32(glyph.glyph_id).unwrap();
@@ -186,8 +186,10 @@ pub(super) fn nearest_in<T: Tables, L: Ledger>(
     tables: &T,
     count: &mut LookUps<L>,
 ) -> Option<hb_arabic_joining_type_t>
-    ensures nearest { result ≡ nearest (context_types (T.tables tables.now).joining (T.tables tables.now).general context.now) }
-    ensures counted { count.new ≡ count.old + seen (context_types (T.tables tables.now).joining (T.tables tables.now).general context.now) }
+    ensures nearest { let table = T.tables tables.now in
+        result ≡ nearest (context_types table.joining table.general context.now) }
+    ensures counted { let table = T.tables tables.now in
+        count.new ≡ count.old + seen (context_types table.joining table.general context.now) }
 {
     for &c in context {
         match resolve(look_up(tables, c, count), tables.general_category(c)) {
@@ -209,13 +211,13 @@ struct Letters {
 fn set_form(glyphs: &mut [hb_glyph_info_t], i: usize, form: u8)
     requires { i < length glyphs.old }
     ensures formed { OnlyFormed glyphs.old glyphs.new }
-    ensures forms { map (λ g. g.auxiliary) glyphs.new ≡ slice_set (map (λ g. g.auxiliary) glyphs.old) i form }
+    ensures forms { written glyphs.new ≡ slice_set (written glyphs.old) i form }
 {
     glyphs[i].auxiliary = form;
 }
 
-// Gives the letter at `last` the form that the next one asks for, which stands before `end`; both and
-// what stands between are flagged, also where the form could have depended on the next letter.
+// Gives the letter at `last` the form that the next one asks for, which stands before `end`; both
+// and what stands between are flagged, also where the form could have depended on the next letter.
 fn give_form(
     flags: BufferFlags,
     glyphs: &mut [hb_glyph_info_t],
@@ -227,7 +229,7 @@ fn give_form(
     requires within { last < end }
     requires in_range { end ≤ length glyphs.old }
     ensures formed { OnlyFormed glyphs.old glyphs.new }
-    ensures forms { map (λ g. g.auxiliary) glyphs.new ≡ given_last (Some last) given (map (λ g. g.auxiliary) glyphs.old) }
+    ensures forms { written glyphs.new ≡ given_last (Some last) given (written glyphs.old) }
 {
     if given != NONE {
         set_form(glyphs, last, given);
@@ -250,7 +252,7 @@ fn give_last(
     requires within { IsWithin letters.last end }
     requires in_range { end ≤ length glyphs.old }
     ensures formed { OnlyFormed glyphs.old glyphs.new }
-    ensures forms { map (λ g. g.auxiliary) glyphs.new ≡ given_last letters.last given (map (λ g. g.auxiliary) glyphs.old) }
+    ensures forms { written glyphs.new ≡ given_last letters.last given (written glyphs.old) }
 {
     match letters.last {
         Some(last) => {
@@ -274,7 +276,8 @@ fn join_letter(
     requires within { IsWithin letters.old.last i }
     requires in_range { i < length glyphs.old }
     ensures formed { OnlyFormed glyphs.old glyphs.new }
-    ensures forms { map (λ g. g.auxiliary) glyphs.new ≡ slice_set (given_last letters.old.last (cell letters.old.state letter).0 (map (λ g. g.auxiliary) glyphs.old)) i (cell letters.old.state letter).1 }
+    ensures forms { let step = cell letters.old.state letter in
+        written glyphs.new ≡ joined_at letters.old.last step i (written glyphs.old) }
     ensures last { letters.new.last ≡ Some i }
     ensures state { letters.new.state ≡ (cell letters.old.state letter).2 }
     ensures next { letters.new.state < 7 }
@@ -300,7 +303,7 @@ fn join_place(
     requires within { IsWithin letters.old.last i }
     requires in_range { i < length glyphs.old }
     ensures formed { OnlyFormed glyphs.old glyphs.new }
-    ensures walked { WalksOn i joining_type letters.old.state letters.old.last glyphs.old letters.new.state letters.new.last glyphs.new }
+    ensures walked { WalksOn i joining_type letters.old glyphs.old letters.new glyphs.new }
     ensures state { letters.new.state < 7 }
     ensures within { IsWithin letters.new.last (i + 1) }
 {
@@ -321,7 +324,8 @@ fn join_letters<T: Tables, L: Ledger>(
     requires characters { AreCharacters glyphs.old }
     requires state { state < 7 }
     ensures formed { OnlyFormed glyphs.old glyphs.new }
-    ensures walked { (before : List hb_arabic_joining_type_t) → state ≡ state_at_start (nearest before) → Walked before (stored_types (T.tables tables.now).joining glyphs.old) (length glyphs.old) result.state result.last (map (λ g. g.auxiliary) glyphs.new) }
+    ensures walked { let joining = (T.tables tables.now).joining in
+        WalksAll joining state glyphs.old result glyphs.new }
     ensures counted { count.new ≡ count.old + length glyphs.old }
     ensures state { result.state < 7 }
     ensures within { IsWithin result.last (length glyphs.old) }
@@ -345,7 +349,8 @@ pub(super) fn join<T: Tables, L: Ledger>(
 )
     requires { AreCharacters glyphs.old }
     ensures formed { OnlyFormed glyphs.old glyphs.new }
-    ensures forms { (front behind : List hb_arabic_joining_type_t) → nearest front ≡ before → nearest behind ≡ after → map (λ g. g.auxiliary) glyphs.new ≡ forms front (stored_types (T.tables tables.now).joining glyphs.old) behind }
+    ensures forms { let joining = (T.tables tables.now).joining in
+        JoinsTo joining before after glyphs.old glyphs.new }
     ensures counted { count.new ≡ count.old + length glyphs.old }
 {
     let letters = join_letters(flags, glyphs, state_at_start(before), tables, count);

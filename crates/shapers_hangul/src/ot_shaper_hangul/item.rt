@@ -1,15 +1,16 @@
 //! The units of a Hangul text, and the tones that join them.
-ghost use Rattle.std.specs.Prelude.{◌≡◌, ◌+◌, ◌<◌, ◌≤◌, ◌++◌, length, get_or, true, OnOk, OnErr, IfErr, IsOkUnless, not, ◌||◌, ◌&&◌};
-ghost use Rattle.shapers_buffer.specs.Clusters.{merge_all};
+ghost use Rattle.std.specs.Prelude.{◌≡◌, ◌+◌, ◌<◌, ◌≤◌, ◌++◌, ◌∷◌, [], length, get_or, true, OnOk, OnErr, IfErr, IsOkUnless, not, ◌||◌, ◌&&◌};
 ghost use Rattle.shapers_base.specs.Font.{has_nominal};
 ghost use Rattle.shapers_buffer.specs.declared.buffer.refusal.ShaperError.TheVariants.{Memory};
-ghost use Rattle.shapers_hangul.specs.Hangul.{is_s, is_lv, has_jamo_of, is_narrow, jamo_two, jamo_three, parts, syllable_unit, lone_tone, first_unit, taken, is_syllable, is_marked, joined_tone, first_item, tone_len, item_len, characters, glyph_copies, unit_output, item_output, marks_merge, item_stretches, output_len, is_kept};
+ghost use Rattle.shapers_hangul.specs.Hangul.{is_s, is_lv, has_jamo_of, is_narrow, jamo_two, jamo_three, jamo_unit, parts, syllable_unit, lone_tone, lone_unit, first_unit, taken, is_syllable, is_marked, joined_tone, is_split, unsafe_len, first_item, tone_len, item_len, characters, glyph_copies, unit_output, item_output, is_merged, item_joined, output_len, is_kept};
 
 use super::jamo::{
-    compose_three, compose_two, decompose, is_combined_s, is_combining_l, is_combining_t,
+    compose_three, compose_two, decompose, follows, is_combined_s, is_combining_l, is_combining_t,
     is_combining_v, is_hangul_tone, is_l, is_lv, is_t, is_v,
 };
-use shapers_base::buffer::{BufferClusterLevel, ShaperError, hb_glyph_info_t, merge_clusters_in};
+use shapers_base::buffer::{
+    BufferClusterLevel, ShaperError, hb_glyph_info_t, merge_clusters_in, unsafe_to_break_in,
+};
 use shapers_base::font::hb_font_t;
 
 // The features of leading, vowel and trailing jamo.
@@ -60,11 +61,12 @@ pub(super) enum JoinedTone {
     Behind,
 }
 
-// A unit with its tone.
+// A unit with its tone, and how many characters from its first on a break would tear apart.
 #[derive(Clone, Copy)]
 pub(super) struct Item {
     unit: Unit,
     tone: JoinedTone,
+    unsafe_len: usize,
 }
 
 // The character at place `i`, 0 where the text ends.
@@ -172,6 +174,35 @@ fn syllable_unit<F: hb_font_t>(face: &F, s: u32, v: u32) -> Unit
     Unit::Other
 }
 
+// L V, and L V T.
+fn jamo_unit<F: hb_font_t>(face: &F, l: u32, v: u32, t: u32) -> Unit
+    ensures { result ≡ jamo_unit (F.font face.now) l v t }
+{
+    if is_t(t) {
+        return jamo_three(face, l, v, t);
+    }
+    jamo_two(face, l, v)
+}
+
+// The unit of a character that no jamo follows.
+fn lone_unit<F: hb_font_t>(face: &F, circles: bool, u: u32) -> Unit
+    ensures { result ≡ lone_unit (F.font face.now) circles u }
+{
+    if is_combined_s(u) {
+        if face.has_glyph(u) {
+            return Unit::Syllable;
+        }
+        if has_jamo_of(face, u) {
+            return parts(u);
+        }
+        return Unit::Other;
+    }
+    if is_hangul_tone(u) {
+        return lone_tone(face, circles, u);
+    }
+    Unit::Other
+}
+
 // The unit that the character `u` and the next two open.
 fn first_unit<F: hb_font_t>(face: &F, circles: bool, u: u32, v: u32, t: u32) -> Unit
     ensures { result ≡ first_unit (F.font face.now) circles u v t }
@@ -180,10 +211,7 @@ fn first_unit<F: hb_font_t>(face: &F, circles: bool, u: u32, v: u32, t: u32) -> 
         return lone_tone(face, circles, u);
     }
     if is_l(u) && is_v(v) {
-        if is_t(t) {
-            return jamo_three(face, u, v, t);
-        }
-        return jamo_two(face, u, v);
+        return jamo_unit(face, u, v, t);
     }
     if is_combined_s(u) {
         return syllable_unit(face, u, v);
@@ -204,22 +232,86 @@ fn joined_tone<F: hb_font_t>(face: &F, unit: Unit, w: u32) -> JoinedTone
     JoinedTone::Before
 }
 
-// The item that opens the text.
+// Whether the font can't join LV and the T `v` behind it, nor, where T doesn't combine, part LV.
+fn is_split<F: hb_font_t>(face: &F, s: u32, v: u32) -> bool
+    ensures { result ≡ is_split (F.font face.now) s v }
+{
+    if !is_lv(s) || !is_t(v) {
+        return false;
+    }
+    if is_combining_t(v) {
+        return !face.has_glyph(compose_three(s, v));
+    }
+    !has_jamo_of(face, s)
+}
+
+// How many characters from `u` on are unsafe to break inside, `v` being the second.
+fn unsafe_len<F: hb_font_t>(face: &F, unit: Unit, tone: JoinedTone, u: u32, v: u32) -> usize
+    ensures { result ≡ unsafe_len (F.font face.now) unit tone u v }
+{
+    if is_l(u) && is_v(v) {
+        return unit.taken();
+    }
+    if unit.is_marked() && tone.len() == 1 {
+        return unit.taken();
+    }
+    if is_split(face, u, v) {
+        return 2;
+    }
+    0
+}
+
+// The item that opens the text. A character that jamo or a tone doesn't follow is told by itself.
+fn read_item<F: hb_font_t>(face: &F, circles: bool, glyphs: &[hb_glyph_info_t]) -> Item
+    requires { 0 < length glyphs.now }
+    ensures { result ≡ first_item (F.font face.now) circles (characters glyphs.now) }
+{
+    let u = character_at(glyphs, 0);
+    let v = character_at(glyphs, 1);
+    if is_l(u) && is_v(v) {
+        let unit = jamo_unit(face, u, v, character_at(glyphs, 2));
+        let tone = joined_tone(face, unit, character_at(glyphs, unit.taken()));
+        return Item {
+            unit,
+            tone,
+            unsafe_len: unit.taken(),
+        };
+    }
+    if !follows(v) {
+        return Item {
+            unit: lone_unit(face, circles, u),
+            tone: JoinedTone::Absent,
+            unsafe_len: 0,
+        };
+    }
+    let unit = first_unit(face, circles, u, v, character_at(glyphs, 2));
+    let tone = joined_tone(face, unit, character_at(glyphs, unit.taken()));
+    Item {
+        unit,
+        tone,
+        unsafe_len: unsafe_len(face, unit, tone, u, v),
+    }
+}
+
+// The same, which stands within the text.
 pub(super) fn first_item<F: hb_font_t>(face: &F, circles: bool, glyphs: &[hb_glyph_info_t]) -> Item
     requires { 0 < length glyphs.now }
     ensures item { result ≡ first_item (F.font face.now) circles (characters glyphs.now) }
     ensures within { item_len result ≤ length glyphs.now }
 {
-    let u = character_at(glyphs, 0);
-    let unit = first_unit(
-        face,
-        circles,
-        u,
-        character_at(glyphs, 1),
-        character_at(glyphs, 2),
-    );
-    let tone = joined_tone(face, unit, character_at(glyphs, unit.taken()));
-    Item { unit, tone }
+    read_item(face, circles, glyphs)
+}
+
+impl JoinedTone {
+    // How many characters it takes.
+    fn len(self) -> usize
+        ensures { result ≡ tone_len self }
+    {
+        match self {
+            JoinedTone::Absent => 0,
+            JoinedTone::Before | JoinedTone::Behind => 1,
+        }
+    }
 }
 
 impl Unit {
@@ -299,6 +391,14 @@ fn jamo_from(glyph: hb_glyph_info_t, u: u32, feature: u8) -> hb_glyph_info_t
     as_jamo(as_character(glyph, u), feature)
 }
 
+// Adds a glyph.
+fn put(list: &mut Vec<hb_glyph_info_t>, glyph: hb_glyph_info_t) -> Result<(), ShaperError>
+    ensures ok { OnOk result (list.new.items ≡ list.old.items ++ glyph ∷ []) }
+    ensures refusal { IsOkUnless result Memory }
+{
+    list.push(glyph).map_err(|_| ShaperError::Memory)
+}
+
 impl Unit {
     // Adds what the unit that opens the text becomes.
     fn write(
@@ -307,55 +407,61 @@ impl Unit {
         list: &mut Vec<hb_glyph_info_t>,
     ) -> Result<(), ShaperError>
         requires { taken self ≤ length glyphs.now }
-        ensures ok { OnOk result (list.new.items ≡ list.old.items ++ unit_output glyph_copies self glyphs.now) }
+        ensures ok { let output = unit_output glyph_copies self glyphs.now in
+            OnOk result (list.new.items ≡ list.old.items ++ output) }
         ensures refusal { IsOkUnless result Memory }
     {
-        let first = glyphs[0];
         match self {
             Unit::ComposedTwo(s) | Unit::ComposedThree(s) => {
-                list.extend_from_slice(&[as_character(first, s)])?;
+                put(list, as_character(glyphs[0], s))?;
             }
             Unit::JamoTwo => {
-                list.extend_from_slice(&[as_jamo(first, LJMO), as_jamo(glyphs[1], VJMO)])?;
+                put(list, as_jamo(glyphs[0], LJMO))?;
+                put(list, as_jamo(glyphs[1], VJMO))?;
             }
             Unit::JamoThree => {
-                let jamo = [
-                    as_jamo(first, LJMO),
-                    as_jamo(glyphs[1], VJMO),
-                    as_jamo(glyphs[2], TJMO),
-                ];
-                list.extend_from_slice(&jamo)?;
+                put(list, as_jamo(glyphs[0], LJMO))?;
+                put(list, as_jamo(glyphs[1], VJMO))?;
+                put(list, as_jamo(glyphs[2], TJMO))?;
             }
             Unit::PartsTwo(l, v) => {
-                list.extend_from_slice(&[jamo_from(first, l, LJMO), jamo_from(first, v, VJMO)])?;
+                put(list, jamo_from(glyphs[0], l, LJMO))?;
+                put(list, jamo_from(glyphs[0], v, VJMO))?;
             }
             Unit::PartsThree(l, v, t) => {
-                let jamo = [
-                    jamo_from(first, l, LJMO),
-                    jamo_from(first, v, VJMO),
-                    jamo_from(first, t, TJMO),
-                ];
-                list.extend_from_slice(&jamo)?;
+                put(list, jamo_from(glyphs[0], l, LJMO))?;
+                put(list, jamo_from(glyphs[0], v, VJMO))?;
+                put(list, jamo_from(glyphs[0], t, TJMO))?;
             }
             Unit::PartsBeforeT(l, v) => {
-                let jamo = [
-                    jamo_from(first, l, LJMO),
-                    jamo_from(first, v, VJMO),
-                    as_jamo(glyphs[1], TJMO),
-                ];
-                list.extend_from_slice(&jamo)?;
+                put(list, jamo_from(glyphs[0], l, LJMO))?;
+                put(list, jamo_from(glyphs[0], v, VJMO))?;
+                put(list, as_jamo(glyphs[1], TJMO))?;
             }
             Unit::ToneCircle => {
-                list.extend_from_slice(&[first, as_character(first, DOTTED_CIRCLE)])?;
+                put(list, glyphs[0])?;
+                put(list, as_character(glyphs[0], DOTTED_CIRCLE))?;
             }
             Unit::CircleTone => {
-                list.extend_from_slice(&[as_character(first, DOTTED_CIRCLE), first])?;
+                put(list, as_character(glyphs[0], DOTTED_CIRCLE))?;
+                put(list, glyphs[0])?;
             }
             Unit::Syllable | Unit::Other => {
-                list.extend_from_slice(&[first])?;
+                put(list, glyphs[0])?;
             }
         }
         Ok(())
+    }
+
+    // Whether all that it takes merges at this level.
+    fn is_merged(self, level: BufferClusterLevel) -> bool
+        ensures { result ≡ is_merged level self }
+    {
+        match level {
+            BufferClusterLevel::MonotoneGraphemes => true,
+            BufferClusterLevel::MonotoneCharacters => !self.is_marked(),
+            BufferClusterLevel::Characters => false,
+        }
     }
 }
 
@@ -364,41 +470,43 @@ impl Item {
     pub(super) fn len(self) -> usize
         ensures { result ≡ item_len self }
     {
-        match self.tone {
-            JoinedTone::Absent => self.unit.taken(),
-            JoinedTone::Before | JoinedTone::Behind => self.unit.taken() + 1,
-        }
+        self.unit.taken() + self.tone.len()
     }
 
     // How many glyphs it becomes.
     pub(super) fn output_len(self) -> usize
         ensures { result ≡ output_len self.unit + tone_len self.tone }
     {
-        match self.tone {
-            JoinedTone::Absent => self.unit.output_len(),
-            JoinedTone::Before | JoinedTone::Behind => self.unit.output_len() + 1,
-        }
+        self.unit.output_len() + self.tone.len()
     }
 
     // Whether it is one glyph that stays as it is.
     pub(super) fn is_kept(self) -> bool
         ensures { result ≡ is_kept self }
     {
-        matches!(self.unit, Unit::Syllable | Unit::Other) && matches!(self.tone, JoinedTone::Absent)
+        matches!(self.unit, Unit::Syllable | Unit::Other)
+            && matches!(self.tone, JoinedTone::Absent)
+            && self.unsafe_len == 0
     }
 
-    // Merges what the item at `place` merges.
-    pub(super) fn merge(
+    // Flags what would be torn apart by a break in the item at `place`, and merges what it merges.
+    pub(super) fn join(
         self,
         level: BufferClusterLevel,
         glyphs: &mut [hb_glyph_info_t],
         place: usize,
     )
-        requires { place + item_len self ≤ length glyphs.old }
-        ensures { glyphs.new ≡ merge_all level (item_stretches level self place) glyphs.old }
+        requires item { place + item_len self ≤ length glyphs.old }
+        requires torn { place + self.unsafe_len ≤ length glyphs.old }
+        ensures { glyphs.new ≡ item_joined level place self glyphs.old }
     {
-        let end = place + self.unit.taken();
-        if marks_merge(level) || !self.unit.is_marked() {
+        let taken = self.unit.taken();
+        let end = place + taken;
+        let merged = self.unit.is_merged(level);
+        if !merged || self.unsafe_len > taken {
+            unsafe_to_break_in(glyphs, place, place + self.unsafe_len);
+        }
+        if merged {
             merge_clusters_in(level, glyphs, place, end);
         }
         match self.tone {
@@ -414,31 +522,22 @@ impl Item {
         list: &mut Vec<hb_glyph_info_t>,
     ) -> Result<(), ShaperError>
         requires { item_len self ≤ length glyphs.now }
-        ensures ok { OnOk result (list.new.items ≡ list.old.items ++ item_output glyph_copies self glyphs.now) }
+        ensures ok { let output = item_output glyph_copies self glyphs.now in
+            OnOk result (list.new.items ≡ list.old.items ++ output) }
         ensures refusal { IsOkUnless result Memory }
     {
         let end = self.unit.taken();
         match self.tone {
             JoinedTone::Absent => self.unit.write(glyphs, list),
             JoinedTone::Before => {
-                list.extend_from_slice(&[glyphs[end]])?;
+                put(list, glyphs[end])?;
                 self.unit.write(glyphs, list)
             }
             JoinedTone::Behind => {
                 self.unit.write(glyphs, list)?;
-                list.extend_from_slice(&[glyphs[end]])?;
+                put(list, glyphs[end])?;
                 Ok(())
             }
         }
-    }
-}
-
-// Whether marked glyphs merge at this level.
-fn marks_merge(level: BufferClusterLevel) -> bool
-    ensures { result ≡ marks_merge level }
-{
-    match level {
-        BufferClusterLevel::MonotoneGraphemes => true,
-        BufferClusterLevel::MonotoneCharacters | BufferClusterLevel::Characters => false,
     }
 }

@@ -1,5 +1,5 @@
 //! Jamo, syllable characters and tones, by their numbers.
-ghost use Rattle.std.specs.Prelude.{◌≡◌, ◌≤◌, ◌∷◌, [], true};
+ghost use Rattle.std.specs.Prelude.{◌≡◌, ◌≤◌, ◌∷◌, [], true, ◌||◌};
 ghost use Rattle.shapers_hangul.specs.Hangul.{is_l, is_v, is_t, combines_l, combines_v, combines_t, is_s, is_lv, is_tone, with_v, with_t, lead, vowel, trail};
 
 const L_BASE: u32 = 0x1100;
@@ -75,6 +75,13 @@ pub(super) fn is_hangul_tone(u: u32) -> bool
     ensures { result ≡ is_tone u }
 {
     matches!(u, 0x302E..=0x302F)
+}
+
+// A character that what stands before it may take along: a vowel, a trailing jamo or a tone.
+pub(super) fn follows(u: u32) -> bool
+    ensures { result ≡ (is_v u || (is_t u || is_tone u)) }
+{
+    is_v(u) || is_t(u) || is_hangul_tone(u)
 }
 
 // The syllable character of a leading and a vowel jamo.

@@ -1,9 +1,8 @@
 //! The text rewritten, item after item.
-ghost use Rattle.std.specs.Prelude.{◌≡◌, ◌+◌, ◌<◌, ◌≤◌, ◌++◌, [], drop, length, None, IfSome, OnOk, OnErr, IfOk, IfErr, IsOkUnless, not};
-ghost use Rattle.shapers_buffer.specs.Clusters.{merge_all};
+ghost use Rattle.std.specs.Prelude.{◌≡◌, ◌+◌, ◌<◌, ◌≤◌, ◌++◌, ◌∷◌, [], true, drop, length, None, IfSome, OnOk, OnErr, IfOk, IfErr, IsOkUnless, not};
 ghost use Rattle.shapers_buffer.specs.Refusals.{RefusesLength};
 ghost use Rattle.shapers_buffer.specs.declared.buffer.refusal.ShaperError.TheVariants.{Memory, TooLong};
-ghost use Rattle.shapers_hangul.specs.Hangul.{first_item, item_len, items, characters, glyph_copies, outputs, stretches, preprocessed, rewritten, wants_circles, Stays};
+ghost use Rattle.shapers_hangul.specs.Hangul.{first_item, item_len, items, characters, glyph_copies, outputs, Fit, all_joined, rewritten, wants_circles, Stays};
 
 use super::item::{Item, first_item};
 use bitflags::Flags;
@@ -32,20 +31,52 @@ fn rest_from(glyphs: &[hb_glyph_info_t], place: usize) -> &[hb_glyph_info_t]
     &glyphs[place..]
 }
 
-// The length of the result where the text changes, None where it stays. Refuses where the result
-// would be longer than `limit`, and for nothing else.
+// The items of a text, each with the place of its first character, as long as memory was found.
+#[derive(Drop)]
+struct Cut {
+    items: Vec<(usize, Item)>,
+    is_whole: bool,
+}
+
+impl Cut {
+    // None so far.
+    fn new(alloc: Global) -> Self
+        ensures none { result.items.items ≡ [] }
+    {
+        Cut {
+            items: Vec::new(alloc),
+            is_whole: true,
+        }
+    }
+
+    // One more.
+    fn add(&mut self, place: usize, item: Item)
+        ensures whole { self.new.is_whole ≡ true → self.old.is_whole ≡ true }
+        ensures added { let one = (place, item) ∷ [] in
+            self.new.is_whole ≡ true → self.new.items.items ≡ self.old.items.items ++ one }
+    {
+        if self.items.push((place, item)).is_err() {
+            self.is_whole = false;
+        }
+    }
+}
+
+// The length of the result where the text changes, None where it stays, and the items. Refuses where
+// the result would be longer than `limit`, and for nothing else.
 fn measure<F: hb_font_t>(
     face: &F,
     circles: bool,
     glyphs: &[hb_glyph_info_t],
     limit: usize,
+    cut: &mut Cut,
 ) -> Result<Option<usize>, ShaperError>
+    requires { cut.old.items.items ≡ [] }
     ensures length { let cut = items (F.font face.now) circles (characters glyphs.now) in
         RefusesLength limit (length (outputs glyph_copies cut glyphs.now)) result }
     ensures unchanged { let cut = items (F.font face.now) circles (characters glyphs.now) in
         IfOk result (λ len. len ≡ None → Stays cut glyphs.now) }
-    ensures measured { let cut = items (F.font face.now) circles (characters glyphs.now) in
-        IfOk result (λ len. IfSome len (λ n. n ≡ length (outputs glyph_copies cut glyphs.now))) }
+    ensures items { let all = items (F.font face.now) circles (characters glyphs.now) in
+        IfOk result (λ len. cut.new.is_whole ≡ true → cut.new.items.items ≡ all) }
     ensures refusal { IfErr result (λ e. e ≡ TooLong) }
 {
     let mut room = limit;
@@ -58,6 +89,7 @@ fn measure<F: hb_font_t>(
         }
         room -= item.output_len();
         changed |= !item.is_kept();
+        cut.add(place, item);
         place += item.len();
     }
     if !changed {
@@ -66,62 +98,51 @@ fn measure<F: hb_font_t>(
     Ok(Some(limit - room))
 }
 
-// Merges what the items merge, one after another.
-fn merge_items<F: hb_font_t>(
-    face: &F,
-    circles: bool,
-    level: BufferClusterLevel,
-    glyphs: &mut [hb_glyph_info_t],
-)
-    ensures { let cut = items (F.font face.now) circles (characters glyphs.old) in
-        glyphs.new ≡ merge_all level (stretches level cut) glyphs.old }
+// Flags and merges what the items flag and merge, one after another.
+fn join_items(cut: &[(usize, Item)], level: BufferClusterLevel, glyphs: &mut [hb_glyph_info_t])
+    requires { Fit (length glyphs.old) cut.now }
+    ensures { glyphs.new ≡ all_joined level cut.now glyphs.old }
 {
-    let mut place = 0;
-    while place < glyphs.len() {
-        let item = item_at(face, circles, glyphs, place);
-        item.merge(level, glyphs, place);
-        place += item.len();
+    for entry in cut {
+        entry.1.join(level, glyphs, entry.0);
     }
 }
 
 // Adds what the items become, one after another.
-fn write_items<F: hb_font_t>(
-    face: &F,
-    circles: bool,
+fn write_items(
+    cut: &[(usize, Item)],
     glyphs: &[hb_glyph_info_t],
     list: &mut Vec<hb_glyph_info_t>,
 ) -> Result<(), ShaperError>
-    ensures ok { let cut = items (F.font face.now) circles (characters glyphs.now) in
-        OnOk result (list.new.items ≡ list.old.items ++ outputs glyph_copies cut glyphs.now) }
+    requires { Fit (length glyphs.now) cut.now }
+    ensures ok { let output = outputs glyph_copies cut.now glyphs.now in
+        OnOk result (list.new.items ≡ list.old.items ++ output) }
     ensures refusal { IsOkUnless result Memory }
 {
-    let mut place = 0;
-    while place < glyphs.len() {
-        let item = item_at(face, circles, glyphs, place);
-        item.write(rest_from(glyphs, place), list)?;
-        place += item.len();
+    for entry in cut {
+        entry.1.write(rest_from(glyphs, entry.0), list)?;
     }
     Ok(())
 }
 
-// The text rewritten, to a length that is known: what its items merge, on the old places, and then
-// what they become.
-fn rewritten<F: hb_font_t>(
-    face: &F,
-    circles: bool,
+// The text rewritten, to a length that is known: what its items flag and merge, on the old places,
+// and then what they become.
+fn rewritten(
+    cut: &[(usize, Item)],
     level: BufferClusterLevel,
     glyphs: &[hb_glyph_info_t],
     len: usize,
     alloc: Global,
 ) -> Result<Vec<hb_glyph_info_t>, ShaperError>
-    ensures ok { let text = preprocessed (F.font face.now) circles level glyphs.now in
+    requires { Fit (length glyphs.now) cut.now }
+    ensures ok { let text = outputs glyph_copies cut.now (all_joined level cut.now glyphs.now) in
         IfOk result (λ list. list.items ≡ text) }
     ensures refusal { IsOkUnless result Memory }
 {
-    let mut merged = Vec::from_slice(alloc, glyphs)?;
-    merge_items(face, circles, level, &mut merged);
+    let mut joined = Vec::from_slice(alloc, glyphs)?;
+    join_items(cut, level, &mut joined);
     let mut list = Vec::with_capacity(alloc, len)?;
-    write_items(face, circles, merged.as_slice(), &mut list)?;
+    write_items(cut, joined.as_slice(), &mut list)?;
     Ok(list)
 }
 
@@ -143,10 +164,15 @@ pub(super) fn rewrite<F: hb_font_t>(face: &F, buffer: &mut hb_buffer_t) -> Resul
     ensures err { OnErr result (buffer.new ≡ buffer.old) }
 {
     let circles = wants_circles(buffer);
-    let Some(len) = measure(face, circles, buffer.glyphs(), buffer.max_len())? else {
+    let (level, alloc) = (buffer.cluster_level(), buffer.alloc());
+    let mut cut = Cut::new(alloc);
+    let glyphs = buffer.glyphs();
+    let Some(len) = measure(face, circles, glyphs, buffer.max_len(), &mut cut)? else {
         return Ok(());
     };
-    let (level, alloc) = (buffer.cluster_level(), buffer.alloc());
-    let list = rewritten(face, circles, level, buffer.glyphs(), len, alloc)?;
+    if !cut.is_whole {
+        return Err(ShaperError::Memory);
+    }
+    let list = rewritten(cut.items.as_slice(), level, glyphs, len, alloc)?;
     buffer.replace_glyphs(list)
 }

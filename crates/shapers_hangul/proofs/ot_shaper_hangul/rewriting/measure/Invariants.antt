@@ -1,5 +1,5 @@
--- The room that is left, and what stays if nothing changed so far.
-use Rattle.std.proofs.Common.{◌≡◌, ◌+◌, ◌≤◌, ◌-◌, length, false}
+-- The room that is left, what stays if nothing changed so far, and the items so far.
+use Rattle.std.proofs.Common.{◌≡◌, ◌+◌, ◌≤◌, ◌-◌, ◌++◌, length, true, false}
 use Rattle.shapers_hangul.specs.Hangul.{characters, glyph_copies, outputs}
 use Rattle.shapers_hangul.proofs.Items.{items_at}
 use Rattle.shapers_hangul.proofs.Walks.{StaysFrom}
@@ -12,6 +12,7 @@ invariant-loop-place g l =
       within : l.place ≤ length l.glyphs;
       room_left : length (outputs glyph_copies (cut 0) l.glyphs) + l.room ≡ length (outputs glyph_copies (cut l.place) l.glyphs) + l.limit;
       unchanged : l.changed ≡ false → StaysFrom (cut l.place) l.place l.glyphs → StaysFrom (cut 0) 0 l.glyphs;
+      recorded : l.cut.is_whole ≡ true → l.cut.items.items ++ cut l.place ≡ cut 0;
     }
 
 abbrev pub decreases-loop-place : goal.decreases-loop-place

@@ -1,18 +1,13 @@
--- One more item, and the end.
-use Rattle.std.proofs.Common.{◌≡◌, ◌+◌, ◌++◌, ◌∙◌, sym, ap, subst, arith}
-use Rattle.shapers_hangul.specs.Hangul.{characters, glyph_copies, items, item_output, outputs}
-use Rattle.shapers_hangul.proofs.Items.{items_at}
-use Rattle.shapers_hangul.proofs.Walks.{writing_next}
+-- Each item stands within the text.
+use Rattle.std.proofs.Common.{rules, arith, ap, length}
+use Rattle.std.specs.Prelude.{slice_index_or}
+use Rattle.std.proofs.lemmas.List.{length-drop}
+use Rattle.shapers_hangul.proofs.Walks.{default_entry, fit-at}
 use Rattle.shapers_hangul.proofs.ot_shaper_hangul.rewriting.write_items.Goals as goal
 
-pub loop-place-preserved : goal.loop-place-preserved
-loop-place-preserved g c =
-    let l = c.loop-place in
-    let font = g.F.hb_font_t.font c.args.face.now in
-    let gs = c.args.glyphs.now in
-    let item = c.item_at-item.result in
-    record {
-      within = omega (arith, c.item_at-item.ensures.within, c.len-place.ensures);
-      walk = subst (λ n. c.write.new.list.items ++ outputs glyph_copies (items_at font c.args.circles (characters gs) (l.place + n)) gs ≡ c.args.list.now.items ++ outputs glyph_copies (items font c.args.circles (characters gs)) gs) (sym c.len-place.ensures)
-          (writing_next font c.args.circles gs _ l.list.items c.write.new.list.items l.place item c.loop-place-test.true c.item_at-item.ensures.item l.invariant.walk (c.in_ok-write.ensures.ok ∙ ap (λ xs. l.list.items ++ item_output glyph_copies item xs) c.rest_from.ensures));
-    }
+pub rest_from-requires : goal.rest_from-requires
+rest_from-requires c = omega (arith, (fit-at (length c.args.glyphs.now) c.args.cut.now c.loop-entry.entry-index default_entry (search rules) c.requires).0)
+
+pub write-requires : goal.write-requires
+write-requires c =
+    omega (arith, (fit-at (length c.args.glyphs.now) c.args.cut.now c.loop-entry.entry-index default_entry (search rules) c.requires).0, ap length c.rest_from.ensures, length-drop (slice_index_or c.args.cut.now c.loop-entry.entry-index default_entry).0 c.args.glyphs.now)
