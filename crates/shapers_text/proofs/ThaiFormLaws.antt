@@ -128,7 +128,7 @@ own_without T a b = λ x y. refl
 own_without NotMark a b = λ x y. refl
 
 -- what is no mark does nothing
-no_action : (base : Consonant) (mark : Mark) (a b : ℕ) → (stands_above mark || stands_below mark) ≡ false → action_of base mark a b ≡ NOP
+pub no_action : (base : Consonant) (mark : Mark) (a b : ℕ) → (stands_above mark || stands_below mark) ≡ false → action_of base mark a b ≡ NOP
 no_action base AV a b h = absurd cc
 no_action base BV a b h = absurd cc
 no_action base T a b h = absurd cc

@@ -1,5 +1,5 @@
 -- How far the code has come in its walks over a Thai text: the forms from the start on, the rewriting from the end back.
-use Rattle.std.specs.Prelude.{ℕ, ◌+◌, Bool, List, ◌∷◌, ◌++◌, length, slice_index_or, slice_set, Option, None, Some}
+use Rattle.std.specs.Prelude.{ℕ, ◌+◌, ◌-◌, if◌then◌else◌, Bool, List, ◌∷◌, ◌++◌, length, slice_index_or, slice_set, Option, None, Some}
 use Rattle.std.specs.List.{suffix_len}
 use Rattle.shapers_buffer.specs.declared.buffer.glyph.hb_glyph_info_t.{hb_glyph_info_t}
 use Rattle.shapers_buffer.specs.Glyph.{default_glyph}
@@ -8,8 +8,10 @@ use Rattle.shapers_text.specs.declared.ot_shaper_thai.forms.Mark.{Mark}
 use Rattle.shapers_text.specs.declared.ot_shaper_thai.forms.Mark.TheVariants.{AV, BV, T, NotMark}
 use Rattle.shapers_text.specs.declared.ot_shaper_thai.forms.Action.{Action}
 use Rattle.shapers_text.specs.declared.ot_shaper_thai.forms.Base.{Base}
+use Rattle.shapers_text.specs.declared.ot_shaper_thai.forms.Types.{Types}
+use Rattle.shapers_buffer.specs.GlyphFlags.{unsafe_inside}
 use Rattle.shapers_text.specs.declared.ot_shaper_thai.forms.Action.TheVariants.{NOP, SD, SL, SDL, RD}
-use Rattle.shapers_text.specs.ThaiForms.{consonant_type, mark_type, shaped_by, with_character}
+use Rattle.shapers_text.specs.ThaiForms.{consonant_type, mark_type, is_thai_mark, action_of, shaped_by, with_character}
 use Rattle.std.proofs.Common.{◌≡◌, ◌≤◌, take, drop}
 use Rattle.shapers_text.specs.Thai.{is_above, glyphs_in_two, InTwo, in_two}
 
@@ -26,6 +28,22 @@ abbrev pub form_set : (ℕ → Bool) → ℕ → Action → List hb_glyph_info_t
 form_set has place action gs =
     let g = slice_index_or gs place default_glyph in
     slice_set gs place (with_character g (shaped_by has g.glyph_id action))
+
+-- what the mark at place i does to the glyphs
+abbrev pub after_action : (ℕ → Bool) → Base → ℕ → Mark → List hb_glyph_info_t → List hb_glyph_info_t
+after_action has base i mark gs =
+    let action = action_of base.consonant mark base.above base.below in
+    form_set has (target action base.place i) action gs
+
+-- what the character u at place i does to the glyphs: another than a mark flags the marks before it
+abbrev pub after_character : (ℕ → Bool) → Base → ℕ → ℕ → List hb_glyph_info_t → List hb_glyph_info_t
+after_character has base i u gs =
+    if is_thai_mark u then after_action has base i (mark_type u) gs
+    else unsafe_inside base.place (i - 1) gs
+
+-- the types of a character, as the table has them
+abbrev pub types_of : ℕ → Types
+types_of u = record { 0 = consonant_type u; 1 = mark_type u }
 
 -- the base and the counts after one more character, at place i
 abbrev pub counted_base : Mark → Base → ℕ → ℕ → Base
