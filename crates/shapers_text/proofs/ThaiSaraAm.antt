@@ -1,5 +1,5 @@
 -- The steps of the rewriting, on glyphs.
-use Rattle.std.proofs.Common.{◌≡◌, Bool, ℕ, ◌-◌, ◌+◌, ◌<◌, ◌≤◌, true, false, List, [], ◌∷◌, ◌++◌, length, take, drop, get_or, set, Option, None, Some, refl, sym, ap, ◌∙◌, subst, arith}
+use Rattle.std.proofs.Common.{◌≡◌, Bool, ℕ, zero, suc, ◌-◌, ◌+◌, ◌<◌, ◌≤◌, true, false, List, [], ◌∷◌, ◌++◌, length, take, drop, get_or, set, Option, None, Some, refl, sym, ap, ◌∙◌, subst, arith}
 use Rattle.std.proofs.lemmas.List.{append_assoc, append-nil, take_more, take-append-drop, take-set-le, drop-set, length-set, length-take-le, length_push, drop_all, take_all}
 use Rattle.std.proofs.lemmas.List.Sums.{suffix_len-le-length, suffix_len-take_yes, suffix_len-take_no}
 use Rattle.std.specs.List.{suffix_len}
@@ -8,6 +8,12 @@ use Rattle.shapers_buffer.proofs.ListLaws.{none_from_count}
 use Rattle.shapers_text.specs.Thai.{is_sara_am, is_above_base, in_two, nikhahit, sara_aa, glyphs_in_two, rewritten}
 use Rattle.shapers_text.specs.ThaiWalk.{marks_of, IsUnwritten, Written, whole_of, becomes}
 use Rattle.shapers_text.proofs.ThaiInTwo.{in_two_plain, in_two_push, in_two_push_am, held_push_mark, lengths}
+
+-- what is read at a place is there whatever stands for none
+pub read_there : (gs : List hb_glyph_info_t) (i : ℕ) (none : hb_glyph_info_t) → i < length gs → get_or gs i none ≡ get_or gs i (get_or gs i none)
+read_there [] i none h = absurd (omega arith)
+read_there (g ∷ gs) zero none h = refl
+read_there (g ∷ gs) (suc i) none h = read_there gs i none (omega arith)
 
 pub take_pushed : (gs : List hb_glyph_info_t) (e : ℕ) (g : hb_glyph_info_t) → 0 < e → e ≤ length gs → g ≡ get_or gs (e - 1) g → take e gs ≡ take (e - 1) gs ++ g ∷ []
 take_pushed gs e g some within at =

@@ -13,7 +13,9 @@ use Rattle.shapers_buffer.specs.GlyphFlags.{unsafe_inside}
 use Rattle.shapers_text.specs.declared.ot_shaper_thai.forms.Action.TheVariants.{NOP, SD, SL, SDL, RD}
 use Rattle.shapers_text.specs.ThaiForms.{consonant_type, mark_type, is_thai_mark, action_of, shaped_by, with_character}
 use Rattle.std.proofs.Common.{◌≡◌, ◌≤◌, take, drop}
-use Rattle.shapers_text.specs.Thai.{is_above, glyphs_in_two, InTwo, in_two}
+use Rattle.shapers_text.specs.Thai.{is_above, glyphs_in_two, InTwo, in_two, characters, rewritten, sara_am_stretches}
+use Rattle.shapers_buffer.specs.declared.buffer.level.BufferClusterLevel.{BufferClusterLevel}
+use Rattle.shapers_buffer.specs.Clusters.{merge_all}
 
 -- where an action acts: on the base or on the mark itself
 abbrev pub target : Action → ℕ → ℕ → ℕ
@@ -58,6 +60,14 @@ base_after base i u = counted_base (mark_type u) base i u
 -- how many above-base marks stand right before place i, counted on glyphs
 abbrev pub marks_of : List hb_glyph_info_t → ℕ → ℕ
 marks_of gs i = suffix_len (is_above glyphs_in_two) (take i gs)
+
+-- the glyphs with the stretches of the first len merged
+abbrev pub merged_front : BufferClusterLevel → ℕ → List hb_glyph_info_t → List hb_glyph_info_t
+merged_front level len gs = merge_all level (sara_am_stretches level (take len (characters gs))) gs
+
+-- the first len glyphs with each SARA AM in two take just the room that there is
+abbrev pub HasRoom : ℕ → List hb_glyph_info_t → Type 0
+HasRoom len gs = (len ≤ length gs) × (length gs ≡ length (rewritten (take len gs)))
 
 -- what the text so far becomes: with a NIKHAHIT pending, that stands before its last above-base marks
 abbrev pub held : {X : Type 0} → InTwo X → List X → X → List X
