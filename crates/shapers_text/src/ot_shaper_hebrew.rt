@@ -44,8 +44,9 @@ fn find_triple(buffer: &hb_buffer_t, start: usize, end: usize) -> Option<usize>
     ensures first { result ≡ second_of_triple start end buffer.now.glyphs }
     ensures within { IfSome result (λ i. i + 1 < end) }
 {
+    let glyphs = buffer.glyphs();
     for i in start..end.saturating_sub(2) {
-        if is_triple(buffer.get(i), buffer.get(i + 1), buffer.get(i + 2)) {
+        if is_triple(glyphs[i], glyphs[i + 1], glyphs[i + 2]) {
             return Some(i + 1);
         }
     }
