@@ -17,9 +17,9 @@ use Rattle.shapers_text.specs.declared.ot_shaper_thai.forms.Consonant.TheVariant
 use Rattle.shapers_text.specs.declared.ot_shaper_thai.forms.Mark.{Mark}
 use Rattle.shapers_text.specs.declared.ot_shaper_thai.forms.Mark.TheVariants.{AV, BV, T, NotMark}
 use Rattle.shapers_text.specs.Thai.{characters}
-use Rattle.shapers_text.specs.ThaiForms.{mark_type, stands_above, stands_below, is_thai_mark, base_type, marks_above, action_of, action_after, forms_between, with_character, with_characters, base_place, stretch_of_mark, mark_stretches_of_each, mark_stretches, pua_shaped, preprocessed}
+use Rattle.shapers_text.specs.ThaiForms.{mark_type, stands_above, stands_below, is_thai_mark, base_type, marks_above, action_of, action_after, forms_between, with_character, with_characters, base_place, stretch_of_mark, mark_stretches_of_each, mark_stretches, pua_shaped, preprocessed_text}
 use Rattle.shapers_text.specs.ThaiWalk.{target, form_set, counted_base, base_after, after_action, after_character}
-use Rattle.shapers_text.specs.ThaiLaws.{unshaped, FormsLaw}
+use Rattle.shapers_text.specs.ThaiLaws.{without_form, FormsLaw}
 use Rattle.shapers_text.proofs.ThaiFormLaws.{IsBase, base_none, base_push, base_place_push, length-forms, no_action, put, shapes}
 
 in_order_at : (before : List ℕ) (u : ℕ) (rest : List (ℕ × ℕ)) → AllByRecursion (λ st. st.0 ≤ st.1) rest → AllByRecursion (λ st. st.0 ≤ st.1) (stretch_of_mark (base_place before) (length before) u ++ rest)
@@ -307,23 +307,23 @@ walking_all has start now i base end w =
     ∙ ap (λ vs. with_characters (forms_between has [] vs []) flags) same
 
 -- the forms change characters and masks alone
-pub unshaped_forms : (us : List ℕ) (gs : List hb_glyph_info_t) → length us ≡ length gs → map unshaped (with_characters us gs) ≡ map unshaped gs
-unshaped_forms [] [] same = refl
-unshaped_forms [] (g ∷ gs) same = absurd (omega arith)
-unshaped_forms (u ∷ us) [] same = absurd (omega arith)
-unshaped_forms (u ∷ us) (g ∷ gs) same = ap (λ xs. unshaped g ∷ xs) (unshaped_forms us gs (omega arith))
+pub without_form-with_characters : (us : List ℕ) (gs : List hb_glyph_info_t) → length us ≡ length gs → map without_form (with_characters us gs) ≡ map without_form gs
+without_form-with_characters [] [] same = refl
+without_form-with_characters [] (g ∷ gs) same = absurd (omega arith)
+without_form-with_characters (u ∷ us) [] same = absurd (omega arith)
+without_form-with_characters (u ∷ us) (g ∷ gs) same = ap (λ xs. without_form g ∷ xs) (without_form-with_characters us gs (omega arith))
 
-pub unshaped-pua : (has : ℕ → Bool) (gs : List hb_glyph_info_t) → map unshaped (pua_shaped has gs) ≡ map unshaped gs
-unshaped-pua has gs =
+pub without_form-pua : (has : ℕ → Bool) (gs : List hb_glyph_info_t) → map without_form (pua_shaped has gs) ≡ map without_form gs
+without_form-pua has gs =
     let flags = unsafe_all (mark_stretches (characters gs)) gs in
-    unshaped_forms (forms_between has [] (characters flags) []) flags (length-forms has [] (characters flags) [] ∙ length-map flags (λ g. g.glyph_id))
-    ∙ map-unsafe_all unshaped (λ g. ap (λ (m : ℕ). let r : hb_glyph_info_t = record g { glyph_id = 0; mask = m } in r) (without_flags-or g.mask 3 refl)) (mark_stretches (characters gs)) gs (in_order (each_after [] (characters gs)))
+    without_form-with_characters (forms_between has [] (characters flags) []) flags (length-forms has [] (characters flags) [] ∙ length-map flags (λ g. g.glyph_id))
+    ∙ map-unsafe_all without_form (λ g. ap (λ (m : ℕ). let r : hb_glyph_info_t = record g { glyph_id = 0; mask = m } in r) (without_flags-or g.mask 3 refl)) (mark_stretches (characters gs)) gs (in_order (each_after [] (characters gs)))
 
 pub forms_hold : FormsLaw
 forms_hold has level gs = record {
-  rest_stays = unshaped-pua has (preprocessed false has level gs);
+  rest_stays = without_form-pua has (preprocessed_text false has level gs);
   clusters_stay =
-      sym (map-map (λ g. g.cluster) unshaped (preprocessed true has level gs))
-      ∙ ap clusters (unshaped-pua has (preprocessed false has level gs))
-      ∙ map-map (λ g. g.cluster) unshaped (preprocessed false has level gs);
+      sym (map-map (λ g. g.cluster) without_form (preprocessed_text true has level gs))
+      ∙ ap clusters (without_form-pua has (preprocessed_text false has level gs))
+      ∙ map-map (λ g. g.cluster) without_form (preprocessed_text false has level gs);
 }

@@ -16,9 +16,9 @@ use Rattle.shapers_buffer.proofs.MappedLists.{all-flat_map, all-each_after, each
 use Rattle.shapers_buffer.proofs.ListLaws.{none_from_count}
 use Rattle.shapers_clusters.proofs.Merging.{length-merge_all, merge_all-append, map-merge_all}
 use Rattle.shapers_clusters.proofs.Appended.{merge_all-appended}
-use Rattle.shapers_text.specs.Thai.{characters, is_sara_am, is_above_base, glyphs_in_two, rewritten, stretch_of_sara_am, stretches_at, stretches_of_each, sara_am_stretches, joins_before}
-use Rattle.shapers_text.specs.ThaiWalk.{marks_of, merged_front, HasRoom}
-use Rattle.shapers_text.proofs.ThaiInTwo.{in_two_plain, lengths, marks_of-characters}
+use Rattle.shapers_text.specs.Thai.{characters, is_sara_am, is_above_base, glyph_rule, glyphs_in_two, stretch_of_sara_am, stretches_at, stretches_of_each, sara_am_stretches, joins_before}
+use Rattle.shapers_text.specs.ThaiWalk.{above_marks_before, merged_front, HasRoom}
+use Rattle.shapers_text.proofs.ThaiInTwo.{in_two_plain, lengths, above_marks_before-characters}
 
 -- merging leaves the characters
 pub characters-merge_all : (level : BufferClusterLevel) (sts : List (ℕ × ℕ)) (gs : List hb_glyph_info_t) → characters (merge_all level sts gs) ≡ characters gs
@@ -74,7 +74,7 @@ pub record Merging (level : BufferClusterLevel) (start now : List hb_glyph_info_
 pub merging_length : (level : BufferClusterLevel) (start now : List hb_glyph_info_t) (len i : ℕ) → Merging level start now len i → length now ≡ length start
 merging_length level start now len i m = sym (length-map now (λ x. x.glyph_id)) ∙ ap length m.same_characters ∙ length-map start (λ x. x.glyph_id)
 
-pub merging_next : (level : BufferClusterLevel) (start now : List hb_glyph_info_t) (len i c : ℕ) (after : List hb_glyph_info_t) → len ≤ length start → i < len → Merging level start now len i → c ≡ get_or (characters now) i 0 → after ≡ merge_all level (stretches_at level i c (marks_of now i)) now → Merging level start after len (i + 1)
+pub merging_next : (level : BufferClusterLevel) (start now : List hb_glyph_info_t) (len i c : ℕ) (after : List hb_glyph_info_t) → len ≤ length start → i < len → Merging level start now len i → c ≡ get_or (characters now) i 0 → after ≡ merge_all level (stretches_at level i c (above_marks_before now i)) now → Merging level start after len (i + 1)
 merging_next level start now len i c after within inside m at changed =
     let us = characters start in
     let all = take len us in
@@ -85,11 +85,11 @@ merging_next level start now len i c after within inside m at changed =
     let some : i < length all = omega (arith, length-take-le len us (omega arith)) in
     let place : i ≡ length xs = sym (length-take-le i all (omega arith)) in
     let read : c ≡ u = at ∙ ap (λ vs. get_or vs i 0) m.same_characters ∙ sym (get_or-take len us i 0 inside) in
-    let marks : marks_of now i ≡ suffix_len is_above_base xs =
-    marks_of-characters now i ∙ ap (λ vs. suffix_len is_above_base (take i vs)) m.same_characters ∙ ap (suffix_len is_above_base) (sym (take-take i len us (omega arith))) in
+    let marks : above_marks_before now i ≡ suffix_len is_above_base xs =
+    above_marks_before-characters now i ∙ ap (λ vs. suffix_len is_above_base (take i vs)) m.same_characters ∙ ap (suffix_len is_above_base) (sym (take-take i len us (omega arith))) in
     let is : after ≡ merge_all level here now =
     changed
-    ∙ ap (λ v. merge_all level (stretches_at level i v (marks_of now i)) now) read
+    ∙ ap (λ v. merge_all level (stretches_at level i v (above_marks_before now i)) now) read
     ∙ ap (λ w. merge_all level (stretches_at level i u w) now) marks
     ∙ ap (λ n. merge_all level (stretches_at level n u (suffix_len is_above_base xs)) now) place in
     record {
@@ -109,20 +109,20 @@ merged_grown level gs n =
     ∙ merge_all-appended level n (sara_am_stretches level (characters gs)) gs (stretches_within level gs)
 
 -- the text without SARA AM stays, and is as long
-pub unchanged : (level : BufferClusterLevel) (gs : List hb_glyph_info_t) → count_by (λ g. is_sara_am g.glyph_id) gs ≡ 0 → gs ≡ rewritten (merge_all level (sara_am_stretches level (characters gs)) gs)
+pub unchanged : (level : BufferClusterLevel) (gs : List hb_glyph_info_t) → count_by (λ g. is_sara_am g.glyph_id) gs ≡ 0 → gs ≡ glyphs_in_two (merge_all level (sara_am_stretches level (characters gs)) gs)
 unchanged level gs count =
     let none = none_from_count (λ g. is_sara_am g.glyph_id) gs count in
-    sym (ap (λ sts. rewritten (merge_all level sts gs)) (stretches_none_after level [] (characters gs) (list_any-map is_sara_am (λ g. g.glyph_id) gs ∙ none)) ∙ in_two_plain glyphs_in_two gs none)
+    sym (ap (λ sts. glyphs_in_two (merge_all level sts gs)) (stretches_none_after level [] (characters gs) (list_any-map is_sara_am (λ g. g.glyph_id) gs ∙ none)) ∙ in_two_plain glyph_rule gs none)
 
-pub length-rewritten : (gs : List hb_glyph_info_t) → length (rewritten gs) ≡ length gs + count_by (λ g. is_sara_am g.glyph_id) gs
-length-rewritten gs = (lengths glyphs_in_two gs).whole
+pub length-glyphs_in_two : (gs : List hb_glyph_info_t) → length (glyphs_in_two gs) ≡ length gs + count_by (λ g. is_sara_am g.glyph_id) gs
+length-glyphs_in_two gs = (lengths glyph_rule gs).whole
 
 -- the grown text has just the room that is wanted
 pub room_made : (gs : List hb_glyph_info_t) (n len : ℕ) → len ≡ length gs → n ≡ count_by (λ g. is_sara_am g.glyph_id) gs → HasRoom len (gs ++ replicate n default_glyph)
 room_made gs n len long counted =
     let rest = replicate n default_glyph in
     let front : take len (gs ++ rest) ≡ gs = take_at gs rest len (sym long) in
-    (omega (arith, length-append gs rest), omega (arith, ap (λ xs. length (rewritten xs)) front, length-rewritten gs, length-append gs rest, length-replicate n default_glyph))
+    (omega (arith, length-append gs rest), omega (arith, ap (λ xs. length (glyphs_in_two xs)) front, length-glyphs_in_two gs, length-append gs rest, length-replicate n default_glyph))
 
 -- merging leaves the room
 characters-front : (level : BufferClusterLevel) (len : ℕ) (gs : List hb_glyph_info_t) → characters (take len (merged_front level len gs)) ≡ characters (take len gs)
@@ -139,7 +139,7 @@ room_stays level len gs room =
     let same = characters-front level len gs in
     let count : count_by (λ g. is_sara_am g.glyph_id) (take len now) ≡ count_by (λ g. is_sara_am g.glyph_id) (take len gs) =
     count-characters (take len now) ∙ ap (count_by is_sara_am) same ∙ sym (count-characters (take len gs)) in
-    (omega (arith, room.0), omega (arith, room.1, length-rewritten (take len now), length-rewritten (take len gs), length-take-le len now (omega (arith, room.0)), length-take-le len gs room.0))
+    (omega (arith, room.0), omega (arith, room.1, length-glyphs_in_two (take len now), length-glyphs_in_two (take len gs), length-take-le len now (omega (arith, room.0)), length-take-le len gs room.0))
 
 -- the front of the grown and merged text is the merged text
 pub front_merged : (level : BufferClusterLevel) (gs : List hb_glyph_info_t) (n len : ℕ) → len ≡ length gs → take len (merged_front level len (gs ++ replicate n default_glyph)) ≡ merge_all level (sara_am_stretches level (characters gs)) gs
@@ -155,13 +155,13 @@ front_merged level gs n len long =
 more_none : (n : ℕ) (ps : List GlyphPosition) → ps ≡ [] → more_positions n ps ≡ ps
 more_none n ps none = ap (more_positions n) none ∙ sym none
 
-pub all_written : (old mid now : Buffer) (n len : ℕ) → old.positions ≡ [] → len ≡ length old.glyphs → mid ≡ grown n old → now.glyphs ≡ rewritten (take len (merged_front mid.level len mid.glyphs)) → now ≡ record mid { glyphs = now.glyphs } → now ≡ record old { glyphs = rewritten (merge_all old.level (sara_am_stretches old.level (characters old.glyphs)) old.glyphs) }
+pub all_written : (old mid now : Buffer) (n len : ℕ) → old.positions ≡ [] → len ≡ length old.glyphs → mid ≡ grown n old → now.glyphs ≡ glyphs_in_two (take len (merged_front mid.level len mid.glyphs)) → now ≡ record mid { glyphs = now.glyphs } → now ≡ record old { glyphs = glyphs_in_two (merge_all old.level (sara_am_stretches old.level (characters old.glyphs)) old.glyphs) }
 all_written old mid now n len none long grew written others =
-    let whole = rewritten (merge_all old.level (sara_am_stretches old.level (characters old.glyphs)) old.glyphs) in
+    let whole = glyphs_in_two (merge_all old.level (sara_am_stretches old.level (characters old.glyphs)) old.glyphs) in
     let glyphs_are : now.glyphs ≡ whole =
     written
-    ∙ ap (λ (b : Buffer). rewritten (take len (merged_front b.level len b.glyphs))) grew
-    ∙ ap rewritten (front_merged old.level old.glyphs n len long) in
+    ∙ ap (λ (b : Buffer). glyphs_in_two (take len (merged_front b.level len b.glyphs))) grew
+    ∙ ap glyphs_in_two (front_merged old.level old.glyphs n len long) in
     others
     ∙ ap (λ gs. let b : Buffer = record mid { glyphs = gs } in b) glyphs_are
     ∙ ap (λ (m : Buffer). let b : Buffer = record m { glyphs = whole } in b) grew

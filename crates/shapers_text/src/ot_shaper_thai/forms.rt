@@ -131,7 +131,8 @@ fn types_of(u: u32) -> Types
     if i < 96 { TYPES[i as usize] } else { NO }
 }
 
-// What a mark does by the types of its base and itself, with so many marks above and below since the base.
+// What a mark does by the types of its base and itself, with so many marks above and below since
+// the base.
 fn get_action(base: Consonant, mark: Mark, above: usize, below: usize) -> Action
     ensures { result ≡ action_of base mark above below }
 {
@@ -228,7 +229,8 @@ impl Base {
     fn act<F: hb_font_t>(self, face: &F, glyphs: &mut [hb_glyph_info_t], i: usize, mark: Mark)
         requires place { self.place < length glyphs.old }
         requires in_range { i < length glyphs.old }
-        ensures { glyphs.new ≡ after_action (has_nominal (F.font face.now)) self i mark glyphs.old }
+        ensures { let has = has_nominal (F.font face.now) in
+            glyphs.new ≡ after_action has self i mark glyphs.old }
     {
         let action = get_action(self.consonant, mark, self.above, self.below);
         match action {
@@ -246,7 +248,8 @@ impl Base {
         requires above { self.above + 1 < 2 ^ 64 }
         requires below { self.below + 1 < 2 ^ 64 }
         ensures base { result ≡ base_after self i u }
-        ensures glyphs { glyphs.new ≡ after_character (has_nominal (F.font face.now)) self i u glyphs.old }
+        ensures glyphs { let has = has_nominal (F.font face.now) in
+            glyphs.new ≡ after_character has self i u glyphs.old }
     {
         let Types(consonant, mark) = types_of(u);
         match mark {
@@ -302,7 +305,8 @@ impl<'a, F: hb_font_t> GlyphWalk for PuaShaping<'a, F> {
 
     ghost can_walk = { λ walk glyphs. ⊤ };
 
-    ghost walks = { λ walk _ old new. new ≡ pua_shaped (has_nominal (F.font walk.face.now)) old };
+    ghost walks = { λ walk _ old new.
+        new ≡ pua_shaped (has_nominal (F.font walk.face.now)) old };
 
     fn walk(&mut self, glyphs: &mut [hb_glyph_info_t]) {
         shape_marks(self.face, glyphs);

@@ -3,8 +3,8 @@ ghost use Rattle.std.specs.Prelude.{◌≡◌, ℕ, ◌+◌, ◌^◌, ◌<◌, �
 ghost use Rattle.std.specs.List.{list_any};
 ghost use Rattle.shapers_buffer.specs.Clusters.{merge_all};
 ghost use Rattle.shapers_buffer.specs.Refusals.{RefusesLength};
-ghost use Rattle.shapers_text.specs.Thai.{is_sara_am, is_above_base, nikhahit, sara_aa, characters, rewritten, stretches_at, sara_am_stretches};
-ghost use Rattle.shapers_text.specs.ThaiWalk.{marks_of, merged_front, HasRoom, Written, IsUnwritten, whole_of};
+ghost use Rattle.shapers_text.specs.Thai.{is_sara_am, is_above_base, nikhahit, sara_aa, characters, glyphs_in_two, stretches_at, sara_am_stretches};
+ghost use Rattle.shapers_text.specs.ThaiWalk.{above_marks_before, merged_front, HasRoom, Written, IsUnwritten, whole_of};
 
 use shapers_base::buffer::{
     BufferClusterLevel, GlyphWalk, ShaperError, hb_buffer_t, hb_glyph_info_t,
@@ -65,7 +65,7 @@ fn count_sara_am(buffer: &hb_buffer_t) -> usize
 // How many above-base marks stand right before `place`.
 fn count_marks_before(glyphs: &[hb_glyph_info_t], place: usize) -> usize
     requires { place ≤ length glyphs.now }
-    ensures count { result ≡ marks_of glyphs.now place }
+    ensures count { result ≡ above_marks_before glyphs.now place }
     ensures few { result ≤ place }
 {
     glyphs[..place]
@@ -80,15 +80,15 @@ fn count_marks_before(glyphs: &[hb_glyph_info_t], place: usize) -> usize
 fn merge_at(level: BufferClusterLevel, glyphs: &mut [hb_glyph_info_t], place: usize, u: u32)
     requires in_range { place < length glyphs.old }
     requires fits { place + 1 < 2 ^ 64 }
-    ensures { let stretches = stretches_at level place u (marks_of glyphs.old place) in
+    ensures { let stretches = stretches_at level place u (above_marks_before glyphs.old place) in
         glyphs.new ≡ merge_all level stretches glyphs.old }
 {
     if !is_sara_am(u) {
         return;
     }
-    let marks = count_marks_before(glyphs, place);
-    if marks > 0 {
-        merge_clusters_in(level, glyphs, place - marks, place + 1);
+    let above = count_marks_before(glyphs, place);
+    if above > 0 {
+        merge_clusters_in(level, glyphs, place - above, place + 1);
         return;
     }
     match level {
@@ -146,8 +146,8 @@ impl Unwritten {
             Written whole glyphs.new self.new.end None self.new.place }
         ensures shorter { self.new.end ≤ self.old.end }
     {
-        let marks = count_marks_before(glyphs, self.end);
-        for _ in 0..marks {
+        let above = count_marks_before(glyphs, self.end);
+        for _ in 0..above {
             self.end -= 1;
             self.place -= 1;
             glyphs[self.place] = glyphs[self.end];
@@ -160,8 +160,8 @@ impl Unwritten {
 // Writes the first `len` glyphs with each SARA AM in two over a slice that has just the room for it.
 fn write_in_two(glyphs: &mut [hb_glyph_info_t], len: usize)
     requires in_range { len ≤ length glyphs.old }
-    requires room { length glyphs.old ≡ length (rewritten (take len glyphs.old)) }
-    ensures { glyphs.new ≡ rewritten (take len glyphs.old) }
+    requires room { length glyphs.old ≡ length (glyphs_in_two (take len glyphs.old)) }
+    ensures { glyphs.new ≡ glyphs_in_two (take len glyphs.old) }
 {
     let mut unwritten = Unwritten {
         end: len,
@@ -181,13 +181,13 @@ struct Rewriting {
 
 impl GlyphWalk for Rewriting {
     ghost use Rattle.std.specs.Prelude.{◌≡◌, take};
-    ghost use Rattle.shapers_text.specs.Thai.{rewritten};
+    ghost use Rattle.shapers_text.specs.Thai.{glyphs_in_two};
     ghost use Rattle.shapers_text.specs.ThaiWalk.{HasRoom, merged_front};
 
     ghost can_walk = { λ walk glyphs. HasRoom walk.len glyphs };
 
     ghost walks = { λ walk _ old new.
-        new ≡ rewritten (take walk.len (merged_front walk.level walk.len old)) };
+        new ≡ glyphs_in_two (take walk.len (merged_front walk.level walk.len old)) };
 
     fn walk(&mut self, glyphs: &mut [hb_glyph_info_t]) {
         merge_all_sara_am(self.level, glyphs, self.len);
@@ -203,8 +203,8 @@ pub fn rewrite_sara_am(buffer: &mut hb_buffer_t) -> Result<(), ShaperError>
     ensures ok { let gs = buffer.old.glyphs in
         let stretches = sara_am_stretches buffer.old.level (characters gs) in
         let merged = merge_all buffer.old.level stretches gs in
-        OnOk result (buffer.new ≡ record buffer.old { glyphs = rewritten merged }) }
-    ensures length { let wanted = length (rewritten buffer.old.glyphs) in
+        OnOk result (buffer.new ≡ record buffer.old { glyphs = glyphs_in_two merged }) }
+    ensures length { let wanted = length (glyphs_in_two buffer.old.glyphs) in
         RefusesLength buffer.old.max_len wanted result }
     ensures err { OnErr result (buffer.new ≡ buffer.old) }
     ensures without { let some = list_any (λ g. is_sara_am g.glyph_id) buffer.old.glyphs in

@@ -1,7 +1,7 @@
 -- The start, one more step, and the end.
 use Rattle.std.proofs.Common.{List, None, take, subst}
 use Rattle.shapers_buffer.specs.declared.buffer.glyph.hb_glyph_info_t.{hb_glyph_info_t}
-use Rattle.shapers_text.specs.Thai.{rewritten}
+use Rattle.shapers_text.specs.Thai.{glyphs_in_two}
 use Rattle.shapers_text.specs.ThaiWalk.{Written}
 use Rattle.shapers_text.proofs.ThaiSaraAm.{written_none, written_all}
 use Rattle.shapers_text.proofs.ot_shaper_thai.sara_am.write_in_two.Goals as goal
@@ -17,4 +17,4 @@ loop-unwritten-preserved c =
 pub returns : goal.returns
 returns c =
     let l = c.loop-unwritten in
-    written_all (rewritten (take c.args.len c.args.glyphs.now)) l.glyphs l.unwritten.end l.unwritten.place l.invariant c.loop-unwritten-test.false
+    written_all (glyphs_in_two (take c.args.len c.args.glyphs.now)) l.glyphs l.unwritten.end l.unwritten.place l.invariant c.loop-unwritten-test.false

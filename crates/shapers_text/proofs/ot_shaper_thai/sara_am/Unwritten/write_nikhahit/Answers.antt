@@ -9,17 +9,17 @@ pub loop-init : goal.loop-init
 loop-init c =
     let gs = c.args.glyphs.now in
     let u = c.args.self.now in
-    let marks = c.count_marks_before-marks.result in
+    let marks = c.count_marks_before-above.result in
     let none : marks - 0 ≡ marks = omega arith in
     let walk : MarksLeft (whole_of gs u.end (Some c.args.nikhahit) u.place) gs u.end u.place (marks - 0) c.args.nikhahit =
-    record { written = record { left = c.requires; joined = refl }; left = none ∙ c.count_marks_before-marks.ensures.count } in
+    record { written = record { left = c.requires; joined = refl }; left = none ∙ c.count_marks_before-above.ensures.count } in
     record { walk = walk; fit = marks_fit _ gs u.end u.place (marks - 0) c.args.nikhahit walk; shorter = omega arith }
 
 pub loop-preserved : goal.loop-preserved
 loop-preserved c =
     let l = c.loop in
     let u = c.args.self.now in
-    let marks = c.count_marks_before-marks.result in
+    let marks = c.count_marks_before-above.result in
     let whole = whole_of c.args.glyphs.now u.end (Some c.args.nikhahit) u.place in
     let glyph = get_or l.glyphs (l.self.end - 1) default_glyph in
     let now = set l.glyphs (l.self.place - 1) glyph in
@@ -39,4 +39,4 @@ returns-clause-written c =
     let l = c.loop in
     let u = c.args.self.now in
     let whole = whole_of c.args.glyphs.now u.end (Some c.args.nikhahit) u.place in
-    marks_done whole l.glyphs l.self.end l.self.place (c.count_marks_before-marks.result - l.counter) c.args.nikhahit (omega (arith, c.loop-test.false)) l.invariant.walk
+    marks_done whole l.glyphs l.self.end l.self.place (c.count_marks_before-above.result - l.counter) c.args.nikhahit (omega (arith, c.loop-test.false)) l.invariant.walk
