@@ -23,7 +23,7 @@ use Rattle.shapers_hangul.specs.HangulLaws.{KeepsClusters, SpellsSame}
 use Rattle.shapers_hangul.specs.Masks.{is_hangul_data, jamo_masks, with_jamo_masks}
 use Rattle.shapers_text.specs.Hebrew as hebrew
 use Rattle.shapers_text.specs.Hebrew.{composed_in_hebrew, mark_step}
-use Rattle.shapers_text.specs.Thai.{characters, is_sara_am, rewritten}
+use Rattle.shapers_text.specs.Thai.{characters, is_sara_am, glyphs_in_two}
 use Rattle.shapers_text.specs.ThaiForms.{asks_for_forms, preprocessed_in_thai}
 use Rattle.shapers_text.specs.ThaiLaws.{ClustersInTwo, KeptInTwo}
 use Rattle.rustybuzz_shapers.specs.Standing.{is_settled, standing}
@@ -132,7 +132,7 @@ RefusesPreprocess Indic font old r = IsOk r
 RefusesPreprocess Khmer font old r = IsOk r
 RefusesPreprocess Myanmar font old r = IsOk r
 RefusesPreprocess MyanmarZawgyi font old r = IsOk r
-RefusesPreprocess Thai font old r = RefusesLength old.max_len (length (rewritten old.glyphs)) r × (list_any (λ g. is_sara_am g.glyph_id) old.glyphs ≡ false → IsOk r)
+RefusesPreprocess Thai font old r = RefusesLength old.max_len (length (glyphs_in_two old.glyphs)) r × (list_any (λ g. is_sara_am g.glyph_id) old.glyphs ≡ false → IsOk r)
 RefusesPreprocess Universal font old r = IsOk r
 
 -- the buffer before and after postprocessing

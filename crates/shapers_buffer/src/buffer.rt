@@ -34,7 +34,7 @@ pub use glyph_flags::{
 };
 pub use glyph_marks::{GlyphMarks, marks_are_set_alone};
 pub use level::{BufferClusterLevel, Direction};
-pub use merging::merge_clusters_in;
+pub use merging::{least_cluster, merge_clusters_in};
 pub use refusal::ShaperError;
 pub use syllables::{
     Span, has_span_of_kind, set_syllable, spans_cover, syllable_run_len, syllables_are_runs,

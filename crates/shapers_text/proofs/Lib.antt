@@ -10,3 +10,4 @@ pub mod ThaiKept
 pub mod ThaiRows
 pub mod ThaiSaraAm
 pub mod ThaiStretches
+mod ThaiTypes

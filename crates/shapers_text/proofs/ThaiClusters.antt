@@ -19,20 +19,20 @@ use Rattle.shapers_clusters.specs.Cuts.{ShareCluster}
 use Rattle.shapers_clusters.proofs.Made.{Made, all_standing, glyphs-standing, numbered-standing}
 use Rattle.shapers_clusters.specs.Laws.{ClustersMade}
 use Rattle.shapers_clusters.proofs.Proved.{made_hold_by, part_shares}
-use Rattle.shapers_text.specs.Thai.{characters, is_sara_am, is_above_base, InTwo, in_two, glyphs_in_two, places_in_two, nikhahit, sara_aa, rewritten, sources, sara_am_stretches, stretches_at}
-use Rattle.shapers_text.specs.ThaiLaws.{unnamed, new_place, ClustersInTwo, InTwoLaw}
-use Rattle.shapers_text.specs.ThaiForms.{preprocessed, pua_shaped}
+use Rattle.shapers_text.specs.Thai.{characters, is_sara_am, is_above_base, SaraAmRule, in_two, glyph_rule, place_rule, nikhahit, sara_aa, glyphs_in_two, sources, sara_am_stretches, stretches_at}
+use Rattle.shapers_text.specs.ThaiLaws.{without_name, new_place, ClustersInTwo, InTwoLaw}
+use Rattle.shapers_text.specs.ThaiForms.{preprocessed_text, pua_shaped}
 use Rattle.shapers_text.proofs.ThaiInTwo.{kept, none_lost, read_by, in_two-map, sources_at}
 use Rattle.shapers_text.proofs.ThaiStretches.{characters-merge_all, stretches_within}
 use Rattle.shapers_text.proofs.ThaiFormWalks.{forms_hold}
 
 -- but for what the rewriting changes, a NIKHAHIT is the SARA AM that it comes of
-unnamed_nikhahit : (am : hb_glyph_info_t) → unnamed (nikhahit am) ≡ unnamed am
+unnamed_nikhahit : (am : hb_glyph_info_t) → without_name (nikhahit am) ≡ without_name am
 unnamed_nikhahit am = ap (λ marks. let g : hb_glyph_info_t = record am { glyph_id = 0; general_category = Cc; marks = marks } in g) (cleared_after_set CONTINUATION am.marks refl)
 
 -- the rule on made glyphs: what comes of a SARA AM comes of its place
-abbrev made_in_two : (gs : List hb_glyph_info_t) → InTwo (Made unnamed gs)
-made_in_two gs = read_by (λ m. m.glyph) (λ m. record m { glyph = nikhahit m.glyph; same = unnamed_nikhahit m.glyph ∙ m.same }) (λ m. record m { glyph = sara_aa m.glyph; same = m.same }) glyphs_in_two
+abbrev made_in_two : (gs : List hb_glyph_info_t) → SaraAmRule (Made without_name gs)
+made_in_two gs = read_by (λ m. m.glyph) (λ m. record m { glyph = nikhahit m.glyph; same = unnamed_nikhahit m.glyph ∙ m.same }) (λ m. record m { glyph = sara_aa m.glyph; same = m.same }) glyph_rule
 
 -- a SARA AM with marks merges with them, and that stretch holds together what comes of them
 shares : (level : BufferClusterLevel) (us cs js : List ℕ) → ClustersMade level (sara_am_stretches level us) (sources us) cs js → merges level ≡ true → (xs : List ℕ) (u : ℕ) (ys : List ℕ) → us ≡ xs ++ u ∷ ys → is_sara_am u ≡ true → ShareCluster js (new_place xs) (new_place xs + suffix_len is_above_base xs)
@@ -57,25 +57,25 @@ in_two_holds level gs =
     let us = characters gs in
     let sts = sara_am_stretches level us in
     let ms = merge_all level sts gs in
-    let standing = all_standing unnamed ms in
+    let standing = all_standing without_name ms in
     let made = in_two (made_in_two ms) standing in
-    let glyphs : map (λ m. m.glyph) made ≡ rewritten ms = in_two-map (λ m. m.glyph) _ _ glyphs_in_two (λ m. refl) (λ m. refl) standing ∙ ap rewritten (glyphs-standing unnamed ms) in
-    let numbered = numbered-standing (λ g. g.glyph_id) unnamed ms ∙ ap (enumerate_from 0) (characters-merge_all level sts gs) in
-    let pairs : map (λ m. (m.place, m.glyph.glyph_id)) made ≡ in_two places_in_two (enumerate_from 0 us) = in_two-map (λ m. (m.place, m.glyph.glyph_id)) _ _ places_in_two (λ m. refl) (λ m. refl) standing ∙ ap (in_two places_in_two) numbered in
+    let glyphs : map (λ m. m.glyph) made ≡ glyphs_in_two ms = in_two-map (λ m. m.glyph) _ _ glyph_rule (λ m. refl) (λ m. refl) standing ∙ ap glyphs_in_two (glyphs-standing without_name ms) in
+    let numbered = numbered-standing (λ g. g.glyph_id) without_name ms ∙ ap (enumerate_from 0) (characters-merge_all level sts gs) in
+    let pairs : map (λ m. (m.place, m.glyph.glyph_id)) made ≡ in_two place_rule (enumerate_from 0 us) = in_two-map (λ m. (m.place, m.glyph.glyph_id)) _ _ place_rule (λ m. refl) (λ m. refl) standing ∙ ap (in_two place_rule) numbered in
     let places = sym (map-map (λ p. p.0) (λ m. (m.place, m.glyph.glyph_id)) made) ∙ ap (map (λ p. p.0)) pairs in
-    let (same, h) = made_hold_by unnamed (record { cluster = λ g. refl; flags = λ g. refl }) level sts (sources us) gs (rewritten ms) (stretches_within level gs) made places glyphs in
+    let (same, h) = made_hold_by without_name (record { cluster = λ g. refl; flags = λ g. refl }) level sts (sources us) gs (glyphs_in_two ms) (stretches_within level gs) made places glyphs in
     record {
       made = same;
-      kept = (kept glyphs_in_two ms).whole;
-      in_clusters = record { made = h.clusters_made; none_lost = none_lost us; cluster_law = shares level us (clusters gs) (clusters (rewritten ms)) h.clusters_made };
+      kept = (kept glyph_rule ms).whole;
+      in_clusters = record { made = h.clusters_made; none_lost = none_lost us; cluster_law = shares level us (clusters gs) (clusters (glyphs_in_two ms)) h.clusters_made };
       falls = h.falls;
     }
 
 -- the whole hook: its forms leave the clusters
-pub plain_in_two : (level : BufferClusterLevel) (gs text : List hb_glyph_info_t) → text ≡ preprocessed false (λ _. false) level gs → ClustersInTwo level (characters gs) (clusters gs) (clusters text)
+pub plain_in_two : (level : BufferClusterLevel) (gs text : List hb_glyph_info_t) → text ≡ preprocessed_text false (λ _. false) level gs → ClustersInTwo level (characters gs) (clusters gs) (clusters text)
 plain_in_two level gs text is = subst (λ xs. ClustersInTwo level (characters gs) (clusters gs) (clusters xs)) (sym is) (in_two_holds level gs).in_clusters
 
-pub shaped_in_two : (has : ℕ → Bool) (level : BufferClusterLevel) (gs text shaped : List hb_glyph_info_t) → text ≡ preprocessed false has level gs → shaped ≡ pua_shaped has text → ClustersInTwo level (characters gs) (clusters gs) (clusters shaped)
+pub shaped_in_two : (has : ℕ → Bool) (level : BufferClusterLevel) (gs text shaped : List hb_glyph_info_t) → text ≡ preprocessed_text false has level gs → shaped ≡ pua_shaped has text → ClustersInTwo level (characters gs) (clusters gs) (clusters shaped)
 shaped_in_two has level gs text shaped is forms =
-    let same : clusters shaped ≡ clusters (preprocessed false has level gs) = ap clusters (forms ∙ ap (pua_shaped has) is) ∙ (forms_hold has level gs).clusters_stay in
+    let same : clusters shaped ≡ clusters (preprocessed_text false has level gs) = ap clusters (forms ∙ ap (pua_shaped has) is) ∙ (forms_hold has level gs).clusters_stay in
     subst (ClustersInTwo level (characters gs) (clusters gs)) (sym same) (in_two_holds level gs).in_clusters

@@ -128,7 +128,7 @@ own_without T a b = λ x y. refl
 own_without NotMark a b = λ x y. refl
 
 -- what is no mark does nothing
-no_action : (base : Consonant) (mark : Mark) (a b : ℕ) → (stands_above mark || stands_below mark) ≡ false → action_of base mark a b ≡ NOP
+pub no_action : (base : Consonant) (mark : Mark) (a b : ℕ) → (stands_above mark || stands_below mark) ≡ false → action_of base mark a b ≡ NOP
 no_action base AV a b h = absurd cc
 no_action base BV a b h = absurd cc
 no_action base T a b h = absurd cc
@@ -305,7 +305,7 @@ shapes_with has ys base ms u rest none marks is_one =
           (next ∙ ap (λ b. ps ++ (cond b (shaped_by has base RD) base ∷ behind)) leaves.1 ∙ sym now)
           (mark_form has xs u is_one)
       | inl takes ↦
-          let unshaped : forms_between has [] xs [] ≡ ps ++ base ∷ behind =
+          let without_form : forms_between has [] xs [] ≡ ps ++ base ∷ behind =
           now ∙ ap (λ b. ps ++ (cond (is_removable (base_type xs) && b) (shaped_by has base RD) base ∷ behind)) takes.1.1.1
           ∙ ap (λ b. ps ++ (cond b (shaped_by has base RD) base ∷ behind)) (and_false (is_removable (base_type xs))) in
           let shaped : forms_between has [] xs (u ∷ []) ≡ ps ++ shaped_by has base RD ∷ behind =
@@ -315,7 +315,7 @@ shapes_with has ys base ms u rest none marks is_one =
           let itself : form_between has xs u [] ≡ u = mark_form has xs u is_one ∙ ap (shaped_by has u) takes.0 ∙ below_keeps has u takes.1.1.0 in
           ap (λ a. put has (target a (base_place xs) (length xs)) a (forms_between has [] xs [] ++ u ∷ rest)) takes.0
           ∙ ap (λ n. put has n RD (forms_between has [] xs [] ++ u ∷ rest)) at.place_is
-          ∙ ap (λ zs. put has (length ys) RD (zs ++ u ∷ rest)) unshaped
+          ∙ ap (λ zs. put has (length ys) RD (zs ++ u ∷ rest)) without_form
           ∙ set_base has ps base behind u rest (length ys) RD (length-forms has [] ys [])
           ∙ ap (λ v. ((ps ++ shaped_by has base RD ∷ behind) ++ v ∷ []) ++ rest) (sym itself)
           ∙ ap (λ zs. (zs ++ form_between has xs u [] ∷ []) ++ rest) (sym shaped)
@@ -354,11 +354,11 @@ base_at xs u none = record {
   below_is = sym (ap (count_by (λ v. stands_below (mark_type v))) (last_run_no is_thai_mark xs u none));
 }
 
--- a mark counted above or below
-abbrev counted : Base → Bool → Bool → Base
-counted base above below = record base { above = base.above + cond above 1 0; below = base.below + cond below 1 0 }
+-- a mark base_counting above or below
+abbrev base_counting : Base → Bool → Bool → Base
+base_counting base above below = record base { above = base.above + cond above 1 0; below = base.below + cond below 1 0 }
 
-base_kept : (xs : List ℕ) (u : ℕ) (base : Base) → IsBase xs base → is_thai_mark u ≡ true → IsBase (xs ++ u ∷ []) (counted base (stands_above (mark_type u)) (stands_below (mark_type u)))
+base_kept : (xs : List ℕ) (u : ℕ) (base : Base) → IsBase xs base → is_thai_mark u ≡ true → IsBase (xs ++ u ∷ []) (base_counting base (stands_above (mark_type u)) (stands_below (mark_type u)))
 base_kept xs u base is is_one = record {
   place_is = is.place_is ∙ sym (base_place_push xs u ∙ ap (λ b. cond b (base_place xs) (length xs)) is_one);
   type_is = is.type_is ∙ sym (ap (λ zs. last_type (reverse zs)) (before_last_run_yes is_thai_mark xs u is_one));
@@ -370,7 +370,7 @@ base_kept xs u base is is_one = record {
       ∙ sym (ap (count_by (λ v. stands_below (mark_type v))) (last_run_yes is_thai_mark xs u is_one) ∙ count_push (λ v. stands_below (mark_type v)) (last_run is_thai_mark xs) u _ refl);
 }
 
-counted_is : (mark : Mark) (base : Base) (i u : ℕ) → (stands_above mark || stands_below mark) ≡ true → counted_base mark base i u ≡ counted base (stands_above mark) (stands_below mark)
+counted_is : (mark : Mark) (base : Base) (i u : ℕ) → (stands_above mark || stands_below mark) ≡ true → counted_base mark base i u ≡ base_counting base (stands_above mark) (stands_below mark)
 counted_is AV base i u h = let e : base.below ≡ base.below + 0 = omega arith in ap (λ n. let b : Base = record base { above = base.above + 1; below = n } in b) e
 counted_is T base i u h = let e : base.below ≡ base.below + 0 = omega arith in ap (λ n. let b : Base = record base { above = base.above + 1; below = n } in b) e
 counted_is BV base i u h = let e : base.above ≡ base.above + 0 = omega arith in ap (λ n. let b : Base = record base { above = n; below = base.below + 1 } in b) e

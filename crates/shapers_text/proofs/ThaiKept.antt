@@ -10,10 +10,10 @@ use Rattle.shapers_buffer.specs.declared.buffer.level.BufferClusterLevel.{Buffer
 use Rattle.shapers_buffer.specs.Glyph.{order_view, plain}
 use Rattle.shapers_buffer.specs.Clusters.{merge_all}
 use Rattle.shapers_clusters.proofs.Merging.{order_view-merge_all, without_flags-twice}
-use Rattle.shapers_text.specs.Thai.{characters, glyphs_in_two, in_parts, is_sara_am, nikhahit, sara_aa, rewritten, sara_am_stretches}
-use Rattle.shapers_text.specs.ThaiForms.{preprocessed, pua_shaped}
-use Rattle.shapers_text.specs.ThaiLaws.{kept_view, unshaped, KeptInTwo}
-use Rattle.shapers_text.proofs.ThaiFormWalks.{unshaped-pua}
+use Rattle.shapers_text.specs.Thai.{characters, glyph_rule, in_parts, is_sara_am, nikhahit, sara_aa, glyphs_in_two, sara_am_stretches}
+use Rattle.shapers_text.specs.ThaiForms.{preprocessed_text, pua_shaped}
+use Rattle.shapers_text.specs.ThaiLaws.{kept_view, without_form, KeptInTwo}
+use Rattle.shapers_text.proofs.ThaiFormWalks.{without_form-pua}
 use Rattle.shapers_text.proofs.ThaiInTwo.{kept}
 
 -- a glyph with a mask, in cluster 0, with its character or without
@@ -22,7 +22,7 @@ masked false g m = record g { cluster = 0; mask = m }
 masked true g m = record g { cluster = 0; mask = m; glyph_id = 0 }
 
 abbrev parts : hb_glyph_info_t → List hb_glyph_info_t
-parts g = in_parts glyphs_in_two g
+parts g = in_parts glyph_rule g
 
 -- the parts of a glyph, seen by the view, are those of its order view
 seen_parts : (forms : Bool) (g : hb_glyph_info_t) → map (kept_view forms) (parts g) ≡ map (kept_view forms) (parts (plain g))
@@ -45,29 +45,29 @@ seen_all forms (g ∷ gs) =
     ∙ sym (map-append v (parts (plain g)) (flat_map parts (order_view gs)))
 
 -- the rewriting of the merged text
-kept_merged : (forms : Bool) (level : BufferClusterLevel) (sts : List (ℕ × ℕ)) (gs : List hb_glyph_info_t) → KeptInTwo forms gs (rewritten (merge_all level sts gs))
+kept_merged : (forms : Bool) (level : BufferClusterLevel) (sts : List (ℕ × ℕ)) (gs : List hb_glyph_info_t) → KeptInTwo forms gs (glyphs_in_two (merge_all level sts gs))
 kept_merged forms level sts gs =
     let v = kept_view forms in
     let ms = merge_all level sts gs in
     let same : map v (flat_map parts ms) ≡ map v (flat_map parts gs) = seen_all forms ms ∙ ap (λ xs. map v (flat_map parts xs)) (order_view-merge_all level sts gs) ∙ sym (seen_all forms gs) in
-    subst (λ xs. IsPermutation xs (map v (rewritten ms))) same (IsPermutation-map v (flat_map parts ms) (rewritten ms) (kept glyphs_in_two ms).whole)
+    subst (λ xs. IsPermutation xs (map v (glyphs_in_two ms))) same (IsPermutation-map v (flat_map parts ms) (glyphs_in_two ms) (kept glyph_rule ms).whole)
 
 -- the forms change characters and flags alone
 formless : (has : ℕ → Bool) (text : List hb_glyph_info_t) → map (kept_view true) (pua_shaped has text) ≡ map (kept_view true) text
 formless has text =
     let clear = λ (g : hb_glyph_info_t). let r : hb_glyph_info_t = record g { cluster = 0 } in r in
-    sym (map-map clear unshaped (pua_shaped has text)) ∙ ap (map clear) (unshaped-pua has text) ∙ map-map clear unshaped text
+    sym (map-map clear without_form (pua_shaped has text)) ∙ ap (map clear) (without_form-pua has text) ∙ map-map clear without_form text
 
-pub kept_in_two : (forms : Bool) (has : ℕ → Bool) (level : BufferClusterLevel) (gs : List hb_glyph_info_t) → KeptInTwo forms gs (preprocessed forms has level gs)
+pub kept_in_two : (forms : Bool) (has : ℕ → Bool) (level : BufferClusterLevel) (gs : List hb_glyph_info_t) → KeptInTwo forms gs (preprocessed_text forms has level gs)
 kept_in_two false has level gs = kept_merged false level (sara_am_stretches level (characters gs)) gs
 kept_in_two true has level gs =
     let sts = sara_am_stretches level (characters gs) in
-    let text = rewritten (merge_all level sts gs) in
+    let text = glyphs_in_two (merge_all level sts gs) in
     subst (IsPermutation (map (kept_view true) (flat_map parts gs))) (sym (formless has text)) (kept_merged true level sts gs)
 
 -- the whole hook
-pub plain_kept : (forms : Bool) → false ≡ forms → (level : BufferClusterLevel) (gs text : List hb_glyph_info_t) → text ≡ preprocessed false (λ _. false) level gs → KeptInTwo forms gs text
+pub plain_kept : (forms : Bool) → false ≡ forms → (level : BufferClusterLevel) (gs text : List hb_glyph_info_t) → text ≡ preprocessed_text false (λ _. false) level gs → KeptInTwo forms gs text
 plain_kept forms none level gs text is = subst (λ b. KeptInTwo b gs text) none (subst (KeptInTwo false gs) (sym is) (kept_in_two false (λ _. false) level gs))
 
-pub shaped_kept : (forms : Bool) → true ≡ forms → (has : ℕ → Bool) (level : BufferClusterLevel) (gs text shaped : List hb_glyph_info_t) → text ≡ preprocessed false has level gs → shaped ≡ pua_shaped has text → KeptInTwo forms gs shaped
+pub shaped_kept : (forms : Bool) → true ≡ forms → (has : ℕ → Bool) (level : BufferClusterLevel) (gs text shaped : List hb_glyph_info_t) → text ≡ preprocessed_text false has level gs → shaped ≡ pua_shaped has text → KeptInTwo forms gs shaped
 shaped_kept forms some has level gs text shaped is forms_are = subst (λ b. KeptInTwo b gs shaped) some (subst (KeptInTwo true gs) (sym (forms_are ∙ ap (pua_shaped has) is)) (kept_in_two true has level gs))

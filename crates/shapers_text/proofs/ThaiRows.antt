@@ -8,7 +8,7 @@ use Rattle.shapers_buffer.specs.declared.buffer.level.BufferClusterLevel.TheVari
 use Rattle.shapers_buffer.specs.Glyph.{default_glyph, clusters}
 use Rattle.shapers_buffer.specs.Marks.{is_continuation}
 use Rattle.shapers_text.specs.Thai.{characters, sources, sara_am_stretches}
-use Rattle.shapers_text.specs.ThaiForms.{preprocessed}
+use Rattle.shapers_text.specs.ThaiForms.{preprocessed_text}
 use Rattle.shapers_text.specs.ThaiLaws.{new_place}
 
 -- a text whose clusters count from 0
@@ -17,10 +17,10 @@ text us = map (λ p. let g : hb_glyph_info_t = record default_glyph { glyph_id =
 
 -- the hook where GSUB has the script, and where it hasn't and the font has these characters
 abbrev found : BufferClusterLevel → List ℕ → List hb_glyph_info_t
-found level us = preprocessed false (λ c. false) level (text us)
+found level us = preprocessed_text false (λ c. false) level (text us)
 
 abbrev shaped : List ℕ → List ℕ → List hb_glyph_info_t
-shaped font us = preprocessed true (λ c. list_any (λ f. f == c) font) MonotoneGraphemes (text us)
+shaped font us = preprocessed_text true (λ c. list_any (λ f. f == c) font) MonotoneGraphemes (text us)
 
 abbrev masks : List hb_glyph_info_t → List ℕ
 masks gs = map (λ g. g.mask) gs

@@ -1,13 +1,19 @@
 -- The steps of the rewriting, on glyphs.
-use Rattle.std.proofs.Common.{◌≡◌, Bool, ℕ, ◌-◌, ◌+◌, ◌<◌, ◌≤◌, true, false, List, [], ◌∷◌, ◌++◌, length, take, drop, get_or, set, Option, None, Some, refl, sym, ap, ◌∙◌, subst, arith}
+use Rattle.std.proofs.Common.{◌≡◌, Bool, ℕ, zero, suc, ◌-◌, ◌+◌, ◌<◌, ◌≤◌, true, false, List, [], ◌∷◌, ◌++◌, length, take, drop, get_or, set, Option, None, Some, refl, sym, ap, ◌∙◌, subst, arith}
 use Rattle.std.proofs.lemmas.List.{append_assoc, append-nil, take_more, take-append-drop, take-set-le, drop-set, length-set, length-take-le, length_push, drop_all, take_all}
 use Rattle.std.proofs.lemmas.List.Sums.{suffix_len-le-length, suffix_len-take_yes, suffix_len-take_no}
 use Rattle.std.specs.List.{suffix_len}
 use Rattle.shapers_buffer.specs.declared.buffer.glyph.hb_glyph_info_t.{hb_glyph_info_t}
 use Rattle.shapers_buffer.proofs.ListLaws.{none_from_count}
-use Rattle.shapers_text.specs.Thai.{is_sara_am, is_above_base, in_two, nikhahit, sara_aa, glyphs_in_two, rewritten}
-use Rattle.shapers_text.specs.ThaiWalk.{marks_of, IsUnwritten, Written, whole_of, becomes}
-use Rattle.shapers_text.proofs.ThaiInTwo.{in_two_plain, in_two_push, in_two_push_am, held_push_mark, lengths}
+use Rattle.shapers_text.specs.Thai.{is_sara_am, is_above_base, in_two, nikhahit, sara_aa, glyph_rule, glyphs_in_two}
+use Rattle.shapers_text.specs.ThaiWalk.{above_marks_before, IsUnwritten, Written, whole_of, text_to_write}
+use Rattle.shapers_text.proofs.ThaiInTwo.{in_two_plain, in_two_push, in_two_push_am, pending_push_mark, lengths}
+
+-- what is read at a place is there whatever stands for none
+pub read_there : (gs : List hb_glyph_info_t) (i : ℕ) (none : hb_glyph_info_t) → i < length gs → get_or gs i none ≡ get_or gs i (get_or gs i none)
+read_there [] i none h = absurd (omega arith)
+read_there (g ∷ gs) zero none h = refl
+read_there (g ∷ gs) (suc i) none h = read_there gs i none (omega arith)
 
 pub take_pushed : (gs : List hb_glyph_info_t) (e : ℕ) (g : hb_glyph_info_t) → 0 < e → e ≤ length gs → g ≡ get_or gs (e - 1) g → take e gs ≡ take (e - 1) gs ++ g ∷ []
 take_pushed gs e g some within at =
@@ -16,39 +22,39 @@ take_pushed gs e g some within at =
     ap (λ n. take n gs) (sym same) ∙ take_more gs (e - 1) g inside ∙ ap (λ x. take (e - 1) gs ++ x ∷ []) (sym at)
 
 -- what a text becomes is no shorter than it
-pub becomes_longer : (xs : List hb_glyph_info_t) (pending : Option hb_glyph_info_t) → length xs ≤ length (becomes xs pending)
-becomes_longer xs None = omega (arith, (lengths glyphs_in_two xs).whole)
-becomes_longer xs (Some nikhahit) = omega (arith, (lengths glyphs_in_two xs).pending nikhahit)
+pub to_write_longer : (xs : List hb_glyph_info_t) (pending : Option hb_glyph_info_t) → length xs ≤ length (text_to_write xs pending)
+to_write_longer xs None = omega (arith, (lengths glyph_rule xs).whole)
+to_write_longer xs (Some nikhahit) = omega (arith, (lengths glyph_rule xs).pending nikhahit)
 
 -- the mark that ends a text before some place
-pub last_mark : (gs : List hb_glyph_info_t) (end : ℕ) (g : hb_glyph_info_t) → 0 < marks_of gs end → end ≤ length gs → g ≡ get_or gs (end - 1) g → (is_above_base g.glyph_id ≡ true) × (marks_of gs end ≡ 1 + marks_of gs (end - 1))
+pub last_mark : (gs : List hb_glyph_info_t) (end : ℕ) (g : hb_glyph_info_t) → 0 < above_marks_before gs end → end ≤ length gs → g ≡ get_or gs (end - 1) g → (is_above_base g.glyph_id ≡ true) × (above_marks_before gs end ≡ 1 + above_marks_before gs (end - 1))
 last_mark gs end g some within at =
     let test : hb_glyph_info_t → Bool = λ x. is_above_base x.glyph_id in
     let inside : 0 < end = omega (arith, suffix_len-le-length test (take end gs), length-take-le end gs within) in
     let same : test g ≡ test (get_or gs (end - 1) g) = ap test at in
-    elim (test g) as (λ b. test g ≡ b → (b ≡ true) × (marks_of gs end ≡ 1 + marks_of gs (end - 1))) [
+    elim (test g) as (λ b. test g ≡ b → (b ≡ true) × (above_marks_before gs end ≡ 1 + above_marks_before gs (end - 1))) [
       | true ↦ λ e. (refl, suffix_len-take_yes test gs end g inside within (sym same ∙ e))
       | false ↦ λ e. absurd (omega (arith, suffix_len-take_no test gs end g inside within (sym same ∙ e)))
     ] refl
 
 -- no mark ends the text: a NIKHAHIT stands at its end
-pub becomes_bare : (gs : List hb_glyph_info_t) (end : ℕ) (nikhahit : hb_glyph_info_t) → marks_of gs end ≡ 0 → becomes (take end gs) (Some nikhahit) ≡ becomes (take end gs) None ++ nikhahit ∷ []
-becomes_bare gs end nikhahit none =
+pub to_write_bare : (gs : List hb_glyph_info_t) (end : ℕ) (nikhahit : hb_glyph_info_t) → above_marks_before gs end ≡ 0 → text_to_write (take end gs) (Some nikhahit) ≡ text_to_write (take end gs) None ++ nikhahit ∷ []
+to_write_bare gs end nikhahit none =
     let xs = take end gs in
-    let all : length xs - marks_of gs end ≡ length xs = omega arith in
-    ap (λ n. in_two glyphs_in_two (take n xs) ++ nikhahit ∷ drop n xs) all
-    ∙ ap (λ ys. in_two glyphs_in_two ys ++ nikhahit ∷ drop (length xs) xs) (take_all (length xs) xs (omega arith))
-    ∙ ap (λ ys. in_two glyphs_in_two xs ++ nikhahit ∷ ys) (drop_all (length xs) xs (omega arith))
+    let all : length xs - above_marks_before gs end ≡ length xs = omega arith in
+    ap (λ n. in_two glyph_rule (take n xs) ++ nikhahit ∷ drop n xs) all
+    ∙ ap (λ ys. in_two glyph_rule ys ++ nikhahit ∷ drop (length xs) xs) (take_all (length xs) xs (omega arith))
+    ∙ ap (λ ys. in_two glyph_rule xs ++ nikhahit ∷ ys) (drop_all (length xs) xs (omega arith))
 
 -- one more glyph written
-pub written_next : (whole gs : List hb_glyph_info_t) (end : ℕ) (pending : Option hb_glyph_info_t) (place end' : ℕ) (pending' : Option hb_glyph_info_t) (g : hb_glyph_info_t) → Written whole gs end pending place → becomes (take end gs) pending ≡ becomes (take end' gs) pending' ++ g ∷ [] → end' ≤ end → Written whole (set gs (place - 1) g) end' pending' (place - 1)
+pub written_next : (whole gs : List hb_glyph_info_t) (end : ℕ) (pending : Option hb_glyph_info_t) (place end' : ℕ) (pending' : Option hb_glyph_info_t) (g : hb_glyph_info_t) → Written whole gs end pending place → text_to_write (take end gs) pending ≡ text_to_write (take end' gs) pending' ++ g ∷ [] → end' ≤ end → Written whole (set gs (place - 1) g) end' pending' (place - 1)
 written_next whole gs end pending place end' pending' g w last shorter =
-    let after = becomes (take end' gs) pending' in
+    let after = text_to_write (take end' gs) pending' in
     let behind = g ∷ drop place gs in
     let count : length after + 1 ≡ place = sym (length_push after g) ∙ sym (ap length last) ∙ w.left.room in
     let within : end' ≤ length gs = omega (arith, w.left.ahead, w.left.within) in
     let front : length (take end' gs) ≡ end' = length-take-le end' gs within in
-    let longer = becomes_longer (take end' gs) pending' in
+    let longer = to_write_longer (take end' gs) pending' in
     let before : end' ≤ place - 1 = omega arith in
     let inside : place - 1 < length gs = omega (arith, w.left.within) in
     let next : place - 1 + 1 ≡ place = omega arith in
@@ -56,12 +62,12 @@ written_next whole gs end pending place end' pending' g w last shorter =
     let written : drop (place - 1) (set gs (place - 1) g) ≡ behind = drop-set gs (place - 1) g inside ∙ ap (λ n. g ∷ drop n gs) next in
     record {
       left = record {
-        room = ap (λ xs. length (becomes xs pending')) kept ∙ omega arith;
+        room = ap (λ xs. length (text_to_write xs pending')) kept ∙ omega arith;
         ahead = before;
         within = omega (arith, length-set gs (place - 1) g);
       };
       joined =
-          ap (λ xs. becomes xs pending' ++ drop (place - 1) (set gs (place - 1) g)) kept
+          ap (λ xs. text_to_write xs pending' ++ drop (place - 1) (set gs (place - 1) g)) kept
           ∙ ap (λ xs. after ++ xs) written
           ∙ sym (append_assoc after (g ∷ []) (drop place gs))
           ∙ ap (λ xs. xs ++ drop place gs) (sym last)
@@ -69,31 +75,31 @@ written_next whole gs end pending place end' pending' g w last shorter =
     }
 
 -- where a NIKHAHIT is pending, a place is left for it
-pub some_place_held : (gs : List hb_glyph_info_t) (end place : ℕ) (nikhahit : hb_glyph_info_t) → IsUnwritten gs end (Some nikhahit) place → end < place
-some_place_held gs end place nikhahit u =
-    omega (arith, u.room, u.ahead, u.within, (lengths glyphs_in_two (take end gs)).pending nikhahit, length-take-le end gs (omega (arith, u.ahead, u.within)))
+pub some_place_pending : (gs : List hb_glyph_info_t) (end place : ℕ) (nikhahit : hb_glyph_info_t) → IsUnwritten gs end (Some nikhahit) place → end < place
+some_place_pending gs end place nikhahit u =
+    omega (arith, u.room, u.ahead, u.within, (lengths glyph_rule (take end gs)).pending nikhahit, length-take-le end gs (omega (arith, u.ahead, u.within)))
 
 -- the last glyph is another than SARA AM
 pub written_other : (gs : List hb_glyph_info_t) (end place : ℕ) (g : hb_glyph_info_t) → 0 < end → IsUnwritten gs end None place → g ≡ get_or gs (end - 1) g → is_sara_am g.glyph_id ≡ false → Written (whole_of gs end None place) (set gs (place - 1) g) (end - 1) None (place - 1)
 written_other gs end place g some u at fails =
     let within : end ≤ length gs = omega (arith, u.ahead, u.within) in
-    written_next _ gs end None place (end - 1) None g (record { left = u; joined = refl }) (ap (λ xs. becomes xs None) (take_pushed gs end g some within at) ∙ in_two_push glyphs_in_two (take (end - 1) gs) g fails) (omega arith)
+    written_next _ gs end None place (end - 1) None g (record { left = u; joined = refl }) (ap (λ xs. text_to_write xs None) (take_pushed gs end g some within at) ∙ in_two_push glyph_rule (take (end - 1) gs) g fails) (omega arith)
 
 -- it is a SARA AM: its SARA AA is written, and a NIKHAHIT pending
 pub written_am : (gs now : List hb_glyph_info_t) (end place : ℕ) (g first second : hb_glyph_info_t) → 0 < end → IsUnwritten gs end None place → g ≡ get_or gs (end - 1) g → is_sara_am g.glyph_id ≡ true → first ≡ nikhahit g → second ≡ sara_aa g → now ≡ set gs (place - 1) second → Written (whole_of gs end None place) now (end - 1) (Some first) (place - 1)
 written_am gs now end place g first second some u at passes is_first is_second changed =
     let within : end ≤ length gs = omega (arith, u.ahead, u.within) in
-    let last : becomes (take end gs) None ≡ becomes (take (end - 1) gs) (Some first) ++ second ∷ [] =
-    ap (λ xs. becomes xs None) (take_pushed gs end g some within at)
-    ∙ in_two_push_am glyphs_in_two (take (end - 1) gs) g passes
-    ∙ ap (λ n. becomes (take (end - 1) gs) (Some n) ++ sara_aa g ∷ []) (sym is_first)
-    ∙ ap (λ n. becomes (take (end - 1) gs) (Some first) ++ n ∷ []) (sym is_second) in
+    let last : text_to_write (take end gs) None ≡ text_to_write (take (end - 1) gs) (Some first) ++ second ∷ [] =
+    ap (λ xs. text_to_write xs None) (take_pushed gs end g some within at)
+    ∙ in_two_push_am glyph_rule (take (end - 1) gs) g passes
+    ∙ ap (λ n. text_to_write (take (end - 1) gs) (Some n) ++ sara_aa g ∷ []) (sym is_first)
+    ∙ ap (λ n. text_to_write (take (end - 1) gs) (Some first) ++ n ∷ []) (sym is_second) in
     subst (λ xs. Written (whole_of gs end None place) xs (end - 1) (Some first) (place - 1)) (sym changed) (written_next _ gs end None place (end - 1) (Some first) second (record { left = u; joined = refl }) last (omega arith))
 
 -- the walk over the marks of a SARA AM: so many are left
 pub record MarksLeft (whole gs : List hb_glyph_info_t) (end place marks : ℕ) (nikhahit : hb_glyph_info_t) : Type 0 where
   pub written : Written whole gs end (Some nikhahit) place
-  pub left : marks ≡ marks_of gs end
+  pub left : marks ≡ above_marks_before gs end
 
 -- while marks are left, there is text before, and reading stays ahead
 pub record MarksFit (gs : List hb_glyph_info_t) (end place marks : ℕ) : Type 0 where
@@ -106,7 +112,7 @@ marks_fit whole gs end place marks nikhahit m =
     let u = m.written.left in
     record {
       few = omega (arith, m.left, suffix_len-le-length (λ (x : hb_glyph_info_t). is_above_base x.glyph_id) (take end gs), length-take-le end gs (omega (arith, u.ahead, u.within)));
-      ahead = some_place_held gs end place nikhahit u;
+      ahead = some_place_pending gs end place nikhahit u;
       within = u.within;
     }
 
@@ -116,15 +122,15 @@ marks_next whole gs end place marks nikhahit g some m at =
     let within : end ≤ length gs = omega (arith, w.left.ahead, w.left.within) in
     let (mark, count) = last_mark gs end g (omega (arith, m.left)) within at in
     let inside : 0 < end = omega (arith, m.left, suffix_len-le-length (λ (x : hb_glyph_info_t). is_above_base x.glyph_id) (take end gs), length-take-le end gs within) in
-    let ahead = some_place_held gs end place nikhahit w.left in
+    let ahead = some_place_pending gs end place nikhahit w.left in
     record {
-      written = written_next whole gs end (Some nikhahit) place (end - 1) (Some nikhahit) g w (ap (λ xs. becomes xs (Some nikhahit)) (take_pushed gs end g inside within at) ∙ held_push_mark glyphs_in_two (take (end - 1) gs) g nikhahit mark) (omega arith);
+      written = written_next whole gs end (Some nikhahit) place (end - 1) (Some nikhahit) g w (ap (λ xs. text_to_write xs (Some nikhahit)) (take_pushed gs end g inside within at) ∙ pending_push_mark glyph_rule (take (end - 1) gs) g nikhahit mark) (omega arith);
       left = omega (arith, m.left, count, ap (suffix_len (λ (x : hb_glyph_info_t). is_above_base x.glyph_id)) (take-set-le (end - 1) gs (place - 1) g (omega arith)));
     }
 
 pub marks_done : (whole gs : List hb_glyph_info_t) (end place marks : ℕ) (nikhahit : hb_glyph_info_t) → marks ≡ 0 → MarksLeft whole gs end place marks nikhahit → Written whole (set gs (place - 1) nikhahit) end None (place - 1)
 marks_done whole gs end place marks nikhahit none m =
-    written_next whole gs end (Some nikhahit) place end None nikhahit m.written (becomes_bare gs end nikhahit (sym m.left ∙ none)) (omega arith)
+    written_next whole gs end (Some nikhahit) place end None nikhahit m.written (to_write_bare gs end nikhahit (sym m.left ∙ none)) (omega arith)
 
 -- where reading and writing meet all is written
 pub written_all : (whole gs : List hb_glyph_info_t) (end place : ℕ) → Written whole gs end None place → place ≤ end → gs ≡ whole
@@ -132,12 +138,12 @@ written_all whole gs end place w met =
     let within : end ≤ length gs = omega (arith, w.left.ahead, w.left.within) in
     let front : length (take end gs) ≡ end = length-take-le end gs within in
     let ends : place ≡ end = omega (arith, w.left.ahead) in
-    let same : becomes (take end gs) None ≡ take end gs =
-    in_two_plain glyphs_in_two (take end gs) (none_from_count (λ (g : hb_glyph_info_t). is_sara_am g.glyph_id) (take end gs) (omega (arith, w.left.room, (lengths glyphs_in_two (take end gs)).whole))) in
-    sym (take-append-drop end gs) ∙ ap (λ xs. xs ++ drop end gs) (sym same) ∙ ap (λ n. becomes (take end gs) None ++ drop n gs) (sym ends) ∙ w.joined
+    let same : text_to_write (take end gs) None ≡ take end gs =
+    in_two_plain glyph_rule (take end gs) (none_from_count (λ (g : hb_glyph_info_t). is_sara_am g.glyph_id) (take end gs) (omega (arith, w.left.room, (lengths glyph_rule (take end gs)).whole))) in
+    sym (take-append-drop end gs) ∙ ap (λ xs. xs ++ drop end gs) (sym same) ∙ ap (λ n. text_to_write (take end gs) None ++ drop n gs) (sym ends) ∙ w.joined
 
-pub written_none : (gs : List hb_glyph_info_t) (len : ℕ) → len ≤ length gs → length gs ≡ length (rewritten (take len gs)) → Written (rewritten (take len gs)) gs len None (length gs)
+pub written_none : (gs : List hb_glyph_info_t) (len : ℕ) → len ≤ length gs → length gs ≡ length (glyphs_in_two (take len gs)) → Written (glyphs_in_two (take len gs)) gs len None (length gs)
 written_none gs len within room = record {
   left = record { room = sym room; ahead = within; within = omega arith };
-  joined = ap (λ xs. rewritten (take len gs) ++ xs) (drop_all (length gs) gs (omega arith)) ∙ append-nil _;
+  joined = ap (λ xs. glyphs_in_two (take len gs) ++ xs) (drop_all (length gs) gs (omega arith)) ∙ append-nil _;
 }

@@ -3,7 +3,7 @@ use Rattle.std.proofs.Common.{◌≡◌, ℕ, ◌-◌, ◌+◌, ◌<◌, ◌≤�
 use Rattle.std.specs.List.{list_any, count_by, suffix_len, AllByRecursion, take-map}
 use Rattle.std.proofs.lemmas.List.Concat.{flat_map-append}
 use Rattle.std.proofs.lemmas.Bool.{or_parts}
-use Rattle.std.proofs.lemmas.List.{append-nil, take-take, take_more, length-take-le, length-map, get_or-map, get_or-take, take_at, length-replicate}
+use Rattle.std.proofs.lemmas.List.{append-nil, take-take, take_more, length-take-le, length-map, get_or-take, take_at, length-replicate}
 use Rattle.std.proofs.lemmas.List.Sums.{sum_by-cons}
 use Rattle.shapers_buffer.specs.declared.buffer.glyph.hb_glyph_info_t.{hb_glyph_info_t}
 use Rattle.shapers_buffer.specs.declared.buffer.level.BufferClusterLevel.{BufferClusterLevel}
@@ -16,9 +16,9 @@ use Rattle.shapers_buffer.proofs.MappedLists.{all-flat_map, all-each_after, each
 use Rattle.shapers_buffer.proofs.ListLaws.{none_from_count}
 use Rattle.shapers_clusters.proofs.Merging.{length-merge_all, merge_all-append, map-merge_all}
 use Rattle.shapers_clusters.proofs.Appended.{merge_all-appended}
-use Rattle.shapers_text.specs.Thai.{characters, is_sara_am, is_above_base, glyphs_in_two, rewritten, stretch_of_sara_am, stretches_at, stretches_of_each, sara_am_stretches, joins_before}
-use Rattle.shapers_text.specs.ThaiWalk.{marks_of}
-use Rattle.shapers_text.proofs.ThaiInTwo.{in_two_plain, lengths, marks_of-characters}
+use Rattle.shapers_text.specs.Thai.{characters, is_sara_am, is_above_base, glyph_rule, glyphs_in_two, stretch_of_sara_am, stretches_at, stretches_of_each, sara_am_stretches, joins_before}
+use Rattle.shapers_text.specs.ThaiWalk.{above_marks_before, merged_front, HasRoom}
+use Rattle.shapers_text.proofs.ThaiInTwo.{in_two_plain, lengths, above_marks_before-characters}
 
 -- merging leaves the characters
 pub characters-merge_all : (level : BufferClusterLevel) (sts : List (ℕ × ℕ)) (gs : List hb_glyph_info_t) → characters (merge_all level sts gs) ≡ characters gs
@@ -71,24 +71,25 @@ pub record Merging (level : BufferClusterLevel) (start now : List hb_glyph_info_
   pub same_characters : characters now ≡ characters start
   pub merged : now ≡ merge_all level (sara_am_stretches level (take i (take len (characters start)))) start
 
-pub merging_next : (level : BufferClusterLevel) (start now : List hb_glyph_info_t) (len i : ℕ) (g : hb_glyph_info_t) (after : List hb_glyph_info_t) → len ≤ length start → i < len → Merging level start now len i → g ≡ get_or now i g → after ≡ merge_all level (stretches_at level i g.glyph_id (marks_of now i)) now → Merging level start after len (i + 1)
-merging_next level start now len i g after within inside m at changed =
+pub merging_length : (level : BufferClusterLevel) (start now : List hb_glyph_info_t) (len i : ℕ) → Merging level start now len i → length now ≡ length start
+merging_length level start now len i m = sym (length-map now (λ x. x.glyph_id)) ∙ ap length m.same_characters ∙ length-map start (λ x. x.glyph_id)
+
+pub merging_next : (level : BufferClusterLevel) (start now : List hb_glyph_info_t) (len i c : ℕ) (after : List hb_glyph_info_t) → len ≤ length start → i < len → Merging level start now len i → c ≡ get_or (characters now) i 0 → after ≡ merge_all level (stretches_at level i c (above_marks_before now i)) now → Merging level start after len (i + 1)
+merging_next level start now len i c after within inside m at changed =
     let us = characters start in
     let all = take len us in
     let xs = take i all in
     let u = slice_index all i in
     let here = stretches_at level (length xs) u (suffix_len is_above_base xs) in
     let many : length us ≡ length start = length-map start (λ x. x.glyph_id) in
-    let as_long : length now ≡ length start = sym (length-map now (λ x. x.glyph_id)) ∙ ap length m.same_characters ∙ many in
     let some : i < length all = omega (arith, length-take-le len us (omega arith)) in
     let place : i ≡ length xs = sym (length-take-le i all (omega arith)) in
-    let read : g.glyph_id ≡ u =
-    ap (λ x. x.glyph_id) at ∙ sym (get_or-map (λ x. x.glyph_id) now i g 0 (omega arith)) ∙ ap (λ vs. get_or vs i 0) m.same_characters ∙ sym (get_or-take len us i 0 inside) in
-    let marks : marks_of now i ≡ suffix_len is_above_base xs =
-    marks_of-characters now i ∙ ap (λ vs. suffix_len is_above_base (take i vs)) m.same_characters ∙ ap (suffix_len is_above_base) (sym (take-take i len us (omega arith))) in
+    let read : c ≡ u = at ∙ ap (λ vs. get_or vs i 0) m.same_characters ∙ sym (get_or-take len us i 0 inside) in
+    let marks : above_marks_before now i ≡ suffix_len is_above_base xs =
+    above_marks_before-characters now i ∙ ap (λ vs. suffix_len is_above_base (take i vs)) m.same_characters ∙ ap (suffix_len is_above_base) (sym (take-take i len us (omega arith))) in
     let is : after ≡ merge_all level here now =
     changed
-    ∙ ap (λ v. merge_all level (stretches_at level i v (marks_of now i)) now) read
+    ∙ ap (λ v. merge_all level (stretches_at level i v (above_marks_before now i)) now) read
     ∙ ap (λ w. merge_all level (stretches_at level i u w) now) marks
     ∙ ap (λ n. merge_all level (stretches_at level n u (suffix_len is_above_base xs)) now) place in
     record {
@@ -107,71 +108,61 @@ merged_grown level gs n =
     ap (λ us. merge_all level (sara_am_stretches level us) (gs ++ replicate n default_glyph)) (take-map (λ g. g.glyph_id) (length gs) (gs ++ replicate n default_glyph) ∙ ap characters (take_at gs (replicate n default_glyph) (length gs) refl))
     ∙ merge_all-appended level n (sara_am_stretches level (characters gs)) gs (stretches_within level gs)
 
--- a buffer with other glyphs; it keeps its fields from step to step
-abbrev pub with_glyphs : Buffer → List hb_glyph_info_t → Buffer
-with_glyphs b gs = record b { glyphs = gs }
-
-pub same_fields : (start mid now : Buffer) (gs : List hb_glyph_info_t) → mid ≡ with_glyphs start mid.glyphs → now ≡ with_glyphs mid gs → now ≡ with_glyphs start now.glyphs
-same_fields start mid now gs kept changed =
-    changed ∙ ap (λ (b : Buffer). with_glyphs b gs) kept ∙ ap (with_glyphs start) (sym (ap (λ (b : Buffer). b.glyphs) changed))
-
-pub merging_step : (start mid now : Buffer) (len i : ℕ) (g : hb_glyph_info_t) → len ≤ length start.glyphs → i < len → Merging start.level start.glyphs mid.glyphs len i → mid ≡ with_glyphs start mid.glyphs → g ≡ get_or mid.glyphs i g → now ≡ with_glyphs mid (merge_all mid.level (stretches_at mid.level i g.glyph_id (marks_of mid.glyphs i)) mid.glyphs) → Merging start.level start.glyphs now.glyphs len (i + 1)
-merging_step start mid now len i g within inside m kept at changed =
-    merging_next start.level start.glyphs mid.glyphs len i g now.glyphs within inside m at
-    (ap (λ (b : Buffer). b.glyphs) changed ∙ ap (λ (b : Buffer). merge_all b.level (stretches_at b.level i g.glyph_id (marks_of mid.glyphs i)) mid.glyphs) kept)
-
 -- the text without SARA AM stays, and is as long
-pub unchanged : (level : BufferClusterLevel) (gs : List hb_glyph_info_t) → count_by (λ g. is_sara_am g.glyph_id) gs ≡ 0 → gs ≡ rewritten (merge_all level (sara_am_stretches level (characters gs)) gs)
+pub unchanged : (level : BufferClusterLevel) (gs : List hb_glyph_info_t) → count_by (λ g. is_sara_am g.glyph_id) gs ≡ 0 → gs ≡ glyphs_in_two (merge_all level (sara_am_stretches level (characters gs)) gs)
 unchanged level gs count =
     let none = none_from_count (λ g. is_sara_am g.glyph_id) gs count in
-    sym (ap (λ sts. rewritten (merge_all level sts gs)) (stretches_none_after level [] (characters gs) (list_any-map is_sara_am (λ g. g.glyph_id) gs ∙ none)) ∙ in_two_plain glyphs_in_two gs none)
+    sym (ap (λ sts. glyphs_in_two (merge_all level sts gs)) (stretches_none_after level [] (characters gs) (list_any-map is_sara_am (λ g. g.glyph_id) gs ∙ none)) ∙ in_two_plain glyph_rule gs none)
 
-pub length-rewritten : (gs : List hb_glyph_info_t) → length (rewritten gs) ≡ length gs + count_by (λ g. is_sara_am g.glyph_id) gs
-length-rewritten gs = (lengths glyphs_in_two gs).whole
+pub length-glyphs_in_two : (gs : List hb_glyph_info_t) → length (glyphs_in_two gs) ≡ length gs + count_by (λ g. is_sara_am g.glyph_id) gs
+length-glyphs_in_two gs = (lengths glyph_rule gs).whole
 
--- the grown and merged list: the merged text in front, and just the room that is wanted
-pub record Room (level : BufferClusterLevel) (gs now : List hb_glyph_info_t) (len : ℕ) : Type 0 where
-  pub in_range : len ≤ length now
-  pub room : length now ≡ length (rewritten (take len now))
-  pub front : take len now ≡ merge_all level (sara_am_stretches level (characters gs)) gs
+-- the grown text has just the room that is wanted
+pub room_made : (gs : List hb_glyph_info_t) (n len : ℕ) → len ≡ length gs → n ≡ count_by (λ g. is_sara_am g.glyph_id) gs → HasRoom len (gs ++ replicate n default_glyph)
+room_made gs n len long counted =
+    let rest = replicate n default_glyph in
+    let front : take len (gs ++ rest) ≡ gs = take_at gs rest len (sym long) in
+    (omega (arith, length-append gs rest), omega (arith, ap (λ xs. length (glyphs_in_two xs)) front, length-glyphs_in_two gs, length-append gs rest, length-replicate n default_glyph))
 
-pub make_room : (level : BufferClusterLevel) (gs now : List hb_glyph_info_t) (n len : ℕ) → len ≡ length gs → n ≡ count_by (λ g. is_sara_am g.glyph_id) gs → now ≡ merge_all level (sara_am_stretches level (take len (characters (gs ++ replicate n default_glyph)))) (gs ++ replicate n default_glyph) → Room level gs now len
-make_room level gs now n len long counted is =
+-- merging leaves the room
+characters-front : (level : BufferClusterLevel) (len : ℕ) (gs : List hb_glyph_info_t) → characters (take len (merged_front level len gs)) ≡ characters (take len gs)
+characters-front level len gs =
+    sym (take-map (λ g. g.glyph_id) len (merged_front level len gs))
+    ∙ ap (take len) (characters-merge_all level (sara_am_stretches level (take len (characters gs))) gs)
+    ∙ take-map (λ g. g.glyph_id) len gs
+
+pub room_stays : (level : BufferClusterLevel) (len : ℕ) (gs : List hb_glyph_info_t) → HasRoom len gs → HasRoom len (merged_front level len gs)
+room_stays level len gs room =
+    let now = merged_front level len gs in
+    let long : length now ≡ length gs =
+    sym (length-map now (λ g. g.glyph_id)) ∙ ap length (characters-merge_all level (sara_am_stretches level (take len (characters gs))) gs) ∙ length-map gs (λ g. g.glyph_id) in
+    let same = characters-front level len gs in
+    let count : count_by (λ g. is_sara_am g.glyph_id) (take len now) ≡ count_by (λ g. is_sara_am g.glyph_id) (take len gs) =
+    count-characters (take len now) ∙ ap (count_by is_sara_am) same ∙ sym (count-characters (take len gs)) in
+    (omega (arith, room.0), omega (arith, room.1, length-glyphs_in_two (take len now), length-glyphs_in_two (take len gs), length-take-le len now (omega (arith, room.0)), length-take-le len gs room.0))
+
+-- the front of the grown and merged text is the merged text
+pub front_merged : (level : BufferClusterLevel) (gs : List hb_glyph_info_t) (n len : ℕ) → len ≡ length gs → take len (merged_front level len (gs ++ replicate n default_glyph)) ≡ merge_all level (sara_am_stretches level (characters gs)) gs
+front_merged level gs n len long =
     let merged = merge_all level (sara_am_stretches level (characters gs)) gs in
     let rest = replicate n default_glyph in
-    let grown : now ≡ merged ++ rest = is ∙ ap (λ k. merge_all level (sara_am_stretches level (take k (characters (gs ++ rest)))) (gs ++ rest)) long ∙ merged_grown level gs n in
     let as_long : length merged ≡ len = length-merge_all level (sara_am_stretches level (characters gs)) gs (stretches_within level gs) ∙ sym long in
-    let front : take len now ≡ merged = ap (take len) grown ∙ take_at merged rest len as_long in
-    let total : length now ≡ len + n = omega (arith, ap length grown, length-append merged rest, length-replicate n default_glyph) in
-    record {
-      in_range = omega arith;
-      room = omega (arith, ap (λ xs. length (rewritten xs)) front, length-rewritten merged, count-merge_all level (sara_am_stretches level (characters gs)) gs);
-      front = front;
-    }
+    ap (λ k. take len (merged_front level k (gs ++ rest))) long
+    ∙ ap (take len) (merged_grown level gs n)
+    ∙ take_at merged rest len as_long
 
--- the buffer after the growth and the merges, and after the writing
+-- the buffer after the growth and the walk
 more_none : (n : ℕ) (ps : List GlyphPosition) → ps ≡ [] → more_positions n ps ≡ ps
 more_none n ps none = ap (more_positions n) none ∙ sym none
 
-abbrev merged_buffer : ℕ → Buffer → Buffer
-merged_buffer len b = record b { glyphs = merge_all b.level (sara_am_stretches b.level (take len (characters b.glyphs))) b.glyphs }
-
-abbrev moved_positions : ℕ → ℕ → Buffer → List GlyphPosition → Buffer
-moved_positions n len b ps = record b { glyphs = merge_all b.level (sara_am_stretches b.level (take len (characters (b.glyphs ++ replicate n default_glyph)))) (b.glyphs ++ replicate n default_glyph); positions = ps }
-
-grown_merged : (old mid now : Buffer) (n len : ℕ) → old.positions ≡ [] → mid ≡ grown n old → now ≡ merged_buffer len mid → now ≡ moved_positions n len old old.positions
-grown_merged old mid now n len none grew merged =
-    merged ∙ ap (merged_buffer len) grew ∙ ap (moved_positions n len old) (more_none n old.positions none)
-
-abbrev written_buffer : ℕ → Buffer → Buffer
-written_buffer len b = record b { glyphs = rewritten (take len b.glyphs) }
-
-pub room_made : (old mid now : Buffer) (n len : ℕ) → old.positions ≡ [] → len ≡ length old.glyphs → n ≡ count_by (λ g. is_sara_am g.glyph_id) old.glyphs → mid ≡ grown n old → now ≡ merged_buffer len mid → Room old.level old.glyphs now.glyphs len
-room_made old mid now n len none long counted grew merged =
-    make_room old.level old.glyphs now.glyphs n len long counted (ap (λ (b : Buffer). b.glyphs) (grown_merged old mid now n len none grew merged))
-
-pub all_written : (old mid now end : Buffer) (n len : ℕ) → old.positions ≡ [] → len ≡ length old.glyphs → n ≡ count_by (λ g. is_sara_am g.glyph_id) old.glyphs → mid ≡ grown n old → now ≡ merged_buffer len mid → end ≡ written_buffer len now → end ≡ with_glyphs old (rewritten (merge_all old.level (sara_am_stretches old.level (characters old.glyphs)) old.glyphs))
-all_written old mid now end n len none long counted grew merged written =
+pub all_written : (old mid now : Buffer) (n len : ℕ) → old.positions ≡ [] → len ≡ length old.glyphs → mid ≡ grown n old → now.glyphs ≡ glyphs_in_two (take len (merged_front mid.level len mid.glyphs)) → now ≡ record mid { glyphs = now.glyphs } → now ≡ record old { glyphs = glyphs_in_two (merge_all old.level (sara_am_stretches old.level (characters old.glyphs)) old.glyphs) }
+all_written old mid now n len none long grew written others =
+    let whole = glyphs_in_two (merge_all old.level (sara_am_stretches old.level (characters old.glyphs)) old.glyphs) in
+    let glyphs_are : now.glyphs ≡ whole =
     written
-    ∙ ap (λ (b : Buffer). with_glyphs b (rewritten (take len now.glyphs))) (grown_merged old mid now n len none grew merged)
-    ∙ ap (λ xs. with_glyphs old (rewritten xs)) (room_made old mid now n len none long counted grew merged).front
+    ∙ ap (λ (b : Buffer). glyphs_in_two (take len (merged_front b.level len b.glyphs))) grew
+    ∙ ap glyphs_in_two (front_merged old.level old.glyphs n len long) in
+    others
+    ∙ ap (λ gs. let b : Buffer = record mid { glyphs = gs } in b) glyphs_are
+    ∙ ap (λ (m : Buffer). let b : Buffer = record m { glyphs = whole } in b) grew
+    ∙ ap (λ ps. let b : Buffer = record old { glyphs = whole; positions = ps } in b) (more_none n old.positions none)

@@ -8,7 +8,8 @@ use Rattle.shapers_clusters.specs.Flags.{whole}
 use Rattle.shapers_clusters.specs.Laws.{ReorderedHold}
 use Rattle.shapers_clusters.specs.Steps.{Step, still_step, swap_step}
 
--- the classes of patah and qamats, of sheva and hiriq, of meteg and marks below
+-- the classes of patah and qamats, of sheva and hiriq, of meteg and marks below (Unicode's canonical combining classes, as HarfBuzz
+-- orders those of Hebrew)
 abbrev pub is_patah_or_qamats : ℕ → Bool
 is_patah_or_qamats class = class == 20 || class == 21
 
@@ -23,7 +24,7 @@ abbrev pub opens_triple : List hb_glyph_info_t → Bool
 opens_triple (a ∷ (b ∷ (c ∷ gs))) = is_patah_or_qamats a.modified_combining_class && is_sheva_or_hiriq b.modified_combining_class && is_meteg_or_below c.modified_combining_class
 opens_triple _ = false
 
--- the first place at which three neighbours are such marks
+-- the first place at which three neighbours are such marks (HarfBuzz's order of Hebrew marks)
 abbrev pub triple_place : List hb_glyph_info_t → Option ℕ
 triple_place [] = None
 triple_place (g ∷ gs) = if opens_triple (g ∷ gs) then Some 0 else option_map suc (triple_place gs)
@@ -48,15 +49,15 @@ mark_step start end gs = step_at (length gs) (second_of_triple start end gs)
 abbrev pub MarksReordered : ℕ → ℕ → Buffer → Buffer → Type 0
 MarksReordered start end old new = ReorderedHold whole old.level (mark_step start end old.glyphs ∷ []) old.glyphs new.glyphs
 
--- a letter, a point, and the form that they compose to
+-- a letter, a point, and the form that they compose to (Unicode's presentation forms FB1D to FB4E)
 abbrev pub pairs : List (ℕ × ℕ × ℕ)
 pairs = (0x05D9, 0x05B4, 0xFB1D) ∷ (0x05F2, 0x05B7, 0xFB1F) ∷ (0x05D0, 0x05B7, 0xFB2E) ∷ (0x05D0, 0x05B8, 0xFB2F) ∷ (0x05D5, 0x05B9, 0xFB4B) ∷ (0x05D1, 0x05BF, 0xFB4C) ∷ (0x05DB, 0x05BF, 0xFB4D) ∷ (0x05E4, 0x05BF, 0xFB4E) ∷ (0x05E9, 0x05C1, 0xFB2A) ∷ (0xFB49, 0x05C1, 0xFB2C) ∷ (0x05E9, 0x05C2, 0xFB2B) ∷ (0xFB49, 0x05C2, 0xFB2D) ∷ (0xFB2A, 0x05BC, 0xFB2C) ∷ (0xFB2B, 0x05BC, 0xFB2D) ∷ []
 
--- the letters that have no form with dagesh: het, final mem, final nun, ayin and final tsadi
+-- the letters that have no form with dagesh in Unicode: het, final mem, final nun, ayin and final tsadi
 abbrev pub lacks_dagesh : ℕ → Bool
 lacks_dagesh a = a == 0x05D7 || a == 0x05DD || a == 0x05DF || a == 0x05E2 || a == 0x05E5
 
--- whether a letter and dagesh stand in the row of forms that begins at FB30 with alef
+-- whether a letter and dagesh stand in the row of forms that begins at FB30 with alef (Unicode)
 abbrev pub is_in_dagesh_row : ℕ → ℕ → Bool
 is_in_dagesh_row a b = b == 0x05BC && (nat_le 0x05D0 a && nat_le a 0x05EA) && not (lacks_dagesh a)
 

@@ -10,71 +10,73 @@ use Rattle.shapers_buffer.specs.declared.buffer.tag.Script.{Script}
 use Rattle.shapers_buffer.specs.Marks.{CONTINUATION, with_mark}
 use Rattle.shapers_buffer.specs.Lists.{last_run, before_last_run, each_after, opened_pieces}
 
--- SARA AM, of Thai and of Lao
+-- SARA AM, of Thai and of Lao (Unicode: 0E33 and 0EB3)
 abbrev pub is_sara_am : ℕ → Bool
 is_sara_am u = u == 0x0E33 || u == 0x0EB3
 
--- an above-base mark of Thai: MAI HAN-AKAT, SARA I to SARA UEE, 0E3B, MAITAIKHU to YAMAKKAN
+-- an above-base mark of Thai: MAI HAN-AKAT, SARA I to SARA UEE, 0E3B, MAITAIKHU to YAMAKKAN (OpenType's note on Thai; 0E3B, free in
+-- Unicode, stands for Lao's MAI KON)
 abbrev pub is_thai_above_base : ℕ → Bool
 is_thai_above_base u = u == 0x0E31 || (nat_le 0x0E34 u && nat_le u 0x0E37) || u == 0x0E3B || (nat_le 0x0E47 u && nat_le u 0x0E4E)
 
--- an above-base mark: one of Thai, once bit 0x80 is cleared, which leads from Lao to Thai
+-- an above-base mark: one of Thai, once bit 0x80 is cleared, which leads from Lao to Thai (the order of the two blocks in Unicode)
 abbrev pub is_above_base : ℕ → Bool
 is_above_base u = is_thai_above_base (bit_and u 0xFFFFFF7F)
 
--- NIKHAHIT and SARA AA out of SARA AM: NIKHAHIT is a continuation of category Mn
+-- NIKHAHIT and SARA AA out of SARA AM (Unicode's decomposition of 0E33 and 0EB3): NIKHAHIT is a continuation of category Mn
 abbrev pub nikhahit : hb_glyph_info_t → hb_glyph_info_t
 nikhahit am = record am { glyph_id = am.glyph_id + 0x1A; general_category = Mn; marks = with_mark CONTINUATION am.marks }
 
 abbrev pub sara_aa : hb_glyph_info_t → hb_glyph_info_t
 sara_aa am = record am { glyph_id = am.glyph_id - 1 }
 
--- what a text in two is made of: characters, and the NIKHAHIT and SARA AA of a SARA AM
-pub record InTwo (X : Type 0) : Type 0 where
+-- What the rule of SARA AM reads of the elements of a text, and makes of them: their character, and the NIKHAHIT and SARA AA of a
+-- SARA AM. So one rule serves glyphs, and characters with their places.
+pub record SaraAmRule (X : Type 0) : Type 0 where
   pub character : X → ℕ
   pub nikhahit : X → X
   pub sara_aa : X → X
 
 -- whether it is a SARA AM, whether an above-base mark
-abbrev pub is_am : {X : Type 0} → InTwo X → X → Bool
-is_am two = λ x. is_sara_am (two.character x)
+abbrev pub is_am : {X : Type 0} → SaraAmRule X → X → Bool
+is_am rule = λ x. is_sara_am (rule.character x)
 
-abbrev pub is_above : {X : Type 0} → InTwo X → X → Bool
-is_above two = λ x. is_above_base (two.character x)
+abbrev pub is_above : {X : Type 0} → SaraAmRule X → X → Bool
+is_above rule = λ x. is_above_base (rule.character x)
 
--- `.. W SARA_AM` as `.. NIKHAHIT W SARA_AA`, W the longest run of above-base marks there
-abbrev pub opened : {X : Type 0} → InTwo X → List X → X → List X
-opened two text am = before_last_run (is_above two) text ++ (two.nikhahit am ∷ (last_run (is_above two) text ++ two.sara_aa am ∷ []))
+-- `.. W SARA_AM` as `.. NIKHAHIT W SARA_AA`, W the longest run of above-base marks there (OpenType's notes on Thai and Lao)
+abbrev pub piece_in_two : {X : Type 0} → SaraAmRule X → List X → X → List X
+piece_in_two rule text am = before_last_run (is_above rule) text ++ (rule.nikhahit am ∷ (last_run (is_above rule) text ++ rule.sara_aa am ∷ []))
 
--- the text cut after each SARA AM, with each piece that ends with one opened
-abbrev pub in_two : {X : Type 0} → InTwo X → List X → List X
-in_two two text = opened_pieces (is_am two) (opened two) text
+-- the text cut after each SARA AM, with each piece that ends with one in two
+abbrev pub in_two : {X : Type 0} → SaraAmRule X → List X → List X
+in_two rule text = opened_pieces (is_am rule) (piece_in_two rule) text
 
 -- what comes of one element: of a SARA AM its two parts, of another itself
-abbrev pub in_parts : {X : Type 0} → InTwo X → X → List X
-in_parts two x = if is_am two x then two.nikhahit x ∷ (two.sara_aa x ∷ []) else x ∷ []
+abbrev pub in_parts : {X : Type 0} → SaraAmRule X → X → List X
+in_parts rule x = if is_am rule x then rule.nikhahit x ∷ (rule.sara_aa x ∷ []) else x ∷ []
 
 -- the rule on glyphs
-abbrev pub glyphs_in_two : InTwo hb_glyph_info_t
-glyphs_in_two = record { character = λ g. g.glyph_id; nikhahit = nikhahit; sara_aa = sara_aa }
+abbrev pub glyph_rule : SaraAmRule hb_glyph_info_t
+glyph_rule = record { character = λ g. g.glyph_id; nikhahit = nikhahit; sara_aa = sara_aa }
 
 -- the glyphs with each SARA AM in two
-abbrev pub rewritten : List hb_glyph_info_t → List hb_glyph_info_t
-rewritten gs = in_two glyphs_in_two gs
+abbrev pub glyphs_in_two : List hb_glyph_info_t → List hb_glyph_info_t
+glyphs_in_two gs = in_two glyph_rule gs
 
 -- the characters of glyphs
 abbrev pub characters : List hb_glyph_info_t → List ℕ
 characters gs = map (λ g. g.glyph_id) gs
 
 -- the rule on characters with their places: both parts of a SARA AM keep its place
-abbrev pub places_in_two : InTwo (ℕ × ℕ)
-places_in_two = record { character = λ p. p.1; nikhahit = λ p. (p.0, p.1 + 0x1A); sara_aa = λ p. (p.0, p.1 - 1) }
+abbrev pub place_rule : SaraAmRule (ℕ × ℕ)
+place_rule = record { character = λ p. p.1; nikhahit = λ p. (p.0, p.1 + 0x1A); sara_aa = λ p. (p.0, p.1 - 1) }
 
 -- for each glyph of the result the old place that it copies
 abbrev pub sources : List ℕ → List ℕ
-sources us = map (λ p. p.0) (in_two places_in_two (enumerate_from 0 us))
+sources us = map (λ p. p.0) (in_two place_rule (enumerate_from 0 us))
 
--- whether a SARA AM without marks joins the glyph before it
+-- whether a SARA AM without marks joins the glyph before it: where clusters are whole graphemes (Unicode's UAX 29: SARA AM is a spacing mark)
 abbrev pub joins_before : BufferClusterLevel → Bool
 joins_before MonotoneGraphemes = true
 joins_before MonotoneCharacters = false

@@ -1,4 +1,4 @@
--- The private use forms of Thai.
+-- The private use forms of Thai, by the note on Thai OpenType shaping (the Thai note).
 use Rattle.std.specs.Prelude.{ℕ, ◌-◌, Bool, ◌||◌, ◌&&◌, ◌==◌, nat_le, true, false, List, [], ◌∷◌, ◌++◌, length, reverse, map, flat_map, take_while, count_by, find, zip, Option, None, Some, if◌then◌else◌}
 use Rattle.std.specs.List.{list_any, suffix_len}
 use Rattle.shapers_buffer.specs.declared.buffer.glyph.hb_glyph_info_t.{hb_glyph_info_t}
@@ -9,7 +9,7 @@ use Rattle.shapers_base.specs.Font.{Font, has_nominal}
 use Rattle.shapers_buffer.specs.Clusters.{merge_all}
 use Rattle.shapers_buffer.specs.GlyphFlags.{unsafe_all}
 use Rattle.shapers_buffer.specs.Lists.{last_run, before_last_run, each_after}
-use Rattle.shapers_text.specs.Thai.{characters, rewritten, sara_am_stretches, wants_forms}
+use Rattle.shapers_text.specs.Thai.{characters, glyphs_in_two, sara_am_stretches, wants_forms}
 use Rattle.shapers_text.specs.declared.ot_shaper_thai.forms.Consonant.{Consonant}
 use Rattle.shapers_text.specs.declared.ot_shaper_thai.forms.Consonant.TheVariants.{NC, AC, RC, DC, NotConsonant}
 use Rattle.shapers_text.specs.declared.ot_shaper_thai.forms.Mark.{Mark}
@@ -18,7 +18,7 @@ use Rattle.shapers_text.specs.declared.ot_shaper_thai.forms.Action.{Action}
 use Rattle.shapers_text.specs.declared.ot_shaper_thai.forms.Action.TheVariants.{NOP, SD, SL, SDL, RD}
 use Rattle.shapers_text.specs.declared.ot_shaper_thai.forms.PuaMapping.{PuaMapping}
 
--- the type of a character as a consonant: ascending, with a removable descender, with a strict descender, or another
+-- the type of a character as a consonant: ascending, with a removable descender, with a strict descender, or another (the Thai note's NC, AC, RC, DC)
 abbrev pub consonant_type : ℕ → Consonant
 consonant_type u =
     if u == 0x0E1B || u == 0x0E1D || u == 0x0E1F then AC
@@ -27,7 +27,7 @@ consonant_type u =
     else if nat_le 0x0E01 u && nat_le u 0x0E2E then NC
     else NotConsonant
 
--- its type as a mark: a vowel above, a vowel below, or a tone above
+-- its type as a mark: a vowel above, a vowel below, or a tone above (the Thai note's AV, BV, T)
 abbrev pub mark_type : ℕ → Mark
 mark_type u =
     if u == 0x0E31 || (nat_le 0x0E34 u && nat_le u 0x0E37) || u == 0x0E47 || (nat_le 0x0E4D u && nat_le u 0x0E4E) then AV
@@ -51,7 +51,7 @@ stands_below NotMark = false
 abbrev pub is_thai_mark : ℕ → Bool
 is_thai_mark u = stands_above (mark_type u) || stands_below (mark_type u)
 
--- what a tone or a vowel above does on a base with a marks above it
+-- what a tone or a vowel above does on a base with a marks above it (the Thai note's states above)
 abbrev pub above_action : Consonant → Mark → ℕ → Action
 above_action AC AV a = if a == 0 then SL else NOP
 above_action AC T a = if a == 0 then SDL else if a == 1 then SL else NOP
@@ -60,7 +60,7 @@ above_action RC T a = if a == 0 then SD else NOP
 above_action DC T a = if a == 0 then SD else NOP
 above_action _ _ a = NOP
 
--- what a vowel below does on a base with b vowels below it
+-- what a vowel below does on a base with b vowels below it (the Thai note's states below)
 abbrev pub below_action : Consonant → ℕ → Action
 below_action RC b = if b == 0 then RD else SD
 below_action NC b = if b == 0 then NOP else SD
@@ -73,40 +73,40 @@ abbrev pub action_of : Consonant → Mark → ℕ → ℕ → Action
 action_of base BV a b = below_action base b
 action_of base mark a b = above_action base mark a
 
--- a character and its forms, Windows' and Macintosh's
+-- a character and its forms, Windows' and Macintosh's (the Thai note's tables, as the next four)
 abbrev pub pua : ℕ → ℕ → ℕ → PuaMapping
 pua u win mac = record { 0 = u; 1 = win; 2 = mac }
 
--- the mark shifted down
-abbrev pub shifted_down : List PuaMapping
-shifted_down =
+-- marks shifted down
+abbrev pub sd_mappings : List PuaMapping
+sd_mappings =
     pua 0x0E48 0xF70A 0xF88B ∷ pua 0x0E49 0xF70B 0xF88E ∷ pua 0x0E4A 0xF70C 0xF891 ∷ pua 0x0E4B 0xF70D 0xF894 ∷ pua 0x0E4C 0xF70E 0xF897
     ∷ pua 0x0E38 0xF718 0xF89B ∷ pua 0x0E39 0xF719 0xF89C ∷ pua 0x0E3A 0xF71A 0xF89D ∷ []
 
--- the mark shifted down and left
-abbrev pub shifted_down_left : List PuaMapping
-shifted_down_left =
+-- marks shifted down and left
+abbrev pub sdl_mappings : List PuaMapping
+sdl_mappings =
     pua 0x0E48 0xF705 0xF88C ∷ pua 0x0E49 0xF706 0xF88F ∷ pua 0x0E4A 0xF707 0xF892 ∷ pua 0x0E4B 0xF708 0xF895 ∷ pua 0x0E4C 0xF709 0xF898 ∷ []
 
--- the mark shifted left
-abbrev pub shifted_left : List PuaMapping
-shifted_left =
+-- marks shifted left
+abbrev pub sl_mappings : List PuaMapping
+sl_mappings =
     pua 0x0E48 0xF713 0xF88A ∷ pua 0x0E49 0xF714 0xF88D ∷ pua 0x0E4A 0xF715 0xF890 ∷ pua 0x0E4B 0xF716 0xF893 ∷ pua 0x0E4C 0xF717 0xF896
     ∷ pua 0x0E31 0xF710 0xF884 ∷ pua 0x0E34 0xF701 0xF885 ∷ pua 0x0E35 0xF702 0xF886 ∷ pua 0x0E36 0xF703 0xF887 ∷ pua 0x0E37 0xF704 0xF888
     ∷ pua 0x0E47 0xF712 0xF889 ∷ pua 0x0E4D 0xF711 0xF899 ∷ []
 
--- the base without its descender
-abbrev pub without_descender : List PuaMapping
-without_descender = pua 0x0E0D 0xF70F 0xF89A ∷ pua 0x0E10 0xF700 0xF89E ∷ []
+-- bases without their descender
+abbrev pub rd_mappings : List PuaMapping
+rd_mappings = pua 0x0E0D 0xF70F 0xF89A ∷ pua 0x0E10 0xF700 0xF89E ∷ []
 
 abbrev pub mappings_of : Action → List PuaMapping
 mappings_of NOP = []
-mappings_of SD = shifted_down
-mappings_of SDL = shifted_down_left
-mappings_of SL = shifted_left
-mappings_of RD = without_descender
+mappings_of SD = sd_mappings
+mappings_of SDL = sdl_mappings
+mappings_of SL = sl_mappings
+mappings_of RD = rd_mappings
 
--- the first form that the font has, else the character itself
+-- the first form that the font has, else the character itself (the Thai note: Windows' first)
 abbrev pub first_form : (ℕ → Bool) → ℕ → Option PuaMapping → ℕ
 first_form has u None = u
 first_form has u (Some m) = if has m.1 then m.1 else if has m.2 then m.2 else u
@@ -182,20 +182,20 @@ mark_stretches_of_each each = flat_map (λ p. stretch_of_mark (base_place p.0) (
 abbrev pub mark_stretches : List ℕ → List (ℕ × ℕ)
 mark_stretches us = mark_stretches_of_each (each_after [] us)
 
--- forms and flags: a break between a base and its marks would change the forms
+-- forms and flags (HarfBuzz's glyph flags): a break between a base and its marks would change the forms
 abbrev pub pua_shaped : (ℕ → Bool) → List hb_glyph_info_t → List hb_glyph_info_t
 pua_shaped has gs = with_forms has (unsafe_all (mark_stretches (characters gs)) gs)
 
 -- the whole rewriting, with the private use forms or without
-abbrev pub preprocessed : Bool → (ℕ → Bool) → BufferClusterLevel → List hb_glyph_info_t → List hb_glyph_info_t
-preprocessed forms has level gs =
-    let text = rewritten (merge_all level (sara_am_stretches level (characters gs)) gs) in
+abbrev pub preprocessed_text : Bool → (ℕ → Bool) → BufferClusterLevel → List hb_glyph_info_t → List hb_glyph_info_t
+preprocessed_text forms has level gs =
+    let text = glyphs_in_two (merge_all level (sara_am_stretches level (characters gs)) gs) in
     if forms then pua_shaped has text else text
 
--- whether a plan asks for the forms: its script is Thai, and GSUB doesn't have it
+-- whether a plan asks for the forms: its script is Thai, and GSUB doesn't have it (the Thai note: for fonts without OpenType rules)
 abbrev pub asks_for_forms : hb_ot_shape_plan_t → Bool
 asks_for_forms plan = wants_forms plan.script plan.ot_map.found
 
 -- the whole hook on a buffer
 abbrev pub preprocessed_in_thai : hb_ot_shape_plan_t → Font → Buffer → Buffer
-preprocessed_in_thai plan font b = record b { glyphs = preprocessed (asks_for_forms plan) (has_nominal font) b.level b.glyphs }
+preprocessed_in_thai plan font b = record b { glyphs = preprocessed_text (asks_for_forms plan) (has_nominal font) b.level b.glyphs }

@@ -13,8 +13,8 @@ use Rattle.shapers_clusters.specs.Cuts.{ShareCluster}
 use Rattle.shapers_buffer.specs.Places.{pick}
 use Rattle.shapers_clusters.specs.Flags.{FlagsFall}
 use Rattle.shapers_clusters.specs.Laws.{ClustersMade}
-use Rattle.shapers_text.specs.ThaiForms.{preprocessed}
-use Rattle.shapers_text.specs.Thai.{is_sara_am, is_above_base, in_parts, glyphs_in_two, characters, rewritten, sources, sara_am_stretches}
+use Rattle.shapers_text.specs.ThaiForms.{preprocessed_text}
+use Rattle.shapers_text.specs.Thai.{is_sara_am, is_above_base, in_parts, glyph_rule, characters, glyphs_in_two, sources, sara_am_stretches}
 
 -- where the NIKHAHIT of a SARA AM stands in the result, if xs is the text before it: behind what comes of the text before its marks
 abbrev pub new_place : List ℕ → ℕ
@@ -29,31 +29,31 @@ pub record ClustersInTwo (level : BufferClusterLevel) (us cs js : List ℕ) : Ty
   pub cluster_law : merges level ≡ true → (xs : List ℕ) (u : ℕ) (ys : List ℕ) → us ≡ xs ++ u ∷ ys → is_sara_am u ≡ true → ShareCluster js (new_place xs) (new_place xs + suffix_len is_above_base xs)
 
 -- a glyph without what the rewriting changes
-abbrev pub unnamed : hb_glyph_info_t → hb_glyph_info_t
-unnamed g = record g { glyph_id = 0; general_category = Cc; marks = without_mark CONTINUATION g.marks }
+abbrev pub without_name : hb_glyph_info_t → hb_glyph_info_t
+without_name g = record g { glyph_id = 0; general_category = Cc; marks = without_mark CONTINUATION g.marks }
 
--- What it gives: rs. But for its order it is the merged text with each SARA AM taken in two. Each glyph is its source after the merges in all but character, category and continuation; so no cluster rises,
+-- What it gives: rs. But for its order it is the merged text with each SARA AM taken in rule. Each glyph is its source after the merges in all but character, category and continuation; so no cluster rises,
 -- and glyph flags stay unless it fell.
 pub record InTwoHolds (level : BufferClusterLevel) (gs rs : List hb_glyph_info_t) : Type 0 where
-  pub made : map unnamed rs ≡ map unnamed (pick (sources (characters gs)) (merge_all level (sara_am_stretches level (characters gs)) gs))
-  pub kept : IsPermutation (flat_map (in_parts glyphs_in_two) (merge_all level (sara_am_stretches level (characters gs)) gs)) rs
+  pub made : map without_name rs ≡ map without_name (pick (sources (characters gs)) (merge_all level (sara_am_stretches level (characters gs)) gs))
+  pub kept : IsPermutation (flat_map (in_parts glyph_rule) (merge_all level (sara_am_stretches level (characters gs)) gs)) rs
   pub in_clusters : ClustersInTwo level (characters gs) (clusters gs) (clusters rs)
   pub falls : AllZip FlagsFall (pick (sources (characters gs)) gs) rs
 
 abbrev pub InTwoLaw : Type 0
-InTwoLaw = (level : BufferClusterLevel) (gs : List hb_glyph_info_t) → InTwoHolds level gs (rewritten (merge_all level (sara_am_stretches level (characters gs)) gs))
+InTwoLaw = (level : BufferClusterLevel) (gs : List hb_glyph_info_t) → InTwoHolds level gs (glyphs_in_two (merge_all level (sara_am_stretches level (characters gs)) gs))
 
 -- a glyph without what the private use forms change
-abbrev pub unshaped : hb_glyph_info_t → hb_glyph_info_t
-unshaped g = record g { glyph_id = 0; mask = without_flags g.mask }
+abbrev pub without_form : hb_glyph_info_t → hb_glyph_info_t
+without_form g = record g { glyph_id = 0; mask = without_flags g.mask }
 
 -- The forms change characters and glyph flags alone; so clusters are those of the rewriting.
 pub record FormsHold (plain shaped : List hb_glyph_info_t) : Type 0 where
-  pub rest_stays : map unshaped shaped ≡ map unshaped plain
+  pub rest_stays : map without_form shaped ≡ map without_form plain
   pub clusters_stay : clusters shaped ≡ clusters plain
 
 abbrev pub FormsLaw : Type 0
-FormsLaw = (has : ℕ → Bool) (level : BufferClusterLevel) (gs : List hb_glyph_info_t) → FormsHold (preprocessed false has level gs) (preprocessed true has level gs)
+FormsLaw = (has : ℕ → Bool) (level : BufferClusterLevel) (gs : List hb_glyph_info_t) → FormsHold (preprocessed_text false has level gs) (preprocessed_text true has level gs)
 
 -- the order view, and without the characters, which the forms change
 abbrev pub kept_view : Bool → hb_glyph_info_t → hb_glyph_info_t
@@ -63,4 +63,4 @@ kept_view true g = record (plain g) { glyph_id = 0 }
 -- No glyph is lost, and none made but the two parts of each SARA AM: the order view is the old one with each SARA AM taken in two,
 -- in some order; where the private use forms follow, but for the characters.
 abbrev pub KeptInTwo : Bool → List hb_glyph_info_t → List hb_glyph_info_t → Type 0
-KeptInTwo forms gs rs = IsPermutation (map (kept_view forms) (flat_map (in_parts glyphs_in_two) gs)) (map (kept_view forms) rs)
+KeptInTwo forms gs rs = IsPermutation (map (kept_view forms) (flat_map (in_parts glyph_rule) gs)) (map (kept_view forms) rs)

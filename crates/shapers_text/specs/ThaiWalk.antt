@@ -1,5 +1,5 @@
 -- How far the code has come in its walks over a Thai text: the forms from the start on, the rewriting from the end back.
-use Rattle.std.specs.Prelude.{ℕ, ◌+◌, Bool, List, ◌∷◌, ◌++◌, length, slice_index_or, slice_set, Option, None, Some}
+use Rattle.std.specs.Prelude.{ℕ, ◌+◌, ◌-◌, if◌then◌else◌, Bool, List, ◌∷◌, ◌++◌, length, slice_index_or, slice_set, Option, None, Some}
 use Rattle.std.specs.List.{suffix_len}
 use Rattle.shapers_buffer.specs.declared.buffer.glyph.hb_glyph_info_t.{hb_glyph_info_t}
 use Rattle.shapers_buffer.specs.Glyph.{default_glyph}
@@ -8,10 +8,14 @@ use Rattle.shapers_text.specs.declared.ot_shaper_thai.forms.Mark.{Mark}
 use Rattle.shapers_text.specs.declared.ot_shaper_thai.forms.Mark.TheVariants.{AV, BV, T, NotMark}
 use Rattle.shapers_text.specs.declared.ot_shaper_thai.forms.Action.{Action}
 use Rattle.shapers_text.specs.declared.ot_shaper_thai.forms.Base.{Base}
+use Rattle.shapers_text.specs.declared.ot_shaper_thai.forms.Types.{Types}
+use Rattle.shapers_buffer.specs.GlyphFlags.{unsafe_inside}
 use Rattle.shapers_text.specs.declared.ot_shaper_thai.forms.Action.TheVariants.{NOP, SD, SL, SDL, RD}
-use Rattle.shapers_text.specs.ThaiForms.{consonant_type, mark_type, shaped_by, with_character}
+use Rattle.shapers_text.specs.ThaiForms.{consonant_type, mark_type, is_thai_mark, action_of, shaped_by, with_character}
 use Rattle.std.proofs.Common.{◌≡◌, ◌≤◌, take, drop}
-use Rattle.shapers_text.specs.Thai.{is_above, glyphs_in_two, InTwo, in_two}
+use Rattle.shapers_text.specs.Thai.{is_above, glyph_rule, SaraAmRule, in_two, characters, glyphs_in_two, sara_am_stretches}
+use Rattle.shapers_buffer.specs.declared.buffer.level.BufferClusterLevel.{BufferClusterLevel}
+use Rattle.shapers_buffer.specs.Clusters.{merge_all}
 
 -- where an action acts: on the base or on the mark itself
 abbrev pub target : Action → ℕ → ℕ → ℕ
@@ -27,6 +31,22 @@ form_set has place action gs =
     let g = slice_index_or gs place default_glyph in
     slice_set gs place (with_character g (shaped_by has g.glyph_id action))
 
+-- what the mark at place i does to the glyphs
+abbrev pub after_action : (ℕ → Bool) → Base → ℕ → Mark → List hb_glyph_info_t → List hb_glyph_info_t
+after_action has base i mark gs =
+    let action = action_of base.consonant mark base.above base.below in
+    form_set has (target action base.place i) action gs
+
+-- what the character u at place i does to the glyphs: another than a mark flags the marks before it
+abbrev pub after_character : (ℕ → Bool) → Base → ℕ → ℕ → List hb_glyph_info_t → List hb_glyph_info_t
+after_character has base i u gs =
+    if is_thai_mark u then after_action has base i (mark_type u) gs
+    else unsafe_inside base.place (i - 1) gs
+
+-- the types of a character, as the table has them
+abbrev pub types_of : ℕ → Types
+types_of u = record { 0 = consonant_type u; 1 = mark_type u }
+
 -- the base and the counts after one more character, at place i
 abbrev pub counted_base : Mark → Base → ℕ → ℕ → Base
 counted_base NotMark base i u = record { place = i; consonant = consonant_type u; above = 0; below = 0 }
@@ -38,27 +58,35 @@ abbrev pub base_after : Base → ℕ → ℕ → Base
 base_after base i u = counted_base (mark_type u) base i u
 
 -- how many above-base marks stand right before place i, counted on glyphs
-abbrev pub marks_of : List hb_glyph_info_t → ℕ → ℕ
-marks_of gs i = suffix_len (is_above glyphs_in_two) (take i gs)
+abbrev pub above_marks_before : List hb_glyph_info_t → ℕ → ℕ
+above_marks_before gs i = suffix_len (is_above glyph_rule) (take i gs)
+
+-- the glyphs with the stretches of the first len merged
+abbrev pub merged_front : BufferClusterLevel → ℕ → List hb_glyph_info_t → List hb_glyph_info_t
+merged_front level len gs = merge_all level (sara_am_stretches level (take len (characters gs))) gs
+
+-- the first len glyphs with each SARA AM in two take just the room that there is
+abbrev pub HasRoom : ℕ → List hb_glyph_info_t → Type 0
+HasRoom len gs = (len ≤ length gs) × (length gs ≡ length (glyphs_in_two (take len gs)))
 
 -- what the text so far becomes: with a NIKHAHIT pending, that stands before its last above-base marks
-abbrev pub held : {X : Type 0} → InTwo X → List X → X → List X
-held two text nikhahit = in_two two (before_last_run (is_above two) text) ++ nikhahit ∷ last_run (is_above two) text
+abbrev pub text_with_pending : {X : Type 0} → SaraAmRule X → List X → X → List X
+text_with_pending rule text nikhahit = in_two rule (before_last_run (is_above rule) text) ++ nikhahit ∷ last_run (is_above rule) text
 
 -- what the text becomes on glyphs, with a NIKHAHIT pending or none
-abbrev pub becomes : List hb_glyph_info_t → Option hb_glyph_info_t → List hb_glyph_info_t
-becomes text None = in_two glyphs_in_two text
-becomes text (Some nikhahit) = held glyphs_in_two text nikhahit
+abbrev pub text_to_write : List hb_glyph_info_t → Option hb_glyph_info_t → List hb_glyph_info_t
+text_to_write text None = in_two glyph_rule text
+text_to_write text (Some nikhahit) = text_with_pending glyph_rule text nikhahit
 
 -- The text before `end`, and a NIKHAHIT that may be pending, is still to be written: just so many places are left, and reading is ahead.
 pub record IsUnwritten (glyphs : List hb_glyph_info_t) (end : ℕ) (pending : Option hb_glyph_info_t) (place : ℕ) : Type 0 where
-  pub room : length (becomes (take end glyphs) pending) ≡ place
+  pub room : length (text_to_write (take end glyphs) pending) ≡ place
   pub ahead : end ≤ place
   pub within : place ≤ length glyphs
 
 -- what it becomes, and what stands behind it
 abbrev pub whole_of : List hb_glyph_info_t → ℕ → Option hb_glyph_info_t → ℕ → List hb_glyph_info_t
-whole_of glyphs end pending place = becomes (take end glyphs) pending ++ drop place glyphs
+whole_of glyphs end pending place = text_to_write (take end glyphs) pending ++ drop place glyphs
 
 -- in the middle of writing the whole
 pub record Written (whole glyphs : List hb_glyph_info_t) (end : ℕ) (pending : Option hb_glyph_info_t) (place : ℕ) : Type 0 where

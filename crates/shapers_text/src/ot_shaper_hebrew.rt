@@ -16,8 +16,11 @@ use shapers_base::plan::hb_ot_shape_plan_t;
 pub fn reorder_marks(plan: &hb_ot_shape_plan_t, buffer: &mut hb_buffer_t, start: usize, end: usize)
     requires in_order { start ≤ end }
     requires in_range { end ≤ length buffer.old.glyphs }
-    ensures step { buffer.new ≡ record buffer.old { glyphs = run_step buffer.old.level (mark_step start end buffer.old.glyphs) buffer.old.glyphs } }
-    ensures order { order_view buffer.new.glyphs ≡ marks_swapped start end (order_view buffer.old.glyphs) }
+    ensures step { let step = mark_step start end buffer.old.glyphs in
+        let moved = run_step buffer.old.level step buffer.old.glyphs in
+        buffer.new ≡ record buffer.old { glyphs = moved } }
+    ensures order { let old = order_view buffer.old.glyphs in
+        order_view buffer.new.glyphs ≡ marks_swapped start end old }
     ensures laws { MarksReordered start end buffer.old buffer.new }
 {
     if let Some(i) = find_triple(buffer, start, end) {
@@ -29,7 +32,8 @@ pub fn reorder_marks(plan: &hb_ot_shape_plan_t, buffer: &mut hb_buffer_t, start:
 fn merge_and_swap(buffer: &mut hb_buffer_t, i: usize)
     requires in_range { i + 1 < length buffer.old.glyphs }
     requires fits { i + 2 < 2 ^ 64 }
-    ensures { buffer.new ≡ record buffer.old { glyphs = swap (merge buffer.old.level i (i + 2) buffer.old.glyphs) i (i + 1) } }
+    ensures { let merged = merge buffer.old.level i (i + 2) buffer.old.glyphs in
+        buffer.new ≡ record buffer.old { glyphs = swap merged i (i + 1) } }
 {
     buffer.merge_clusters(i, i + 2);
     let (point, meteg) = (buffer.get(i), buffer.get(i + 1));
@@ -44,8 +48,9 @@ fn find_triple(buffer: &hb_buffer_t, start: usize, end: usize) -> Option<usize>
     ensures first { result ≡ second_of_triple start end buffer.now.glyphs }
     ensures within { IfSome result (λ i. i + 1 < end) }
 {
+    let glyphs = buffer.glyphs();
     for i in start..end.saturating_sub(2) {
-        if is_triple(buffer.get(i), buffer.get(i + 1), buffer.get(i + 2)) {
+        if is_triple(glyphs[i], glyphs[i + 1], glyphs[i + 2]) {
             return Some(i + 1);
         }
     }
@@ -64,7 +69,8 @@ fn is_triple(a: hb_glyph_info_t, b: hb_glyph_info_t, c: hb_glyph_info_t) -> bool
 /// The composition of two characters: the table's, or else, where GPOS places no marks, the Hebrew
 /// presentation form of a letter and a point.
 pub fn compose<T: Tables>(plan: &hb_ot_shape_plan_t, tables: &T, a: char, b: char) -> Option<char>
-    ensures { result ≡ composed_in_hebrew ((T.tables tables.now).composed a b) plan.now.has_gpos_mark a b }
+    ensures { let composed = (T.tables tables.now).composed a b in
+        result ≡ composed_in_hebrew composed plan.now.has_gpos_mark a b }
 {
     match tables.compose(a, b) {
         Some(composed) => Some(composed),

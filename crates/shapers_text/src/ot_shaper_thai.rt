@@ -4,7 +4,7 @@ ghost use Rattle.std.specs.Prelude.{◌≡◌, ℕ, [], length, false, is_some, 
 ghost use Rattle.std.specs.List.{list_any};
 ghost use Rattle.shapers_buffer.specs.Glyph.{clusters};
 ghost use Rattle.shapers_buffer.specs.Refusals.{RefusesLength};
-ghost use Rattle.shapers_text.specs.Thai.{is_sara_am, characters, rewritten, is_thai};
+ghost use Rattle.shapers_text.specs.Thai.{is_sara_am, characters, glyphs_in_two, is_thai};
 ghost use Rattle.shapers_text.specs.ThaiForms.{asks_for_forms, preprocessed_in_thai};
 ghost use Rattle.shapers_text.specs.ThaiLaws.{ClustersInTwo, KeptInTwo, InTwoLaw, FormsLaw};
 
@@ -36,10 +36,13 @@ pub fn preprocess_text<F: hb_font_t>(
     ensures ok { OnOk result (buffer.new ≡ preprocessed_in_thai plan.now (F.font face.now) buffer.old) }
     ensures clusters { OnOk result (let us = characters buffer.old.glyphs in
         ClustersInTwo buffer.old.level us (clusters buffer.old.glyphs) (clusters buffer.new.glyphs)) }
-    ensures kept { OnOk result (KeptInTwo (asks_for_forms plan.now) buffer.old.glyphs buffer.new.glyphs) }
-    ensures length { RefusesLength buffer.old.max_len (length (rewritten buffer.old.glyphs)) result }
+    ensures kept { let forms = asks_for_forms plan.now in
+        OnOk result (KeptInTwo forms buffer.old.glyphs buffer.new.glyphs) }
+    ensures length { let wanted = length (glyphs_in_two buffer.old.glyphs) in
+        RefusesLength buffer.old.max_len wanted result }
     ensures err { OnErr result (buffer.new ≡ buffer.old) }
-    ensures without { list_any (λ g. is_sara_am g.glyph_id) buffer.old.glyphs ≡ false → IsOk result }
+    ensures without { let some = list_any (λ g. is_sara_am g.glyph_id) buffer.old.glyphs in
+        some ≡ false → IsOk result }
 {
     rewrite_sara_am(buffer)?;
     if wants_forms(plan) {

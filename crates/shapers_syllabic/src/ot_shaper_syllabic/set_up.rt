@@ -2,15 +2,16 @@
 ghost use Rattle.std.specs.Prelude.{◌≡◌, ◌==◌, ◌≤◌, All, IfErr, IsTrue, OnErr, OnOk, is_ok, length, map};
 ghost use Rattle.std.specs.List.{list_any};
 ghost use Rattle.shapers_buffer.specs.Clusters.{with_stretch};
-ghost use Rattle.shapers_buffer.specs.GlyphFlags.{flagged};
+ghost use Rattle.shapers_buffer.specs.GlyphFlags.{with_bits_off};
 ghost use Rattle.shapers_syllabic.specs.Borders.{SpansCutLaw};
 ghost use Rattle.shapers_syllabic.specs.Syllabic.{in_unsafe_syllable, unsafe_spans, with_unsafe_syllables};
 ghost use Rattle.shapers_buffer.specs.Refusals.{RefusesInput};
 ghost use Rattle.shapers_buffer.specs.Syllables.{in_syllable, spans_cover, spans_refusal, with_spans};
 
+use shapers_base::buffer::glyph_flag::{UNSAFE_TO_BREAK, UNSAFE_TO_CONCAT};
 use shapers_base::buffer::{
-    GlyphWalk, ShaperError, Span, has_span_of_kind, hb_buffer_t, hb_glyph_info_t, set_syllable,
-    spans_cover, unsafe_to_break_in,
+    GlyphWalk, ShaperError, Span, has_span_of_kind, hb_buffer_t, hb_glyph_info_t, least_cluster,
+    spans_cover,
 };
 
 /// Cuts the text into the syllables of these spans, marks whether one is of the broken kind, and
@@ -89,7 +90,21 @@ fn set_up_span_in(glyphs: &mut [hb_glyph_info_t], s: usize, e: usize, byte: u8)
 fn set_up_span(glyphs: &mut [hb_glyph_info_t], byte: u8)
     ensures { glyphs.new ≡ in_unsafe_syllable byte glyphs.old }
 {
-    set_syllable(glyphs, byte);
-    let len = glyphs.len();
-    unsafe_to_break_in(glyphs, 0, len);
+    if glyphs.is_empty() {
+        return;
+    }
+    let least = least_cluster(glyphs);
+    set_up_each(glyphs, byte, least);
+}
+
+// Gives these glyphs this byte, and flags those outside the least cluster.
+fn set_up_each(glyphs: &mut [hb_glyph_info_t], byte: u8, least: u32)
+    ensures { glyphs.new ≡ map (λ g. with_bits_off 3 least (in_syllable byte g)) glyphs.old }
+{
+    for glyph in glyphs.iter_mut() {
+        glyph.syllable = byte;
+        if glyph.cluster != least {
+            glyph.mask |= UNSAFE_TO_BREAK | UNSAFE_TO_CONCAT;
+        }
+    }
 }

@@ -1,13 +1,12 @@
 //! The private use forms of Thai, for fonts whose GSUB table doesn't know the script: marks that
 //! would touch are shifted, and a descender that is in the way is left out. (The Thai note.)
-ghost use Rattle.std.specs.Prelude.{◌≡◌, ℕ, ◌+◌, ◌^◌, ◌<◌, ◌≤◌, ◌==◌, [], ◌∷◌, ◌++◌, true, false, length, take, find, is_some, slice_index_or, slice_set};
+ghost use Rattle.std.specs.Prelude.{◌≡◌, ℕ, ◌+◌, ◌-◌, ◌^◌, ◌<◌, ◌≤◌, ◌==◌, [], ◌∷◌, length, find, is_some, slice_index_or, slice_set};
 ghost use Rattle.shapers_base.specs.Font.{has_nominal};
-ghost use Rattle.shapers_buffer.specs.GlyphFlags.{unsafe_inside, unsafe_all};
-ghost use Rattle.shapers_text.specs.Thai.{characters};
-ghost use Rattle.shapers_text.specs.ThaiForms.{consonant_type, mark_type, is_thai_mark, action_of, mappings_of, shaped_by, mark_stretches, with_forms, pua_shaped};
-ghost use Rattle.shapers_text.specs.ThaiWalk.{base_after, target, form_set};
+ghost use Rattle.shapers_buffer.specs.GlyphFlags.{unsafe_inside};
+ghost use Rattle.shapers_text.specs.ThaiForms.{action_of, mappings_of, shaped_by, pua_shaped};
+ghost use Rattle.shapers_text.specs.ThaiWalk.{types_of, base_after, form_set, after_action, after_character};
 
-use shapers_base::buffer::{hb_buffer_t, hb_glyph_info_t};
+use shapers_base::buffer::{GlyphWalk, hb_buffer_t, hb_glyph_info_t, unsafe_to_break_in};
 use shapers_base::font::hb_font_t;
 
 /// The type of a consonant.
@@ -54,7 +53,7 @@ enum Action {
 #[derive(Clone, Copy)]
 struct PuaMapping(u32, u32, u32);
 
-const SD_MAPPINGS: [PuaMapping; 8] = [
+static SD_MAPPINGS: [PuaMapping; 8] = [
     PuaMapping(0x0E48, 0xF70A, 0xF88B),
     PuaMapping(0x0E49, 0xF70B, 0xF88E),
     PuaMapping(0x0E4A, 0xF70C, 0xF891),
@@ -65,7 +64,7 @@ const SD_MAPPINGS: [PuaMapping; 8] = [
     PuaMapping(0x0E3A, 0xF71A, 0xF89D),
 ];
 
-const SDL_MAPPINGS: [PuaMapping; 5] = [
+static SDL_MAPPINGS: [PuaMapping; 5] = [
     PuaMapping(0x0E48, 0xF705, 0xF88C),
     PuaMapping(0x0E49, 0xF706, 0xF88F),
     PuaMapping(0x0E4A, 0xF707, 0xF892),
@@ -73,7 +72,7 @@ const SDL_MAPPINGS: [PuaMapping; 5] = [
     PuaMapping(0x0E4C, 0xF709, 0xF898),
 ];
 
-const SL_MAPPINGS: [PuaMapping; 12] = [
+static SL_MAPPINGS: [PuaMapping; 12] = [
     PuaMapping(0x0E48, 0xF713, 0xF88A),
     PuaMapping(0x0E49, 0xF714, 0xF88D),
     PuaMapping(0x0E4A, 0xF715, 0xF890),
@@ -88,35 +87,52 @@ const SL_MAPPINGS: [PuaMapping; 12] = [
     PuaMapping(0x0E4D, 0xF711, 0xF899),
 ];
 
-const RD_MAPPINGS: [PuaMapping; 2] = [
+static RD_MAPPINGS: [PuaMapping; 2] = [
     PuaMapping(0x0E0D, 0xF70F, 0xF89A),
     PuaMapping(0x0E10, 0xF700, 0xF89E),
 ];
 
-fn get_consonant_type(u: u32) -> Consonant
-    ensures { result ≡ consonant_type u }
+/// The types of a character, as a consonant and as a mark.
+#[derive(Clone, Copy)]
+struct Types(Consonant, Mark);
+
+const NC: Types = Types(Consonant::NC, Mark::NotMark);
+
+const AC: Types = Types(Consonant::AC, Mark::NotMark);
+
+const RC: Types = Types(Consonant::RC, Mark::NotMark);
+
+const DC: Types = Types(Consonant::DC, Mark::NotMark);
+
+const AV: Types = Types(Consonant::NotConsonant, Mark::AV);
+
+const BV: Types = Types(Consonant::NotConsonant, Mark::BV);
+
+const T: Types = Types(Consonant::NotConsonant, Mark::T);
+
+const NO: Types = Types(Consonant::NotConsonant, Mark::NotMark);
+
+/// The types of the characters from 0E00 to 0E5F, sixteen in a row.
+#[rattlefmt::skip]
+static TYPES: [Types; 96] = [
+    NO, NC, NC, NC, NC, NC, NC, NC, NC, NC, NC, NC, NC, RC, DC, DC,
+    RC, NC, NC, NC, NC, NC, NC, NC, NC, NC, NC, AC, NC, AC, NC, AC,
+    NC, NC, NC, NC, NC, NC, NC, NC, NC, NC, NC, NC, NC, NC, NC, NO,
+    NO, AV, NO, NO, AV, AV, AV, AV, BV, BV, BV, NO, NO, NO, NO, NO,
+    NO, NO, NO, NO, NO, NO, NO, AV, T, T, T, T, T, AV, AV, NO,
+    NO, NO, NO, NO, NO, NO, NO, NO, NO, NO, NO, NO, NO, NO, NO, NO,
+];
+
+// The types of a character. Outside the block of Thai it is neither.
+fn types_of(u: u32) -> Types
+    ensures { result ≡ types_of u }
 {
-    match u {
-        0x0E1B | 0x0E1D | 0x0E1F => Consonant::AC,
-        0x0E0D | 0x0E10 => Consonant::RC,
-        0x0E0E | 0x0E0F => Consonant::DC,
-        0x0E01..=0x0E2E => Consonant::NC,
-        _ => Consonant::NotConsonant,
-    }
+    let i = u.wrapping_sub(0x0E00);
+    if i < 96 { TYPES[i as usize] } else { NO }
 }
 
-fn get_mark_type(u: u32) -> Mark
-    ensures { result ≡ mark_type u }
-{
-    match u {
-        0x0E31 | 0x0E34..=0x0E37 | 0x0E47 | 0x0E4D..=0x0E4E => Mark::AV,
-        0x0E38..=0x0E3A => Mark::BV,
-        0x0E48..=0x0E4C => Mark::T,
-        _ => Mark::NotMark,
-    }
-}
-
-// What a mark does by the types of its base and itself, with so many marks above and below since the base.
+// What a mark does by the types of its base and itself, with so many marks above and below since
+// the base.
 fn get_action(base: Consonant, mark: Mark, above: usize, below: usize) -> Action
     ensures { result ≡ action_of base mark above below }
 {
@@ -170,39 +186,25 @@ fn pua_shape<F: hb_font_t>(u: u32, action: Action, face: &F) -> u32
     }
 }
 
-// Whether a character is a mark of one of these types.
-fn is_mark(u: u32) -> bool
-    ensures { result ≡ is_thai_mark u }
+// Flags the places from a base to its last mark, which `end` stands behind: a break there would
+// change the forms. The stretch to a base's last mark holds those to the others. One mark behind its
+// base flags nothing.
+fn flag_marks(glyphs: &mut [hb_glyph_info_t], base: usize, end: usize)
+    requires in_order { base ≤ end - 1 }
+    requires in_range { end ≤ length glyphs.old }
+    ensures { glyphs.new ≡ unsafe_inside base (end - 1) glyphs.old }
 {
-    !matches!(get_mark_type(u), Mark::NotMark)
-}
-
-// Flags the places from a base to its last mark. One mark behind its base flags nothing.
-fn flag_from(buffer: &mut hb_buffer_t, base: usize, last: usize)
-    requires in_order { base ≤ last }
-    requires in_range { last ≤ length buffer.old.glyphs }
-    ensures { buffer.new ≡ record buffer.old { glyphs = unsafe_inside base last buffer.old.glyphs } }
-{
-    if last - base > 1 {
-        buffer.unsafe_to_break(base, last);
+    if end - base > 2 {
+        unsafe_to_break_in(glyphs, base, end - 1);
     }
 }
 
-// Flags the places from each mark's base to the mark: a break there would change the forms. The
-// stretch to a base's last mark holds those to the others.
-fn flag_marks(buffer: &mut hb_buffer_t)
-    ensures { buffer.new ≡ record buffer.old { glyphs = unsafe_all (mark_stretches (characters buffer.old.glyphs)) buffer.old.glyphs } }
+// Gives the glyph at `place` its form.
+fn set_form<F: hb_font_t>(face: &F, glyphs: &mut [hb_glyph_info_t], place: usize, action: Action)
+    requires { place < length glyphs.old }
+    ensures { glyphs.new ≡ form_set (has_nominal (F.font face.now)) place action glyphs.old }
 {
-    let mut base = 0;
-    let mut last = 0;
-    for i in 0..buffer.len() {
-        if !is_mark(buffer.get(i).glyph_id) {
-            flag_from(buffer, base, last);
-            base = i;
-        }
-        last = i;
-    }
-    flag_from(buffer, base, last);
+    glyphs[place].glyph_id = pua_shape(glyphs[place].glyph_id, action, face);
 }
 
 /// The base of the marks that come next, and how many marks stand above and below it so far.
@@ -223,83 +225,98 @@ impl Base {
         below: 0,
     };
 
-    // What the marks after the character at place `i` see.
-    fn after(self, i: usize, u: u32) -> Base
+    // Does what the mark at place `i` does: to itself, or to its base.
+    fn act<F: hb_font_t>(self, face: &F, glyphs: &mut [hb_glyph_info_t], i: usize, mark: Mark)
+        requires place { self.place < length glyphs.old }
+        requires in_range { i < length glyphs.old }
+        ensures { let has = has_nominal (F.font face.now) in
+            glyphs.new ≡ after_action has self i mark glyphs.old }
+    {
+        let action = get_action(self.consonant, mark, self.above, self.below);
+        match action {
+            Action::NOP => {}
+            Action::RD => set_form(face, glyphs, self.place, action),
+            Action::SD | Action::SL | Action::SDL => set_form(face, glyphs, i, action),
+        }
+    }
+
+    // Does what the character at place `i` does, and gives the base of what follows: a mark does its
+    // action, and another character flags the marks before it.
+    fn pass<F: hb_font_t>(self, face: &F, glyphs: &mut [hb_glyph_info_t], i: usize, u: u32) -> Base
+        requires place { self.place ≤ i - 1 }
+        requires in_range { i < length glyphs.old }
         requires above { self.above + 1 < 2 ^ 64 }
         requires below { self.below + 1 < 2 ^ 64 }
-        ensures { result ≡ base_after self i u }
+        ensures base { result ≡ base_after self i u }
+        ensures glyphs { let has = has_nominal (F.font face.now) in
+            glyphs.new ≡ after_character has self i u glyphs.old }
     {
-        match get_mark_type(u) {
-            Mark::NotMark => Base {
-                place: i,
-                consonant: get_consonant_type(u),
-                above: 0,
-                below: 0,
-            },
-            Mark::AV | Mark::T => Base {
-                above: self.above + 1,
-                ..self
-            },
-            Mark::BV => Base {
-                below: self.below + 1,
-                ..self
-            },
+        let Types(consonant, mark) = types_of(u);
+        match mark {
+            Mark::NotMark => {
+                flag_marks(glyphs, self.place, i);
+                Base {
+                    place: i,
+                    consonant,
+                    ..Base::NONE
+                }
+            }
+            Mark::AV | Mark::T => {
+                self.act(face, glyphs, i, mark);
+                Base {
+                    above: self.above + 1,
+                    ..self
+                }
+            }
+            Mark::BV => {
+                self.act(face, glyphs, i, mark);
+                Base {
+                    below: self.below + 1,
+                    ..self
+                }
+            }
         }
     }
 }
 
-// Gives the glyph at `place` its form.
-fn set_form<F: hb_font_t>(face: &F, buffer: &mut hb_buffer_t, place: usize, action: Action)
-    requires { place < length buffer.old.glyphs }
-    ensures { buffer.new ≡ record buffer.old { glyphs = form_set (has_nominal (F.font face.now)) place action buffer.old.glyphs } }
-{
-    let glyph = buffer.get(place);
-    let glyph_id = pua_shape(glyph.glyph_id, action, face);
-    buffer.set(place, hb_glyph_info_t { glyph_id, ..glyph });
-}
-
-// Does what the mark at place `i` does: to itself, or to its base.
-fn act_as<F: hb_font_t>(face: &F, buffer: &mut hb_buffer_t, base: Base, i: usize, mark: Mark)
-    requires place { base.place < length buffer.old.glyphs }
-    requires in_range { i < length buffer.old.glyphs }
-    ensures { buffer.new ≡ record buffer.old { glyphs = form_set (has_nominal (F.font face.now)) (target (action_of base.consonant mark base.above base.below) base.place i) (action_of base.consonant mark base.above base.below) buffer.old.glyphs } }
-{
-    let action = get_action(base.consonant, mark, base.above, base.below);
-    match action {
-        Action::NOP => {}
-        Action::RD => set_form(face, buffer, base.place, action),
-        Action::SD | Action::SL | Action::SDL => set_form(face, buffer, i, action),
-    }
-}
-
-// Does what the character at place `i` does, if it is a mark.
-fn act<F: hb_font_t>(face: &F, buffer: &mut hb_buffer_t, base: Base, i: usize, u: u32)
-    requires place { base.place < length buffer.old.glyphs }
-    requires in_range { i < length buffer.old.glyphs }
-    ensures { buffer.new ≡ record buffer.old { glyphs = form_set (has_nominal (F.font face.now)) (target (action_of base.consonant (mark_type u) base.above base.below) base.place i) (action_of base.consonant (mark_type u) base.above base.below) buffer.old.glyphs } }
-{
-    match get_mark_type(u) {
-        Mark::NotMark => {}
-        mark => act_as(face, buffer, base, i, mark),
-    }
-}
-
-// Gives each mark, or its base, its form.
-fn shape_marks<F: hb_font_t>(face: &F, buffer: &mut hb_buffer_t)
-    ensures { buffer.new ≡ record buffer.old { glyphs = with_forms (has_nominal (F.font face.now)) buffer.old.glyphs } }
+// Gives each mark, or its base, its form, and flags the marks of each base.
+fn shape_marks<F: hb_font_t>(face: &F, glyphs: &mut [hb_glyph_info_t])
+    ensures { glyphs.new ≡ pua_shaped (has_nominal (F.font face.now)) glyphs.old }
 {
     let mut base = Base::NONE;
-    for i in 0..buffer.len() {
-        let u = buffer.get(i).glyph_id;
-        act(face, buffer, base, i, u);
-        base = base.after(i, u);
+    for i in 0..glyphs.len() {
+        let u = glyphs[i].glyph_id;
+        base = base.pass(face, glyphs, i, u);
+    }
+    let end = glyphs.len();
+    flag_marks(glyphs, base.place, end);
+}
+
+// The walk over a buffer.
+#[derive(Clone, Copy)]
+struct PuaShaping<'a, F> {
+    face: &'a F,
+}
+
+impl<'a, F: hb_font_t> GlyphWalk for PuaShaping<'a, F> {
+    ghost use Rattle.std.specs.Prelude.{⊤, ◌≡◌};
+    ghost use Rattle.shapers_base.specs.Font.{has_nominal};
+    ghost use Rattle.shapers_text.specs.ThaiForms.{pua_shaped};
+
+    ghost can_walk = { λ walk glyphs. ⊤ };
+
+    ghost walks = { λ walk _ old new.
+        new ≡ pua_shaped (has_nominal (F.font walk.face.now)) old };
+
+    fn walk(&mut self, glyphs: &mut [hb_glyph_info_t]) {
+        shape_marks(self.face, glyphs);
     }
 }
 
 /// Gives the marks of a Thai text, and bases with descenders, their private use forms.
 pub fn do_pua_shaping<F: hb_font_t>(face: &F, buffer: &mut hb_buffer_t)
-    ensures { buffer.new ≡ record buffer.old { glyphs = pua_shaped (has_nominal (F.font face.now)) buffer.old.glyphs } }
+    ensures { let has = has_nominal (F.font face.now) in
+        buffer.new ≡ record buffer.old { glyphs = pua_shaped has buffer.old.glyphs } }
 {
-    flag_marks(buffer);
-    shape_marks(face, buffer);
+    buffer.walk(&mut PuaShaping { face });
 }

@@ -3,11 +3,12 @@ ghost use Rattle.std.specs.Prelude.{◌≡◌, ℕ, ◌+◌, ◌^◌, ◌<◌, �
 ghost use Rattle.std.specs.List.{list_any};
 ghost use Rattle.shapers_buffer.specs.Clusters.{merge_all};
 ghost use Rattle.shapers_buffer.specs.Refusals.{RefusesLength};
-ghost use Rattle.shapers_text.specs.Thai.{is_sara_am, is_above_base, nikhahit, sara_aa, characters, rewritten, stretches_at, sara_am_stretches};
-ghost use Rattle.shapers_text.specs.ThaiWalk.{marks_of, Written, IsUnwritten, whole_of};
+ghost use Rattle.shapers_text.specs.Thai.{is_sara_am, is_above_base, nikhahit, sara_aa, characters, glyphs_in_two, stretches_at, sara_am_stretches};
+ghost use Rattle.shapers_text.specs.ThaiWalk.{above_marks_before, merged_front, HasRoom, Written, IsUnwritten, whole_of};
 
 use shapers_base::buffer::{
-    BufferClusterLevel, ShaperError, hb_buffer_t, hb_glyph_info_t, hb_unicode_general_category_t,
+    BufferClusterLevel, GlyphWalk, ShaperError, hb_buffer_t, hb_glyph_info_t,
+    hb_unicode_general_category_t, merge_clusters_in,
 };
 
 // SARA AM, of Thai and of Lao.
@@ -62,12 +63,12 @@ fn count_sara_am(buffer: &hb_buffer_t) -> usize
 }
 
 // How many above-base marks stand right before `place`.
-fn count_marks_before(buffer: &hb_buffer_t, place: usize) -> usize
-    requires { place ≤ length buffer.now.glyphs }
-    ensures count { result ≡ marks_of buffer.now.glyphs place }
+fn count_marks_before(glyphs: &[hb_glyph_info_t], place: usize) -> usize
+    requires { place ≤ length glyphs.now }
+    ensures count { result ≡ above_marks_before glyphs.now place }
     ensures few { result ≤ place }
 {
-    buffer.glyphs()[..place]
+    glyphs[..place]
         .iter()
         .rev()
         .take_while(|glyph| is_above_base_mark(glyph.glyph_id))
@@ -76,23 +77,24 @@ fn count_marks_before(buffer: &hb_buffer_t, place: usize) -> usize
 
 // Merges what a character at `place` merges: a SARA AM with its marks or, without any, with the glyph
 // before it.
-fn merge_at(buffer: &mut hb_buffer_t, place: usize, u: u32)
-    requires in_range { place < length buffer.old.glyphs }
+fn merge_at(level: BufferClusterLevel, glyphs: &mut [hb_glyph_info_t], place: usize, u: u32)
+    requires in_range { place < length glyphs.old }
     requires fits { place + 1 < 2 ^ 64 }
-    ensures { buffer.new ≡ record buffer.old { glyphs = merge_all buffer.old.level (stretches_at buffer.old.level place u (marks_of buffer.old.glyphs place)) buffer.old.glyphs } }
+    ensures { let stretches = stretches_at level place u (above_marks_before glyphs.old place) in
+        glyphs.new ≡ merge_all level stretches glyphs.old }
 {
     if !is_sara_am(u) {
         return;
     }
-    let marks = count_marks_before(buffer, place);
-    if marks > 0 {
-        buffer.merge_clusters(place - marks, place + 1);
+    let above = count_marks_before(glyphs, place);
+    if above > 0 {
+        merge_clusters_in(level, glyphs, place - above, place + 1);
         return;
     }
-    match buffer.cluster_level() {
+    match level {
         BufferClusterLevel::MonotoneGraphemes => {
             if place > 0 {
-                buffer.merge_clusters(place - 1, place + 1);
+                merge_clusters_in(level, glyphs, place - 1, place + 1);
             }
         }
         BufferClusterLevel::MonotoneCharacters | BufferClusterLevel::Characters => {}
@@ -100,13 +102,13 @@ fn merge_at(buffer: &mut hb_buffer_t, place: usize, u: u32)
 }
 
 // Merges what each SARA AM of the first `len` glyphs merges, from the left.
-fn merge_all_sara_am(buffer: &mut hb_buffer_t, len: usize)
-    requires { len ≤ length buffer.old.glyphs }
-    ensures { buffer.new ≡ record buffer.old { glyphs = merge_all buffer.old.level (sara_am_stretches buffer.old.level (take len (characters buffer.old.glyphs))) buffer.old.glyphs } }
+fn merge_all_sara_am(level: BufferClusterLevel, glyphs: &mut [hb_glyph_info_t], len: usize)
+    requires { len ≤ length glyphs.old }
+    ensures { glyphs.new ≡ merged_front level len glyphs.old }
 {
     for i in 0..len {
-        let u = buffer.get(i).glyph_id;
-        merge_at(buffer, i, u);
+        let u = glyphs[i].glyph_id;
+        merge_at(level, glyphs, i, u);
     }
 }
 
@@ -119,54 +121,77 @@ struct Unwritten {
 
 impl Unwritten {
     // Writes what the last glyph becomes; if it is a SARA AM, with its marks.
-    fn write_last(&mut self, buffer: &mut hb_buffer_t)
+    fn write_last(&mut self, glyphs: &mut [hb_glyph_info_t])
         requires some { 0 < self.old.end }
-        requires unwritten { IsUnwritten buffer.old.glyphs self.old.end None self.old.place }
-        ensures fields { buffer.new ≡ record buffer.old { glyphs = buffer.new.glyphs } }
-        ensures written { Written (whole_of buffer.old.glyphs self.old.end None self.old.place) buffer.new.glyphs self.new.end None self.new.place }
+        requires unwritten { IsUnwritten glyphs.old self.old.end None self.old.place }
+        ensures written { let whole = whole_of glyphs.old self.old.end None self.old.place in
+            Written whole glyphs.new self.new.end None self.new.place }
         ensures shorter { self.new.end < self.old.end }
     {
         self.end -= 1;
         self.place -= 1;
-        let glyph = buffer.get(self.end);
-        if is_sara_am(glyph.glyph_id) {
-            buffer.set(self.place, sara_aa_from_sara_am(glyph));
-            self.write_nikhahit(buffer, nikhahit_from_sara_am(glyph));
+        if is_sara_am(glyphs[self.end].glyph_id) {
+            let am = glyphs[self.end];
+            glyphs[self.place] = sara_aa_from_sara_am(am);
+            self.write_nikhahit(glyphs, nikhahit_from_sara_am(am));
         } else {
-            buffer.set(self.place, glyph);
+            glyphs[self.place] = glyphs[self.end];
         }
     }
 
     // Writes the marks that end the text, and a NIKHAHIT before them.
-    fn write_nikhahit(&mut self, buffer: &mut hb_buffer_t, nikhahit: hb_glyph_info_t)
-        requires { IsUnwritten buffer.old.glyphs self.old.end (Some nikhahit) self.old.place }
-        ensures fields { buffer.new ≡ record buffer.old { glyphs = buffer.new.glyphs } }
-        ensures written { Written (whole_of buffer.old.glyphs self.old.end (Some nikhahit) self.old.place) buffer.new.glyphs self.new.end None self.new.place }
+    fn write_nikhahit(&mut self, glyphs: &mut [hb_glyph_info_t], nikhahit: hb_glyph_info_t)
+        requires { IsUnwritten glyphs.old self.old.end (Some nikhahit) self.old.place }
+        ensures written { let whole = whole_of glyphs.old self.old.end (Some nikhahit) self.old.place in
+            Written whole glyphs.new self.new.end None self.new.place }
         ensures shorter { self.new.end ≤ self.old.end }
     {
-        let marks = count_marks_before(buffer, self.end);
-        for _ in 0..marks {
+        let above = count_marks_before(glyphs, self.end);
+        for _ in 0..above {
             self.end -= 1;
             self.place -= 1;
-            buffer.set(self.place, buffer.get(self.end));
+            glyphs[self.place] = glyphs[self.end];
         }
         self.place -= 1;
-        buffer.set(self.place, nikhahit);
+        glyphs[self.place] = nikhahit;
     }
 }
 
-// Writes the first `len` glyphs with each SARA AM in two over a buffer that has just the room for it.
-fn write_in_two(buffer: &mut hb_buffer_t, len: usize)
-    requires in_range { len ≤ length buffer.old.glyphs }
-    requires room { length buffer.old.glyphs ≡ length (rewritten (take len buffer.old.glyphs)) }
-    ensures { buffer.new ≡ record buffer.old { glyphs = rewritten (take len buffer.old.glyphs) } }
+// Writes the first `len` glyphs with each SARA AM in two over a slice that has just the room for it.
+fn write_in_two(glyphs: &mut [hb_glyph_info_t], len: usize)
+    requires in_range { len ≤ length glyphs.old }
+    requires room { length glyphs.old ≡ length (glyphs_in_two (take len glyphs.old)) }
+    ensures { glyphs.new ≡ glyphs_in_two (take len glyphs.old) }
 {
     let mut unwritten = Unwritten {
         end: len,
-        place: buffer.len(),
+        place: glyphs.len(),
     };
     while unwritten.end < unwritten.place {
-        unwritten.write_last(buffer);
+        unwritten.write_last(glyphs);
+    }
+}
+
+// The walk over a grown buffer, whose text is its first `len` glyphs.
+#[derive(Clone, Copy)]
+struct Rewriting {
+    level: BufferClusterLevel,
+    len: usize,
+}
+
+impl GlyphWalk for Rewriting {
+    ghost use Rattle.std.specs.Prelude.{◌≡◌, take};
+    ghost use Rattle.shapers_text.specs.Thai.{glyphs_in_two};
+    ghost use Rattle.shapers_text.specs.ThaiWalk.{HasRoom, merged_front};
+
+    ghost can_walk = { λ walk glyphs. HasRoom walk.len glyphs };
+
+    ghost walks = { λ walk _ old new.
+        new ≡ glyphs_in_two (take walk.len (merged_front walk.level walk.len old)) };
+
+    fn walk(&mut self, glyphs: &mut [hb_glyph_info_t]) {
+        merge_all_sara_am(self.level, glyphs, self.len);
+        write_in_two(glyphs, self.len);
     }
 }
 
@@ -175,10 +200,15 @@ fn write_in_two(buffer: &mut hb_buffer_t, len: usize)
 /// Refuses as a growth does. (OpenType's Thai and Lao notes; rustybuzz's comment on the rule.)
 pub fn rewrite_sara_am(buffer: &mut hb_buffer_t) -> Result<(), ShaperError>
     requires { buffer.old.positions ≡ [] }
-    ensures ok { OnOk result (buffer.new ≡ record buffer.old { glyphs = rewritten (merge_all buffer.old.level (sara_am_stretches buffer.old.level (characters buffer.old.glyphs)) buffer.old.glyphs) }) }
-    ensures length { RefusesLength buffer.old.max_len (length (rewritten buffer.old.glyphs)) result }
+    ensures ok { let gs = buffer.old.glyphs in
+        let stretches = sara_am_stretches buffer.old.level (characters gs) in
+        let merged = merge_all buffer.old.level stretches gs in
+        OnOk result (buffer.new ≡ record buffer.old { glyphs = glyphs_in_two merged }) }
+    ensures length { let wanted = length (glyphs_in_two buffer.old.glyphs) in
+        RefusesLength buffer.old.max_len wanted result }
     ensures err { OnErr result (buffer.new ≡ buffer.old) }
-    ensures without { list_any (λ g. is_sara_am g.glyph_id) buffer.old.glyphs ≡ false → IsOk result }
+    ensures without { let some = list_any (λ g. is_sara_am g.glyph_id) buffer.old.glyphs in
+        some ≡ false → IsOk result }
 {
     let len = buffer.len();
     let count = count_sara_am(buffer);
@@ -186,7 +216,7 @@ pub fn rewrite_sara_am(buffer: &mut hb_buffer_t) -> Result<(), ShaperError>
         return Ok(());
     }
     buffer.grow(count)?;
-    merge_all_sara_am(buffer, len);
-    write_in_two(buffer, len);
+    let level = buffer.cluster_level();
+    buffer.walk(&mut Rewriting { level, len });
     Ok(())
 }

@@ -1,13 +1,13 @@
-use Rattle.std.proofs.Common.{◌+◌, ◌≡◌, ◌<◌, ◌∙◌, false, true, sym, arith}
+use Rattle.std.proofs.Common.{◌+◌, ◌≡◌, ◌<◌, ◌∙◌, false, true, sym, ap, arith}
 use Rattle.shapers_buffer.specs.Glyph.{default_glyph}
-use Rattle.shapers_text.proofs.HebrewLemmas.{opens_at, opens_read, triple_hit, triple_miss, triple_none}
+use Rattle.shapers_text.proofs.HebrewLemmas.{opens_at, triple_hit, triple_miss, triple_none}
 use Rattle.shapers_text.proofs.ot_shaper_hebrew.find_triple.Goals as goal
 
 pub loop-i-preserved : goal.loop-i-preserved
 loop-i-preserved c =
     let gs = c.args.buffer.now.glyphs in
     let inside : c.loop-i.i + 2 < c.args.end = omega arith in
-    let reads = opens_read gs c.loop-i.i c.get.result c.get-in-loop-i.result c.get-in-loop-i-2.result (omega arith) c.get.ensures c.get-in-loop-i.ensures c.get-in-loop-i-2.ensures in
+    let reads = sym (ap (λ xs. opens_at xs default_glyph c.loop-i.i) c.glyphs-glyphs.ensures) in
     let fails : opens_at gs default_glyph c.loop-i.i ≡ false = reads ∙ sym c.is_triple.ensures ∙ c.if-is_triple.false in
     sym (triple_miss gs c.loop-i.i c.args.end default_glyph inside c.requires.in_range fails) ∙ c.loop-i.invariant
 
@@ -15,7 +15,7 @@ pub returns-then-is_triple-clause-first : goal.returns-then-is_triple-clause-fir
 returns-then-is_triple-clause-first c =
     let gs = c.args.buffer.now.glyphs in
     let inside : c.loop-i.i + 2 < c.args.end = omega arith in
-    let reads = opens_read gs c.loop-i.i c.get.result c.get-in-loop-i.result c.get-in-loop-i-2.result (omega arith) c.get.ensures c.get-in-loop-i.ensures c.get-in-loop-i-2.ensures in
+    let reads = sym (ap (λ xs. opens_at xs default_glyph c.loop-i.i) c.glyphs-glyphs.ensures) in
     let opens : opens_at gs default_glyph c.loop-i.i ≡ true = reads ∙ sym c.is_triple.ensures ∙ c.if-is_triple.true in
     sym (triple_hit gs c.loop-i.i c.args.end default_glyph inside c.requires.in_range opens) ∙ c.loop-i.invariant
 
