@@ -1,9 +1,11 @@
 -- The laws of reordering syllable by syllable, as statements.
-use Rattle.std.specs.Prelude.{◌≡◌, List, Option, ◌++◌, length, map}
+use Rattle.std.specs.Prelude.{ℕ, ◌≡◌, List, Option, ◌++◌, length, map, ◌≤◌, All, true}
 use Rattle.std.specs.List.{AllByRecursion}
 use Rattle.std.specs.List.Sorted.{IsPermutation}
 use Rattle.shapers_buffer.specs.declared.buffer.glyph.hb_glyph_info_t.{hb_glyph_info_t}
 use Rattle.shapers_buffer.specs.declared.buffer.level.BufferClusterLevel.{BufferClusterLevel}
+use Rattle.shapers_buffer.specs.declared.buffer.syllables.Span.{Span}
+use Rattle.shapers_buffer.specs.Syllables.{spans_cover}
 use Rattle.shapers_buffer.specs.Buffer.{Buffer}
 use Rattle.shapers_buffer.specs.Glyph.{order_view}
 use Rattle.shapers_buffer.specs.Places.{pick}
@@ -12,7 +14,7 @@ use Rattle.shapers_clusters.specs.Flags.{seen}
 use Rattle.shapers_clusters.specs.Laws.{ReorderedHold, SeenStepsHold}
 use Rattle.shapers_clusters.specs.Steps.{FitSteps, MovesMerged, Permutes, Step, old_places, run_steps}
 use Rattle.shapers_syllabic.specs.declared.ot_shaper_syllabic.circles.DottedCircles.{DottedCircles}
-use Rattle.shapers_syllabic.specs.Borders.{MeetAtBorder, SameButSerials, unnumbered}
+use Rattle.shapers_syllabic.specs.Borders.{MeetAtBorder, SameButSerials, spans_set_up, unnumbered}
 use Rattle.shapers_syllabic.specs.Circles.{circled}
 use Rattle.shapers_syllabic.specs.Reordering.{PauseReordered, SyllablesReordered, carried, text_order, text_steps}
 
@@ -82,3 +84,18 @@ abbrev pub SerialsDontCount : Type 0
 SerialsDontCount = (circles : Option DottedCircles) (meaning : List hb_glyph_info_t → List hb_glyph_info_t) (steps : List hb_glyph_info_t → List Step) (level : BufferClusterLevel) (gs hs : List hb_glyph_info_t) →
     ReadsNoSerials meaning steps → SameButSerials gs hs →
     SameButSerialsAfter circles meaning steps level gs hs
+
+-- Spans set up, and a reordering pause directly after, cut between two spans: order view, and where the halves share no cluster
+-- all that is carried along, are those of the halves, set up and reordered each for itself, one after the other, but for serials.
+pub record SetUpAndPauseOfHalves (circles : Option DottedCircles) (meaning : List hb_glyph_info_t → List hb_glyph_info_t) (steps : List hb_glyph_info_t → List Step) (ss ts : List Span) (broken_kind : ℕ) (gs hs : List hb_glyph_info_t) (old new : Buffer) : Type 0 where
+  pub order : map unnumbered (order_view new.glyphs) ≡ map unnumbered (paused_order circles meaning (spans_set_up ss broken_kind (record old { glyphs = gs })).glyphs) ++ map unnumbered (paused_order circles meaning (spans_set_up ts broken_kind (record old { glyphs = hs })).glyphs)
+  pub moved : ShareNone gs hs →
+      map unnumbered (map carried new.glyphs) ≡ map unnumbered (paused_carried circles steps old.level (spans_set_up ss broken_kind (record old { glyphs = gs })).glyphs) ++ map unnumbered (paused_carried circles steps old.level (spans_set_up ts broken_kind (record old { glyphs = hs })).glyphs)
+
+abbrev pub PausesCutAtSpans : Type 0
+PausesCutAtSpans = (circles : Option DottedCircles) (meaning : List hb_glyph_info_t → List hb_glyph_info_t) (steps : List hb_glyph_info_t → List Step) (spans : List Span) (broken_kind : ℕ) (old new : Buffer) →
+    ReorderLaws meaning steps → ReadsNoSerials meaning steps → All (λ span. span.kind ≤ 15) spans →
+    PauseReordered circles meaning steps (spans_set_up spans broken_kind old) new →
+    (ss ts : List Span) (gs hs : List hb_glyph_info_t) →
+    spans ≡ ss ++ ts → old.glyphs ≡ gs ++ hs → spans_cover (length gs) ss ≡ true → spans_cover (length hs) ts ≡ true →
+    SetUpAndPauseOfHalves circles meaning steps ss ts broken_kind gs hs old new

@@ -5,7 +5,7 @@ ghost use Rattle.shapers_buffer.specs.Refusals.{Refuses};
 ghost use Rattle.shapers_buffer.specs.Syllables.{syllables};
 ghost use Rattle.shapers_syllabic.specs.Circles.{circled};
 ghost use Rattle.shapers_syllabic.specs.Reordering.{PauseReordered, circles_of_sort, first_unknown, kind_refusal};
-ghost use Rattle.shapers_syllabic.specs.ReorderingLaws.{PauseCutsAtBorders, TextReordered};
+ghost use Rattle.shapers_syllabic.specs.ReorderingLaws.{PauseCutsAtBorders, PausesCutAtSpans, TextReordered};
 
 use super::circles::insert_dotted_circles;
 use super::reordering::{Reorder, reorder_syllables};
@@ -82,3 +82,9 @@ fn first_unknown(buffer: &hb_buffer_t, last_kind: Option<u8>) -> Option<usize>
         Some(last_kind) => buffer.unknown_syllable(last_kind),
     }
 }
+
+/// A set-up by spans and a reordering pause directly after it give what they give on the halves, cut
+/// between any two spans, but for serials.
+pub fn pauses_cut_law()
+    ensures { PausesCutAtSpans }
+{}
