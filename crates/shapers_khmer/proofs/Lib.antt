@@ -1,2 +1,4 @@
 mod ConstantRows
+mod KhmerRows
+mod PlanRows
 mod RequestRows

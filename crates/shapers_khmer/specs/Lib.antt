@@ -1,1 +1,3 @@
+pub mod Khmer
+pub mod Plan
 pub mod Requests
