@@ -1,7 +1,5 @@
 mod ConstantRows
-pub mod KhmerLaws
-pub mod KhmerMasks
-pub mod KhmerMoves
+pub mod KhmerListing
 mod KhmerRows
 mod PlanRows
 mod RequestRows

@@ -20,8 +20,8 @@ use Rattle.shapers_clusters.proofs.Swaps.{still_moves_merged}
 use Rattle.shapers_clusters.proofs.Views.{seen-same}
 use Rattle.shapers_khmer.specs.declared.ot_shaper_khmer.reordering.KhmerOrder.{KhmerOrder}
 use Rattle.shapers_khmer.specs.Khmer.{Move, Pair, Vowel, brought, is_reordered, khmer_masked, khmer_moves, khmer_order, khmer_places, khmer_step, masked, masked_all, masked_for, merged_for, moved, moved_all, sorts_of, with_mask}
-use Rattle.shapers_khmer.proofs.KhmerMasks.{carried-masked, carried-with_mask, hidden-masked, length-masked, length-sorts}
-use Rattle.shapers_khmer.proofs.KhmerMoves.{inside_merged, length-moved_all, moves_end, permuted-moved_all}
+use Rattle.shapers_khmer.specs.KhmerMasks.{carried-masked, carried-with_mask, hidden-masked, length-masked, length-sorts}
+use Rattle.shapers_khmer.specs.KhmerMoves.{inside_merged, length-moved_all, moves_end, permuted-moved_all}
 use Rattle.shapers_syllabic.specs.Reordering.{carried}
 use Rattle.shapers_syllabic.proofs.ReorderingLemmas.{agrees_by_places}
 
