@@ -1,5 +1,7 @@
 mod ConstantRows
 pub mod KhmerListing
 mod KhmerRows
+pub mod KhmerSteps
+pub mod KhmerWalked
 mod PlanRows
 mod RequestRows
