@@ -2,6 +2,7 @@ mod ConstantRows
 pub mod KhmerListing
 mod KhmerRows
 pub mod KhmerSteps
+pub mod KhmerSyllable
 pub mod KhmerWalked
 mod PlanRows
 mod RequestRows

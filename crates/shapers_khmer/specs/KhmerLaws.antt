@@ -41,7 +41,7 @@ khmer_ends [] = tt
 khmer_ends (g ∷ gs) = moves_end (length (g ∷ gs) - 1) 1 0 (sorts_of (g ∷ gs)) (length (g ∷ gs)) (length-sorts (g ∷ gs)) (omega arith)
 
 -- moves go only inside what merges first
-merged_moves : (moves : List Move) (n : ℕ) → EndWithin n (map merged_for moves) → MovesMerged n (record { merged_first = map merged_for moves; places = moved_all moves (range_with_len 0 n); merged_then = [] })
+pub merged_moves : (moves : List Move) (n : ℕ) → EndWithin n (map merged_for moves) → MovesMerged n (record { merged_first = map merged_for moves; places = moved_all moves (range_with_len 0 n); merged_then = [] })
 merged_moves moves n ends = record {
   fits = record {
     as_many = length-order moves n;
