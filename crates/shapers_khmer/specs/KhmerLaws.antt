@@ -1,7 +1,6 @@
 -- The laws of the order of a syllable.
-use Rattle.std.proofs.Common.{ℕ, get_or, zero, suc, ◌+◌, ◌-◌, ◌<◌, ◌≤◌, ◌≡◌, true, false, inl, inr, if◌then◌else◌, List, [], ◌∷◌, ◌++◌, map, length, take, drop, refl, sym, ◌∙◌, ap, subst, arith}
+use Rattle.std.proofs.Common.{ℕ, get_or, ◌+◌, ◌-◌, ◌<◌, ◌≡◌, true, inl, inr, List, [], ◌∷◌, map, length, refl, sym, ◌∙◌, ap, subst, arith}
 use Rattle.std.specs.List.{AllByRecursion, range_with_len}
-use Rattle.std.specs.List.Sorted.{IsPermutation}
 use Rattle.std.proofs.lemmas.List.{length-map}
 use Rattle.std.proofs.lemmas.List.Elements.{All-from_recursion, recursion_from_All}
 use Rattle.std.proofs.lemmas.List.Sorted.{All-permutation}
@@ -10,16 +9,16 @@ use Rattle.std.proofs.lemmas.Bool.{cases_Bool, true≢false}
 use Rattle.shapers_buffer.specs.declared.buffer.glyph.hb_glyph_info_t.{hb_glyph_info_t}
 use Rattle.shapers_buffer.specs.Glyph.{plain}
 use Rattle.shapers_buffer.specs.Places.{pick}
-use Rattle.shapers_buffer.proofs.MappedLists.{all-append, all-range}
+use Rattle.shapers_buffer.proofs.MappedLists.{all-range}
 use Rattle.shapers_clusters.specs.Cuts.{EndWithin}
 use Rattle.shapers_clusters.specs.Flags.{seen}
-use Rattle.shapers_clusters.specs.Steps.{FitsStep, MovesMerged, Permutes, Step, old_places, still_step}
+use Rattle.shapers_clusters.specs.Steps.{FitsStep, MovesMerged, Permutes, old_places}
 use Rattle.shapers_clusters.proofs.Permuted.{still_permutes}
 use Rattle.shapers_clusters.proofs.Picks.{pick-all, pick-map}
 use Rattle.shapers_clusters.proofs.Swaps.{still_moves_merged}
 use Rattle.shapers_clusters.proofs.Views.{seen-same}
 use Rattle.shapers_khmer.specs.declared.ot_shaper_khmer.reordering.KhmerOrder.{KhmerOrder}
-use Rattle.shapers_khmer.specs.Khmer.{Move, Pair, Vowel, brought, is_reordered, khmer_masked, khmer_moves, khmer_order, khmer_places, khmer_step, masked, masked_all, masked_for, merged_for, moved, moved_all, sorts_of, with_mask}
+use Rattle.shapers_khmer.specs.Khmer.{Move, Pair, Vowel, is_reordered, khmer_masked, khmer_moves, khmer_order, khmer_places, khmer_step, masked, masked_all, masked_for, merged_for, moved, moved_all, sorts_of, with_mask}
 use Rattle.shapers_khmer.specs.KhmerMasks.{carried-masked, carried-with_mask, hidden-masked, length-masked, length-sorts}
 use Rattle.shapers_khmer.specs.KhmerMoves.{inside_merged, length-moved_all, moves_end, permuted-moved_all}
 use Rattle.shapers_syllabic.specs.Reordering.{carried}

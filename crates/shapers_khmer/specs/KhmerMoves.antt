@@ -1,14 +1,14 @@
 -- Moves to the front: what they permute, how far they reach, and that they stay inside what merges.
-use Rattle.std.proofs.Common.{append-nil, ℕ, zero, suc, ◌+◌, ◌-◌, ◌<◌, ◌≤◌, ◌≡◌, min, max, true, false, inl, inr, nat_le, nat_lt, Bool, ◌&&◌, cond, if◌then◌else◌, List, [], ◌∷◌, ◌++◌, map, length, get_or, take, drop, slice_index, refl, sym, ◌∙◌, ap, subst, arith, append_assoc, length-append, length-take, length-take-le, length-drop}
-use Rattle.std.specs.List.{AllByRecursion, range_with_len}
+use Rattle.std.proofs.Common.{append-nil, ℕ, zero, suc, ◌+◌, ◌-◌, ◌<◌, ◌≤◌, ◌≡◌, min, max, inl, inr, nat_le, nat_lt, ◌&&◌, if◌then◌else◌, List, [], ◌∷◌, ◌++◌, map, length, get_or, take, drop, slice_index, refl, sym, ◌∙◌, ap, subst, arith, append_assoc, length-take-le, length-drop}
+use Rattle.std.specs.List.{range_with_len}
 use Rattle.std.specs.List.Sorted.{IsPermutation}
-use Rattle.std.proofs.lemmas.List.{length-map, take-map, drop-map, map-append, take-append-drop, drop-drop, get_or-take, get_or-drop, get_or_append_left, get_or-append_right}
+use Rattle.std.proofs.lemmas.List.{take-map, drop-map, map-append, take-append-drop, drop-drop, get_or-take, get_or-drop, get_or_append_left, get_or-append_right}
 use Rattle.std.proofs.lemmas.List.Sorted.{IsPermutation-append_comm, IsPermutation-append_left, IsPermutation-refl, IsPermutation-trans, length_permutation}
 use Rattle.std.proofs.lemmas.List.FromFn.{length-range_with_len, get_or-range_with_len}
 use Rattle.std.proofs.lemmas.Bool.{cases_lt, cases_Bool}
 use Rattle.std.proofs.lemmas.Bool.Decides.{nat_tests}
 use Rattle.shapers_buffer.specs.Clusters.{stretch_of}
-use Rattle.shapers_clusters.specs.Cuts.{EndWithin, held}
+use Rattle.shapers_clusters.specs.Cuts.{EndWithin}
 use Rattle.shapers_clusters.specs.Steps.{HeldBetween, MovesInside}
 use Rattle.shapers_clusters.proofs.Moves.{held-front, held-rest, held_by}
 use Rattle.shapers_khmer.specs.Khmer.{Move, Pair, Vowel, brought, moved, moved_all, merged_for, moves_from, is_coeng, is_ro, is_left_vowel}
@@ -97,15 +97,15 @@ moves_end (suc m) p count sorts n is h =
     let same_1 = length-brought p 1 sorts ∙ is in
     let other = moves_end m (p + 1) count sorts n is further in
     let vowel : EndWithin n (map merged_for (if is_left_vowel (slice_index sorts p) then Vowel p ∷ moves_from m (p + 1) (brought p 1 sorts) count else moves_from m (p + 1) sorts count)) =
-        elim (cases_Bool (is_left_vowel (slice_index sorts p))) [
-          | inl on ↦ rw on (let l : p + 1 ≤ n = omega arith in (l, moves_end m (p + 1) count (brought p 1 sorts) n same_1 further))
-          | inr off ↦ rw off other
-        ] in
+    elim (cases_Bool (is_left_vowel (slice_index sorts p))) [
+      | inl on ↦ rw on (let l : p + 1 ≤ n = omega arith in (l, moves_end m (p + 1) count (brought p 1 sorts) n same_1 further))
+      | inr off ↦ rw off other
+    ] in
     elim (cases_Bool (is_coeng (slice_index sorts p) && nat_le count 2 && nat_lt (p + 1) (length sorts))) [
       | inl on ↦ rw on (elim (cases_Bool (is_ro (slice_index sorts (p + 1)))) [
-          | inl here ↦ rw here (let l : p + 2 ≤ n = grind (arith, nat_tests) in (l, moves_end m (p + 1) 2 (brought p 2 sorts) n same_2 further))
-          | inr off ↦ rw off (moves_end m (p + 1) (count + 1) sorts n is further)
-        ])
+        | inl here ↦ rw here (let l : p + 2 ≤ n = grind (arith, nat_tests) in (l, moves_end m (p + 1) 2 (brought p 2 sorts) n same_2 further))
+        | inr off ↦ rw off (moves_end m (p + 1) (count + 1) sorts n is further)
+      ])
       | inr off ↦ rw off vowel
     ]
 
@@ -113,9 +113,9 @@ moves_end (suc m) p count sorts n is h =
 held_over : (sts : List (ℕ × ℕ)) (p q r : ℕ) → HeldBetween sts p q → HeldBetween sts q r → HeldBetween sts p r
 held_over sts p q r first second x low high = elim (cases_lt (min p q) x) [
   | inl above ↦ elim (cases_lt (max p q) x) [
-      | inl over ↦ second x (omega arith) (omega arith)
-      | inr within ↦ first x above within
-    ]
+    | inl over ↦ second x (omega arith) (omega arith)
+    | inr within ↦ first x above within
+  ]
   | inr below ↦ second x (omega arith) (omega arith)
 ]
 
@@ -130,13 +130,13 @@ inside_more n k sts order l before p h =
     let old : (q : ℕ) → q < length order → HeldBetween all q (get_or order q 0) = λ q i. held-front sts ((0, n + k) ∷ []) q (get_or order q 0) (before q i) in
     let over : (q : ℕ) → p < n + k → q < n + k → HeldBetween all p q = λ q i j. held-rest sts ((0, n + k) ∷ []) p q (held_by ((0, n + k) ∷ []) 0 (0, 0) (omega arith) p q (omega arith) i (omega arith) j) in
     let reach : (q : ℕ) → q < length order → HeldBetween all p q → get_or (brought n k order) p 0 ≡ get_or order q 0 → HeldBetween all p (get_or (brought n k order) p 0) =
-        λ q i hold is. subst (λ x. HeldBetween all p x) (sym is) (held_over all p q (get_or order q 0) hold (old q i)) in
+    λ q i hold is. subst (λ x. HeldBetween all p x) (sym is) (held_over all p q (get_or order q 0) hold (old q i)) in
     elim (cases_lt p k) [
       | inl first ↦ reach (n + p) (omega arith) (over (n + p) (omega arith) (omega arith)) (get_or-brought_first n k order p l first)
       | inr later ↦ elim (cases_lt p (n + k)) [
-          | inl passed ↦ reach (p - k) (omega arith) (over (p - k) passed (omega arith)) (get_or-brought_passed n k order p l later passed)
-          | inr behind ↦ reach p (omega arith) (held_itself all p p refl) (get_or-brought_behind n k order p l behind)
-        ]
+        | inl passed ↦ reach (p - k) (omega arith) (over (p - k) passed (omega arith)) (get_or-brought_passed n k order p l later passed)
+        | inr behind ↦ reach p (omega arith) (held_itself all p p refl) (get_or-brought_behind n k order p l behind)
+      ]
     ]
 
 inside_all : (moves : List Move) (sts : List (ℕ × ℕ)) (order : List ℕ) → EndWithin (length order) (map merged_for moves) → MovesInside sts order → MovesInside (sts ++ map merged_for moves) (moved_all moves order)
