@@ -1,6 +1,13 @@
+pub mod Borders
 pub mod CircleLaws
 mod CircleRows
+pub mod PauseCuts
+pub mod ReorderingCuts
+pub mod ReorderingLaws
 pub mod ReorderingLemmas
+mod ReorderingRows
 pub mod ReorderingWalk
+pub mod Serials
+pub mod SpanCuts
 pub mod SyllabicLemmas
 mod SyllabicRows

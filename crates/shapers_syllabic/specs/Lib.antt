@@ -1,6 +1,8 @@
 pub mod Characters
+pub mod Borders
 pub mod CircleLaws
 pub mod Circles
 pub mod FirstBroken
 pub mod Reordering
+pub mod ReorderingLaws
 pub mod Syllabic

@@ -3,6 +3,7 @@ mod characters;
 mod circles;
 mod clearing;
 mod kinds;
+mod pause;
 mod reordering;
 mod set_up;
 
@@ -10,5 +11,9 @@ pub use characters::{compose, set_categories, set_categories_and_positions};
 pub use circles::{circles_can_be_erased, circles_keep_clusters, insert_dotted_circles};
 pub use clearing::{clear_substitution_flags, clear_syllables};
 pub use kinds::{indic_syllable, khmer_syllable, myanmar_syllable, use_syllable};
-pub use reordering::{Reorder, reorder_syllables};
-pub use set_up::set_up_syllables;
+pub use pause::{CircleSort, pauses_cut_law, reorder_pause};
+pub use reordering::{
+    Reorder, reorder_syllables, reordering_cuts_at_borders, reordering_loses_nothing,
+    serials_dont_count, text_reordered_law,
+};
+pub use set_up::{set_up_syllables, spans_cut_law};
