@@ -1,2 +1,8 @@
 mod ConstantRows
+pub mod KhmerListing
+mod KhmerRows
+pub mod KhmerSteps
+pub mod KhmerSyllable
+pub mod KhmerWalked
+mod PlanRows
 mod RequestRows

@@ -1,3 +1,4 @@
+pub mod Characters
 pub mod Borders
 pub mod CircleLaws
 pub mod Circles
