@@ -1,4 +1,5 @@
 pub mod CircleLaws
 mod CircleRows
+mod ConsonantRows
 pub mod SyllabicLemmas
 mod SyllabicRows

@@ -1,5 +1,6 @@
 pub mod CircleLaws
 pub mod Circles
+pub mod Consonants
 pub mod FirstBroken
 pub mod Reordering
 pub mod Syllabic

@@ -1,12 +1,14 @@
 //! What the shapers of syllabic scripts share: syllables by spans, dotted circles, reordering, clearing.
 mod circles;
 mod clearing;
+mod consonants;
 mod kinds;
 mod reordering;
 mod set_up;
 
 pub use circles::{circles_can_be_erased, circles_keep_clusters, insert_dotted_circles};
 pub use clearing::{clear_substitution_flags, clear_syllables};
+pub use consonants::is_consonant;
 pub use kinds::{indic_syllable, khmer_syllable, myanmar_syllable, use_syllable};
 pub use reordering::Reorder;
 pub use set_up::set_up_syllables;
