@@ -1,2 +1,5 @@
+mod Listing
+mod Merging
 mod MyanmarRows
+mod Positioned
 mod RequestRows

@@ -1,12 +1,11 @@
 //! The positions of the glyphs of a syllable. (OpenType, Myanmar script development.)
-ghost use Rattle.std.specs.Prelude.{◌≡◌, ◌==◌, ◌≤◌, length, map, not, take, drop};
+ghost use Rattle.std.specs.Prelude.{◌≡◌, ◌==◌, ◌≤◌, length, map, not, take, drop, position};
 ghost use Rattle.std.specs.List.{prefix_len};
 ghost use Rattle.shapers_myanmar.specs.Myanmar.{at_position, before_base, behind_reph, below_parts, carries_on_below, from_base, has_reph, in_below_part, in_parts, main_len, own_position, reph_len, with_own_positions, with_positions};
+ghost use Rattle.shapers_syllabic.specs.Consonants.{is_consonant};
 
 use shapers_base::buffer::hb_glyph_info_t;
-use shapers_base::plan::ot_category_t::{
-    OT_A, OT_As, OT_H, OT_MR, OT_Ra, OT_VBlw, OT_VPre, OT_VS,
-};
+use shapers_base::plan::ot_category_t::{OT_A, OT_As, OT_H, OT_MR, OT_Ra, OT_VBlw, OT_VPre, OT_VS};
 use shapers_base::plan::ot_position_t::{
     POS_AFTER_MAIN, POS_AFTER_SUB, POS_BASE_C, POS_BEFORE_SUB, POS_BELOW_C, POS_PRE_C, POS_PRE_M,
 };
@@ -62,7 +61,14 @@ fn before_base(glyphs: &[hb_glyph_info_t]) -> usize
     ensures len { result ≡ before_base glyphs.now }
     ensures within { result ≤ length glyphs.now }
 {
-    glyphs.iter().position(is_consonant).unwrap_or(0)
+    first_consonant(glyphs).unwrap_or(0)
+}
+
+// The place of the first consonant.
+fn first_consonant(glyphs: &[hb_glyph_info_t]) -> Option<usize>
+    ensures { result ≡ position is_consonant glyphs.now }
+{
+    glyphs.iter().position(|glyph| is_consonant(glyph))
 }
 
 // The positions of the base and of what follows it.
