@@ -3,4 +3,5 @@ pub mod Circles
 pub mod Consonants
 pub mod FirstBroken
 pub mod Reordering
+pub mod ReorderingLaws
 pub mod Syllabic

@@ -10,5 +10,8 @@ pub use circles::{circles_can_be_erased, circles_keep_clusters, insert_dotted_ci
 pub use clearing::{clear_substitution_flags, clear_syllables};
 pub use consonants::is_consonant;
 pub use kinds::{indic_syllable, khmer_syllable, myanmar_syllable, use_syllable};
-pub use reordering::Reorder;
+pub use reordering::{
+    Reorder, reorder_syllables, reordering_cuts_at_borders, reordering_loses_nothing,
+    text_reordered_law,
+};
 pub use set_up::set_up_syllables;

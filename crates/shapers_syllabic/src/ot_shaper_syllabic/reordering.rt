@@ -1,9 +1,11 @@
 //! Reordering a text syllable by syllable.
-ghost use Rattle.std.specs.Prelude.{◌≡◌, ◌≤◌, [], length, OnOk};
+ghost use Rattle.std.specs.Prelude.{◌≡◌, ◌≤◌, [], All, length, OnOk};
 ghost use Rattle.shapers_buffer.specs.Clusters.{stretch_of};
 ghost use Rattle.shapers_buffer.specs.Glyph.{order_view};
 ghost use Rattle.shapers_buffer.specs.Refusals.{RefusesMemoryIf};
-ghost use Rattle.shapers_syllabic.specs.Reordering.{SyllableReordered};
+ghost use Rattle.shapers_buffer.specs.Syllables.{syllables};
+ghost use Rattle.shapers_syllabic.specs.Reordering.{SyllableReordered, SyllablesReordered};
+ghost use Rattle.shapers_syllabic.specs.ReorderingLaws.{ReorderingCutsAtBorders, ReorderingLosesNothing, TextReorderedLaw};
 
 use shapers_base::buffer::{ShaperError, hb_buffer_t};
 
@@ -48,3 +50,36 @@ pub trait Reorder {
         seen carried (meaning self script gs)
         ≡ pick (old_places (length gs) (steps self script gs)) (seen carried gs) };
 }
+
+/// Reorders each syllable of the text, from left to right. The only refusal is `Memory`.
+pub fn reorder_syllables<R: Reorder>(order: &R, buffer: &mut hb_buffer_t) -> Result<(), ShaperError>
+    requires without_positions { buffer.old.positions ≡ [] }
+    requires can { All (R.can_reorder order.now) (syllables (order_view buffer.old.glyphs)) }
+    ensures ok { OnOk result (SyllablesReordered
+        (R.meaning order.now buffer.old.script) (R.steps order.now buffer.old.script)
+        buffer.old buffer.new) }
+    ensures refusal { RefusesMemoryIf (R.may_refuse order.now) result }
+{
+    let mut start = 0;
+    while start < buffer.len() {
+        let end = buffer.next_syllable(start);
+        order.reorder(buffer, start, end)?;
+        start = end;
+    }
+    Ok(())
+}
+
+/// A reordering loses nothing: the text after has the glyphs of the text before in some order.
+pub fn reordering_loses_nothing()
+    ensures { ReorderingLosesNothing }
+{}
+
+/// The laws of clusters and glyph flags hold of a text that is reordered syllable by syllable.
+pub fn text_reordered_law()
+    ensures { TextReorderedLaw }
+{}
+
+/// A reordering pause on a text gives what it gives on the halves, cut at any border of syllables.
+pub fn reordering_cuts_at_borders()
+    ensures { ReorderingCutsAtBorders }
+{}
