@@ -1,3 +1,4 @@
+pub mod Borders
 pub mod CircleLaws
 mod CircleRows
 mod ConsonantRows
@@ -6,5 +7,7 @@ pub mod ReorderingLaws
 pub mod ReorderingLemmas
 mod ReorderingRows
 pub mod ReorderingWalk
+pub mod Serials
+pub mod SpanCuts
 pub mod SyllabicLemmas
 mod SyllabicRows

@@ -10,9 +10,9 @@ use Rattle.shapers_buffer.specs.declared.buffer.level.BufferClusterLevel.TheVari
 use Rattle.shapers_buffer.specs.Glyph.{order_view, plain}
 use Rattle.shapers_buffer.specs.Syllables.{syllables}
 use Rattle.shapers_clusters.specs.Flags.{seen}
-use Rattle.shapers_clusters.specs.Steps.{FitSteps, FitsStep, MovesMerged, Permutes, Step, steps_along}
+use Rattle.shapers_clusters.specs.Steps.{run_steps, FitSteps, FitsStep, MovesMerged, Permutes, Step, steps_along}
 use Rattle.shapers_clusters.proofs.Proved.{along_holds, reordered_hold, seen_steps_hold}
-use Rattle.shapers_clusters.proofs.Views.{seen-permuted, seen-run_steps}
+use Rattle.shapers_clusters.proofs.Views.{seen-permuted, seen-run_steps, seen-same}
 use Rattle.shapers_syllabic.specs.Reordering.{carried, text_order, text_steps}
 use Rattle.shapers_syllabic.specs.ReorderingLaws.{ReorderLaws, ReorderingLosesNothing, TextReorderedLaw}
 use Rattle.shapers_syllabic.proofs.CircleLaws.{joined-syllables}
@@ -76,10 +76,12 @@ text_reordered meaning steps old new laws done =
     let sum : sum_by (λ piece. piece.0) ps ≤ length gs = omega (arith, sum-syllables steps xs, length-map gs plain) in
     let along = along_holds old.level ps gs sum (each_piece FitsStep steps laws.fits (syllables xs)) in
     let is = text_steps-long steps gs in
+    let fits : FitSteps (length gs) (text_steps steps xs) = subst (FitSteps (length gs)) (sym is) along.fit in
+    let permutes = subst (AllByRecursion (Permutes (length gs))) (sym is) (along.permuted (each_piece Permutes steps laws.permutes (syllables xs))) in
     record {
-      glyphs = seen_steps_hold carried carried_hides old.level (text_steps steps xs) gs new.glyphs (subst (FitSteps (length gs)) (sym is) along.fit) done.moved;
+      kept = subst (IsPermutation (seen carried gs)) (sym (seen-same carried new.glyphs (run_steps old.level (text_steps steps xs) gs) done.moved)) (seen-permuted carried carried_hides old.level (text_steps steps xs) gs fits permutes);
+      glyphs = seen_steps_hold carried carried_hides old.level (text_steps steps xs) gs new.glyphs fits done.moved;
       merged = λ inside.
           let moves = along.merged (each_piece MovesMerged steps inside (syllables xs)) in
-          let permutes = along.permuted (each_piece Permutes steps laws.permutes (syllables xs)) in
-          reordered_hold carried carried_hides old.level (text_steps steps xs) gs new.glyphs (subst (AllByRecursion (MovesMerged (length gs))) (sym is) moves) (subst (AllByRecursion (Permutes (length gs))) (sym is) permutes) done.moved;
+          reordered_hold carried carried_hides old.level (text_steps steps xs) gs new.glyphs (subst (AllByRecursion (MovesMerged (length gs))) (sym is) moves) permutes done.moved;
     }

@@ -1,15 +1,22 @@
 -- Reordering syllable by syllable, computed on small texts.
-use Rattle.std.specs.Prelude.{◌≡◌, ℕ, List, [], ◌∷◌, length, map, reverse, Some, None, refl}
-use Rattle.std.proofs.Common.{arith}
-use Rattle.std.specs.List.{range_with_len}
+use Rattle.std.specs.Prelude.{◌≡◌, ℕ, List, [], ◌∷◌, length, map, reverse, Option, Some, None, pos, true, false, ◌==◌, if◌then◌else◌, refl}
+use Rattle.std.proofs.Common.{arith, ap, slice_index}
+use Rattle.std.specs.List.{flat_map, range_with_len}
 use Rattle.shapers_buffer.specs.declared.buffer.category.hb_unicode_general_category_t.TheVariants.{Mn}
 use Rattle.shapers_buffer.specs.declared.buffer.glyph.hb_glyph_info_t.{hb_glyph_info_t}
 use Rattle.shapers_buffer.specs.declared.buffer.level.BufferClusterLevel.TheVariants.{Characters, MonotoneGraphemes}
+use Rattle.shapers_buffer.specs.declared.buffer.syllables.Span.{Span}
+use Rattle.shapers_buffer.specs.Buffer.{new_buffer}
 use Rattle.shapers_buffer.specs.Glyph.{clusters, default_glyph}
 use Rattle.shapers_clusters.specs.Steps.{Step, run_steps}
 use Rattle.shapers_syllabic.specs.declared.ot_shaper_syllabic.circles.DottedCircles.{DottedCircles}
-use Rattle.shapers_syllabic.specs.Reordering.{carried, text_order, text_steps}
-use Rattle.shapers_syllabic.specs.ReorderingLaws.{MeetAtBorder, paused_carried, paused_order}
+use Rattle.shapers_syllabic.specs.Reordering.{carried, circles_of_sort, first_unknown, kind_refusal, text_order, text_steps}
+use Rattle.shapers_syllabic.specs.declared.ot_shaper_syllabic.pause.CircleSort.{CircleSort}
+use Rattle.shapers_base.specs.Font.{Font}
+use Rattle.shapers_base.specs.declared.font.GlyphId.{GlyphId}
+use Rattle.shapers_buffer.specs.declared.buffer.refusal.ShaperError.TheVariants.{UnknownSyllable}
+use Rattle.shapers_syllabic.specs.Borders.{MeetAtBorder, SameButSerials, spans_set_up, unnumbered}
+use Rattle.shapers_syllabic.specs.ReorderingLaws.{paused_carried, paused_order}
 
 -- what is carried along, and what is hidden, field by field
 abbrev full : hb_glyph_info_t
@@ -106,3 +113,64 @@ border_behind some more same = absurd (omega arith)
 
 no_border : MeetAtBorder (text ((1, 0, 0x20) ∷ (2, 0, 0x10) ∷ [])) (text ((3, 0, 0x10) ∷ (4, 0, 0x20) ∷ [])) → ⊥
 no_border meets = meets (omega arith) (omega arith) refl
+
+-- a glyph without the serial of its syllable, field by field, and texts that differ in serials alone
+unnumbered_full : unnumbered full ≡ record full { syllable = 4 }
+unnumbered_full = refl
+
+unnumbered_bytes : map (λ byte. (unnumbered (record full { syllable = byte })).syllable) (0 ∷ 0x0F ∷ 0x10 ∷ 0x14 ∷ 0xF4 ∷ 0xFF ∷ []) ≡ 0 ∷ 15 ∷ 0 ∷ 4 ∷ 4 ∷ 15 ∷ []
+unnumbered_bytes = refl
+
+other_serials : SameButSerials (text ((1, 0, 0x14) ∷ (2, 0, 0x20) ∷ (3, 0, 0x20) ∷ [])) (text ((1, 0, 0xF4) ∷ (2, 0, 0x10) ∷ (3, 0, 0x10) ∷ []))
+other_serials = refl
+
+other_kinds : SameButSerials (text ((1, 0, 0x14) ∷ [])) (text ((1, 0, 0x15) ∷ [])) → ⊥
+other_kinds same = absurd (omega (arith, ap (λ ps. slice_index (map (λ g. g.syllable) (flat_map (λ p. p) ps)) 0) same))
+
+other_cut : SameButSerials (text ((1, 0, 0x14) ∷ (2, 0, 0x14) ∷ [])) (text ((1, 0, 0x14) ∷ (2, 0, 0x24) ∷ [])) → ⊥
+other_cut same = absurd (omega (arith, ap length same))
+
+-- spans of two glyphs, one and two, set up whole and in halves: the second half has other serials, and nothing else differs
+abbrev spans_of : List (ℕ × ℕ) → List Span
+spans_of rows = map (λ row. let span : Span = record { len = row.0; kind = row.1 } in span) rows
+
+abbrev set_up_of : List (ℕ × ℕ) → List ℕ → List (ℕ × ℕ × ℕ)
+set_up_of spans cs = map (λ g. let row : ℕ × ℕ × ℕ = (g.cluster, g.syllable, g.mask) in row) (spans_set_up (spans_of spans) 4 (record (new_buffer 100) { glyphs = map (λ c. record default_glyph { cluster = c }) cs })).glyphs
+
+set_up_whole : set_up_of ((2, 0) ∷ (1, 4) ∷ (2, 1) ∷ []) (0 ∷ 1 ∷ 2 ∷ 3 ∷ 4 ∷ []) ≡ (0, 0x10, 0) ∷ (1, 0x10, 3) ∷ (2, 0x24, 0) ∷ (3, 0x31, 0) ∷ (4, 0x31, 3) ∷ []
+set_up_whole = refl
+
+set_up_first : set_up_of ((2, 0) ∷ (1, 4) ∷ []) (0 ∷ 1 ∷ 2 ∷ []) ≡ (0, 0x10, 0) ∷ (1, 0x10, 3) ∷ (2, 0x24, 0) ∷ []
+set_up_first = refl
+
+set_up_second : set_up_of ((2, 1) ∷ []) (3 ∷ 4 ∷ []) ≡ (3, 0x11, 0) ∷ (4, 0x11, 3) ∷ []
+set_up_second = refl
+
+-- the circles of a shaper in a buffer, by the font's glyph
+abbrev sort : CircleSort
+sort = record { broken_kind = 4; category = 11; repha = Some 14; position = Some 3 }
+
+abbrev font_of : Option GlyphId → Font
+font_of glyph = record { nominal = λ c. (if c == 0x25CC then glyph else None); advance = λ g. pos 0; applies = λ lookup gs context. false; offers = λ tag. false }
+
+circles_wanted : circles_of_sort sort (font_of (Some (record { 0 = 7 }))) (record (new_buffer 9) { broken = true }) ≡ Some (record { broken_kind = 4; circle = record default_glyph { glyph_id = 7; category = 11; auxiliary = 3 }; repha = Some 14 })
+circles_wanted = refl
+
+circles_without_broken : circles_of_sort sort (font_of (Some (record { 0 = 7 }))) (new_buffer 9) ≡ None
+circles_without_broken = refl
+
+circles_without_glyph : circles_of_sort sort (font_of None) (record (new_buffer 9) { broken = true }) ≡ None
+circles_without_glyph = refl
+
+-- unknown kinds: those above the last known, the first place of the first such syllable
+kinds_known : kind_refusal (Some 4) three ≡ None
+kinds_known = refl
+
+kind_unknown : kind_refusal (Some 3) three ≡ Some (UnknownSyllable 2)
+kind_unknown = refl
+
+kinds_all_known : kind_refusal None (text ((1, 0, 0x1F) ∷ [])) ≡ None
+kinds_all_known = refl
+
+kind_at_once : map (λ last. first_unknown (Some last) (text ((1, 0, 0x12) ∷ (2, 0, 0x12) ∷ (3, 0, 0x21) ∷ []))) (0 ∷ 1 ∷ 2 ∷ []) ≡ Some 0 ∷ Some 0 ∷ None ∷ []
+kind_at_once = refl

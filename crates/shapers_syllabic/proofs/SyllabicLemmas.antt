@@ -81,8 +81,8 @@ next_opens i span (s ∷ spans) (r ∷ rs) low kinds covers =
     next_byte i span s s.len (span_bytes (suc (suc i)) spans) r rs first.some low (All-head (λ (t : Span). t.kind ≤ 15) s spans kinds)
 
 -- the first span of a text is its first syllable
-span_next : (i : ℕ) (span : Span) (spans : List Span) (gs : List hb_glyph_info_t) → All (λ s. s.kind ≤ 15) (span ∷ spans) → spans_cover (length gs) (span ∷ spans) ≡ true → unsafe_syllables (with_bytes gs (span_bytes i (span ∷ spans))) ≡ in_unsafe_syllable (span_byte i span) (take span.len gs) ++ unsafe_syllables (with_bytes (drop span.len gs) (span_bytes (suc i) spans))
-span_next i span spans gs kinds covers =
+pub cut_next : (i : ℕ) (span : Span) (spans : List Span) (gs : List hb_glyph_info_t) → All (λ s. s.kind ≤ 15) (span ∷ spans) → spans_cover (length gs) (span ∷ spans) ≡ true → syllables (with_bytes gs (span_bytes i (span ∷ spans))) ≡ map (in_syllable (span_byte i span)) (take span.len gs) ∷ syllables (with_bytes (drop span.len gs) (span_bytes (suc i) spans))
+cut_next i span spans gs kinds covers =
     let kind : Span → Type 0 = λ s. s.kind ≤ 15 in
     let first = covers_first (length gs) span spans covers in
     let byte = span_byte i span in
@@ -92,7 +92,10 @@ span_next i span spans gs kinds covers =
     let split = with_bytes-replicate n byte gs bytes first.within in
     let other = next_opens i span spans rest (All-head kind span spans kinds) (All-tail kind span spans kinds) (ap (λ k. spans_cover k spans) (length-drop n gs) ∙ first.rest) in
     let some : 0 < length (take n gs) = omega (arith, length-take-le n gs first.within, first.some) in
-    ap unsafe_syllables split ∙ ap (flat_map (flagged 3)) (first_syllable byte (take n gs) (with_bytes rest bytes) some other)
+    ap syllables split ∙ first_syllable byte (take n gs) (with_bytes rest bytes) some other
+
+span_next : (i : ℕ) (span : Span) (spans : List Span) (gs : List hb_glyph_info_t) → All (λ s. s.kind ≤ 15) (span ∷ spans) → spans_cover (length gs) (span ∷ spans) ≡ true → unsafe_syllables (with_bytes gs (span_bytes i (span ∷ spans))) ≡ in_unsafe_syllable (span_byte i span) (take span.len gs) ++ unsafe_syllables (with_bytes (drop span.len gs) (span_bytes (suc i) spans))
+span_next i span spans gs kinds covers = ap (flat_map (flagged 3)) (cut_next i span spans gs kinds covers)
 
 length-in_unsafe : (byte : ℕ) (gs : List hb_glyph_info_t) → length (in_unsafe_syllable byte gs) ≡ length gs
 length-in_unsafe byte gs =

@@ -1,4 +1,5 @@
 pub mod Characters
+pub mod Borders
 pub mod CircleLaws
 pub mod Circles
 pub mod Consonants

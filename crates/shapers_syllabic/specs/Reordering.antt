@@ -1,14 +1,18 @@
 -- Reordering syllable by syllable: what a syllable becomes, and the merges and moves that lead there.
-use Rattle.std.specs.Prelude.{ℕ, ◌%◌, ◌≡◌, List, Option, length, map}
+use Rattle.std.specs.Prelude.{ℕ, ◌%◌, ◌≡◌, List, Option, None, Some, option_map, length, map}
 use Rattle.std.specs.List.{flat_map}
 use Rattle.shapers_buffer.specs.declared.buffer.glyph.hb_glyph_info_t.{hb_glyph_info_t}
 use Rattle.shapers_buffer.specs.Buffer.{Buffer, but_places}
 use Rattle.shapers_buffer.specs.Clusters.{stretch_of, with_stretch}
 use Rattle.shapers_buffer.specs.Glyph.{order_view}
 use Rattle.shapers_buffer.specs.Marks.{no_marks}
-use Rattle.shapers_buffer.specs.Syllables.{syllables}
+use Rattle.shapers_buffer.specs.Syllables.{syllables, unknown_syllable}
+use Rattle.shapers_base.specs.Font.{Font}
+use Rattle.shapers_buffer.specs.declared.buffer.refusal.ShaperError.{ShaperError}
+use Rattle.shapers_buffer.specs.declared.buffer.refusal.ShaperError.TheVariants.{UnknownSyllable}
+use Rattle.shapers_syllabic.specs.declared.ot_shaper_syllabic.pause.CircleSort.{CircleSort}
 use Rattle.shapers_syllabic.specs.declared.ot_shaper_syllabic.circles.DottedCircles.{DottedCircles}
-use Rattle.shapers_syllabic.specs.Circles.{circled}
+use Rattle.shapers_syllabic.specs.Circles.{circled, circles_for}
 use Rattle.shapers_clusters.specs.Steps.{Step, run_steps, steps_along, widened}
 
 -- The view of what a reordering carries along: it hides feature masks, category, auxiliary byte and marks, which it may change.
@@ -35,6 +39,18 @@ pub record SyllablesReordered (meaning : List hb_glyph_info_t → List hb_glyph_
   pub others : but_places new ≡ record (but_places old) { glyphs = new.glyphs }
   pub order : order_view new.glyphs ≡ text_order meaning (order_view old.glyphs)
   pub moved : map carried new.glyphs ≡ map carried (run_steps old.level (text_steps steps (order_view old.glyphs)) old.glyphs)
+
+-- the circles that a buffer gets, where the font has a glyph for them, as the shaper has its circles
+abbrev pub circles_of_sort : CircleSort → Font → Buffer → Option DottedCircles
+circles_of_sort sort font b = circles_for (font.nominal 0x25CC) sort.broken_kind sort.category sort.repha sort.position b
+
+-- the first place of the first syllable of unknown kind, where there is a last known kind, and the refusal that it gives
+abbrev pub first_unknown : Option ℕ → List hb_glyph_info_t → Option ℕ
+first_unknown None gs = None
+first_unknown (Some last) gs = unknown_syllable last gs
+
+abbrev pub kind_refusal : Option ℕ → List hb_glyph_info_t → Option ShaperError
+kind_refusal last gs = option_map (λ place. UnknownSyllable place) (first_unknown last gs)
 
 -- A reordering pause: dotted circles come into the text, and then its syllables are reordered.
 abbrev pub PauseReordered : Option DottedCircles → (List hb_glyph_info_t → List hb_glyph_info_t) → (List hb_glyph_info_t → List Step) → Buffer → Buffer → Type 0

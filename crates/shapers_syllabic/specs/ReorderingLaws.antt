@@ -1,6 +1,5 @@
 -- The laws of reordering syllable by syllable, as statements.
-use Rattle.std.specs.Prelude.{◌-◌, ◌<◌, ◌≡◌, List, Option, ◌++◌, length, map, slice_index}
-use Rattle.std.proofs.Common.{◌≢◌}
+use Rattle.std.specs.Prelude.{◌≡◌, List, Option, ◌++◌, length, map}
 use Rattle.std.specs.List.{AllByRecursion}
 use Rattle.std.specs.List.Sorted.{IsPermutation}
 use Rattle.shapers_buffer.specs.declared.buffer.glyph.hb_glyph_info_t.{hb_glyph_info_t}
@@ -13,6 +12,7 @@ use Rattle.shapers_clusters.specs.Flags.{seen}
 use Rattle.shapers_clusters.specs.Laws.{ReorderedHold, SeenStepsHold}
 use Rattle.shapers_clusters.specs.Steps.{FitSteps, MovesMerged, Permutes, Step, old_places, run_steps}
 use Rattle.shapers_syllabic.specs.declared.ot_shaper_syllabic.circles.DottedCircles.{DottedCircles}
+use Rattle.shapers_syllabic.specs.Borders.{MeetAtBorder, SameButSerials, unnumbered}
 use Rattle.shapers_syllabic.specs.Circles.{circled}
 use Rattle.shapers_syllabic.specs.Reordering.{PauseReordered, SyllablesReordered, carried, text_order, text_steps}
 
@@ -32,9 +32,10 @@ abbrev pub ReorderingLosesNothing : Type 0
 ReorderingLosesNothing = (meaning : List hb_glyph_info_t → List hb_glyph_info_t) (steps : List hb_glyph_info_t → List Step) →
     ReorderLaws meaning steps → (gs : List hb_glyph_info_t) → NothingLost meaning gs
 
--- What holds of any text whose syllables are reordered: the laws of steps, through the view. If the steps of each syllable move
+-- What holds of any text whose syllables are reordered: no glyph is lost, and the laws of steps, through the view. If the steps of each syllable move
 -- only inside what they merged first: the laws of a hook that reorders, exact cuts and the cluster law among them.
 pub record TextReordered (steps : List hb_glyph_info_t → List Step) (old new : Buffer) : Type 0 where
+  pub kept : IsPermutation (seen carried old.glyphs) (seen carried new.glyphs)
   pub glyphs : SeenStepsHold carried old.level (text_steps steps (order_view old.glyphs)) old.glyphs new.glyphs
   pub merged : ((gs : List hb_glyph_info_t) → AllByRecursion (MovesMerged (length gs)) (steps gs)) →
       ReorderedHold carried old.level (text_steps steps (order_view old.glyphs)) old.glyphs new.glyphs
@@ -43,10 +44,6 @@ abbrev pub TextReorderedLaw : Type 0
 TextReorderedLaw = (meaning : List hb_glyph_info_t → List hb_glyph_info_t) (steps : List hb_glyph_info_t → List Step) (old new : Buffer) →
     ReorderLaws meaning steps → SyllablesReordered meaning steps old new →
     TextReordered steps old new
-
--- two texts meet at a border of syllables: the last of the one and the first of the other have different bytes, if there are both
-abbrev pub MeetAtBorder : List hb_glyph_info_t → List hb_glyph_info_t → Type 0
-MeetAtBorder gs hs = 0 < length gs → 0 < length hs → slice_index (map (λ g. g.syllable) gs) (length gs - 1) ≢ slice_index (map (λ g. g.syllable) hs) 0
 
 -- what a reordering pause makes of a text, by its definition: the order view; and what is carried along
 abbrev pub paused_order : Option DottedCircles → (List hb_glyph_info_t → List hb_glyph_info_t) → List hb_glyph_info_t → List hb_glyph_info_t
@@ -69,3 +66,19 @@ abbrev pub ReorderingCutsAtBorders : Type 0
 ReorderingCutsAtBorders = (circles : Option DottedCircles) (meaning : List hb_glyph_info_t → List hb_glyph_info_t) (steps : List hb_glyph_info_t → List Step) (old new : Buffer) →
     ReorderLaws meaning steps → PauseReordered circles meaning steps old new →
     PauseCutsAtBorders circles meaning steps old new
+
+-- An instance that reads the kinds of syllables and not their serials: of the same syllable but for serials it makes the same but
+-- for serials, by the same steps.
+pub record ReadsNoSerials (meaning : List hb_glyph_info_t → List hb_glyph_info_t) (steps : List hb_glyph_info_t → List Step) : Type 0 where
+  pub meant : (gs hs : List hb_glyph_info_t) → map unnumbered gs ≡ map unnumbered hs → map unnumbered (meaning gs) ≡ map unnumbered (meaning hs)
+  pub led : (gs hs : List hb_glyph_info_t) → map unnumbered gs ≡ map unnumbered hs → steps gs ≡ steps hs
+
+-- A pause of such an instance, circles among it, makes the same of texts that are the same but for serials.
+pub record SameButSerialsAfter (circles : Option DottedCircles) (meaning : List hb_glyph_info_t → List hb_glyph_info_t) (steps : List hb_glyph_info_t → List Step) (level : BufferClusterLevel) (gs hs : List hb_glyph_info_t) : Type 0 where
+  pub order : map unnumbered (paused_order circles meaning gs) ≡ map unnumbered (paused_order circles meaning hs)
+  pub moved : map unnumbered (paused_carried circles steps level gs) ≡ map unnumbered (paused_carried circles steps level hs)
+
+abbrev pub SerialsDontCount : Type 0
+SerialsDontCount = (circles : Option DottedCircles) (meaning : List hb_glyph_info_t → List hb_glyph_info_t) (steps : List hb_glyph_info_t → List Step) (level : BufferClusterLevel) (gs hs : List hb_glyph_info_t) →
+    ReadsNoSerials meaning steps → SameButSerials gs hs →
+    SameButSerialsAfter circles meaning steps level gs hs

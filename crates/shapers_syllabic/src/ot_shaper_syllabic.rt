@@ -4,6 +4,7 @@ mod circles;
 mod clearing;
 mod consonants;
 mod kinds;
+mod pause;
 mod reordering;
 mod set_up;
 
@@ -12,8 +13,9 @@ pub use circles::{circles_can_be_erased, circles_keep_clusters, insert_dotted_ci
 pub use clearing::{clear_substitution_flags, clear_syllables};
 pub use consonants::is_consonant;
 pub use kinds::{indic_syllable, khmer_syllable, myanmar_syllable, use_syllable};
+pub use pause::{CircleSort, reorder_pause};
 pub use reordering::{
     Reorder, reorder_syllables, reordering_cuts_at_borders, reordering_loses_nothing,
-    text_reordered_law,
+    serials_dont_count, text_reordered_law,
 };
-pub use set_up::set_up_syllables;
+pub use set_up::{set_up_syllables, spans_cut_law};

@@ -5,7 +5,7 @@ ghost use Rattle.shapers_buffer.specs.Glyph.{order_view};
 ghost use Rattle.shapers_buffer.specs.Refusals.{RefusesMemoryIf};
 ghost use Rattle.shapers_buffer.specs.Syllables.{syllables};
 ghost use Rattle.shapers_syllabic.specs.Reordering.{SyllableReordered, SyllablesReordered};
-ghost use Rattle.shapers_syllabic.specs.ReorderingLaws.{ReorderingCutsAtBorders, ReorderingLosesNothing, TextReorderedLaw};
+ghost use Rattle.shapers_syllabic.specs.ReorderingLaws.{ReorderingCutsAtBorders, ReorderingLosesNothing, SerialsDontCount, TextReorderedLaw};
 
 use shapers_base::buffer::{ShaperError, hb_buffer_t};
 
@@ -82,4 +82,10 @@ pub fn text_reordered_law()
 /// A reordering pause on a text gives what it gives on the halves, cut at any border of syllables.
 pub fn reordering_cuts_at_borders()
     ensures { ReorderingCutsAtBorders }
+{}
+
+/// The serials of syllables don't count: a pause of an instance that doesn't read them makes the
+/// same of texts that differ in them alone.
+pub fn serials_dont_count()
+    ensures { SerialsDontCount }
 {}

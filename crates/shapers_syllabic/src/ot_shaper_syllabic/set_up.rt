@@ -3,6 +3,7 @@ ghost use Rattle.std.specs.Prelude.{◌≡◌, ◌==◌, ◌≤◌, All, IfErr, 
 ghost use Rattle.std.specs.List.{list_any};
 ghost use Rattle.shapers_buffer.specs.Clusters.{with_stretch};
 ghost use Rattle.shapers_buffer.specs.GlyphFlags.{flagged};
+ghost use Rattle.shapers_syllabic.specs.Borders.{SpansCutLaw};
 ghost use Rattle.shapers_syllabic.specs.Syllabic.{in_unsafe_syllable, unsafe_spans, with_unsafe_syllables};
 ghost use Rattle.shapers_buffer.specs.Refusals.{RefusesInput};
 ghost use Rattle.shapers_buffer.specs.Syllables.{in_syllable, spans_cover, spans_refusal, with_spans};
@@ -35,6 +36,11 @@ pub fn set_up_syllables(
     }
     Ok(())
 }
+
+/// Spans set up a text as they set up its halves, cut between any two of them, but for serials.
+pub fn spans_cut_law()
+    ensures { SpansCutLaw }
+{}
 
 // The spans that a text is cut into.
 #[derive(Clone, Copy)]

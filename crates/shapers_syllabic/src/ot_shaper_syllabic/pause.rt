@@ -1,0 +1,84 @@
+//! A reordering pause: dotted circles, and then the order of each syllable.
+ghost use Rattle.std.specs.Prelude.{◌≡◌, [], All, IfOk, IsOk, OnErr, OnOk, is_some, length, None};
+ghost use Rattle.shapers_buffer.specs.Glyph.{order_view};
+ghost use Rattle.shapers_buffer.specs.Refusals.{Refuses};
+ghost use Rattle.shapers_buffer.specs.Syllables.{syllables};
+ghost use Rattle.shapers_syllabic.specs.Circles.{circled};
+ghost use Rattle.shapers_syllabic.specs.Reordering.{PauseReordered, circles_of_sort, first_unknown, kind_refusal};
+ghost use Rattle.shapers_syllabic.specs.ReorderingLaws.{PauseCutsAtBorders, TextReordered};
+
+use super::circles::insert_dotted_circles;
+use super::reordering::{Reorder, reorder_syllables};
+use shapers_base::buffer::{ShaperError, hb_buffer_t};
+use shapers_base::font::hb_font_t;
+
+/// The dotted circles of a shaper: in syllables of the broken kind, with a category and a position,
+/// behind the leading glyphs of the repha category where there is one.
+#[derive(Clone, Copy, Debug, PartialEq, Eq)]
+pub struct CircleSort {
+    pub broken_kind: u8,
+    pub category: u8,
+    pub repha: Option<u8>,
+    pub position: Option<u8>,
+}
+
+/// Gives broken syllables their dotted circles and then reorders each syllable. Answers whether
+/// circles were wanted. Refuses with `UnknownSyllable` where a kind is above the last known one, if
+/// there is one; with `TooLong`; and with `Memory`, but not where no circle opens. The order itself
+/// never refuses.
+pub fn reorder_pause<F: hb_font_t, R: Reorder>(
+    face: &F,
+    order: &R,
+    sort: &CircleSort,
+    last_kind: Option<u8>,
+    buffer: &mut hb_buffer_t,
+) -> Result<bool, ShaperError>
+    requires without_positions { buffer.old.positions ≡ [] }
+    requires never { R.may_refuse order.now → ⊥ }
+    requires can { let circles = circles_of_sort sort.now (F.font face.now) buffer.old in
+        All (R.can_reorder order.now) (syllables (order_view (circled circles buffer.old.glyphs))) }
+    ensures answer { let circles = circles_of_sort sort.now (F.font face.now) buffer.old in
+        IfOk result (λ answer. answer ≡ is_some circles) }
+    ensures ok { let circles = circles_of_sort sort.now (F.font face.now) buffer.old in
+        OnOk result (PauseReordered circles
+        (R.meaning order.now buffer.old.script) (R.steps order.now buffer.old.script)
+        buffer.old buffer.new) }
+    ensures cut { let circles = circles_of_sort sort.now (F.font face.now) buffer.old in
+        OnOk result (PauseCutsAtBorders circles
+        (R.meaning order.now buffer.old.script) (R.steps order.now buffer.old.script)
+        buffer.old buffer.new) }
+    ensures laws { let circles = circles_of_sort sort.now (F.font face.now) buffer.old in
+        let opened = record buffer.old { glyphs = circled circles buffer.old.glyphs } in
+        OnOk result (TextReordered (R.steps order.now buffer.old.script) opened buffer.new) }
+    ensures refusal { let circles = circles_of_sort sort.now (F.font face.now) buffer.old in
+        Refuses (kind_refusal last_kind buffer.old.glyphs)
+        buffer.old.max_len (length (circled circles buffer.old.glyphs)) result }
+    ensures err { OnErr result (buffer.new ≡ buffer.old) }
+    ensures without_memory { let circles = circles_of_sort sort.now (F.font face.now) buffer.old in
+        kind_refusal last_kind buffer.old.glyphs ≡ None →
+        circled circles buffer.old.glyphs ≡ buffer.old.glyphs → IsOk result }
+{
+    if let Some(place) = first_unknown(buffer, last_kind) {
+        return Err(ShaperError::UnknownSyllable(place));
+    }
+    let circles = insert_dotted_circles(
+        face,
+        buffer,
+        sort.broken_kind,
+        sort.category,
+        sort.repha,
+        sort.position,
+    )?;
+    reorder_syllables(order, buffer)?;
+    Ok(circles)
+}
+
+// The first place of the first syllable of unknown kind, where there is a last known one.
+fn first_unknown(buffer: &hb_buffer_t, last_kind: Option<u8>) -> Option<usize>
+    ensures { result ≡ first_unknown last_kind buffer.now.glyphs }
+{
+    match last_kind {
+        None => None,
+        Some(last_kind) => buffer.unknown_syllable(last_kind),
+    }
+}
