@@ -1,7 +1,6 @@
 -- The marks by their numbers, what each changes, and the glyphs that bear them, written out.
 use Rattle.std.specs.Prelude.{◌≡◌, ℕ, ◌^◌, Bool, true, false, List, [], ◌∷◌, map, refl}
-use Rattle.shapers_buffer.specs.declared.buffer.category.hb_unicode_general_category_t.TheVariants.{Cc, Mn}
-use Rattle.shapers_buffer.specs.declared.buffer.glyph.hb_glyph_info_t.{hb_glyph_info_t}
+use Rattle.shapers_buffer.specs.declared.buffer.category.hb_unicode_general_category_t.TheVariants.{Cc}
 use Rattle.shapers_buffer.specs.declared.buffer.glyph_marks.GlyphMarks.{GlyphMarks}
 use Rattle.shapers_buffer.specs.declared.buffer.glyph_marks.TheConstants.GlyphMarks as constant
 use Rattle.shapers_buffer.specs.Glyph.{default_glyph}

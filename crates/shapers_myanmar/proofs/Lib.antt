@@ -1,1 +1,7 @@
+mod Listing
+mod Merging
+mod MyanmarRows
+mod Order
+mod Plain
+mod Positioned
 mod RequestRows

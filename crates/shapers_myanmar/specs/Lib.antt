@@ -1,1 +1,3 @@
+pub mod Myanmar
+pub mod MyanmarWalk
 pub mod Requests

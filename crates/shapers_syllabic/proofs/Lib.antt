@@ -1,6 +1,7 @@
 pub mod Borders
 pub mod CircleLaws
 mod CircleRows
+mod ConsonantRows
 pub mod PauseCuts
 pub mod ReorderingCuts
 pub mod ReorderingLaws

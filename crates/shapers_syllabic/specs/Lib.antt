@@ -2,6 +2,7 @@ pub mod Characters
 pub mod Borders
 pub mod CircleLaws
 pub mod Circles
+pub mod Consonants
 pub mod FirstBroken
 pub mod Reordering
 pub mod ReorderingLaws
