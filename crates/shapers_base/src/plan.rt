@@ -12,6 +12,7 @@ pub mod ot_position_t;
 mod pause;
 mod planner;
 mod record;
+mod universal;
 
 pub use arabic::arabic_shape_plan_t;
 pub use hangul::hangul_shape_plan_t;
@@ -19,6 +20,7 @@ pub use joining::hb_arabic_joining_type_t;
 pub use pause::Pause;
 pub use planner::{Request, hb_ot_shape_planner_t};
 pub use record::{NormalizationMode, ZeroWidthMarks};
+pub use universal::use_shape_plan_t;
 
 /// The category of a character among those of `ot_category_t` or of the universal shaper.
 pub type Category = u8;
@@ -48,6 +50,8 @@ pub enum PlanData {
     Arabic(arabic_shape_plan_t),
     /// What Hangul keeps.
     Hangul(hangul_shape_plan_t),
+    /// What the universal shaper keeps.
+    Universal(use_shape_plan_t),
 }
 
 /// What `preprocess_text` left to its caller.

@@ -1,2 +1,3 @@
 mod ConstantRows
+mod MaskLemmas
 mod RequestRows

@@ -1,1 +1,3 @@
+pub mod PlanData
 pub mod Requests
+pub mod UniversalMasks

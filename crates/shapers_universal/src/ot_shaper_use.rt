@@ -10,6 +10,12 @@ pub use shapers_base::plan::Category;
 use shapers_base::plan::{Pause, Request, ShaperError, hb_ot_shape_planner_t};
 
 pub mod category;
+mod data;
+mod masks;
+
+pub use data::create_data;
+pub use masks::setup_masks;
+pub use shapers_base::plan::use_shape_plan_t;
 
 // A basic feature: in the whole text, within syllables, and it sees joiners.
 const BASIC: u32 = F_GLOBAL | F_MANUAL_ZWJ | F_PER_SYLLABLE;
