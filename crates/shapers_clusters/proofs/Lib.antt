@@ -18,5 +18,6 @@ pub mod Proved
 pub mod Sources
 pub mod Spread
 pub mod Swaps
+pub mod Through
 pub mod Views
 pub mod Widened

@@ -1,9 +1,10 @@
 //! Reordering a text syllable by syllable.
-ghost use Rattle.std.specs.Prelude.{◌≡◌, ◌≤◌, [], length, OnOk};
+ghost use Rattle.std.specs.Prelude.{◌≡◌, ◌≤◌, [], All, length, OnOk};
 ghost use Rattle.shapers_buffer.specs.Clusters.{stretch_of};
 ghost use Rattle.shapers_buffer.specs.Glyph.{order_view};
 ghost use Rattle.shapers_buffer.specs.Refusals.{RefusesMemoryIf};
-ghost use Rattle.shapers_syllabic.specs.Reordering.{SyllableReordered};
+ghost use Rattle.shapers_buffer.specs.Syllables.{syllables};
+ghost use Rattle.shapers_syllabic.specs.Reordering.{SyllableReordered, SyllablesReordered};
 
 use shapers_base::buffer::{ShaperError, hb_buffer_t};
 
@@ -47,4 +48,22 @@ pub trait Reorder {
     ghost agrees: { (self : Self) (script : Option Script) (gs : List hb_glyph_info_t) →
         seen carried (meaning self script gs)
         ≡ pick (old_places (length gs) (steps self script gs)) (seen carried gs) };
+}
+
+/// Reorders each syllable of the text, from left to right. The only refusal is `Memory`.
+pub fn reorder_syllables<R: Reorder>(order: &R, buffer: &mut hb_buffer_t) -> Result<(), ShaperError>
+    requires without_positions { buffer.old.positions ≡ [] }
+    requires can { All (R.can_reorder order.now) (syllables (order_view buffer.old.glyphs)) }
+    ensures ok { OnOk result (SyllablesReordered
+        (R.meaning order.now buffer.old.script) (R.steps order.now buffer.old.script)
+        buffer.old buffer.new) }
+    ensures refusal { RefusesMemoryIf (R.may_refuse order.now) result }
+{
+    let mut start = 0;
+    while start < buffer.len() {
+        let end = buffer.next_syllable(start);
+        order.reorder(buffer, start, end)?;
+        start = end;
+    }
+    Ok(())
 }
