@@ -1,3 +1,4 @@
 mod ConstantRows
 mod MaskLemmas
 mod RequestRows
+mod SyllableWalks

@@ -1,3 +1,4 @@
 pub mod PlanData
 pub mod Requests
 pub mod UniversalMasks
+pub mod UniversalSyllables

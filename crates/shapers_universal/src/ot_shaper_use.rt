@@ -11,10 +11,16 @@ use shapers_base::plan::{Pause, Request, ShaperError, hb_ot_shape_planner_t};
 
 pub mod category;
 mod data;
+mod forms;
 mod masks;
+mod records;
+mod set_up;
+mod syllable_walk;
 
 pub use data::create_data;
 pub use masks::setup_masks;
+pub use records::{record_pref, record_rphf};
+pub use set_up::setup_syllables_use;
 pub use shapers_base::plan::use_shape_plan_t;
 
 // A basic feature: in the whole text, within syllables, and it sees joiners.
