@@ -2,3 +2,4 @@ mod ConstantRows
 mod MaskLemmas
 mod RequestRows
 mod SyllableWalks
+mod UniversalRows

@@ -1,4 +1,5 @@
 pub mod PlanData
 pub mod Requests
+pub mod Universal
 pub mod UniversalMasks
 pub mod UniversalSyllables
