@@ -2,4 +2,6 @@ mod ConstantRows
 mod MaskLemmas
 mod RequestRows
 mod SyllableWalks
+mod UniversalLists
 mod UniversalRows
+mod UniversalSteps
