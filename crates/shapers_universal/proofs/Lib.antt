@@ -5,3 +5,4 @@ mod SyllableWalks
 mod UniversalLists
 mod UniversalRows
 mod UniversalSteps
+mod UniversalView

@@ -1,10 +1,12 @@
 -- Laws of lists with what passes a test in front, reversed, and with their first behind others.
-use Rattle.std.proofs.Common.{◌≡◌, ℕ, zero, suc, ◌+◌, ◌-◌, ◌<◌, ◌≤◌, inl, inr, Bool, true, false, not, if◌then◌else◌, List, [], ◌∷◌, ◌++◌, map, filter, reverse, length, take, drop, get_or, Option, None, Some, refl, ap, sym, ◌∙◌, subst, arith, append_assoc, length-append, length-take-le, length-drop}
-use Rattle.std.specs.List.{AllByRecursion, filter_map, flat_map, list_any, onto_first, prefix_len, range_with_len, slice_get}
+use Rattle.std.proofs.Common.{◌≡◌, ℕ, zero, suc, ◌+◌, ◌-◌, ◌≤◌, Bool, true, false, not, if◌then◌else◌, List, [], ◌∷◌, ◌++◌, map, filter, reverse, length, take, drop, Option, None, Some, refl, ap, sym, ◌∙◌, subst, arith, append_assoc, length-append, zero-add}
+use Rattle.std.specs.List.{AllByRecursion, flat_map, list_any, onto_first, prefix_len, range_with_len, slice_get}
 use Rattle.std.specs.List.Sorted.{IsPermutation}
-use Rattle.std.proofs.lemmas.List.{append-nil, reverse-append, take-append-drop, map-append}
+use Rattle.std.proofs.lemmas.List.{append-nil, reverse-append, take-append-drop, map-append, take_at, take_rest, take-map, drop-map}
+use Rattle.std.proofs.lemmas.List.FromFn.{length-range_with_len}
+use Rattle.shapers_buffer.proofs.MappedLists.{drop-range, map-reverse}
 use Rattle.std.proofs.lemmas.List.Elements.{filter-append}
-use Rattle.std.proofs.lemmas.List.Sorted.{IsPermutation-refl, IsPermutation-trans, IsPermutation-append, IsPermutation-append_comm, IsPermutation-append_left, IsPermutation-filter_both, IsPermutation-reverse}
+use Rattle.std.proofs.lemmas.List.Sorted.{IsPermutation-refl, IsPermutation-trans, IsPermutation-append_comm, IsPermutation-append_left, IsPermutation-filter_both, IsPermutation-reverse}
 use Rattle.std.proofs.lemmas.Bool.{or_parts}
 use Rattle.shapers_buffer.specs.Lists.{cut_after}
 use Rattle.shapers_buffer.specs.Places.{pick}
@@ -156,3 +158,67 @@ cut_after-concat test (x ∷ xs) =
       | true ↦ ap (λ ys. x ∷ ys) rest
       | false ↦ onto_first-concat x (cut_after test xs) ∙ ap (λ ys. x ∷ ys) rest
     ]
+
+-- what is picked at places of which the first stands behind others
+picked_front : {X : Type 0} (k : ℕ) (xs : List X) → k ≤ length xs → pick (first_last (range_with_len 0 k)) xs ≡ first_last (take k xs)
+picked_front zero xs l = refl
+picked_front (suc k) [] l = absurd (omega arith)
+picked_front (suc k) (x ∷ xs) l =
+    pick-append (range_with_len 1 k) (0 ∷ []) (x ∷ xs) ∙ ap (λ ys. ys ++ x ∷ []) (pick-range 1 k (x ∷ xs) (omega arith))
+
+pub take-range : (n k : ℕ) → k ≤ n → take k (range_with_len 0 n) ≡ range_with_len 0 k
+take-range n k l =
+    let i : n ≡ k + (n - k) = omega arith in
+    ap (λ m. take k (range_with_len 0 m)) i ∙ ap (take k) (range-append 0 k (n - k)) ∙ take_at (range_with_len 0 k) (range_with_len (0 + k) (n - k)) k (length-range_with_len 0 k)
+
+pub pick-first_behind : {X : Type 0} (k : ℕ) (xs : List X) → k ≤ length xs → pick (first_behind k (range_with_len 0 (length xs))) xs ≡ first_behind k xs
+pick-first_behind k xs l =
+    let n = length xs in
+    let front = first_last (take k (range_with_len 0 n)) in
+    pick-append front (drop k (range_with_len 0 n)) xs
+    ∙ ap (λ ps. pick (first_last ps) xs ++ pick (drop k (range_with_len 0 n)) xs) (take-range n k l)
+    ∙ ap (λ ys. ys ++ pick (drop k (range_with_len 0 n)) xs) (picked_front k xs l)
+    ∙ ap (λ ps. first_last (take k xs) ++ pick ps xs) (drop-range 0 n k ∙ ap (λ m. range_with_len m (n - k)) (zero-add k))
+    ∙ ap (λ ys. first_last (take k xs) ++ ys) (pick-range k (n - k) xs (omega arith) ∙ take_rest xs k)
+
+-- lists that f maps: tests that see no more than before, and the same tests
+pub mapped_twice : {X Y Z : Type 0} (f : Y → Z) (g : X → Y) (xs : List X) → map f (map g xs) ≡ map (λ x. f (g x)) xs
+mapped_twice f g [] = refl
+mapped_twice f g (x ∷ xs) = ap (λ ys. f (g x) ∷ ys) (mapped_twice f g xs)
+
+filter-map : {X Y : Type 0} (test : Y → Bool) (f : X → Y) (xs : List X) → filter test (map f xs) ≡ map f (filter (λ x. test (f x)) xs)
+filter-map test f [] = refl
+filter-map test f (x ∷ xs) =
+    elim (test (f x)) as (λ b. (if b then f x ∷ filter test (map f xs) else filter test (map f xs)) ≡ map f (if b then x ∷ filter (λ y. test (f y)) xs else filter (λ y. test (f y)) xs)) [
+      | true ↦ ap (λ ys. f x ∷ ys) (filter-map test f xs)
+      | false ↦ filter-map test f xs
+    ]
+
+pub filter-same : {X : Type 0} (t u : X → Bool) (xs : List X) → ((x : X) → t x ≡ u x) → filter t xs ≡ filter u xs
+filter-same t u [] same = refl
+filter-same t u (x ∷ xs) same =
+    ap (λ b. if b then x ∷ filter t xs else filter t xs) (same x) ∙ ap (λ ys. if u x then x ∷ ys else ys) (filter-same t u xs same)
+
+pub prefix_len-map : {X Y : Type 0} (test : Y → Bool) (f : X → Y) (xs : List X) → prefix_len test (map f xs) ≡ prefix_len (λ x. test (f x)) xs
+prefix_len-map test f [] = refl
+prefix_len-map test f (x ∷ xs) =
+    elim (test (f x)) as (λ b. (if b then 1 + prefix_len test (map f xs) else 0) ≡ (if b then 1 + prefix_len (λ y. test (f y)) xs else 0)) [
+      | true ↦ ap (λ k. 1 + k) (prefix_len-map test f xs)
+      | false ↦ refl
+    ]
+
+pub reversed_first-map : {X Y : Type 0} (test : Y → Bool) (f : X → Y) (xs : List X) → reversed_first test (map f xs) ≡ map f (reversed_first (λ x. test (f x)) xs)
+reversed_first-map test f xs =
+    let yes = filter (λ x. test (f x)) xs in
+    let no = filter (λ x. not (test (f x))) xs in
+    ap (λ ys. reverse ys ++ filter (λ y. not (test y)) (map f xs)) (filter-map test f xs)
+    ∙ ap (λ ys. reverse (map f yes) ++ ys) (filter-map (λ y. not (test y)) f xs)
+    ∙ ap (λ ys. ys ++ map f no) (sym (map-reverse f yes))
+    ∙ sym (map-append f (reverse yes) no)
+
+pub first_behind-map : {X Y : Type 0} (f : X → Y) (k : ℕ) (xs : List X) → first_behind k (map f xs) ≡ map f (first_behind k xs)
+first_behind-map f k xs =
+    ap (λ ys. first_last ys ++ drop k (map f xs)) (take-map f k xs)
+    ∙ ap (λ ys. ys ++ drop k (map f xs)) (sym (map-first_last f (take k xs)))
+    ∙ ap (λ ys. map f (first_last (take k xs)) ++ ys) (drop-map f k xs)
+    ∙ sym (map-append f (first_last (take k xs)) (drop k xs))

@@ -1,12 +1,11 @@
 -- The order of the universal shaper, computed on small syllables.
-use Rattle.std.specs.Prelude.{ℕ, suc, ◌≡◌, Bool, true, false, not, filter, List, [], ◌∷◌, length, map, refl}
+use Rattle.std.specs.Prelude.{ℕ, suc, ◌≡◌, Bool, true, false, not, filter, List, [], ◌∷◌, map, refl}
 use Rattle.std.specs.List.{range_with_len}
-use Rattle.shapers_buffer.specs.declared.buffer.category.hb_unicode_general_category_t.TheVariants.{Mn}
 use Rattle.shapers_buffer.specs.declared.buffer.glyph.hb_glyph_info_t.{hb_glyph_info_t}
-use Rattle.shapers_buffer.specs.declared.buffer.level.BufferClusterLevel.TheVariants.{Characters, MonotoneGraphemes}
+use Rattle.shapers_buffer.specs.declared.buffer.level.BufferClusterLevel.TheVariants.{MonotoneGraphemes}
 use Rattle.shapers_buffer.specs.Glyph.{clusters, default_glyph}
 use Rattle.shapers_clusters.specs.Steps.{run_steps}
-use Rattle.shapers_universal.specs.Universal.{goes_front, is_halant, is_passed, is_reordered, post_base, reph_run, universal_order, universal_steps}
+use Rattle.shapers_universal.specs.Universal.{goes_front, is_halant, is_passed, is_reordered, universal_order, universal_steps}
 
 -- glyphs of one syllable of kind 2 by their categories, numbered from 0 in clusters of their own
 abbrev from_place : ℕ → List ℕ → List hb_glyph_info_t

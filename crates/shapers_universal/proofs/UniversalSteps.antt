@@ -1,27 +1,26 @@
 -- Laws of the steps of the universal shaper: they fit, they take each place once, and they move only inside what they merge.
-use Rattle.std.proofs.Common.{◌≡◌, ℕ, zero, suc, ◌+◌, ◌-◌, ◌<◌, ◌≤◌, nat_eq, nat_lt, ◌&&◌, ◌||◌, inl, inr, Bool, true, false, not, if◌then◌else◌, List, [], ◌∷◌, ◌++◌, map, filter, reverse, length, take, drop, get_or, Option, None, Some, refl, ap, sym, ◌∙◌, subst, arith, append_assoc, length-append, length-take-le, length-drop, zero-add}
-use Rattle.std.specs.List.{AllByRecursion, flat_map, list_any, prefix_len, range_with_len, slice_get, sum_by}
+use Rattle.std.proofs.Common.{◌≡◌, ℕ, suc, ◌+◌, ◌-◌, ◌<◌, ◌≤◌, nat_eq, nat_lt, ◌&&◌, ◌||◌, inl, inr, Bool, true, false, not, if◌then◌else◌, List, [], ◌∷◌, ◌++◌, map, filter, reverse, length, take, drop, get_or, refl, ap, sym, ◌∙◌, subst, arith, append_assoc, length-append, length-take-le, zero-add}
+use Rattle.std.specs.List.{AllByRecursion, flat_map, list_any, prefix_len, range_with_len, sum_by}
 use Rattle.std.specs.List.Sorted.{IsPermutation}
 use Rattle.std.proofs.lemmas.Bool.{cases_lt, or_left, or_right}
 use Rattle.std.proofs.lemmas.Bool.Decides.{nat_tests}
-use Rattle.std.proofs.lemmas.List.{get_or_append_left, get_or-append_right, length-map, map-append, take_at, drop_at, take-append-drop}
+use Rattle.std.proofs.lemmas.List.{get_or_append_left, get_or-append_right, map-append, take_at, drop_at}
 use Rattle.std.proofs.lemmas.List.Elements.{All-from_recursion, recursion_from_All, filter-append}
 use Rattle.std.proofs.lemmas.List.Folds.{list_any-append}
 use Rattle.std.proofs.lemmas.List.FromFn.{length-range_with_len, get_or-range_with_len}
 use Rattle.std.proofs.lemmas.List.Sorted.{All-permutation, length_permutation}
 use Rattle.std.proofs.lemmas.List.Sums.{prefix_len-le-length, sum_by-cons}
 use Rattle.shapers_buffer.specs.declared.buffer.glyph.hb_glyph_info_t.{hb_glyph_info_t}
-use Rattle.shapers_buffer.specs.Lists.{cut_after}
 use Rattle.shapers_buffer.proofs.ListLaws.{LastPass, last_pass}
 use Rattle.shapers_buffer.proofs.MappedLists.{all-mapped, drop-range}
 use Rattle.shapers_clusters.specs.Cuts.{EndWithin, held}
-use Rattle.shapers_clusters.specs.Steps.{FitsStep, FitSteps, HeldBetween, MovesInside, MovesMerged, Permutes, Step, still_step, steps_along, widened}
+use Rattle.shapers_clusters.specs.Steps.{FitsStep, FitSteps, HeldBetween, MovesMerged, Permutes, Step, still_step, steps_along, widened}
 use Rattle.shapers_clusters.proofs.Permuted.{permutes-widened}
 use Rattle.shapers_clusters.proofs.Picks.{within_at, within_range}
 use Rattle.shapers_clusters.proofs.Swaps.{still_moves_merged}
-use Rattle.shapers_clusters.proofs.Widened.{all_along, fits-widened, moves-widened, range-append}
+use Rattle.shapers_clusters.proofs.Widened.{all_along, fits-widened, moves-widened}
 use Rattle.shapers_universal.specs.Universal.{first_behind, first_last, goes_front_at, is_halant, is_passed, is_reordered, piece_step, piece_steps, pieces, places_of, reph_moved, reph_run, reph_step, reversed_first, universal_steps}
-use Rattle.shapers_universal.proofs.UniversalLists.{all-filter, cut_after-concat, filter-none, filter_not-none, length-first_behind, length-first_last, permuted-first_last, permuted-first_behind, permuted-reversed_first, reversed_first-append}
+use Rattle.shapers_universal.proofs.UniversalLists.{all-filter, cut_after-concat, filter-none, filter_not-none, length-first_behind, length-first_last, permuted-first_last, permuted-first_behind, permuted-reversed_first, reversed_first-append, take-range}
 
 -- a step that takes each place once fits
 all_range : (n : ℕ) (ps : List ℕ) → IsPermutation (range_with_len 0 n) ps → AllByRecursion (λ q. q < n) ps
@@ -69,11 +68,6 @@ reph_run-within (g ∷ gs) =
       | true ↦ omega arith
       | false ↦ omega arith
     ]
-
-take-range : (n k : ℕ) → k ≤ n → take k (range_with_len 0 n) ≡ range_with_len 0 k
-take-range n k l =
-    let i : n ≡ k + (n - k) = omega arith in
-    ap (λ m. take k (range_with_len 0 m)) i ∙ ap (take k) (range-append 0 k (n - k)) ∙ take_at (range_with_len 0 k) (range_with_len (0 + k) (n - k)) k (length-range_with_len 0 k)
 
 pub reph_permutes : (gs : List hb_glyph_info_t) → Permutes (length gs) (reph_step gs)
 reph_permutes gs = permuted-first_behind (reph_run gs) (range_with_len 0 (length gs))
