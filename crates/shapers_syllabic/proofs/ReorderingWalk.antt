@@ -10,25 +10,20 @@ use Rattle.shapers_buffer.specs.declared.buffer.tag.Script.{Script}
 use Rattle.shapers_buffer.specs.Buffer.{Buffer, but_places}
 use Rattle.shapers_buffer.specs.Clusters.{stretch_of}
 use Rattle.shapers_buffer.specs.Glyph.{order_view, plain}
-use Rattle.shapers_buffer.specs.Places.{pick}
 use Rattle.shapers_buffer.specs.SyllableLaws.{OpensWithSyllable}
 use Rattle.shapers_buffer.specs.Syllables.{first_syllable_len, has_byte, syllables}
 use Rattle.shapers_buffer.proofs.SyllableLaws.{syllables_are_runs}
 use Rattle.shapers_clusters.specs.Flags.{seen}
-use Rattle.shapers_clusters.specs.Steps.{FitSteps, Step, old_places, run_step, run_steps, steps_along, widened}
+use Rattle.shapers_clusters.specs.Steps.{Step, old_places, run_step, run_steps, steps_along, widened}
 use Rattle.shapers_clusters.proofs.Moves.{length-old_places, within-old_places}
 use Rattle.shapers_clusters.proofs.Picks.{length-pick}
 use Rattle.shapers_syllabic.specs.Reordering.{SyllableReordered, carried, text_order, text_steps}
+use Rattle.shapers_syllabic.specs.ReorderingLaws.{ReorderLaws}
 use Rattle.shapers_syllabic.proofs.ReorderingLemmas.{run_steps-carried}
 
 -- the pieces of a text: each syllable's length and its steps
 abbrev pub pieces_of : (List hb_glyph_info_t → List Step) → List (List hb_glyph_info_t) → List (ℕ × List Step)
 pieces_of steps pieces = map (λ syl. (length syl, steps syl)) pieces
-
--- the laws that an instance gives, for one buffer's script
-pub record ReorderLaws (meaning : List hb_glyph_info_t → List hb_glyph_info_t) (steps : List hb_glyph_info_t → List Step) : Type 0 where
-  pub fits : (gs : List hb_glyph_info_t) → FitSteps (length gs) (steps gs)
-  pub agrees : (gs : List hb_glyph_info_t) → seen carried (meaning gs) ≡ pick (old_places (length gs) (steps gs)) (seen carried gs)
 
 -- a syllable has as many glyphs after
 pub length-meaning : (meaning : List hb_glyph_info_t → List hb_glyph_info_t) (steps : List hb_glyph_info_t → List Step) → ReorderLaws meaning steps → (gs : List hb_glyph_info_t) → length (meaning gs) ≡ length gs

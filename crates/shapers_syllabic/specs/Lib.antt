@@ -2,4 +2,5 @@ pub mod CircleLaws
 pub mod Circles
 pub mod FirstBroken
 pub mod Reordering
+pub mod ReorderingLaws
 pub mod Syllabic

@@ -1,5 +1,5 @@
 -- Reordering syllable by syllable: what a syllable becomes, and the merges and moves that lead there.
-use Rattle.std.specs.Prelude.{ℕ, ◌%◌, ◌≡◌, List, length, map}
+use Rattle.std.specs.Prelude.{ℕ, ◌%◌, ◌≡◌, List, Option, length, map}
 use Rattle.std.specs.List.{flat_map}
 use Rattle.shapers_buffer.specs.declared.buffer.glyph.hb_glyph_info_t.{hb_glyph_info_t}
 use Rattle.shapers_buffer.specs.Buffer.{Buffer, but_places}
@@ -7,6 +7,8 @@ use Rattle.shapers_buffer.specs.Clusters.{stretch_of, with_stretch}
 use Rattle.shapers_buffer.specs.Glyph.{order_view}
 use Rattle.shapers_buffer.specs.Marks.{no_marks}
 use Rattle.shapers_buffer.specs.Syllables.{syllables}
+use Rattle.shapers_syllabic.specs.declared.ot_shaper_syllabic.circles.DottedCircles.{DottedCircles}
+use Rattle.shapers_syllabic.specs.Circles.{circled}
 use Rattle.shapers_clusters.specs.Steps.{Step, run_steps, steps_along, widened}
 
 -- The view of what a reordering carries along: it hides feature masks, category, auxiliary byte and marks, which it may change.
@@ -33,3 +35,7 @@ pub record SyllablesReordered (meaning : List hb_glyph_info_t → List hb_glyph_
   pub others : but_places new ≡ record (but_places old) { glyphs = new.glyphs }
   pub order : order_view new.glyphs ≡ text_order meaning (order_view old.glyphs)
   pub moved : map carried new.glyphs ≡ map carried (run_steps old.level (text_steps steps (order_view old.glyphs)) old.glyphs)
+
+-- A reordering pause: dotted circles come into the text, and then its syllables are reordered.
+abbrev pub PauseReordered : Option DottedCircles → (List hb_glyph_info_t → List hb_glyph_info_t) → (List hb_glyph_info_t → List Step) → Buffer → Buffer → Type 0
+PauseReordered circles meaning steps old new = SyllablesReordered meaning steps (record old { glyphs = circled circles old.glyphs }) new

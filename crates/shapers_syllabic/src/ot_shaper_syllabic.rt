@@ -8,5 +8,8 @@ mod set_up;
 pub use circles::{circles_can_be_erased, circles_keep_clusters, insert_dotted_circles};
 pub use clearing::{clear_substitution_flags, clear_syllables};
 pub use kinds::{indic_syllable, khmer_syllable, myanmar_syllable, use_syllable};
-pub use reordering::{Reorder, reorder_syllables};
+pub use reordering::{
+    Reorder, reorder_syllables, reordering_cuts_at_borders, reordering_loses_nothing,
+    text_reordered_law,
+};
 pub use set_up::set_up_syllables;

@@ -5,6 +5,7 @@ ghost use Rattle.shapers_buffer.specs.Glyph.{order_view};
 ghost use Rattle.shapers_buffer.specs.Refusals.{RefusesMemoryIf};
 ghost use Rattle.shapers_buffer.specs.Syllables.{syllables};
 ghost use Rattle.shapers_syllabic.specs.Reordering.{SyllableReordered, SyllablesReordered};
+ghost use Rattle.shapers_syllabic.specs.ReorderingLaws.{ReorderingCutsAtBorders, ReorderingLosesNothing, TextReorderedLaw};
 
 use shapers_base::buffer::{ShaperError, hb_buffer_t};
 
@@ -67,3 +68,18 @@ pub fn reorder_syllables<R: Reorder>(order: &R, buffer: &mut hb_buffer_t) -> Res
     }
     Ok(())
 }
+
+/// A reordering loses nothing: the text after has the glyphs of the text before in some order.
+pub fn reordering_loses_nothing()
+    ensures { ReorderingLosesNothing }
+{}
+
+/// The laws of clusters and glyph flags hold of a text that is reordered syllable by syllable.
+pub fn text_reordered_law()
+    ensures { TextReorderedLaw }
+{}
+
+/// A reordering pause on a text gives what it gives on the halves, cut at any border of syllables.
+pub fn reordering_cuts_at_borders()
+    ensures { ReorderingCutsAtBorders }
+{}

@@ -1,0 +1,108 @@
+-- Reordering syllable by syllable, computed on small texts.
+use Rattle.std.specs.Prelude.{◌≡◌, ℕ, List, [], ◌∷◌, length, map, reverse, Some, None, refl}
+use Rattle.std.proofs.Common.{arith}
+use Rattle.std.specs.List.{range_with_len}
+use Rattle.shapers_buffer.specs.declared.buffer.category.hb_unicode_general_category_t.TheVariants.{Mn}
+use Rattle.shapers_buffer.specs.declared.buffer.glyph.hb_glyph_info_t.{hb_glyph_info_t}
+use Rattle.shapers_buffer.specs.declared.buffer.level.BufferClusterLevel.TheVariants.{Characters, MonotoneGraphemes}
+use Rattle.shapers_buffer.specs.Glyph.{clusters, default_glyph}
+use Rattle.shapers_clusters.specs.Steps.{Step, run_steps}
+use Rattle.shapers_syllabic.specs.declared.ot_shaper_syllabic.circles.DottedCircles.{DottedCircles}
+use Rattle.shapers_syllabic.specs.Reordering.{carried, text_order, text_steps}
+use Rattle.shapers_syllabic.specs.ReorderingLaws.{MeetAtBorder, paused_carried, paused_order}
+
+-- what is carried along, and what is hidden, field by field
+abbrev full : hb_glyph_info_t
+full = record { glyph_id = 0x916; cluster = 5; mask = 0x1F; syllable = 0x24; category = 1; auxiliary = 3; general_category = Mn; modified_combining_class = 9; lig_comp = 2; marks = record { 0 = 31 } }
+
+carried_full : carried full ≡ record { glyph_id = 0x916; cluster = 5; mask = 7; syllable = 0x24; category = 0; auxiliary = 0; general_category = Mn; modified_combining_class = 9; lig_comp = 2; marks = record { 0 = 0 } }
+carried_full = refl
+
+carried_masks : map (λ m. (carried (record full { mask = m })).mask) (0 ∷ 1 ∷ 2 ∷ 4 ∷ 7 ∷ 8 ∷ 9 ∷ 16 ∷ 0x7FFFFFFF ∷ 0x80000000 ∷ []) ≡ 0 ∷ 1 ∷ 2 ∷ 4 ∷ 7 ∷ 0 ∷ 1 ∷ 0 ∷ 7 ∷ 0 ∷ []
+carried_masks = refl
+
+carried_default : carried default_glyph ≡ default_glyph
+carried_default = refl
+
+-- a glyph by its number, cluster and syllable byte, unsafe to break
+abbrev glyph : ℕ × ℕ × ℕ → hb_glyph_info_t
+glyph row = record default_glyph { glyph_id = row.0; cluster = row.1; syllable = row.2; mask = 9 }
+
+abbrev text : List (ℕ × ℕ × ℕ) → List hb_glyph_info_t
+text rows = map glyph rows
+
+abbrev numbers : List hb_glyph_info_t → List ℕ
+numbers gs = map (λ g. g.glyph_id) gs
+
+-- syllables of two glyphs, of one and of three; the last has the byte of the first
+abbrev three : List hb_glyph_info_t
+three = text ((1, 0, 0x10) ∷ (2, 1, 0x10) ∷ (3, 2, 0x24) ∷ (4, 3, 0x10) ∷ (5, 4, 0x10) ∷ (6, 5, 0x10) ∷ [])
+
+-- each syllable for itself: backwards, by its length alone, as it stands
+order_backwards : numbers (text_order reverse three) ≡ 2 ∷ 1 ∷ 3 ∷ 6 ∷ 5 ∷ 4 ∷ []
+order_backwards = refl
+
+order_one_each : numbers (text_order (λ syl. text ((7, length syl, 0) ∷ [])) three) ≡ 7 ∷ 7 ∷ 7 ∷ []
+order_one_each = refl
+
+order_kept : text_order (λ syl. syl) three ≡ three
+order_kept = refl
+
+order_of_nothing : text_order reverse [] ≡ []
+order_of_nothing = refl
+
+-- a syllable that merges whole and turns backwards; the same merging its first two places once more then
+abbrev turned : List hb_glyph_info_t → List Step
+turned syl = record { merged_first = (0, length syl) ∷ []; places = reverse (range_with_len 0 (length syl)); merged_then = [] } ∷ []
+
+abbrev turned_twice : List hb_glyph_info_t → List Step
+turned_twice syl = record { merged_first = []; places = reverse (range_with_len 0 (length syl)); merged_then = (0, 2) ∷ [] } ∷ turned syl
+
+steps_of_text : text_steps turned three ≡ record { merged_first = (0, 2) ∷ []; places = 1 ∷ 0 ∷ 2 ∷ 3 ∷ 4 ∷ 5 ∷ []; merged_then = [] } ∷ record { merged_first = (2, 3) ∷ []; places = 0 ∷ 1 ∷ 2 ∷ 3 ∷ 4 ∷ 5 ∷ []; merged_then = [] } ∷ record { merged_first = (3, 6) ∷ []; places = 0 ∷ 1 ∷ 2 ∷ 5 ∷ 4 ∷ 3 ∷ []; merged_then = [] } ∷ []
+steps_of_text = refl
+
+steps_in_their_order : text_steps turned_twice (text ((1, 0, 0x20) ∷ (2, 1, 0x10) ∷ (3, 2, 0x10) ∷ [])) ≡ record { merged_first = []; places = 0 ∷ 1 ∷ 2 ∷ []; merged_then = (0, 2) ∷ [] } ∷ record { merged_first = (0, 1) ∷ []; places = 0 ∷ 1 ∷ 2 ∷ []; merged_then = [] } ∷ record { merged_first = []; places = 0 ∷ 2 ∷ 1 ∷ []; merged_then = (1, 3) ∷ [] } ∷ record { merged_first = (1, 3) ∷ []; places = 0 ∷ 2 ∷ 1 ∷ []; merged_then = [] } ∷ []
+steps_in_their_order = refl
+
+steps_of_nothing : text_steps turned [] ≡ []
+steps_of_nothing = refl
+
+-- where the steps lead, at a level that merges and at one that doesn't
+steps_lead : map (λ g. let row : ℕ × ℕ × ℕ = (g.glyph_id, g.cluster, g.mask) in row) (run_steps MonotoneGraphemes (text_steps turned three) three) ≡ (2, 0, 8) ∷ (1, 0, 9) ∷ (3, 2, 9) ∷ (6, 3, 8) ∷ (5, 3, 8) ∷ (4, 3, 9) ∷ []
+steps_lead = refl
+
+steps_move : clusters (run_steps Characters (text_steps turned three) three) ≡ 1 ∷ 0 ∷ 2 ∷ 5 ∷ 4 ∷ 3 ∷ []
+steps_move = refl
+
+-- syllables of equal clusters merge across their border
+steps_across : clusters (run_steps MonotoneGraphemes (text_steps turned (text ((1, 0, 0x10) ∷ (2, 2, 0x20) ∷ (3, 2, 0x30) ∷ (4, 1, 0x30) ∷ []))) (text ((1, 0, 0x10) ∷ (2, 2, 0x20) ∷ (3, 2, 0x30) ∷ (4, 1, 0x30) ∷ []))) ≡ 0 ∷ 1 ∷ 1 ∷ 1 ∷ []
+steps_across = refl
+
+-- a whole pause: circles first, and then the order of the circled syllables
+abbrev circles : DottedCircles
+circles = record { broken_kind = 4; circle = record default_glyph { glyph_id = 7; category = 11 }; repha = None }
+
+abbrev broken : List hb_glyph_info_t
+broken = text ((1, 0, 0x14) ∷ (2, 1, 0x14) ∷ (3, 2, 0x20) ∷ [])
+
+pause_order : numbers (paused_order (Some circles) reverse broken) ≡ 2 ∷ 1 ∷ 7 ∷ 3 ∷ []
+pause_order = refl
+
+pause_order_without : numbers (paused_order None reverse broken) ≡ 2 ∷ 1 ∷ 3 ∷ []
+pause_order_without = refl
+
+pause_carried : map (λ g. let row : ℕ × ℕ × ℕ × ℕ = (g.glyph_id, g.cluster, g.mask, g.category) in row) (paused_carried (Some circles) turned MonotoneGraphemes broken) ≡ (2, 0, 0, 0) ∷ (1, 0, 1, 0) ∷ (7, 0, 1, 0) ∷ (3, 2, 1, 0) ∷ []
+pause_carried = refl
+
+-- texts that meet at a border: other bytes at the cut, or nothing on one side; and two that don't
+border : MeetAtBorder (text ((1, 0, 0x20) ∷ (2, 0, 0x10) ∷ [])) (text ((3, 0, 0x20) ∷ (4, 0, 0x10) ∷ []))
+border some more same = absurd (omega arith)
+
+border_before : MeetAtBorder [] three
+border_before some more same = absurd (omega arith)
+
+border_behind : MeetAtBorder three []
+border_behind some more same = absurd (omega arith)
+
+no_border : MeetAtBorder (text ((1, 0, 0x20) ∷ (2, 0, 0x10) ∷ [])) (text ((3, 0, 0x10) ∷ (4, 0, 0x20) ∷ [])) → ⊥
+no_border meets = meets (omega arith) (omega arith) refl

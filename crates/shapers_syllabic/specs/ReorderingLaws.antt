@@ -1,0 +1,71 @@
+-- The laws of reordering syllable by syllable, as statements.
+use Rattle.std.specs.Prelude.{◌-◌, ◌<◌, ◌≡◌, List, Option, ◌++◌, length, map, slice_index}
+use Rattle.std.proofs.Common.{◌≢◌}
+use Rattle.std.specs.List.{AllByRecursion}
+use Rattle.std.specs.List.Sorted.{IsPermutation}
+use Rattle.shapers_buffer.specs.declared.buffer.glyph.hb_glyph_info_t.{hb_glyph_info_t}
+use Rattle.shapers_buffer.specs.declared.buffer.level.BufferClusterLevel.{BufferClusterLevel}
+use Rattle.shapers_buffer.specs.Buffer.{Buffer}
+use Rattle.shapers_buffer.specs.Glyph.{order_view}
+use Rattle.shapers_buffer.specs.Places.{pick}
+use Rattle.shapers_clusters.specs.Cuts.{ShareNone}
+use Rattle.shapers_clusters.specs.Flags.{seen}
+use Rattle.shapers_clusters.specs.Laws.{ReorderedHold, SeenStepsHold}
+use Rattle.shapers_clusters.specs.Steps.{FitSteps, MovesMerged, Permutes, Step, old_places, run_steps}
+use Rattle.shapers_syllabic.specs.declared.ot_shaper_syllabic.circles.DottedCircles.{DottedCircles}
+use Rattle.shapers_syllabic.specs.Circles.{circled}
+use Rattle.shapers_syllabic.specs.Reordering.{PauseReordered, SyllablesReordered, carried, text_order, text_steps}
+
+-- What an instance of `Reorder` gives of what its syllables become and of the steps that lead there: the steps fit the syllable
+-- and take each of its places once, and to the view of what is carried along the syllable becomes what stood at their old places.
+pub record ReorderLaws (meaning : List hb_glyph_info_t → List hb_glyph_info_t) (steps : List hb_glyph_info_t → List Step) : Type 0 where
+  pub fits : (gs : List hb_glyph_info_t) → FitSteps (length gs) (steps gs)
+  pub permutes : (gs : List hb_glyph_info_t) → AllByRecursion (Permutes (length gs)) (steps gs)
+  pub agrees : (gs : List hb_glyph_info_t) → seen carried (meaning gs) ≡ pick (old_places (length gs) (steps gs)) (seen carried gs)
+
+-- The text order loses nothing: what is carried along, and glyph numbers alone, are those of the text in some order.
+pub record NothingLost (meaning : List hb_glyph_info_t → List hb_glyph_info_t) (gs : List hb_glyph_info_t) : Type 0 where
+  pub kept : IsPermutation (seen carried gs) (seen carried (text_order meaning gs))
+  pub numbers : IsPermutation (map (λ g. g.glyph_id) gs) (map (λ g. g.glyph_id) (text_order meaning gs))
+
+abbrev pub ReorderingLosesNothing : Type 0
+ReorderingLosesNothing = (meaning : List hb_glyph_info_t → List hb_glyph_info_t) (steps : List hb_glyph_info_t → List Step) →
+    ReorderLaws meaning steps → (gs : List hb_glyph_info_t) → NothingLost meaning gs
+
+-- What holds of any text whose syllables are reordered: the laws of steps, through the view. If the steps of each syllable move
+-- only inside what they merged first: the laws of a hook that reorders, exact cuts and the cluster law among them.
+pub record TextReordered (steps : List hb_glyph_info_t → List Step) (old new : Buffer) : Type 0 where
+  pub glyphs : SeenStepsHold carried old.level (text_steps steps (order_view old.glyphs)) old.glyphs new.glyphs
+  pub merged : ((gs : List hb_glyph_info_t) → AllByRecursion (MovesMerged (length gs)) (steps gs)) →
+      ReorderedHold carried old.level (text_steps steps (order_view old.glyphs)) old.glyphs new.glyphs
+
+abbrev pub TextReorderedLaw : Type 0
+TextReorderedLaw = (meaning : List hb_glyph_info_t → List hb_glyph_info_t) (steps : List hb_glyph_info_t → List Step) (old new : Buffer) →
+    ReorderLaws meaning steps → SyllablesReordered meaning steps old new →
+    TextReordered steps old new
+
+-- two texts meet at a border of syllables: the last of the one and the first of the other have different bytes, if there are both
+abbrev pub MeetAtBorder : List hb_glyph_info_t → List hb_glyph_info_t → Type 0
+MeetAtBorder gs hs = 0 < length gs → 0 < length hs → slice_index (map (λ g. g.syllable) gs) (length gs - 1) ≢ slice_index (map (λ g. g.syllable) hs) 0
+
+-- what a reordering pause makes of a text, by its definition: the order view; and what is carried along
+abbrev pub paused_order : Option DottedCircles → (List hb_glyph_info_t → List hb_glyph_info_t) → List hb_glyph_info_t → List hb_glyph_info_t
+paused_order circles meaning gs = text_order meaning (order_view (circled circles gs))
+
+abbrev pub paused_carried : Option DottedCircles → (List hb_glyph_info_t → List Step) → BufferClusterLevel → List hb_glyph_info_t → List hb_glyph_info_t
+paused_carried circles steps level gs = map carried (run_steps level (text_steps steps (order_view (circled circles gs))) (circled circles gs))
+
+-- A text cut at a border of syllables: the order view after the pause is that of the halves, one after the other. Where they
+-- share no cluster, so are clusters and glyph flags and all else that is carried along.
+pub record PauseOfHalves (circles : Option DottedCircles) (meaning : List hb_glyph_info_t → List hb_glyph_info_t) (steps : List hb_glyph_info_t → List Step) (level : BufferClusterLevel) (gs hs new : List hb_glyph_info_t) : Type 0 where
+  pub order : order_view new ≡ paused_order circles meaning gs ++ paused_order circles meaning hs
+  pub moved : ShareNone gs hs → map carried new ≡ paused_carried circles steps level gs ++ paused_carried circles steps level hs
+
+-- so at every border of the buffer's syllables
+abbrev pub PauseCutsAtBorders : Option DottedCircles → (List hb_glyph_info_t → List hb_glyph_info_t) → (List hb_glyph_info_t → List Step) → Buffer → Buffer → Type 0
+PauseCutsAtBorders circles meaning steps old new = (gs hs : List hb_glyph_info_t) → old.glyphs ≡ gs ++ hs → MeetAtBorder gs hs → PauseOfHalves circles meaning steps old.level gs hs new.glyphs
+
+abbrev pub ReorderingCutsAtBorders : Type 0
+ReorderingCutsAtBorders = (circles : Option DottedCircles) (meaning : List hb_glyph_info_t → List hb_glyph_info_t) (steps : List hb_glyph_info_t → List Step) (old new : Buffer) →
+    ReorderLaws meaning steps → PauseReordered circles meaning steps old new →
+    PauseCutsAtBorders circles meaning steps old new
