@@ -1,2 +1,5 @@
 mod ConstantRows
+pub mod KhmerListing
+mod KhmerRows
+mod PlanRows
 mod RequestRows
