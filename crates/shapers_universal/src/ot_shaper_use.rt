@@ -13,12 +13,14 @@ pub mod category;
 mod data;
 mod forms;
 mod masks;
+mod ordering;
 mod records;
 mod set_up;
 mod syllable_walk;
 
 pub use data::create_data;
 pub use masks::setup_masks;
+pub use ordering::UniversalOrder;
 pub use records::{record_pref, record_rphf};
 pub use set_up::setup_syllables_use;
 pub use shapers_base::plan::use_shape_plan_t;

@@ -1,11 +1,11 @@
 //! The order of a syllable, over the slice that the buffer keeps it in.
-ghost use Rattle.std.specs.Prelude.{◌≡◌, ◌+◌, ◌<◌, ◌≤◌, length, map};
+ghost use Rattle.std.specs.Prelude.{◌≡◌, ◌==◌, ◌+◌, ◌<◌, ◌≤◌, length, map};
 ghost use Rattle.std.specs.List.{list_any, prefix_len};
-ghost use Rattle.shapers_buffer.specs.Clusters.{merge_all, stretch_of};
+ghost use Rattle.shapers_buffer.specs.Clusters.{merge_all, stretch_of, with_stretch};
 ghost use Rattle.shapers_buffer.specs.Lists.{cut_after};
 ghost use Rattle.shapers_clusters.specs.Steps.{run_step, run_steps, shifted, steps_along, widened};
 ghost use Rattle.shapers_universal.specs.Universal.{first_behind, goes_front, is_halant, is_passed, is_reordered, piece_step, piece_steps, post_base, reph_run, reph_step, reversed_first, universal_steps};
-ghost use Rattle.shapers_universal.specs.UniversalWalk.{first_piece_len};
+ghost use Rattle.shapers_universal.specs.UniversalWalk.{first_piece_len, last_first};
 
 use super::category;
 use shapers_base::buffer::{
@@ -45,10 +45,10 @@ const POST_BASE: [u8; 18] = [
 pub struct UniversalOrder;
 
 impl Reorder for UniversalOrder {
-    ghost use Rattle.std.specs.Prelude.{⊤, ⊥};
+    ghost use Rattle.std.specs.Prelude.{⊤};
     ghost use Rattle.shapers_universal.specs.Universal.{universal_order, universal_steps};
-    ghost use Rattle.shapers_universal.proofs.UniversalSteps.{universal_fits, universal_permutes};
-    ghost use Rattle.shapers_universal.proofs.UniversalView.{universal_agrees};
+    ghost use Rattle.shapers_universal.specs.UniversalSteps.{universal_fits, universal_permutes};
+    ghost use Rattle.shapers_universal.specs.UniversalView.{universal_agrees};
 
     ghost meaning = { λ _ _ gs. universal_order gs };
 
@@ -138,7 +138,7 @@ fn move_reph(level: BufferClusterLevel, glyphs: &mut [hb_glyph_info_t], s: usize
 {
     let run = reph_run(&glyphs[s..e]);
     merge_clusters_in(level, glyphs, s, s + run);
-    put_first_behind(&mut glyphs[s..e], run);
+    put_first_behind_in(glyphs, s, e, run);
 }
 
 // How many glyphs the reph in front and what it passes are, 0 where no reph stands in front.
@@ -183,6 +183,15 @@ fn is_halant(glyph: &hb_glyph_info_t) -> bool
         && !glyph.marks.is_ligated()
 }
 
+// Puts the first of `n` glyphs of the stretch from `s` to `e` behind the others of them.
+fn put_first_behind_in(glyphs: &mut [hb_glyph_info_t], s: usize, e: usize, n: usize)
+    requires in_order { s + n ≤ e }
+    requires in_range { e ≤ length glyphs.old }
+    ensures { glyphs.new ≡ with_stretch s e (first_behind n) glyphs.old }
+{
+    put_first_behind(&mut glyphs[s..e], n);
+}
+
 // Puts the first of the first `n` glyphs behind the others of them.
 fn put_first_behind(glyphs: &mut [hb_glyph_info_t], n: usize)
     requires { n ≤ length glyphs.old }
@@ -208,6 +217,8 @@ fn order_pieces(level: BufferClusterLevel, glyphs: &mut [hb_glyph_info_t], s: us
 
 // How long the first piece is: up to the first halant, or all.
 fn piece_len(glyphs: &[hb_glyph_info_t]) -> usize
+    requires { 0 < length glyphs.now }
+    ensures some { 0 < result }
     ensures len { result ≡ first_piece_len is_halant glyphs.now }
     ensures within { result ≤ length glyphs.now }
 {
@@ -227,7 +238,7 @@ fn order_piece(level: BufferClusterLevel, glyphs: &mut [hb_glyph_info_t], s: usi
         glyphs.new ≡ run_step level step glyphs.old }
 {
     merge_fronts(level, glyphs, s, e);
-    bring_fronts(&mut glyphs[s..e]);
+    bring_fronts_in(glyphs, s, e);
 }
 
 // Merges each glyph that goes to the front of the piece from `s` to `e` with all before it.
@@ -244,15 +255,33 @@ fn merge_fronts(level: BufferClusterLevel, glyphs: &mut [hb_glyph_info_t], s: us
     }
 }
 
+// Brings what goes to the front of the piece from `s` to `e` there.
+fn bring_fronts_in(glyphs: &mut [hb_glyph_info_t], s: usize, e: usize)
+    requires in_order { s ≤ e }
+    requires in_range { e ≤ length glyphs.old }
+    ensures { glyphs.new ≡ with_stretch s e (reversed_first goes_front) glyphs.old }
+{
+    bring_fronts(&mut glyphs[s..e]);
+}
+
 // Brings what goes to the front of a piece there, each before the one that came before it.
 fn bring_fronts(piece: &mut [hb_glyph_info_t])
     ensures { piece.new ≡ reversed_first goes_front piece.old }
 {
     for i in 0..piece.len() {
         if goes_front(&piece[i]) {
-            piece[..i + 1].rotate_right(1);
+            bring_last(piece, i + 1);
         }
     }
+}
+
+// Brings the last of the first `n` glyphs before the others of them.
+fn bring_last(glyphs: &mut [hb_glyph_info_t], n: usize)
+    requires some { 0 < n }
+    requires in_range { n ≤ length glyphs.old }
+    ensures { glyphs.new ≡ with_stretch 0 n last_first glyphs.old }
+{
+    glyphs[..n].rotate_right(1);
 }
 
 // Whether a glyph goes to the front of its piece.

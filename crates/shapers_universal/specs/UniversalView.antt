@@ -18,8 +18,8 @@ use Rattle.shapers_clusters.proofs.Widened.{order_view-along}
 use Rattle.shapers_syllabic.specs.Reordering.{carried}
 use Rattle.shapers_syllabic.proofs.ReorderingLemmas.{old_places_one}
 use Rattle.shapers_universal.specs.Universal.{first_behind, goes_front, goes_front_at, is_halant, is_passed, is_reordered, piece_step, piece_steps, pieces, places_of, reph_moved, reph_run, reph_step, reversed_first, universal_order, universal_steps}
-use Rattle.shapers_universal.proofs.UniversalLists.{cut_after-concat, filter-same, first_behind-map, length-first_behind, mapped_twice, pick-first_behind, pick-reversed_first, prefix_len-map, reversed_first-map}
-use Rattle.shapers_universal.proofs.UniversalSteps.{all_pieces, piece_fits, pieces_sum, reph_run-within}
+use Rattle.shapers_universal.specs.UniversalLists.{cut_after-concat, filter-same, first_behind-map, length-first_behind, mapped_twice, pick-first_behind, pick-reversed_first, prefix_len-map, reversed_first-map}
+use Rattle.shapers_universal.specs.UniversalSteps.{all_pieces, piece_fits, pieces_sum, reph_run-within}
 
 -- what the step of the reph picks
 pub reph_picks : (h : hb_glyph_info_t → hb_glyph_info_t) (gs : List hb_glyph_info_t) → pick (reph_step gs).places (map h gs) ≡ map h (reph_moved gs)
