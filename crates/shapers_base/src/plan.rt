@@ -13,6 +13,7 @@ pub mod ot_position_t;
 mod pause;
 mod planner;
 mod record;
+mod universal;
 
 pub use arabic::arabic_shape_plan_t;
 pub use hangul::hangul_shape_plan_t;
@@ -21,6 +22,7 @@ pub use khmer::khmer_shape_plan_t;
 pub use pause::Pause;
 pub use planner::{Request, hb_ot_shape_planner_t};
 pub use record::{NormalizationMode, ZeroWidthMarks};
+pub use universal::use_shape_plan_t;
 
 /// The category of a character among those of `ot_category_t` or of the universal shaper.
 pub type Category = u8;
@@ -50,6 +52,8 @@ pub enum PlanData {
     Arabic(arabic_shape_plan_t),
     /// What Hangul keeps.
     Hangul(hangul_shape_plan_t),
+    /// What the universal shaper keeps.
+    Universal(use_shape_plan_t),
     /// The masks of Khmer's basic features.
     Khmer(khmer_shape_plan_t),
 }

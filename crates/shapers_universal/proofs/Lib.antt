@@ -1,2 +1,6 @@
 mod ConstantRows
+mod MaskLemmas
 mod RequestRows
+mod SyllableWalks
+mod UniversalRows
+mod UniversalWalks

@@ -10,6 +10,20 @@ pub use shapers_base::plan::Category;
 use shapers_base::plan::{Pause, Request, ShaperError, hb_ot_shape_planner_t};
 
 pub mod category;
+mod data;
+mod forms;
+mod masks;
+mod ordering;
+mod records;
+mod set_up;
+mod syllable_walk;
+
+pub use data::create_data;
+pub use masks::setup_masks;
+pub use ordering::UniversalOrder;
+pub use records::{record_pref, record_rphf};
+pub use set_up::setup_syllables_use;
+pub use shapers_base::plan::use_shape_plan_t;
 
 // A basic feature: in the whole text, within syllables, and it sees joiners.
 const BASIC: u32 = F_GLOBAL | F_MANUAL_ZWJ | F_PER_SYLLABLE;

@@ -1,0 +1,79 @@
+-- The order of the universal shaper, computed on small syllables.
+use Rattle.std.specs.Prelude.{ℕ, suc, ◌≡◌, Bool, true, false, not, filter, List, [], ◌∷◌, map, refl}
+use Rattle.std.specs.List.{range_with_len}
+use Rattle.shapers_buffer.specs.declared.buffer.glyph.hb_glyph_info_t.{hb_glyph_info_t}
+use Rattle.shapers_buffer.specs.declared.buffer.level.BufferClusterLevel.TheVariants.{MonotoneGraphemes}
+use Rattle.shapers_buffer.specs.Glyph.{clusters, default_glyph}
+use Rattle.shapers_clusters.specs.Steps.{run_steps}
+use Rattle.shapers_universal.specs.Universal.{goes_front, is_halant, is_passed, is_reordered, universal_order, universal_steps}
+
+-- glyphs of one syllable of kind 2 by their categories, numbered from 0 in clusters of their own
+abbrev from_place : ℕ → List ℕ → List hb_glyph_info_t
+from_place i [] = []
+from_place i (sort ∷ sorts) = record default_glyph { glyph_id = i; cluster = i; mask = 0x101; syllable = 0x12; category = sort } ∷ from_place (suc i) sorts
+
+abbrev syl : List ℕ → List hb_glyph_info_t
+syl sorts = from_place 0 sorts
+
+abbrev numbers : List hb_glyph_info_t → List ℕ
+numbers gs = map (λ g. g.glyph_id) gs
+
+-- where the glyphs come from, and their clusters
+abbrev ordered : List ℕ → List ℕ
+ordered sorts = numbers (universal_order (syl sorts))
+
+abbrev in_clusters : List ℕ → List ℕ
+in_clusters sorts = clusters (run_steps MonotoneGraphemes (universal_steps (syl sorts)) (syl sorts))
+
+abbrev stepped : List ℕ → List ℕ
+stepped sorts = numbers (run_steps MonotoneGraphemes (universal_steps (syl sorts)) (syl sorts))
+
+-- R B VAbv; B VPre H B VPre VPre; R B B VAbv; R B H; R VAbv; R alone; R B; nothing
+order_rows : map ordered ((18 ∷ 1 ∷ 33 ∷ []) ∷ (1 ∷ 22 ∷ 12 ∷ 1 ∷ 22 ∷ 22 ∷ []) ∷ (18 ∷ 1 ∷ 1 ∷ 33 ∷ []) ∷ (18 ∷ 1 ∷ 12 ∷ []) ∷ (18 ∷ 33 ∷ []) ∷ (18 ∷ []) ∷ (18 ∷ 1 ∷ []) ∷ [] ∷ []) ≡ (1 ∷ 0 ∷ 2 ∷ []) ∷ (1 ∷ 0 ∷ 2 ∷ 5 ∷ 4 ∷ 3 ∷ []) ∷ (1 ∷ 2 ∷ 0 ∷ 3 ∷ []) ∷ (1 ∷ 0 ∷ 2 ∷ []) ∷ (0 ∷ 1 ∷ []) ∷ (0 ∷ []) ∷ (1 ∷ 0 ∷ []) ∷ [] ∷ []
+order_rows = refl
+
+steps_rows : map stepped ((18 ∷ 1 ∷ 33 ∷ []) ∷ (1 ∷ 22 ∷ 12 ∷ 1 ∷ 22 ∷ 22 ∷ []) ∷ (18 ∷ 1 ∷ 1 ∷ 33 ∷ []) ∷ (18 ∷ 1 ∷ 12 ∷ []) ∷ (18 ∷ 33 ∷ []) ∷ (18 ∷ []) ∷ (18 ∷ 1 ∷ []) ∷ [] ∷ []) ≡ (1 ∷ 0 ∷ 2 ∷ []) ∷ (1 ∷ 0 ∷ 2 ∷ 5 ∷ 4 ∷ 3 ∷ []) ∷ (1 ∷ 2 ∷ 0 ∷ 3 ∷ []) ∷ (1 ∷ 0 ∷ 2 ∷ []) ∷ (0 ∷ 1 ∷ []) ∷ (0 ∷ []) ∷ (1 ∷ 0 ∷ []) ∷ [] ∷ []
+steps_rows = refl
+
+cluster_rows : map in_clusters ((18 ∷ 1 ∷ 33 ∷ []) ∷ (1 ∷ 22 ∷ 12 ∷ 1 ∷ 22 ∷ 22 ∷ []) ∷ (18 ∷ 1 ∷ 1 ∷ 33 ∷ []) ∷ (18 ∷ 1 ∷ 12 ∷ []) ∷ (18 ∷ 33 ∷ []) ∷ []) ≡ (0 ∷ 0 ∷ 2 ∷ []) ∷ (0 ∷ 0 ∷ 2 ∷ 3 ∷ 3 ∷ 3 ∷ []) ∷ (0 ∷ 0 ∷ 0 ∷ 3 ∷ []) ∷ (0 ∷ 0 ∷ 2 ∷ []) ∷ (0 ∷ 1 ∷ []) ∷ []
+cluster_rows = refl
+
+-- a reph moves behind VMPre in no case; a reph and glyphs before the base: B comes behind what goes to the front, then the reph
+reph_and_front : map ordered ((18 ∷ 1 ∷ 23 ∷ 1 ∷ 22 ∷ []) ∷ (18 ∷ 22 ∷ []) ∷ (18 ∷ 18 ∷ 1 ∷ []) ∷ (1 ∷ 18 ∷ 1 ∷ []) ∷ (22 ∷ 1 ∷ 22 ∷ 12 ∷ 44 ∷ 53 ∷ 23 ∷ []) ∷ (1 ∷ 12 ∷ 22 ∷ 1 ∷ 12 ∷ []) ∷ []) ≡ (4 ∷ 2 ∷ 1 ∷ 0 ∷ 3 ∷ []) ∷ (1 ∷ 0 ∷ []) ∷ (1 ∷ 2 ∷ 0 ∷ []) ∷ (0 ∷ 1 ∷ 2 ∷ []) ∷ (2 ∷ 0 ∷ 1 ∷ 3 ∷ 4 ∷ 5 ∷ 6 ∷ []) ∷ (0 ∷ 1 ∷ 2 ∷ 3 ∷ 4 ∷ []) ∷ []
+reph_and_front = refl
+
+-- which kinds are reordered, each of them and one above
+kinds : map (λ k. is_reordered (record default_glyph { syllable = k } ∷ [])) (0x10 ∷ 0x11 ∷ 0x12 ∷ 0x13 ∷ 0x14 ∷ 0x15 ∷ 0x16 ∷ 0x17 ∷ 0x18 ∷ 0x19 ∷ 0x1F ∷ []) ≡ true ∷ true ∷ true ∷ false ∷ false ∷ false ∷ false ∷ true ∷ false ∷ false ∷ false ∷ []
+kinds = refl
+
+abbrev of_kind_9 : hb_glyph_info_t → hb_glyph_info_t
+of_kind_9 g = record g { syllable = 0x19 }
+
+other_kind : universal_order (map of_kind_9 (syl (18 ∷ 1 ∷ 22 ∷ []))) ≡ map of_kind_9 (syl (18 ∷ 1 ∷ 22 ∷ []))
+other_kind = refl
+
+-- each category from 0 to 55: what ends the run that a reph passes, which are halants, and what goes to the front
+abbrev of_category : ℕ → hb_glyph_info_t
+of_category sort = record default_glyph { category = sort }
+
+abbrev that_pass : (hb_glyph_info_t → Bool) → List ℕ
+that_pass test = filter (λ sort. test (of_category sort)) (range_with_len 0 57)
+
+not_passed : that_pass (λ g. not (is_passed g)) ≡ 12 ∷ 22 ∷ 23 ∷ 24 ∷ 25 ∷ 26 ∷ 27 ∷ 28 ∷ 29 ∷ 30 ∷ 33 ∷ 34 ∷ 35 ∷ 37 ∷ 38 ∷ 39 ∷ 44 ∷ 45 ∷ 46 ∷ 47 ∷ 53 ∷ []
+not_passed = refl
+
+halants : that_pass is_halant ≡ 12 ∷ 44 ∷ 53 ∷ []
+halants = refl
+
+fronts : that_pass goes_front ≡ 22 ∷ 23 ∷ []
+fronts = refl
+
+-- a ligature is no halant; of several glyphs for one the first alone goes to the front
+ligatures : map (λ sort. is_halant (record (of_category sort) { marks = record { 0 = 2 } })) (12 ∷ 44 ∷ 53 ∷ []) ≡ false ∷ false ∷ false ∷ []
+ligatures = refl
+
+other_marks : map (λ marks. is_halant (record (of_category 12) { marks = record { 0 = marks } })) (0 ∷ 1 ∷ 2 ∷ 4 ∷ 8 ∷ 16 ∷ 29 ∷ 31 ∷ []) ≡ true ∷ true ∷ false ∷ true ∷ true ∷ true ∷ true ∷ false ∷ []
+other_marks = refl
+
+components : map (λ comp. goes_front (record (of_category 22) { lig_comp = comp })) (0 ∷ 1 ∷ 15 ∷ []) ≡ true ∷ false ∷ false ∷ []
+components = refl

@@ -1,0 +1,26 @@
+-- The masks and categories of the universal shaper.
+use Rattle.std.specs.Prelude.{ℕ, ◌≡◌, List, map, Option, None, Some}
+use Rattle.shapers_buffer.specs.declared.buffer.glyph.hb_glyph_info_t.{hb_glyph_info_t}
+use Rattle.shapers_buffer.specs.declared.buffer.tag.Script.{Script}
+use Rattle.shapers_base.specs.Font.{CharacterTables}
+use Rattle.shapers_base.specs.declared.plan.arabic.arabic_shape_plan_t.{arabic_shape_plan_t}
+use Rattle.shapers_buffer.specs.Buffer.{Buffer}
+use Rattle.shapers_arabic.specs.JoinedText.{AreCharacters, CutsAsHalves, IsJoined}
+
+-- the glyph with the category that the tables give its character
+abbrev pub categorized : (ℕ → ℕ) → hb_glyph_info_t → hb_glyph_info_t
+categorized universal g = record g { category = universal g.glyph_id }
+
+-- the buffer with the categories of the tables
+abbrev pub with_categories : CharacterTables → Buffer → Buffer
+with_categories tables b = record b { glyphs = map (categorized tables.universal) b.glyphs }
+
+-- where letters join, the glyphs are characters
+abbrev pub CanJoin : Option arabic_shape_plan_t → List hb_glyph_info_t → Type 0
+CanJoin None gs = Unit {0}
+CanJoin (Some p) gs = AreCharacters gs
+
+-- the masks of joining where there is a plan of Arabic, with the law of the cut, and the categories of the tables
+abbrev pub MasksAreSet : Option arabic_shape_plan_t → Option Script → CharacterTables → Buffer → Buffer → Type 0
+MasksAreSet None script tables old new = new ≡ with_categories tables old
+MasksAreSet (Some p) script tables old new = IsJoined p.mask_array script tables.joining tables.general (with_categories tables old) new × CutsAsHalves script tables.joining tables.general old new

@@ -1,0 +1,52 @@
+//! The masks of joining and the categories of the universal shaper.
+ghost use Rattle.std.specs.Prelude.{◌≡◌, map, true};
+ghost use Rattle.shapers_universal.specs.PlanData.{arabic_of, is_universal};
+ghost use Rattle.shapers_universal.specs.UniversalMasks.{CanJoin, MasksAreSet, categorized, with_categories};
+
+use shapers_arabic::ot_shaper_arabic::setup_masks_inner;
+use shapers_base::buffer::{GlyphChange, Script, hb_buffer_t, hb_glyph_info_t};
+use shapers_base::font::Tables;
+use shapers_base::plan::{PlanData, arabic_shape_plan_t, hb_ot_shape_plan_t};
+
+/// Gives each letter its form and the form's mask, where the plan has a plan of Arabic, and each
+/// glyph the category of its character in the universal shaper. It can't refuse and takes no memory.
+pub fn setup_masks<T: Tables>(plan: &hb_ot_shape_plan_t, tables: &T, buffer: &mut hb_buffer_t)
+    requires data { is_universal plan.now.plan_data ≡ true }
+    requires characters { CanJoin (arabic_of plan.now.plan_data) buffer.old.glyphs }
+    ensures { let arabic = arabic_of plan.now.plan_data in
+        MasksAreSet arabic plan.now.script (T.tables tables.now) buffer.old buffer.new }
+{
+    match &plan.plan_data {
+        PlanData::Universal(universal_plan) => {
+            set_categories(tables, buffer);
+            if let Some(arabic_plan) = &universal_plan.arabic_plan {
+                setup_masks_inner(arabic_plan, plan.script, buffer, tables);
+            }
+        }
+        _ => unreachable!(),
+    }
+}
+
+// Gives each glyph the category of its character.
+fn set_categories<T: Tables>(tables: &T, buffer: &mut hb_buffer_t)
+    ensures { buffer.new ≡ with_categories (T.tables tables.now) buffer.old }
+{
+    let len = buffer.len();
+    buffer.change_each(0, len, &Categories { tables });
+}
+
+// The tables that tell categories.
+#[derive(Clone, Copy)]
+struct Categories<'a, T: Tables> {
+    tables: &'a T,
+}
+
+impl<'a, T: Tables> GlyphChange for Categories<'a, T> {
+    ghost use Rattle.shapers_universal.specs.UniversalMasks.{categorized};
+
+    ghost changed = { λ change glyph. categorized (T.tables change.tables.now).universal glyph };
+
+    fn change(&self, glyph: &mut hb_glyph_info_t) {
+        glyph.category = self.tables.use_category(glyph.glyph_id);
+    }
+}

@@ -1,0 +1,92 @@
+//! What lookups did, kept as categories for the reordering.
+ghost use Rattle.std.specs.Prelude.{◌≡◌, ◌≤◌, length, true};
+ghost use Rattle.std.specs.List.{prefix_len};
+ghost use Rattle.shapers_universal.specs.PlanData.{is_universal, rphf_of};
+ghost use Rattle.shapers_universal.specs.UniversalSyllables.{first_recorded, has_bits, rphf_recorded, with_pref_recorded, with_rphf_recorded};
+
+use super::category;
+use super::syllable_walk::{EachSyllable, SyllableChange};
+use shapers_base::buffer::{hb_buffer_t, hb_glyph_info_t};
+use shapers_base::plan::{PlanData, hb_ot_shape_plan_t};
+
+/// Among the leading glyphs of each syllable that have the mask of `rphf`, the first that a lookup
+/// put in becomes a reph. It takes no memory.
+pub fn record_rphf(plan: &hb_ot_shape_plan_t, buffer: &mut hb_buffer_t)
+    requires { is_universal plan.now.plan_data ≡ true }
+    ensures { buffer.new ≡ with_rphf_recorded (rphf_of plan.now.plan_data) buffer.old }
+{
+    match &plan.plan_data {
+        PlanData::Universal(universal_plan) => {
+            let record = RecordRphf {
+                mask: universal_plan.rphf_mask,
+            };
+            buffer.walk(&mut EachSyllable { change: &record });
+        }
+        _ => unreachable!(),
+    }
+}
+
+/// In each syllable the first glyph that a lookup put in becomes one that stands before the base. It
+/// takes no memory.
+pub fn record_pref(buffer: &mut hb_buffer_t)
+    ensures { buffer.new ≡ with_pref_recorded buffer.old }
+{
+    buffer.walk(&mut EachSyllable {
+        change: &RecordPref,
+    });
+}
+
+// The record of `rphf`.
+#[derive(Clone, Copy)]
+struct RecordRphf {
+    mask: u32,
+}
+
+impl SyllableChange for RecordRphf {
+    ghost use Rattle.shapers_universal.specs.UniversalSyllables.{rphf_recorded};
+
+    ghost changed = { λ change glyphs. rphf_recorded change.mask glyphs };
+
+    fn change(&self, syllable: &mut [hb_glyph_info_t]) {
+        let leading = leading_len(syllable, self.mask);
+        record_first(&mut syllable[..leading], category::R);
+    }
+}
+
+// The record of `pref`.
+#[derive(Clone, Copy)]
+struct RecordPref;
+
+impl SyllableChange for RecordPref {
+    ghost use Rattle.shapers_universal.specs.UniversalSyllables.{first_recorded};
+    ghost use Rattle.shapers_universal.specs.declared.ot_shaper_use.category.TheConstants.{VPre};
+
+    ghost changed = { λ _ glyphs. first_recorded VPre glyphs };
+
+    fn change(&self, syllable: &mut [hb_glyph_info_t]) {
+        record_first(syllable, category::VPre);
+    }
+}
+
+// How many glyphs in front have bits of this mask.
+fn leading_len(glyphs: &[hb_glyph_info_t], mask: u32) -> usize
+    ensures len { result ≡ prefix_len (has_bits mask) glyphs.now }
+    ensures within { result ≤ length glyphs.now }
+{
+    glyphs
+        .iter()
+        .take_while(|glyph| glyph.mask & mask != 0)
+        .count()
+}
+
+// Gives the first of these glyphs that a lookup put in another category.
+fn record_first(glyphs: &mut [hb_glyph_info_t], category: u8)
+    ensures { glyphs.new ≡ first_recorded category glyphs.old }
+{
+    for glyph in glyphs.iter_mut() {
+        if glyph.marks.is_substituted() {
+            glyph.category = category;
+            break;
+        }
+    }
+}

@@ -1,0 +1,102 @@
+//! Cutting a text into the syllables of the universal shaper.
+ghost use Rattle.std.specs.Prelude.{◌≡◌, ◌≤◌, All, OnErr, OnOk, length, map, true};
+ghost use Rattle.std.specs.List.{flat_map};
+ghost use Rattle.shapers_buffer.specs.GlyphFlags.{with_bits};
+ghost use Rattle.shapers_buffer.specs.Refusals.{RefusesInput};
+ghost use Rattle.shapers_buffer.specs.Syllables.{spans_refusal, syllables};
+ghost use Rattle.shapers_universal.specs.PlanData.{is_universal, rphf_of};
+ghost use Rattle.shapers_universal.specs.UniversalSyllables.{reph_len, syllables_set_up, with_rphf, with_syllable_masks};
+
+use super::category;
+use super::forms::set_forms;
+use super::syllable_walk::{EachSyllable, SyllableChange};
+use shapers_base::buffer::{ShaperError, Span, hb_buffer_t, hb_glyph_info_t};
+use shapers_base::plan::{PlanData, hb_ot_shape_plan_t};
+use shapers_syllabic::ot_shaper_syllabic::set_up_syllables;
+use shapers_syllabic::ot_shaper_syllabic::use_syllable::BROKEN_CLUSTER;
+
+/// Cuts the text into the syllables of these spans and flags the inside of each as unsafe to break.
+/// Gives the mask of `rphf` to the first glyph of each syllable if it is a reph, else to its first
+/// three, and, where the plan has no plan of Arabic, the masks of forms by the places of syllables.
+/// Refuses with `SpansDontCover` where a span is empty or the lengths don't add up to the buffer's.
+/// It takes no memory.
+pub fn setup_syllables_use(
+    plan: &hb_ot_shape_plan_t,
+    spans: &[Span],
+    buffer: &mut hb_buffer_t,
+) -> Result<(), ShaperError>
+    requires data { is_universal plan.now.plan_data ≡ true }
+    requires kinds { All (λ span. span.kind ≤ 15) spans.now }
+    ensures refusal { RefusesInput (spans_refusal spans.now buffer.old) result }
+    ensures ok { let kept = plan.now.plan_data in
+        OnOk result (buffer.new ≡ syllables_set_up kept plan.now.ot_map spans.now buffer.old) }
+    ensures err { OnErr result (buffer.new ≡ buffer.old) }
+{
+    set_up_syllables(spans, BROKEN_CLUSTER, buffer)?;
+    set_masks(plan, buffer);
+    Ok(())
+}
+
+// Gives each syllable its masks.
+fn set_masks(plan: &hb_ot_shape_plan_t, buffer: &mut hb_buffer_t)
+    requires { is_universal plan.now.plan_data ≡ true }
+    ensures { let kept = plan.now.plan_data in
+        buffer.new ≡ record buffer.old { glyphs = with_syllable_masks kept plan.now.ot_map buffer.old.glyphs } }
+{
+    match &plan.plan_data {
+        PlanData::Universal(universal_plan) => {
+            set_rphf(universal_plan.rphf_mask, buffer);
+            if universal_plan.arabic_plan.is_none() {
+                set_forms(&plan.ot_map, buffer);
+            }
+        }
+        _ => unreachable!(),
+    }
+}
+
+// Gives each syllable the mask of `rphf`.
+fn set_rphf(mask: u32, buffer: &mut hb_buffer_t)
+    ensures { buffer.new ≡ record buffer.old { glyphs = flat_map (with_rphf mask) (syllables buffer.old.glyphs) } }
+{
+    buffer.walk(&mut EachSyllable {
+        change: &RphfMask { mask },
+    });
+}
+
+// The mask of `rphf`.
+#[derive(Clone, Copy)]
+struct RphfMask {
+    mask: u32,
+}
+
+impl SyllableChange for RphfMask {
+    ghost use Rattle.shapers_universal.specs.UniversalSyllables.{with_rphf};
+
+    ghost changed = { λ change glyphs. with_rphf change.mask glyphs };
+
+    fn change(&self, syllable: &mut [hb_glyph_info_t]) {
+        let len = reph_len(syllable);
+        add_mask(&mut syllable[..len], self.mask);
+    }
+}
+
+// How many glyphs in front get the mask of `rphf`: a reph alone, else three, or as many as there are.
+fn reph_len(syllable: &[hb_glyph_info_t]) -> usize
+    ensures len { result ≡ reph_len syllable.now }
+    ensures within { result ≤ length syllable.now }
+{
+    match syllable.first() {
+        None => 0,
+        Some(glyph) if glyph.category == category::R => 1,
+        Some(_) => 3.min(syllable.len()),
+    }
+}
+
+// Gives all these glyphs the bits of a mask besides their own.
+fn add_mask(glyphs: &mut [hb_glyph_info_t], mask: u32)
+    ensures { glyphs.new ≡ map (with_bits mask) glyphs.old }
+{
+    for glyph in glyphs.iter_mut() {
+        glyph.mask |= mask;
+    }
+}
