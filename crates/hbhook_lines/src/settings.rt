@@ -6,7 +6,7 @@ use crate::font::LineFont;
 use crate::tables::LineTables;
 use rustybuzz_shapers::buffer::{Script, Span, hb_tag_t};
 use rustybuzz_shapers::map::{feature_map_t, hb_ot_map_t};
-use rustybuzz_shapers::plan::{PlanData, hb_ot_shape_plan_t};
+use rustybuzz_shapers::plan::{PlanData, StretchStart, hb_ot_shape_plan_t};
 use rustybuzz_shapers::shaper::hb_ot_shaper_t;
 use std::alloc::{AllocError, Global};
 use std::ops::Range;
@@ -63,6 +63,7 @@ impl Settings {
             script: self.script,
             ot_map: self.map()?,
             has_gpos_mark: self.gpos_mark,
+            stretch_start: StretchStart::AsCode,
             plan_data: PlanData::None,
         })
     }

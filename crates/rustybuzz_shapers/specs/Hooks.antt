@@ -41,7 +41,7 @@ Unbuilt = ⊥
 
 -- what the shaper keeps in the plan
 abbrev pub DataCreated : hb_ot_shaper_t → hb_ot_shape_plan_t → Option PlanData → Type 0
-DataCreated Arabic plan answer = answer ≡ Some (data_of.Arabic (arabic_plan plan.ot_map))
+DataCreated Arabic plan answer = answer ≡ Some (data_of.Arabic (arabic_plan plan.stretch_start plan.ot_map))
 DataCreated Hangul plan answer = answer ≡ Some (data_of.Hangul (record { mask_array = jamo_masks plan.ot_map }))
 DataCreated Hebrew plan answer = answer ≡ None
 DataCreated Indic plan answer = Unbuilt

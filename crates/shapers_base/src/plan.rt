@@ -15,7 +15,7 @@ mod planner;
 mod record;
 mod universal;
 
-pub use arabic::arabic_shape_plan_t;
+pub use arabic::{StretchStart, arabic_shape_plan_t};
 pub use hangul::hangul_shape_plan_t;
 pub use joining::hb_arabic_joining_type_t;
 pub use khmer::khmer_shape_plan_t;
@@ -39,6 +39,8 @@ pub struct hb_ot_shape_plan_t {
     pub ot_map: hb_ot_map_t,
     /// Whether GPOS places marks.
     pub has_gpos_mark: bool,
+    /// Where the tiles of a stretched mark begin.
+    pub stretch_start: StretchStart,
     /// What the shaper itself keeps.
     pub plan_data: PlanData,
 }

@@ -7,7 +7,7 @@ use rustybuzz_shapers::buffer::{
 use rustybuzz_shapers::font::{GlyphId, Tables, hb_font_t};
 use rustybuzz_shapers::map::hb_ot_map_t;
 use rustybuzz_shapers::plan::{
-    Category, NormalizationMode, PlanData, Position, Preprocess, ZeroWidthMarks,
+    Category, NormalizationMode, PlanData, Position, Preprocess, StretchStart, ZeroWidthMarks,
     hb_arabic_joining_type_t, hb_ot_shape_plan_t,
 };
 use rustybuzz_shapers::shaper::{
@@ -99,6 +99,7 @@ fn plan(alloc: Global, script: [u8; 4]) -> Option<hb_ot_shape_plan_t> {
         script: Some(Script(script)),
         ot_map,
         has_gpos_mark: false,
+        stretch_start: StretchStart::AsCode,
         plan_data: PlanData::None,
     })
 }

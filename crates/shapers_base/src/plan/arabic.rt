@@ -1,3 +1,13 @@
+/// Where the tiles of a stretched mark begin to be laid, beside the word that they stretch over.
+#[derive(Clone, Copy, Debug, PartialEq, Eq, Default)]
+pub enum StretchStart {
+    /// Half of what the fixed tiles leave of the word, or its edge where copies overlap.
+    #[default]
+    AsCode,
+    /// So that what is laid is centred on the word.
+    Centred,
+}
+
 /// What the shaper of Arabic keeps in the plan.
 #[derive(Clone, Copy, Debug, PartialEq, Eq)]
 pub struct arabic_shape_plan_t {
@@ -5,4 +15,6 @@ pub struct arabic_shape_plan_t {
     pub mask_array: [u32; 8],
     /// Whether the font stretches marks, by `stch`.
     pub has_stch: bool,
+    /// Where the tiles of a stretched mark begin.
+    pub stretch_start: StretchStart,
 }

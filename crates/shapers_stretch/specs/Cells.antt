@@ -1,0 +1,74 @@
+-- A text in parts: each ends with a longest run of tiles, before which stands its word. A cell is a glyph with its position.
+use Rattle.std.specs.Prelude.{ℕ, ◌==◌, Bool, false, not, ◌&&◌, ◌||◌, List, [], ◌∷◌, if◌then◌else◌}
+use Rattle.std.specs.List.{onto_first}
+use Rattle.shapers_buffer.specs.declared.buffer.category.hb_unicode_general_category_t.{hb_unicode_general_category_t}
+use Rattle.shapers_buffer.specs.declared.buffer.category.hb_unicode_general_category_t.TheVariants.{Cn, Co, Lm, Lo, Mc, Me, Mn, Nd, Nl, No, Sc, Sk, Sm, So}
+use Rattle.shapers_buffer.specs.declared.buffer.glyph.GlyphPosition.{GlyphPosition}
+use Rattle.shapers_buffer.specs.declared.buffer.glyph.hb_glyph_info_t.{hb_glyph_info_t}
+use Rattle.shapers_buffer.specs.Lists.{last_run, before_last_run}
+use Rattle.shapers_buffer.specs.Marks.{is_ignorable, is_substituted}
+use Rattle.shapers_arabic.specs.declared.ot_shaper_arabic.arabic_action_t.TheConstants.{STRETCHING_FIXED, STRETCHING_REPEATING}
+use Rattle.std.specs.Prelude.{true}
+
+-- a glyph with its position
+abbrev pub Cell : Type 0
+Cell = hb_glyph_info_t × GlyphPosition
+
+-- whether a glyph is a tile, and whether it is one that repeats
+abbrev pub is_tile : hb_glyph_info_t → Bool
+is_tile g = g.auxiliary == STRETCHING_FIXED || g.auxiliary == STRETCHING_REPEATING
+
+abbrev pub repeats : hb_glyph_info_t → Bool
+repeats g = g.auxiliary == STRETCHING_REPEATING
+
+-- the general categories of words, without the cased letters
+abbrev pub is_word_category : hb_unicode_general_category_t → Bool
+is_word_category Cn = true
+is_word_category Co = true
+is_word_category Lm = true
+is_word_category Lo = true
+is_word_category Mc = true
+is_word_category Me = true
+is_word_category Mn = true
+is_word_category Nd = true
+is_word_category Nl = true
+is_word_category No = true
+is_word_category Sc = true
+is_word_category Sk = true
+is_word_category Sm = true
+is_word_category So = true
+is_word_category _ = false
+
+-- whether a glyph can belong to the word before a run: it is no tile, and undrawn by nature or of a category of words
+abbrev pub in_word : hb_glyph_info_t → Bool
+in_word g = not (is_tile g) && (is_ignorable g.marks && not (is_substituted g.marks) || is_word_category g.general_category)
+
+-- the list cut wherever two neighbours stand so
+abbrev pub cut_here : {X : Type 0} → (X → X → Bool) → X → List X → Bool
+cut_here apart x [] = false
+cut_here apart x (y ∷ ys) = apart x y
+
+abbrev pub cut_between : {X : Type 0} → (X → X → Bool) → List X → List (List X)
+cut_between apart [] = []
+cut_between apart (x ∷ xs) = if cut_here apart x xs then (x ∷ []) ∷ cut_between apart xs else onto_first x (cut_between apart xs)
+
+-- whether a run of tiles ends between two cells
+abbrev pub run_ends : Cell → Cell → Bool
+run_ends a b = is_tile a.0 && not (is_tile b.0)
+
+-- the parts of a text: cut behind each longest run of tiles
+abbrev pub parts : List Cell → List (List Cell)
+parts cs = cut_between run_ends cs
+
+-- the tiles at the end of a part, the word directly before them, and what stands before that
+abbrev pub tiles_of : List Cell → List Cell
+tiles_of part = last_run (λ c. is_tile c.0) part
+
+abbrev pub before_tiles : List Cell → List Cell
+before_tiles part = before_last_run (λ c. is_tile c.0) part
+
+abbrev pub word_of : List Cell → List Cell
+word_of part = last_run (λ c. in_word c.0) (before_tiles part)
+
+abbrev pub before_word : List Cell → List Cell
+before_word part = before_last_run (λ c. in_word c.0) (before_tiles part)

@@ -1,0 +1,77 @@
+-- The numbers of a stretched mark, over whole numbers without bound. Division rounds toward zero.
+use Rattle.std.specs.Prelude.{ℕ, suc, ◌+◌, ◌*◌, ◌-◌, nat_lt, ℤ, pos, negsuc, ◌^◌, ◌+ℤ◌, ◌-ℤ◌, ◌*ℤ◌, neg_ℤ, nat_abs, int_lt, int_div, Bool, ◌&&◌, List, [], ◌∷◌, ◌++◌, length, map, fold, filter, not, if◌then◌else◌}
+use Rattle.std.specs.List.{list_any}
+use Rattle.shapers_base.specs.declared.plan.arabic.StretchStart.{StretchStart}
+use Rattle.shapers_base.specs.declared.plan.arabic.StretchStart.TheVariants.{AsCode, Centred}
+
+-- What a run measures: the advance of its word, of its fixed and of its repeating tiles, and how many tiles repeat.
+pub record Run : Type 0 where
+  pub word : ℤ
+  pub fixed : ℤ
+  pub repeating : ℤ
+  pub repeaters : ℕ
+
+-- what the fixed tiles leave of the word
+abbrev pub left : Run → ℤ
+left z = z.word -ℤ z.fixed
+
+-- how far the repeating tiles reach, laid once and these times more
+abbrev pub reach : Run → ℕ → ℤ
+reach z n = pos (suc n) *ℤ z.repeating
+
+-- how many times more they fit into what is left
+abbrev pub fitting : Run → ℕ
+fitting z = if int_lt z.repeating (left z) && int_lt (pos 0) z.repeating then nat_abs (int_div (left z) z.repeating) - 1 else 0
+
+-- whether then something is left yet, and a tile to fill it
+abbrev pub falls_short : Run → Bool
+falls_short z = int_lt (pos 0) (left z -ℤ reach z (fitting z)) && nat_lt 0 z.repeaters
+
+-- how many times more they are laid: as often as they fit, and once more where that falls short
+abbrev pub added : Run → ℕ
+added z = if falls_short z then suc (fitting z) else fitting z
+
+-- how many copies that makes
+abbrev pub copies_added : Run → ℕ
+copies_added z = added z * z.repeaters
+
+-- how far they then reach too far
+abbrev pub excess : Run → ℤ
+excess z = reach z (added z) -ℤ left z
+
+-- whether the copies overlap, and by how much each that was added then does
+abbrev pub squeezes : Run → Bool
+squeezes z = falls_short z && int_lt (pos 0) (excess z)
+
+abbrev pub overlap : Run → ℤ
+overlap z = if squeezes z then int_div (excess z) (pos (copies_added z)) else pos 0
+
+-- the width that is laid
+abbrev pub laid_width : Run → ℤ
+laid_width z = (z.fixed +ℤ reach z (added z)) -ℤ pos (copies_added z) *ℤ overlap z
+
+-- half of what is laid less than the word
+abbrev pub half_gap : Run → ℤ
+half_gap z = int_div (z.word -ℤ laid_width z) (pos 2)
+
+-- where the first tile begins; of the two choices the second lays along the direction in which tiles follow one another
+abbrev pub start : StretchStart → Bool → Run → ℤ
+start AsCode right_to_left z = if squeezes z then pos 0 else int_div (left z) (pos 2)
+start Centred right_to_left z = if right_to_left then neg_ℤ (half_gap z) else half_gap z
+
+-- the numbers that must fit 32 bits
+abbrev pub run_numbers : Run → List ℤ
+run_numbers z = z.word ∷ z.fixed ∷ z.repeating ∷ left z ∷ reach z (added z) ∷ pos (copies_added z) ∷ []
+
+abbrev pub numbers : StretchStart → Run → List ℤ
+numbers AsCode z = run_numbers z
+numbers Centred z = run_numbers z ++ laid_width z ∷ (z.word -ℤ laid_width z) ∷ []
+
+-- whether a number fits 32 bits with a sign
+abbrev pub fits_i32 : ℤ → Bool
+fits_i32 (pos n) = nat_lt n (2 ^ 31)
+fits_i32 (negsuc n) = nat_lt n (2 ^ 31)
+
+-- the sum of whole numbers
+abbrev pub total : List ℤ → ℤ
+total xs = fold ◌+ℤ◌ (pos 0) xs
