@@ -7,6 +7,7 @@ use crate::map::hb_ot_map_t;
 mod arabic;
 mod hangul;
 mod joining;
+mod khmer;
 pub mod ot_category_t;
 pub mod ot_position_t;
 mod pause;
@@ -16,6 +17,7 @@ mod record;
 pub use arabic::arabic_shape_plan_t;
 pub use hangul::hangul_shape_plan_t;
 pub use joining::hb_arabic_joining_type_t;
+pub use khmer::khmer_shape_plan_t;
 pub use pause::Pause;
 pub use planner::{Request, hb_ot_shape_planner_t};
 pub use record::{NormalizationMode, ZeroWidthMarks};
@@ -48,6 +50,8 @@ pub enum PlanData {
     Arabic(arabic_shape_plan_t),
     /// What Hangul keeps.
     Hangul(hangul_shape_plan_t),
+    /// The masks of Khmer's basic features.
+    Khmer(khmer_shape_plan_t),
 }
 
 /// What `preprocess_text` left to its caller.

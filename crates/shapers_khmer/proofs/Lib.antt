@@ -1,2 +1,7 @@
 mod ConstantRows
+pub mod KhmerLaws
+pub mod KhmerMasks
+pub mod KhmerMoves
+mod KhmerRows
+mod PlanRows
 mod RequestRows

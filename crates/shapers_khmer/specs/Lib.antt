@@ -1,1 +1,4 @@
+pub mod Khmer
+pub mod KhmerWalk
+pub mod Plan
 pub mod Requests

@@ -1,14 +1,27 @@
 //! The shaper of Khmer.
-ghost use Rattle.std.specs.Prelude.{◌≡◌, OnOk, OnErr, IsOkUnless};
+ghost use Rattle.std.specs.Prelude.{◌≡◌, ◌%◌, map, OnOk, OnErr, IsOkUnless};
+ghost use Rattle.std.specs.List.{All};
 ghost use Rattle.shapers_buffer.specs.declared.buffer.refusal.ShaperError.TheVariants.{Memory};
 ghost use Rattle.shapers_base.specs.Planner.{with_requests};
+ghost use Rattle.shapers_khmer.specs.Khmer.{decomposed_in_khmer};
+ghost use Rattle.shapers_khmer.specs.Plan.{khmer_masks, masks_in};
 ghost use Rattle.shapers_khmer.specs.Requests.{khmer_list, khmer_overrides};
+ghost use Rattle.shapers_syllabic.specs.Characters.{composed_behind, with_category};
+ghost use Rattle.shapers_base.specs.declared.plan.PlanData.TheVariants.{Khmer};
 
-use shapers_base::buffer::hb_tag_t;
+use shapers_base::buffer::{hb_buffer_t, hb_tag_t};
+use shapers_base::font::Tables;
 use shapers_base::map::{F_GLOBAL, F_MANUAL_JOINERS, F_PER_SYLLABLE};
-use shapers_base::plan::{Pause, Request, ShaperError, hb_ot_shape_planner_t};
+use shapers_base::plan::{
+    Pause, PlanData, Request, ShaperError, hb_ot_shape_plan_t, hb_ot_shape_planner_t,
+    khmer_shape_plan_t,
+};
+use shapers_syllabic::ot_shaper_syllabic;
 
 pub mod khmer_feature;
+mod reordering;
+
+pub use reordering::KhmerOrder;
 
 // The basic features run at once, after the reordering.
 const REQUESTS: [Request; 14] = [
@@ -52,4 +65,53 @@ pub fn override_features(planner: &mut hb_ot_shape_planner_t) -> Result<(), Shap
     ensures err { OnErr result (planner.new ≡ planner.old) }
 {
     planner.add_requests(&OVERRIDES)
+}
+
+/// What the shaper keeps in the plan: the masks of the basic features, and none for those that hold
+/// for the whole text. None of them touches a glyph flag bit.
+pub fn create_data(plan: &hb_ot_shape_plan_t) -> PlanData
+    ensures masks { result ≡ Khmer (record { mask_array = khmer_masks plan.now.ot_map }) }
+    ensures off_flags { All (λ mask. mask % 8 ≡ 0) (masks_in result) }
+{
+    let map = &plan.ot_map;
+    PlanData::Khmer(khmer_shape_plan_t {
+        mask_array: [
+            map.get_1_mask(hb_tag_t(*b"pref")),
+            map.get_1_mask(hb_tag_t(*b"blwf")),
+            map.get_1_mask(hb_tag_t(*b"abvf")),
+            map.get_1_mask(hb_tag_t(*b"pstf")),
+            map.get_1_mask(hb_tag_t(*b"cfar")),
+            0,
+            0,
+            0,
+            0,
+        ],
+    })
+}
+
+/// The composition of two characters by the table; a mark composes with nothing behind it, so that a
+/// split vowel isn't put together again.
+pub fn compose<T: Tables>(tables: &T, a: char, b: char) -> Option<char>
+    ensures { result ≡ composed_behind (T.tables tables.now) a b }
+{
+    ot_shaper_syllabic::compose(tables, a, b)
+}
+
+/// The decomposition of a character: a split vowel into the part that stands before its base and
+/// itself, else the table's.
+pub fn decompose<T: Tables>(tables: &T, ab: char) -> Option<(char, char)>
+    ensures { result ≡ decomposed_in_khmer (T.tables tables.now) ab }
+{
+    match ab {
+        '\u{17BE}' | '\u{17BF}' | '\u{17C0}' | '\u{17C4}' | '\u{17C5}' => Some(('\u{17C1}', ab)),
+        _ => tables.decompose(ab),
+    }
+}
+
+/// Gives each glyph its category by the table; the masks wait for the reordering. It takes no memory.
+pub fn setup_masks<T: Tables>(tables: &T, buffer: &mut hb_buffer_t)
+    ensures { buffer.new ≡
+        record buffer.old { glyphs = map (with_category (T.tables tables.now)) buffer.old.glyphs } }
+{
+    ot_shaper_syllabic::set_categories(tables, buffer);
 }

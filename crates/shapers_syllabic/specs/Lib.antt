@@ -1,3 +1,4 @@
+pub mod Characters
 pub mod CircleLaws
 pub mod Circles
 pub mod FirstBroken
