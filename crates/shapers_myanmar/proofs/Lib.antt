@@ -1,1 +1,2 @@
+mod MyanmarRows
 mod RequestRows

@@ -1,1 +1,2 @@
+pub mod Myanmar
 pub mod Requests

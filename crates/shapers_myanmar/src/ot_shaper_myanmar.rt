@@ -4,6 +4,8 @@ ghost use Rattle.shapers_buffer.specs.declared.buffer.refusal.ShaperError.TheVar
 ghost use Rattle.shapers_base.specs.Planner.{with_requests};
 ghost use Rattle.shapers_myanmar.specs.Requests.{myanmar_list};
 
+mod positions;
+
 use shapers_base::buffer::hb_tag_t;
 use shapers_base::map::{F_GLOBAL, F_MANUAL_ZWJ, F_PER_SYLLABLE};
 use shapers_base::plan::{Pause, Request, ShaperError, hb_ot_shape_planner_t};

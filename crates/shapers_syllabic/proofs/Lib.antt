@@ -1,5 +1,6 @@
 pub mod CircleLaws
 mod CircleRows
+mod ConsonantRows
 pub mod ReorderingCuts
 pub mod ReorderingLaws
 pub mod ReorderingLemmas

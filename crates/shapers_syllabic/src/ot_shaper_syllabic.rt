@@ -2,6 +2,7 @@
 mod characters;
 mod circles;
 mod clearing;
+mod consonants;
 mod kinds;
 mod reordering;
 mod set_up;
@@ -9,6 +10,7 @@ mod set_up;
 pub use characters::{compose, set_categories, set_categories_and_positions};
 pub use circles::{circles_can_be_erased, circles_keep_clusters, insert_dotted_circles};
 pub use clearing::{clear_substitution_flags, clear_syllables};
+pub use consonants::is_consonant;
 pub use kinds::{indic_syllable, khmer_syllable, myanmar_syllable, use_syllable};
 pub use reordering::{
     Reorder, reorder_syllables, reordering_cuts_at_borders, reordering_loses_nothing,

@@ -1,0 +1,14 @@
+-- The consonants of Indic and Myanmar.
+use Rattle.std.specs.Prelude.{ℕ, ◌==◌, Bool, ◌&&◌, not, List, [], ◌∷◌}
+use Rattle.std.specs.List.{list_any}
+use Rattle.shapers_buffer.specs.declared.buffer.glyph.hb_glyph_info_t.{hb_glyph_info_t}
+use Rattle.shapers_base.specs.declared.plan.ot_category_t.TheConstants.{OT_C, OT_CS, OT_Ra, OT_CM, OT_V, OT_PLACEHOLDER, OT_DOTTEDCIRCLE}
+use Rattle.shapers_buffer.specs.Marks.{is_ligated}
+
+-- the categories that may carry a syllable: consonants, independent vowels, and what stands for a consonant (OpenType)
+abbrev pub consonants : List ℕ
+consonants = OT_C ∷ OT_CS ∷ OT_Ra ∷ OT_CM ∷ OT_V ∷ OT_PLACEHOLDER ∷ OT_DOTTEDCIRCLE ∷ []
+
+-- whether a glyph is a consonant: of one of these categories, and no lookup put it in for several
+abbrev pub is_consonant : hb_glyph_info_t → Bool
+is_consonant g = not (is_ligated g.marks) && list_any (λ c. c == g.category) consonants
