@@ -1,3 +1,4 @@
 mod ConstantRows
 pub mod MapLemmas
 mod MapRows
+mod QuestionRows

@@ -1,3 +1,4 @@
 pub mod Font
 pub mod Map
 pub mod Planner
+pub mod Questions

@@ -1,6 +1,6 @@
 //! The map from features to masks and lookups, as far as the shapers read it. It knows GSUB alone.
 ghost use Rattle.std.specs.Prelude.{◌≡◌, ◌≤◌, ◌%◌, ◌==◌, length, None, Some, false, slice_get, find, if◌then◌else◌};
-ghost use Rattle.shapers_base.specs.Map.{Map, of_gsub, can_be_map, can_be_stage, is_off_flags, mask_of, stage_of, range_of, no_range, same_tag};
+ghost use Rattle.shapers_base.specs.Map.{Map, of_gsub, can_be_map, can_be_stage, is_off_flags, mask_of, stage_of, range_of, no_range, same_tag, lookups_in};
 ghost use Rattle.std.specs.List.{list_all};
 
 use crate::buffer::hb_tag_t;
@@ -121,6 +121,15 @@ impl hb_ot_map_t {
         }
         let range = &self.stages[stage];
         range.start..range.end
+    }
+
+    /// The lookups of a range of the list, as far as it goes.
+    pub fn lookups(&self, range: &Range<usize>) -> &[u16]
+        ensures { result.now ≡ lookups_in range.now self.now }
+    {
+        let end = range.end.min(self.lookups.len());
+        let start = range.start.min(end);
+        &self.lookups[start..end]
     }
 
     /// The lookup at this place of the list.

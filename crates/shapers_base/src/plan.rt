@@ -6,6 +6,7 @@ use crate::map::hb_ot_map_t;
 
 mod arabic;
 mod hangul;
+mod indic;
 mod joining;
 mod khmer;
 pub mod ot_category_t;
@@ -17,6 +18,9 @@ mod universal;
 
 pub use arabic::{StretchStart, arabic_shape_plan_t};
 pub use hangul::hangul_shape_plan_t;
+pub use indic::{
+    BlwfMode, IndicConfig, IndicWouldSubstituteFeature, RephMode, RephPosition, indic_shape_plan_t,
+};
 pub use joining::hb_arabic_joining_type_t;
 pub use khmer::khmer_shape_plan_t;
 pub use pause::Pause;
@@ -58,6 +62,8 @@ pub enum PlanData {
     Universal(use_shape_plan_t),
     /// The masks of Khmer's basic features.
     Khmer(khmer_shape_plan_t),
+    /// What the shaper of the Indic scripts keeps.
+    Indic(indic_shape_plan_t),
 }
 
 /// What `preprocess_text` left to its caller.

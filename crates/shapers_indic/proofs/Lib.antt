@@ -1,2 +1,4 @@
+mod CharacterRows
 mod ConstantRows
+mod PlanRows
 mod RequestRows

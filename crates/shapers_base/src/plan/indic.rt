@@ -1,0 +1,106 @@
+//! What the shaper of the Indic scripts keeps in the plan, and its questions to the font.
+ghost use Rattle.std.specs.Prelude.{◌≡◌};
+ghost use Rattle.shapers_base.specs.Questions.{question_for, would_by};
+
+use crate::buffer::{Script, hb_tag_t};
+use crate::font::{GlyphId, hb_font_t};
+use crate::map::{TableIndex, hb_ot_map_t};
+use std::ops::Range;
+
+/// Where a reph goes, as the position that it stands behind or before.
+#[derive(Clone, Copy, Debug, PartialEq, Eq)]
+pub enum RephPosition {
+    AfterMain,
+    BeforeSub,
+    AfterSub,
+    BeforePost,
+    AfterPost,
+}
+
+/// How a reph is written.
+#[derive(Clone, Copy, Debug, PartialEq, Eq)]
+pub enum RephMode {
+    /// As an opening Ra, H.
+    Implicit,
+    /// As an opening Ra, H, ZWJ.
+    Explicit,
+    /// As a character of its own, which is reordered.
+    LogRepha,
+}
+
+/// Where the feature of below-base forms applies.
+#[derive(Clone, Copy, Debug, PartialEq, Eq)]
+pub enum BlwfMode {
+    /// Before the base and after it.
+    PreAndPost,
+    /// After the base only.
+    PostOnly,
+}
+
+/// What the rules of one script ask for.
+#[derive(Clone, Copy, Debug, PartialEq, Eq)]
+pub struct IndicConfig {
+    /// The script, or none for any other.
+    pub script: Option<Script>,
+    /// Whether fonts may follow an older specification of it.
+    pub has_old_spec: bool,
+    /// Its virama, or 0.
+    pub virama: u32,
+    pub reph_pos: RephPosition,
+    pub reph_mode: RephMode,
+    pub blwf_mode: BlwfMode,
+}
+
+/// The question whether a feature would substitute some glyphs.
+#[derive(Clone, Debug, PartialEq, Eq, Drop)]
+pub struct IndicWouldSubstituteFeature {
+    lookups: Range<usize>,
+    zero_context: bool,
+}
+
+impl IndicWouldSubstituteFeature {
+    /// The question about the lookups of a feature's stage. With `zero_context` only those count that
+    /// ask for no context around the glyphs.
+    pub fn new(map: &hb_ot_map_t, feature_tag: hb_tag_t, zero_context: bool) -> Self
+        ensures { result ≡ question_for feature_tag zero_context map.now }
+    {
+        let lookups = match map.get_feature_stage(TableIndex::GSUB, feature_tag) {
+            Some(stage) => map.stage_lookup_range(TableIndex::GSUB, stage),
+            None => 0..0,
+        };
+        IndicWouldSubstituteFeature {
+            lookups,
+            zero_context,
+        }
+    }
+
+    /// Whether some lookup of the feature's stage would apply to exactly these glyphs.
+    pub fn would_substitute<F: hb_font_t>(
+        &self,
+        map: &hb_ot_map_t,
+        face: &F,
+        glyphs: &[GlyphId],
+    ) -> bool
+        ensures { result ≡ would_by (F.font face.now).applies map.now self.now glyphs.now }
+    {
+        let lookups = map.lookups(&self.lookups);
+        lookups.iter().any(|lookup| face.would_apply(*lookup, glyphs, self.zero_context))
+    }
+}
+
+/// What the shaper of the Indic scripts keeps in the plan.
+#[derive(Clone, Debug, PartialEq, Eq, Drop)]
+pub struct indic_shape_plan_t {
+    /// What the script asks for.
+    pub config: IndicConfig,
+    /// Whether the font follows the older specification.
+    pub is_old_spec: bool,
+    /// The questions about the features that decide how a syllable is taken apart.
+    pub rphf: IndicWouldSubstituteFeature,
+    pub pref: IndicWouldSubstituteFeature,
+    pub blwf: IndicWouldSubstituteFeature,
+    pub pstf: IndicWouldSubstituteFeature,
+    pub vatu: IndicWouldSubstituteFeature,
+    /// The masks of the shaper's features, by `indic_feature`; 0 for those of the whole text.
+    pub mask_array: [u32; 17],
+}

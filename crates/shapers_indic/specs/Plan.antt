@@ -1,0 +1,103 @@
+-- What Indic keeps in the plan. (OpenType, development of Indic scripts; Unicode for the viramas.)
+use Prim.Native.String.{String}
+use Rattle.std.specs.Prelude.{ℕ, nat_eq, ◌==◌, bit_and, Bool, ◌&&◌, true, false, not, List, [], ◌∷◌, ◌++◌, map, find, Option, None, Some, unwrap_or, slice_index, codes, if◌then◌else◌}
+use Rattle.std.specs.Option.{option_eq}
+use Rattle.std.specs.Cmp.Lexicographic.{pointwise}
+use Rattle.shapers_buffer.specs.declared.buffer.tag.hb_tag_t.{hb_tag_t}
+use Rattle.shapers_buffer.specs.declared.buffer.tag.Script.{Script}
+use Rattle.shapers_base.specs.declared.map.TheConstants.{F_GLOBAL}
+use Rattle.shapers_base.specs.declared.plan.PlanData.{PlanData}
+use Rattle.shapers_base.specs.declared.plan.PlanData.TheVariants.{Indic}
+use Rattle.shapers_base.specs.declared.plan.indic.BlwfMode.{BlwfMode}
+use Rattle.shapers_base.specs.declared.plan.indic.BlwfMode.TheVariants.{PreAndPost, PostOnly}
+use Rattle.shapers_base.specs.declared.plan.indic.IndicConfig.{IndicConfig}
+use Rattle.shapers_base.specs.declared.plan.indic.RephMode.{RephMode}
+use Rattle.shapers_base.specs.declared.plan.indic.RephMode.TheVariants.{Implicit, Explicit, LogRepha}
+use Rattle.shapers_base.specs.declared.plan.indic.RephPosition.{RephPosition}
+use Rattle.shapers_base.specs.declared.plan.indic.RephPosition.TheVariants.{AfterMain, BeforeSub, AfterSub, BeforePost, AfterPost}
+use Rattle.shapers_base.specs.declared.plan.indic.IndicWouldSubstituteFeature.{IndicWouldSubstituteFeature}
+use Rattle.shapers_base.specs.declared.plan.indic.indic_shape_plan_t.{indic_shape_plan_t}
+use Rattle.shapers_base.specs.declared.plan.planner.Request.{Request}
+use Rattle.shapers_base.specs.declared.plan.planner.Request.TheVariants.{Feature, Pause}
+use Rattle.shapers_base.specs.Map.{Map, mask_of}
+use Rattle.shapers_base.specs.Questions.{question_for}
+use Rattle.shapers_indic.specs.Requests.{basic_features, other_features}
+
+-- what a script asks for: whether fonts may follow an older specification, its virama, where a reph goes and how it is written, and where below-base forms apply
+abbrev pub row : String → Bool → ℕ → RephPosition → RephMode → BlwfMode → IndicConfig
+row tag old virama position mode blwf = record { script = Some (record { 0 = codes tag }); has_old_spec = old; virama = virama; reph_pos = position; reph_mode = mode; blwf_mode = blwf }
+
+-- the table of scripts
+abbrev pub scripts : List IndicConfig
+scripts =
+    row "Deva" true 0x094D BeforePost Implicit PreAndPost
+    ∷ row "Beng" true 0x09CD AfterSub Implicit PreAndPost
+    ∷ row "Guru" true 0x0A4D BeforeSub Implicit PreAndPost
+    ∷ row "Gujr" true 0x0ACD BeforePost Implicit PreAndPost
+    ∷ row "Orya" true 0x0B4D AfterMain Implicit PreAndPost
+    ∷ row "Taml" true 0x0BCD AfterPost Implicit PreAndPost
+    ∷ row "Telu" true 0x0C4D AfterPost Explicit PostOnly
+    ∷ row "Knda" true 0x0CCD AfterPost Implicit PostOnly
+    ∷ row "Mlym" true 0x0D4D AfterMain LogRepha PreAndPost
+    ∷ row "Sinh" false 0x0DCA AfterPost Explicit PreAndPost
+    ∷ []
+
+-- what any other script asks for
+abbrev pub other_script : IndicConfig
+other_script = record { script = None; has_old_spec = false; virama = 0; reph_pos = BeforePost; reph_mode = Implicit; blwf_mode = PreAndPost }
+
+-- whether two scripts are the same
+abbrev pub is_script : Option Script → Option Script → Bool
+is_script = option_eq (λ s t. pointwise nat_eq s.0 t.0)
+
+-- the row of a script
+abbrev pub config_of : Option Script → IndicConfig
+config_of script = unwrap_or (find (λ c. is_script c.script script) scripts) other_script
+
+-- whether a script of the font isn't one of the newer specification, whose tags end in 2; so is none
+abbrev pub is_old_script : Option hb_tag_t → Bool
+is_old_script None = true
+is_old_script (Some tag) = not (slice_index tag.0 3 == 0x32)
+
+-- whether the older specification holds
+abbrev pub has_old_spec : Option Script → Map → Bool
+has_old_spec script m = (config_of script).has_old_spec && is_old_script m.chosen
+
+-- whether the questions to the font leave contexts out: in the older specification, but for Malayalam
+abbrev pub zero_context : Option Script → Map → Bool
+zero_context script m = has_old_spec script m && not (is_script script (Some (record { 0 = codes "Mlym" })))
+
+-- the mask of a feature, none for one that holds for the whole text
+abbrev pub mask_for : Map → Request → ℕ
+mask_for m (Feature tag flags value) = if bit_and flags F_GLOBAL == 0 then mask_of tag m else 0
+mask_for m (Pause pause) = 0
+
+-- the masks of all features
+abbrev pub feature_masks : Map → List ℕ
+feature_masks m = map (mask_for m) (basic_features ++ other_features)
+
+-- a question of the plan
+abbrev pub question : Option Script → Map → String → IndicWouldSubstituteFeature
+question script m tag = question_for (record { 0 = codes tag }) (zero_context script m) m
+
+-- the plan
+abbrev pub indic_plan : Option Script → Map → indic_shape_plan_t
+indic_plan script m = record {
+  config = config_of script;
+  is_old_spec = has_old_spec script m;
+  rphf = question script m "rphf";
+  pref = question script m "pref";
+  blwf = question script m "blwf";
+  pstf = question script m "pstf";
+  vatu = question script m "vatu";
+  mask_array = feature_masks m;
+}
+
+-- whether the data are those of Indic, and the masks in them
+abbrev pub is_indic_data : PlanData → Bool
+is_indic_data (Indic kept) = true
+is_indic_data _ = false
+
+abbrev pub masks_in : PlanData → List ℕ
+masks_in (Indic kept) = kept.mask_array
+masks_in _ = []
