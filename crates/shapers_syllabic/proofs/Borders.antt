@@ -5,6 +5,7 @@ use Rattle.std.specs.List.{AllByRecursion, flat_map}
 use Rattle.std.proofs.lemmas.Bool.Decides.{nat_tests}
 use Rattle.std.proofs.lemmas.List.{append-nil, get_or-append_right, get_or-map, length-map, map-append}
 use Rattle.std.proofs.lemmas.List.Elements.{All-cons, All-get_or, All-head, All-nil, All-tail, All-weaker}
+use Rattle.std.proofs.lemmas.List.Folds.{flat_map-map}
 use Rattle.shapers_buffer.specs.declared.buffer.glyph.hb_glyph_info_t.{hb_glyph_info_t}
 use Rattle.shapers_buffer.specs.Glyph.{default_glyph, order_view, plain}
 use Rattle.shapers_buffer.specs.Syllables.{syllables, with_opening}
@@ -199,20 +200,16 @@ keep_ends f keeps (piece ∷ pieces) u =
 pub ends-kept : (f : List hb_glyph_info_t → List hb_glyph_info_t) → ((byte : ℕ) (gs : List hb_glyph_info_t) → OfByte byte gs → OfByte byte (f gs)) → (pieces : List (List hb_glyph_info_t)) → Cut pieces → SameEnds (flat_map f pieces) (flat_map (λ p. p) pieces)
 ends-kept f keeps pieces u = ends-all f pieces (keep_ends f keeps pieces u)
 
-pub joined-map : (f : List hb_glyph_info_t → List hb_glyph_info_t) (pieces : List (List hb_glyph_info_t)) → flat_map (λ p. p) (map f pieces) ≡ flat_map f pieces
-joined-map f [] = refl
-joined-map f (piece ∷ pieces) = ap (λ xs. f piece ++ xs) (joined-map f pieces)
-
 pub cut-mapped : (f : List hb_glyph_info_t → List hb_glyph_info_t) → ((byte : ℕ) (gs : List hb_glyph_info_t) → OfByte byte gs → OfByte byte (f gs)) → (pieces : List (List hb_glyph_info_t)) → Cut pieces → Cut (map f pieces)
 cut-mapped f keeps [] u = tt
 cut-mapped f keeps (piece ∷ pieces) u =
     let made = keeps u.0.0 piece u.0.1 in
     let rest = flat_map (λ p. p) pieces in
-    let behind : SameEnds (flat_map (λ p. p) (map f pieces)) rest = subst (λ xs. SameEnds xs rest) (sym (joined-map f pieces)) (ends-kept f keeps pieces u.2) in
+    let behind : SameEnds (flat_map (λ p. p) (map f pieces)) rest = subst (λ xs. SameEnds xs rest) (sym (flat_map-map (λ p. p) f pieces)) (ends-kept f keeps pieces u.2) in
     ((u.0.0, made), border_by (f piece) (flat_map (λ p. p) (map f pieces)) piece rest (ends_of_byte u.0.0 (f piece) piece made u.0.1) behind u.1, cut-mapped f keeps pieces u.2)
 
 pub syllables-mapped : (f : List hb_glyph_info_t → List hb_glyph_info_t) → ((byte : ℕ) (gs : List hb_glyph_info_t) → OfByte byte gs → OfByte byte (f gs)) → (gs : List hb_glyph_info_t) → syllables (flat_map f (syllables gs)) ≡ map f (syllables gs)
-syllables-mapped f keeps gs = ap syllables (sym (joined-map f (syllables gs))) ∙ cut_is (map f (syllables gs)) (cut-mapped f keeps (syllables gs) (syllables_cut gs))
+syllables-mapped f keeps gs = ap syllables (sym (flat_map-map (λ p. p) f (syllables gs))) ∙ cut_is (map f (syllables gs)) (cut-mapped f keeps (syllables gs) (syllables_cut gs))
 
 -- pieces cut between two of them meet at a border
 pub cut_border : (ps qs : List (List hb_glyph_info_t)) → Cut (ps ++ qs) → MeetAtBorder (flat_map (λ p. p) ps) (flat_map (λ p. p) qs)

@@ -14,7 +14,7 @@ use Rattle.shapers_syllabic.specs.declared.ot_shaper_syllabic.circles.DottedCirc
 use Rattle.shapers_syllabic.specs.Borders.{SameButSerials, unnumbered}
 use Rattle.shapers_syllabic.specs.Circles.{circle_in, circled, circled_syllable, is_of_kind, rephas_len, with_circle}
 use Rattle.shapers_syllabic.specs.Reordering.{carried, text_steps}
-use Rattle.shapers_syllabic.specs.ReorderingLaws.{SerialsDontCount}
+use Rattle.shapers_syllabic.specs.ReorderingLaws.{ReadsNoSerials, SerialsDontCount}
 use Rattle.shapers_syllabic.proofs.Borders.{syllables-mapped, syllables-viewed}
 use Rattle.shapers_syllabic.proofs.CircleLaws.{joined-syllables}
 use Rattle.shapers_syllabic.proofs.ReorderingCuts.{circled_syllable_byte}
@@ -179,3 +179,7 @@ serials_dont_count circles meaning steps level gs hs reads same =
           ∙ ap (map carried) ran
           ∙ sym (carried-unnumbered (run_steps level (text_steps steps (order_view ys)) ys));
     }
+
+-- an instance that reads no serials, from what it makes of syllables without them
+pub reads_no_serials : (meaning : List hb_glyph_info_t → List hb_glyph_info_t) (steps : List hb_glyph_info_t → List Step) → ((gs : List hb_glyph_info_t) → map unnumbered (meaning gs) ≡ map unnumbered (meaning (map unnumbered gs))) → ((gs : List hb_glyph_info_t) → steps gs ≡ steps (map unnumbered gs)) → ReadsNoSerials meaning steps
+reads_no_serials meaning steps meant led = record { meant = keeps_by meaning meant; led = λ gs hs same. led gs ∙ ap steps same ∙ sym (led hs) }

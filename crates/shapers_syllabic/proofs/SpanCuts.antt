@@ -7,7 +7,7 @@ use Rattle.std.proofs.lemmas.Bool.Decides.{nat_tests}
 use Rattle.std.proofs.lemmas.List.{drop-append-le, drop_at, length-map, map-append, take-append-le, take_at}
 use Rattle.std.proofs.lemmas.List.Concat.{flat_map-append}
 use Rattle.std.proofs.lemmas.List.Elements.{All-drop, All-head, All-take, All-map, All-tail, All-weaker}
-use Rattle.std.proofs.lemmas.List.Folds.{list_all-append, list_any-append}
+use Rattle.std.proofs.lemmas.List.Folds.{flat_map-map, list_all-append, list_any-append}
 use Rattle.std.proofs.lemmas.List.Sums.{sum_by-append}
 use Rattle.shapers_buffer.specs.declared.buffer.glyph.hb_glyph_info_t.{hb_glyph_info_t}
 use Rattle.shapers_buffer.specs.declared.buffer.syllables.Span.{Span}
@@ -17,7 +17,7 @@ use Rattle.shapers_buffer.specs.GlyphFlags.{flagged, with_bits, with_bits_off}
 use Rattle.shapers_buffer.specs.Syllables.{in_syllable, kind_of, span_byte, span_bytes, spans_cover, syllables, with_bytes}
 use Rattle.shapers_syllabic.specs.Borders.{MeetAtBorder, SpansCutLaw, unnumbered}
 use Rattle.shapers_syllabic.specs.Syllabic.{unsafe_syllables}
-use Rattle.shapers_syllabic.proofs.Borders.{Cut, OfByte, cut-mapped, cut_border, joined-map, syllables-mapped, syllables_cut}
+use Rattle.shapers_syllabic.proofs.Borders.{Cut, OfByte, cut-mapped, cut_border, syllables-mapped, syllables_cut}
 use Rattle.shapers_syllabic.proofs.Serials.{flagged_keeps, pieces_same}
 use Rattle.shapers_syllabic.proofs.SyllabicLemmas.{covers_first, cut_next}
 
@@ -135,6 +135,6 @@ spans_cut spans broken_kind old kinds ss ts gs hs split text first second =
           ap (map (map unnumbered)) (syllables-mapped f flagged_byte (with_bytes hs (span_bytes k ts)))
           ∙ pieces_same f flagged_keeps bs cs (cut_renumbered k 0 ts hs (all_back kind ss ts all) second)
           ∙ sym (ap (map (map unnumbered)) (syllables-mapped f flagged_byte (with_bytes hs (span_bytes 0 ts))));
-      border = subst (λ xs. MeetAtBorder xs (flat_map f bs)) (joined-map f front) (subst (MeetAtBorder (flat_map (λ p. p) (map f front))) (joined-map f bs) (cut_border (map f front) (map f bs) cut));
+      border = subst (λ xs. MeetAtBorder xs (flat_map f bs)) (flat_map-map (λ p. p) f front) (subst (MeetAtBorder (flat_map (λ p. p) (map f front))) (flat_map-map (λ p. p) f bs) (cut_border (map f front) (map f bs) cut));
       broken = ap (λ sps. list_any is_broken sps || old.broken) split ∙ ap (λ b. b || old.broken) (list_any-append is_broken ss ts) ∙ either_mark (list_any is_broken ss) (list_any is_broken ts) old.broken;
     }

@@ -3,7 +3,7 @@ ghost use Rattle.std.specs.Prelude.{◌≡◌, ◌==◌, ◌≤◌, All, IfErr, 
 ghost use Rattle.std.specs.List.{list_any};
 ghost use Rattle.shapers_buffer.specs.Clusters.{with_stretch};
 ghost use Rattle.shapers_buffer.specs.GlyphFlags.{with_bits_off};
-ghost use Rattle.shapers_syllabic.specs.Borders.{SpansCutLaw};
+ghost use Rattle.shapers_syllabic.specs.Borders.{SetUpCutsAtSpans, SpansCutLaw};
 ghost use Rattle.shapers_syllabic.specs.Syllabic.{in_unsafe_syllable, unsafe_spans, with_unsafe_syllables};
 ghost use Rattle.shapers_buffer.specs.Refusals.{RefusesInput};
 ghost use Rattle.shapers_buffer.specs.Syllables.{in_syllable, spans_cover, spans_refusal, with_spans};
@@ -26,6 +26,8 @@ pub fn set_up_syllables(
     ensures refusal { RefusesInput (spans_refusal spans.now buffer.old) result }
     ensures ok { let cut = with_spans spans.now broken_kind buffer.old in
         OnOk result (buffer.new ≡ with_unsafe_syllables cut) }
+    ensures cut { OnOk result
+        (SetUpCutsAtSpans spans.now broken_kind buffer.old buffer.new) }
     ensures err { OnErr result (buffer.new ≡ buffer.old) }
 {
     if !spans_cover(buffer.len(), spans) {

@@ -1,0 +1,20 @@
+use Rattle.std.proofs.Common.{◌≡◌, rules, subst, sym}
+use Rattle.shapers_syllabic.specs.Borders.{SetUpCutsAtSpans, spans_set_up}
+use Rattle.shapers_syllabic.proofs.SpanCuts.{spans_cut}
+use Rattle.shapers_syllabic.proofs.ot_shaper_syllabic.set_up.set_up_syllables.Goals as goal
+
+pub returns-then-has_span_of_kind-clause-cut : goal.returns-then-has_span_of_kind-clause-cut
+returns-then-has_span_of_kind-clause-cut c =
+    let spans = c.args.spans.now in
+    let kind = c.args.broken_kind in
+    let old = c.args.buffer.now in
+    let set : c.set_has_broken_syllable.new.self ≡ spans_set_up spans kind old = search rules in
+    subst (SetUpCutsAtSpans spans kind old) (sym set) (spans_cut spans kind old c.requires)
+
+pub returns-else-has_span_of_kind-clause-cut : goal.returns-else-has_span_of_kind-clause-cut
+returns-else-has_span_of_kind-clause-cut c =
+    let spans = c.args.spans.now in
+    let kind = c.args.broken_kind in
+    let old = c.args.buffer.now in
+    let set : c.walk.new.self ≡ spans_set_up spans kind old = search rules in
+    subst (SetUpCutsAtSpans spans kind old) (sym set) (spans_cut spans kind old c.requires)
