@@ -19,8 +19,10 @@ use shapers_base::plan::{
 use shapers_syllabic::ot_shaper_syllabic;
 
 pub mod khmer_feature;
+mod pause;
 mod reordering;
 
+pub use pause::reorder_khmer;
 pub use reordering::KhmerOrder;
 
 // The basic features run at once, after the reordering.
