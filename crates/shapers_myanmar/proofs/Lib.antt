@@ -1,7 +1,6 @@
 mod Listing
 mod Merging
 mod MyanmarRows
-mod Order
-mod Plain
 mod Positioned
+mod Reordered
 mod RequestRows

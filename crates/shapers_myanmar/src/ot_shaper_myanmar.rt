@@ -1,15 +1,29 @@
 //! The shaper of Myanmar.
-ghost use Rattle.std.specs.Prelude.{◌≡◌, OnOk, OnErr, IsOkUnless};
+ghost use Rattle.std.specs.Prelude.{◌≡◌, [], IfOk, IsOk, IsOkUnless, None, OnErr, OnOk, is_some, length, map};
 ghost use Rattle.shapers_buffer.specs.declared.buffer.refusal.ShaperError.TheVariants.{Memory};
+ghost use Rattle.shapers_base.specs.declared.plan.ot_category_t.TheConstants.{OT_DOTTEDCIRCLE};
 ghost use Rattle.shapers_base.specs.Planner.{with_requests};
+ghost use Rattle.shapers_buffer.specs.Refusals.{Refuses};
+ghost use Rattle.shapers_buffer.specs.Syllables.{unknown_refusal};
+ghost use Rattle.shapers_syllabic.specs.Characters.{with_category};
+ghost use Rattle.shapers_syllabic.specs.Circles.{circled, circles_for};
+ghost use Rattle.shapers_syllabic.specs.Reordering.{PauseReordered};
+ghost use Rattle.shapers_syllabic.specs.ReorderingLaws.{PauseCutsAtBorders, TextReordered};
+ghost use Rattle.shapers_myanmar.specs.Myanmar.{myanmar_order, myanmar_steps};
 ghost use Rattle.shapers_myanmar.specs.Requests.{myanmar_list};
 
 mod positions;
 mod reordering;
 
-use shapers_base::buffer::hb_tag_t;
+pub use reordering::MyanmarOrder;
+use shapers_base::buffer::{hb_buffer_t, hb_tag_t};
+use shapers_base::font::{Tables, hb_font_t};
 use shapers_base::map::{F_GLOBAL, F_MANUAL_ZWJ, F_PER_SYLLABLE};
+use shapers_base::plan::ot_category_t::OT_DOTTEDCIRCLE;
 use shapers_base::plan::{Pause, Request, ShaperError, hb_ot_shape_planner_t};
+use shapers_syllabic::ot_shaper_syllabic::{
+    CircleSort, myanmar_syllable, reorder_pause, set_categories,
+};
 
 // A basic feature: in the whole text, within syllables, and it sees joiners.
 const BASIC: u32 = F_GLOBAL | F_MANUAL_ZWJ | F_PER_SYLLABLE;
@@ -43,4 +57,56 @@ pub fn collect_features(planner: &mut hb_ot_shape_planner_t) -> Result<(), Shape
     ensures err { OnErr result (planner.new ≡ planner.old) }
 {
     planner.add_requests(&REQUESTS)
+}
+
+/// Gives each glyph the category that the tables have for its character. It takes no memory.
+pub fn setup_masks<T: Tables>(tables: &T, buffer: &mut hb_buffer_t)
+    ensures { buffer.new ≡
+        record buffer.old { glyphs = map (with_category (T.tables tables.now)) buffer.old.glyphs } }
+{
+    set_categories(tables, buffer);
+}
+
+// The circles of broken syllables stand in front of them.
+const CIRCLES: CircleSort = CircleSort {
+    broken_kind: myanmar_syllable::BROKEN_CLUSTER,
+    category: OT_DOTTEDCIRCLE,
+    repha: None,
+    position: None,
+};
+
+/// Gives broken syllables their dotted circles, and then brings each syllable into the order in
+/// which it is drawn. (OpenType, Myanmar script development.) Answers whether circles were wanted.
+/// Refuses with `UnknownSyllable` where a kind is unknown, with `TooLong`, and with `Memory`, but
+/// that not where no circle opens.
+pub fn reorder_myanmar<F: hb_font_t>(
+    face: &F,
+    buffer: &mut hb_buffer_t,
+) -> Result<bool, ShaperError>
+    requires { buffer.old.positions ≡ [] }
+    ensures answer { let circles = circles_for ((F.font face.now).nominal 0x25CC)
+        2 OT_DOTTEDCIRCLE None None buffer.old in
+        IfOk result (λ answer. answer ≡ is_some circles) }
+    ensures order { let circles = circles_for ((F.font face.now).nominal 0x25CC)
+        2 OT_DOTTEDCIRCLE None None buffer.old in
+        OnOk result (PauseReordered circles myanmar_order myanmar_steps buffer.old buffer.new) }
+    ensures cut { let circles = circles_for ((F.font face.now).nominal 0x25CC)
+        2 OT_DOTTEDCIRCLE None None buffer.old in
+        OnOk result (PauseCutsAtBorders circles myanmar_order myanmar_steps buffer.old buffer.new) }
+    ensures laws { let circles = circles_for ((F.font face.now).nominal 0x25CC)
+        2 OT_DOTTEDCIRCLE None None buffer.old in
+        let opened = record buffer.old { glyphs = circled circles buffer.old.glyphs } in
+        OnOk result (TextReordered myanmar_steps opened buffer.new) }
+    ensures refusal { let circles = circles_for ((F.font face.now).nominal 0x25CC)
+        2 OT_DOTTEDCIRCLE None None buffer.old in
+        Refuses (unknown_refusal 3 buffer.old.glyphs)
+        buffer.old.max_len (length (circled circles buffer.old.glyphs)) result }
+    ensures err { OnErr result (buffer.new ≡ buffer.old) }
+    ensures without_memory { let circles = circles_for ((F.font face.now).nominal 0x25CC)
+        2 OT_DOTTEDCIRCLE None None buffer.old in
+        unknown_refusal 3 buffer.old.glyphs ≡ None →
+        circled circles buffer.old.glyphs ≡ buffer.old.glyphs → IsOk result }
+{
+    let last_kind = Some(myanmar_syllable::NON_MYANMAR_CLUSTER);
+    reorder_pause(face, &MyanmarOrder, &CIRCLES, last_kind, buffer)
 }
