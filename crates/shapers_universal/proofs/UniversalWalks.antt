@@ -1,27 +1,29 @@
 -- What the code of the order shows: its merges and moves are the steps.
-use Rattle.std.proofs.Common.{◌≡◌, ℕ, zero, suc, ◌+◌, ◌-◌, ◌<◌, ◌≤◌, nat_lt, Bool, true, false, not, if◌then◌else◌, List, [], ◌∷◌, ◌++◌, map, filter, reverse, length, take, drop, get_or, Option, None, Some, refl, ap, sym, ◌∙◌, subst, arith, append_assoc, length-append, length-take, length-take-le, length-drop, zero-add}
+use Rattle.std.proofs.Common.{◌≡◌, ℕ, zero, suc, ◌+◌, ◌-◌, ◌<◌, ◌≤◌, Bool, true, false, if◌then◌else◌, List, [], ◌∷◌, ◌++◌, map, filter, length, take, drop, get_or, Some, refl, ap, sym, ◌∙◌, subst, arith, append_assoc, length-append, length-take-le, length-drop, zero-add}
 use Rattle.std.specs.List.{AllByRecursion, range_with_len, slice_get, onto_first, sum_by}
 use Rattle.std.specs.Option.{option_map_or}
-use Rattle.std.proofs.lemmas.List.{drop_more, drop-take, take_more, get_or-append_right, length-map, map-append, take_at, drop_at, drop-drop, take-map, drop-map, take_rest, get_or-take, get_or-drop, get_or-map}
+use Rattle.std.proofs.lemmas.List.{drop_more, drop-take, take_more, get_or-append_right, length-map, map-append, take_at, drop_at, drop-drop, take-map, drop-map, get_or-take, get_or-drop, get_or-map}
 use Rattle.std.proofs.lemmas.Option.{slice_get-get_or}
 use Rattle.std.proofs.lemmas.List.Sorted.{length_permutation}
-use Rattle.std.proofs.lemmas.List.Sums.{sum_by-cons, fold-append}
+use Rattle.std.proofs.lemmas.List.Sums.{sum_by-cons}
 use Rattle.shapers_buffer.specs.declared.buffer.glyph.hb_glyph_info_t.{hb_glyph_info_t}
 use Rattle.shapers_buffer.specs.declared.buffer.level.BufferClusterLevel.{BufferClusterLevel}
+use Rattle.shapers_buffer.specs.Buffer.{Buffer, but_places}
+use Rattle.shapers_syllabic.specs.Reordering.{SyllableReordered, carried}
 use Rattle.shapers_buffer.specs.Clusters.{merge, merge_all, stretch_of, with_stretch}
-use Rattle.shapers_buffer.specs.Glyph.{order_view, plain, default_glyph}
+use Rattle.shapers_buffer.specs.Glyph.{order_view, plain}
 use Rattle.shapers_buffer.specs.Lists.{cut_after}
 use Rattle.shapers_buffer.specs.Places.{pick}
-use Rattle.shapers_clusters.specs.Steps.{FitsStep, Step, run_step, run_steps, shifted, steps_along, widened}
-use Rattle.shapers_clusters.proofs.Merging.{length-merge_all, order_view-merge_all, order_view-merge}
+use Rattle.shapers_clusters.specs.Steps.{FitsStep, FitSteps, Step, old_places, run_step, run_steps, shifted, steps_along, widened}
+use Rattle.shapers_clusters.proofs.Merging.{length-merge_all, order_view-merge_all}
 use Rattle.shapers_clusters.proofs.Picks.{length-pick}
 use Rattle.shapers_syllabic.proofs.ReorderingLemmas.{old_places_one}
 use Rattle.shapers_clusters.proofs.Widened.{order_view-widened, fits-widened, map-range, pick-widened, range-append}
-use Rattle.shapers_universal.specs.Universal.{first_behind, first_last, goes_front, goes_front_at, is_halant, is_reordered, piece_step, piece_steps, pieces, places_of, reph_moved, reph_run, reph_step, reversed_first, universal_steps}
+use Rattle.shapers_universal.specs.Universal.{first_behind, goes_front, goes_front_at, is_halant, is_reordered, piece_step, piece_steps, pieces, reph_moved, reph_run, reph_step, reversed_first, universal_order, universal_steps}
 use Rattle.shapers_universal.specs.UniversalWalk.{first_piece_len, last_first}
 use Rattle.shapers_universal.specs.UniversalLists.{permuted-reversed_first, pick-first_behind, pick-reversed_first, reversed_first-no, reversed_first-yes}
-use Rattle.shapers_universal.specs.UniversalSteps.{piece_fits, pieces_sum, reph_fits, reph_run-within}
-use Rattle.shapers_universal.specs.UniversalView.{goes_front_at-view, pieces_cut-view, piece_steps-view, reph_picks}
+use Rattle.shapers_universal.specs.UniversalSteps.{piece_fits, pieces_sum, reph_fits, reph_run-within, universal_fits}
+use Rattle.shapers_universal.specs.UniversalView.{goes_front_at-view, pieces_cut-view, piece_steps-view, picked_order, reph_picks, universal_order-view, universal_steps-view}
 
 -- a stretch of a text, its length and its view
 pub length-stretch : {X : Type 0} (s e : ℕ) (xs : List X) → s ≤ e → e ≤ length xs → length (stretch_of s e xs) ≡ e - s
@@ -260,9 +262,108 @@ pieces_next level s e end gs ns some l is within ran =
     let after = steps_along (length gs) end (piece_steps (cut_after is_halant (stretch_of end e gs))) in
     let long : length (stretch_of s end gs) ≡ n = length-stretch s end gs (omega arith) (omega arith) ∙ m in
     let first : piece_steps (cut_after is_halant zs) ≡ (length (stretch_of s end gs), st ∷ []) ∷ piece_steps (cut_after is_halant (stretch_of end e gs)) =
-        ap piece_steps cut ∙ ap (λ p. (length p, piece_step p ∷ []) ∷ piece_steps (cut_after is_halant (drop n zs))) piece ∙ ap (λ ys. (length (stretch_of s end gs), st ∷ []) ∷ piece_steps (cut_after is_halant ys)) rest in
+    ap piece_steps cut ∙ ap (λ p. (length p, piece_step p ∷ []) ∷ piece_steps (cut_after is_halant (drop n zs))) piece ∙ ap (λ ys. (length (stretch_of s end gs), st ∷ []) ∷ piece_steps (cut_after is_halant ys)) rest in
     let ends : s + length (stretch_of s end gs) ≡ end = omega arith in
     ap (λ qs. run_steps level (steps_along (length gs) end qs) ns) (steps-same (stretch_of end e ns) (stretch_of end e gs) same)
     ∙ ap (run_steps level after) ran
     ∙ ap (λ k. run_steps level (steps_along (length gs) k (piece_steps (cut_after is_halant (stretch_of end e gs)))) (run_step level (widened s k (length gs) st) gs)) (sym ends)
     ∙ ap (λ qs. run_steps level (steps_along (length gs) s qs) gs) (sym first)
+
+-- a step widened twice is widened once
+shifted-twice : (s a : ℕ) (sts : List (ℕ × ℕ)) → shifted s (shifted a sts) ≡ shifted (s + a) sts
+shifted-twice s a [] = refl
+shifted-twice s a (st ∷ sts) =
+    let i : s + (a + st.0) ≡ s + a + st.0 = omega arith in
+    let j : s + (a + st.1) ≡ s + a + st.1 = omega arith in
+    ap (λ n. (n, s + (a + st.1)) ∷ shifted s (shifted a sts)) i ∙ ap (λ n. (s + a + st.0, n) ∷ shifted s (shifted a sts)) j ∙ ap (λ xs. (s + a + st.0, s + a + st.1) ∷ xs) (shifted-twice s a sts)
+
+moved-twice : (s a : ℕ) (ps : List ℕ) → map (λ p. s + p) (map (λ p. a + p) ps) ≡ map (λ p. s + a + p) ps
+moved-twice s a [] = refl
+moved-twice s a (p ∷ ps) = let i : s + (a + p) ≡ s + a + p = omega arith in ap (λ n. n ∷ map (λ q. s + q) (map (λ q. a + q) ps)) i ∙ ap (λ xs. (s + a + p) ∷ xs) (moved-twice s a ps)
+
+places-twice : (s e n a b : ℕ) (ps : List ℕ) → s ≤ e → e ≤ n → a ≤ b → b ≤ e - s → range_with_len 0 s ++ (map (λ p. s + p) (range_with_len 0 a ++ (map (λ p. a + p) ps ++ range_with_len b (e - s - b))) ++ range_with_len e (n - e)) ≡ range_with_len 0 (s + a) ++ (map (λ p. s + a + p) ps ++ range_with_len (s + b) (n - (s + b)))
+places-twice s e n a b ps h l k m =
+    let add : ℕ → ℕ = λ p. s + p in
+    let middle = map (λ p. s + a + p) ps in
+    let inner = range_with_len b (e - s - b) in
+    let last = range_with_len e (n - e) in
+    let none : s + 0 ≡ s = omega arith in
+    let size : n - (s + b) ≡ (e - s - b) + (n - e) = omega arith in
+    let end : s + b + (e - s - b) ≡ e = omega arith in
+    let first : map add (range_with_len 0 a) ≡ range_with_len s a = map-range s 0 a ∙ ap (λ j. range_with_len j a) none in
+    let front : range_with_len 0 s ++ range_with_len s a ≡ range_with_len 0 (s + a) = sym (range-append 0 s a ∙ ap (λ j. range_with_len 0 s ++ range_with_len j a) (zero-add s)) in
+    let behind : map add inner ++ last ≡ range_with_len (s + b) (n - (s + b)) =
+    ap (λ xs. xs ++ last) (map-range s b (e - s - b)) ∙ sym (ap (range_with_len (s + b)) size ∙ range-append (s + b) (e - s - b) (n - e) ∙ ap (λ j. range_with_len (s + b) (e - s - b) ++ range_with_len j (n - e)) end) in
+    ap (λ xs. range_with_len 0 s ++ (xs ++ last)) (map-append add (range_with_len 0 a) (map (λ p. a + p) ps ++ inner) ∙ ap (λ xs. xs ++ map add (map (λ p. a + p) ps ++ inner)) first ∙ ap (λ xs. range_with_len s a ++ xs) (map-append add (map (λ p. a + p) ps) inner ∙ ap (λ xs. xs ++ map add inner) (moved-twice s a ps)))
+    ∙ ap (λ xs. range_with_len 0 s ++ xs) (append_assoc (range_with_len s a) (middle ++ map add inner) last ∙ ap (λ xs. range_with_len s a ++ xs) (append_assoc middle (map add inner) last ∙ ap (λ xs. middle ++ xs) behind))
+    ∙ sym (append_assoc (range_with_len 0 s) (range_with_len s a) (middle ++ range_with_len (s + b) (n - (s + b))))
+    ∙ ap (λ xs. xs ++ (middle ++ range_with_len (s + b) (n - (s + b)))) front
+
+widened-twice : (s e n a b : ℕ) (st : Step) → s ≤ e → e ≤ n → a ≤ b → b ≤ e - s → widened s e n (widened a b (e - s) st) ≡ widened (s + a) (s + b) n st
+widened-twice s e n a b st h l k m =
+    let made : List (ℕ × ℕ) → List ℕ → List (ℕ × ℕ) → Step = λ first ps last. record { merged_first = first; places = ps; merged_then = last } in
+    let w = widened s e n (widened a b (e - s) st) in
+    ap (λ xs. made xs w.places w.merged_then) (shifted-twice s a st.merged_first)
+    ∙ ap (λ xs. made (shifted (s + a) st.merged_first) xs w.merged_then) (places-twice s e n a b st.places h l k m)
+    ∙ ap (λ xs. made (shifted (s + a) st.merged_first) (widened (s + a) (s + b) n st).places xs) (shifted-twice s a st.merged_then)
+
+all-widened : (s e n a b : ℕ) (sts : List Step) → s ≤ e → e ≤ n → a ≤ b → b ≤ e - s → map (widened s e n) (map (widened a b (e - s)) sts) ≡ map (widened (s + a) (s + b) n) sts
+all-widened s e n a b [] h l k m = refl
+all-widened s e n a b (st ∷ sts) h l k m =
+    ap (λ w. w ∷ map (widened s e n) (map (widened a b (e - s)) sts)) (widened-twice s e n a b st h l k m)
+    ∙ ap (λ ws. widened (s + a) (s + b) n st ∷ ws) (all-widened s e n a b sts h l k m)
+
+along-widened : (s e n a : ℕ) (ps : List (ℕ × List Step)) → s ≤ e → e ≤ n → a + sum_by (λ piece. piece.0) ps ≤ e - s → map (widened s e n) (steps_along (e - s) a ps) ≡ steps_along n (s + a) ps
+along-widened s e n a [] h l fits = refl
+along-widened s e n a (piece ∷ ps) h l fits =
+    let sum = sum_by-cons (λ (p : ℕ × List Step). p.0) piece ps in
+    let i : s + (a + piece.0) ≡ s + a + piece.0 = omega arith in
+    map-append (widened s e n) (map (widened a (a + piece.0) (e - s)) piece.1) (steps_along (e - s) (a + piece.0) ps)
+    ∙ ap (λ xs. xs ++ map (widened s e n) (steps_along (e - s) (a + piece.0) ps)) (all-widened s e n a (a + piece.0) piece.1 h l (omega arith) (omega arith) ∙ ap (λ j. map (widened (s + a) j n) piece.1) i)
+    ∙ ap (λ xs. map (widened (s + a) (s + a + piece.0) n) piece.1 ++ xs) (along-widened s e n (a + piece.0) ps h l (omega arith) ∙ ap (λ j. steps_along n j ps) i)
+
+-- a syllable that is reordered: its reph, then its pieces
+pub syllable_ran : (level : BufferClusterLevel) (s e : ℕ) (gs ms ns : List hb_glyph_info_t) → s ≤ e → e ≤ length gs → is_reordered (stretch_of s e gs) ≡ true → ms ≡ run_step level (widened s e (length gs) (reph_step (stretch_of s e gs))) gs → length ms ≡ length gs → ns ≡ run_steps level (steps_along (length ms) s (piece_steps (cut_after is_halant (stretch_of s e ms)))) ms → ns ≡ run_steps level (map (widened s e (length gs)) (universal_steps (stretch_of s e gs))) gs
+syllable_ran level s e gs ms ns h l test first as_long rest =
+    let zs = stretch_of s e gs in
+    let n = length gs in
+    let st = reph_step zs in
+    let size = length-stretch s e gs h l in
+    let fits = subst (λ k. FitsStep k st) size (reph_fits zs) in
+    let left = left_behind level s e st.merged_first st.places gs h l fits in
+    let seen : order_view (stretch_of s e ms) ≡ order_view (reph_moved zs) = ap (λ ys. order_view (stretch_of s e ys)) first ∙ left.stretch ∙ reph_picks plain zs in
+    let ps = piece_steps (pieces zs) in
+    let none : s + 0 ≡ s = omega arith in
+    let along : map (widened s e n) (steps_along (length zs) 0 ps) ≡ steps_along n s ps = ap (λ k. map (widened s e n) (steps_along k 0 ps)) size ∙ along-widened s e n 0 ps h l (omega (arith, pieces_sum zs)) ∙ ap (λ j. steps_along n j ps) none in
+    let all : map (widened s e n) (universal_steps zs) ≡ widened s e n st ∷ steps_along n s ps = ap (λ b. map (widened s e n) (if b then st ∷ steps_along (length zs) 0 ps else [])) test ∙ ap (λ xs. widened s e n st ∷ xs) along in
+    rest
+    ∙ ap (λ k. run_steps level (steps_along k s (piece_steps (cut_after is_halant (stretch_of s e ms)))) ms) as_long
+    ∙ ap (λ qs. run_steps level (steps_along n s qs) ms) (steps-same (stretch_of s e ms) (reph_moved zs) seen)
+    ∙ ap (run_steps level (steps_along n s ps)) first
+    ∙ sym (ap (λ sts. run_steps level sts gs) all)
+
+-- what a body shows that runs the steps of its syllable
+map_same : {X : Type 0} (xs : List X) → map (λ x. x) xs ≡ xs
+map_same [] = refl
+map_same (x ∷ xs) = ap (λ ys. x ∷ ys) (map_same xs)
+
+pub syllable_reordered : (s e : ℕ) (old new : Buffer) → s ≤ e → e ≤ length old.glyphs → new ≡ record old { glyphs = new.glyphs } → new.glyphs ≡ run_steps old.level (map (widened s e (length old.glyphs)) (universal_steps (stretch_of s e old.glyphs))) old.glyphs → SyllableReordered universal_order universal_steps s e old new
+syllable_reordered s e old new h l others is =
+    let gs = old.glyphs in
+    let zs = stretch_of s e gs in
+    let xs = order_view gs in
+    let steps = universal_steps zs in
+    let size = length-stretch s e gs h l in
+    let fits = subst (λ k. FitSteps k steps) size (universal_fits zs) in
+    let picked : pick (old_places (e - s) steps) (stretch_of s e xs) ≡ universal_order (stretch_of s e xs) =
+    ap (λ k. pick (old_places k steps) (stretch_of s e xs)) (sym size)
+    ∙ ap (pick (old_places (length zs) steps)) (sym (stretch-view s e gs) ∙ ap order_view (sym (map_same zs)))
+    ∙ picked_order (λ g. g) zs
+    ∙ ap order_view (map_same (universal_order zs))
+    ∙ sym (universal_order-view zs)
+    ∙ ap universal_order (stretch-view s e gs) in
+    record {
+      others = ap but_places others;
+      order = ap order_view is ∙ order_view-widened old.level s e steps gs h l fits ∙ ap (λ ys. take s xs ++ (ys ++ drop e xs)) picked;
+      moved = ap (map carried) (is ∙ ap (λ sts. run_steps old.level (map (widened s e (length gs)) sts) gs) (sym (universal_steps-view zs) ∙ ap universal_steps (stretch-view s e gs)));
+    }

@@ -5,5 +5,6 @@ pub mod UniversalLists
 pub mod UniversalMasks
 pub mod UniversalSteps
 pub mod UniversalSyllables
+pub mod UniversalText
 pub mod UniversalView
 pub mod UniversalWalk

@@ -15,6 +15,7 @@ mod forms;
 mod masks;
 mod ordering;
 mod records;
+mod reordering;
 mod set_up;
 mod syllable_walk;
 
@@ -22,8 +23,10 @@ pub use data::create_data;
 pub use masks::setup_masks;
 pub use ordering::UniversalOrder;
 pub use records::{record_pref, record_rphf};
+pub use reordering::reorder_use;
 pub use set_up::setup_syllables_use;
 pub use shapers_base::plan::use_shape_plan_t;
+pub use shapers_syllabic::ot_shaper_syllabic::compose;
 
 // A basic feature: in the whole text, within syllables, and it sees joiners.
 const BASIC: u32 = F_GLOBAL | F_MANUAL_ZWJ | F_PER_SYLLABLE;

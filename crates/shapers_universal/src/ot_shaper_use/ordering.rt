@@ -58,7 +58,12 @@ impl Reorder for UniversalOrder {
 
     ghost may_refuse = { λ _. ⊥ };
 
-    fn reorder(&self, buffer: &mut hb_buffer_t, start: usize, end: usize) -> Result<(), ShaperError> {
+    fn reorder(
+        &self,
+        buffer: &mut hb_buffer_t,
+        start: usize,
+        end: usize,
+    ) -> Result<(), ShaperError> {
         let level = buffer.cluster_level();
         buffer.walk(&mut SyllableOrder { level, start, end });
         Ok(())
@@ -95,12 +100,7 @@ impl GlyphWalk for SyllableOrder {
 }
 
 // Orders the syllable from `s` to `e`.
-fn order_syllable(
-    level: BufferClusterLevel,
-    glyphs: &mut [hb_glyph_info_t],
-    s: usize,
-    e: usize,
-)
+fn order_syllable(level: BufferClusterLevel, glyphs: &mut [hb_glyph_info_t], s: usize, e: usize)
     requires in_order { s ≤ e }
     requires in_range { e ≤ length glyphs.old }
     ensures { let steps = universal_steps (stretch_of s e glyphs.old) in

@@ -1,5 +1,5 @@
 -- What came to the front so far, and what follows.
-use Rattle.std.proofs.Common.{◌≡◌, ◌++◌, length, take, drop}
+use Rattle.std.proofs.Common.{◌≡◌, ◌++◌, take, drop}
 use Rattle.shapers_universal.specs.Universal.{goes_front, reversed_first}
 use Rattle.shapers_universal.proofs.ot_shaper_use.ordering.bring_fronts.Given as goal
 
