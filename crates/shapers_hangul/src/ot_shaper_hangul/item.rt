@@ -1,5 +1,5 @@
 //! The units of a Hangul text, and the tones that join them.
-ghost use Rattle.std.specs.Prelude.{◌≡◌, ◌+◌, ◌<◌, ◌≤◌, ◌++◌, ◌∷◌, [], length, get_or, true, OnOk, OnErr, IfErr, IsOkUnless, not, ◌||◌, ◌&&◌};
+ghost use Rattle.std.specs.Prelude.{◌≡◌, ◌+◌, ◌<◌, ◌≤◌, ◌++◌, ◌∷◌, [], take, drop, if◌then◌else◌, length, get_or, true, OnOk, OnErr, IfErr, IsOkUnless, not, ◌||◌, ◌&&◌};
 ghost use Rattle.shapers_base.specs.Font.{has_nominal};
 ghost use Rattle.shapers_buffer.specs.declared.buffer.refusal.ShaperError.TheVariants.{Memory};
 ghost use Rattle.shapers_hangul.specs.Hangul.{is_s, is_lv, has_jamo_of, is_narrow, jamo_two, jamo_three, jamo_unit, parts, syllable_unit, lone_tone, lone_unit, first_unit, taken, is_syllable, is_marked, joined_tone, is_split, unsafe_len, first_item, tone_len, item_len, characters, glyph_copies, unit_output, item_output, is_merged, item_joined, output_len, is_kept};
@@ -399,6 +399,24 @@ fn put(list: &mut Vec<hb_glyph_info_t>, glyph: hb_glyph_info_t) -> Result<(), Sh
     list.push(glyph).map_err(|_| ShaperError::Memory)
 }
 
+// Adds the tone at place `i`, where it stands on this side.
+fn put_tone(
+    is_here: bool,
+    glyphs: &[hb_glyph_info_t],
+    i: usize,
+    list: &mut Vec<hb_glyph_info_t>,
+) -> Result<(), ShaperError>
+    requires { is_here ≡ true → i < length glyphs.now }
+    ensures ok { let tone = if is_here then take 1 (drop i glyphs.now) else [] in
+        OnOk result (list.new.items ≡ list.old.items ++ tone) }
+    ensures refusal { IsOkUnless result Memory }
+{
+    if is_here {
+        return put(list, glyphs[i]);
+    }
+    Ok(())
+}
+
 impl Unit {
     // Adds what the unit that opens the text becomes.
     fn write(
@@ -527,17 +545,8 @@ impl Item {
         ensures refusal { IsOkUnless result Memory }
     {
         let end = self.unit.taken();
-        match self.tone {
-            JoinedTone::Absent => self.unit.write(glyphs, list),
-            JoinedTone::Before => {
-                put(list, glyphs[end])?;
-                self.unit.write(glyphs, list)
-            }
-            JoinedTone::Behind => {
-                self.unit.write(glyphs, list)?;
-                put(list, glyphs[end])?;
-                Ok(())
-            }
-        }
+        put_tone(matches!(self.tone, JoinedTone::Before), glyphs, end, list)?;
+        self.unit.write(glyphs, list)?;
+        put_tone(matches!(self.tone, JoinedTone::Behind), glyphs, end, list)
     }
 }
