@@ -39,7 +39,6 @@ pub use refusal::ShaperError;
 pub use syllables::{
     Span, has_span_of_kind, set_syllable, spans_cover, syllable_run_len, syllables_are_runs,
 };
-
 pub use tag::{Script, hb_tag_t};
 pub use walking::{GlyphChange, GlyphWalk};
 
