@@ -24,7 +24,8 @@ const THAI: Script = Script(*b"Thai");
 
 /// Rewrites a Thai or Lao text before its characters become glyphs: each SARA AM becomes NIKHAHIT,
 /// which goes before the above-base marks there, and SARA AA. Then, where the plan's script is Thai
-/// and GSUB doesn't have it, marks and bases get their private use forms, as far as the font has them.
+/// and GSUB doesn't have it, marks and bases get their private use forms, as far as the font has
+/// them.
 /// Refuses as a growth does, and takes no memory for a text without SARA AM. (OpenType's notes on
 /// Thai and Lao, and the note on Thai OpenType shaping.)
 pub fn preprocess_text<F: hb_font_t>(
@@ -33,9 +34,11 @@ pub fn preprocess_text<F: hb_font_t>(
     buffer: &mut hb_buffer_t,
 ) -> Result<(), ShaperError>
     requires { buffer.old.positions ≡ [] }
-    ensures ok { OnOk result (buffer.new ≡ preprocessed_in_thai plan.now (F.font face.now) buffer.old) }
-    ensures clusters { OnOk result (let us = characters buffer.old.glyphs in
-        ClustersInTwo buffer.old.level us (clusters buffer.old.glyphs) (clusters buffer.new.glyphs)) }
+    ensures ok { let new = preprocessed_in_thai plan.now (F.font face.now) buffer.old in
+        OnOk result (buffer.new ≡ new) }
+    ensures clusters { let us = characters buffer.old.glyphs in
+        let cs = clusters buffer.old.glyphs in
+        OnOk result (ClustersInTwo buffer.old.level us cs (clusters buffer.new.glyphs)) }
     ensures kept { let forms = asks_for_forms plan.now in
         OnOk result (KeptInTwo forms buffer.old.glyphs buffer.new.glyphs) }
     ensures length { let wanted = length (glyphs_in_two buffer.old.glyphs) in

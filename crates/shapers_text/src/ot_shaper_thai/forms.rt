@@ -187,8 +187,8 @@ fn pua_shape<F: hb_font_t>(u: u32, action: Action, face: &F) -> u32
 }
 
 // Flags the places from a base to its last mark, which `end` stands behind: a break there would
-// change the forms. The stretch to a base's last mark holds those to the others. One mark behind its
-// base flags nothing.
+// change the forms. The stretch to a base's last mark holds those to the others. One mark behind
+// its base flags nothing.
 fn flag_marks(glyphs: &mut [hb_glyph_info_t], base: usize, end: usize)
     requires in_order { base ≤ end - 1 }
     requires in_range { end ≤ length glyphs.old }
@@ -240,8 +240,8 @@ impl Base {
         }
     }
 
-    // Does what the character at place `i` does, and gives the base of what follows: a mark does its
-    // action, and another character flags the marks before it.
+    // Does what the character at place `i` does, and gives the base of what follows: a mark does
+    // its action, and another character flags the marks before it.
     fn pass<F: hb_font_t>(self, face: &F, glyphs: &mut [hb_glyph_info_t], i: usize, u: u32) -> Base
         requires place { self.place ≤ i - 1 }
         requires in_range { i < length glyphs.old }

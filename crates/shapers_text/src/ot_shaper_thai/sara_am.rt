@@ -75,8 +75,8 @@ fn count_marks_before(glyphs: &[hb_glyph_info_t], place: usize) -> usize
         .count()
 }
 
-// Merges what a character at `place` merges: a SARA AM with its marks or, without any, with the glyph
-// before it.
+// Merges what a character at `place` merges: a SARA AM with its marks or, without any, with the
+// glyph before it.
 fn merge_at(level: BufferClusterLevel, glyphs: &mut [hb_glyph_info_t], place: usize, u: u32)
     requires in_range { place < length glyphs.old }
     requires fits { place + 1 < 2 ^ 64 }
@@ -142,7 +142,8 @@ impl Unwritten {
     // Writes the marks that end the text, and a NIKHAHIT before them.
     fn write_nikhahit(&mut self, glyphs: &mut [hb_glyph_info_t], nikhahit: hb_glyph_info_t)
         requires { IsUnwritten glyphs.old self.old.end (Some nikhahit) self.old.place }
-        ensures written { let whole = whole_of glyphs.old self.old.end (Some nikhahit) self.old.place in
+        ensures written { let pending = Some nikhahit in
+            let whole = whole_of glyphs.old self.old.end pending self.old.place in
             Written whole glyphs.new self.new.end None self.new.place }
         ensures shorter { self.new.end ≤ self.old.end }
     {
@@ -157,7 +158,8 @@ impl Unwritten {
     }
 }
 
-// Writes the first `len` glyphs with each SARA AM in two over a slice that has just the room for it.
+// Writes the first `len` glyphs with each SARA AM in two over a slice that has just the room for
+// it.
 fn write_in_two(glyphs: &mut [hb_glyph_info_t], len: usize)
     requires in_range { len ≤ length glyphs.old }
     requires room { length glyphs.old ≡ length (glyphs_in_two (take len glyphs.old)) }
@@ -195,7 +197,8 @@ impl GlyphWalk for Rewriting {
     }
 }
 
-/// Puts each SARA AM in two: NIKHAHIT, before the above-base marks that stand before it, and SARA AA.
+/// Puts each SARA AM in two: NIKHAHIT, before the above-base marks that stand before it, and SARA
+/// AA.
 /// A SARA AM merges with its marks or, at level MonotoneGraphemes, with the glyph before it.
 /// Refuses as a growth does. (OpenType's Thai and Lao notes; rustybuzz's comment on the rule.)
 pub fn rewrite_sara_am(buffer: &mut hb_buffer_t) -> Result<(), ShaperError>
