@@ -1,12 +1,10 @@
 -- The whole initial reordering of syllables, computed: order, clusters, masks.
-use Prim.Native.String.{String}
-use Rattle.std.specs.Prelude.{◌≡◌, ℕ, Bool, true, false, List, [], ◌∷◌, ◌++◌, map, replicate, None, refl}
-use Rattle.std.specs.List.{flat_map, range_with_len}
+use Rattle.std.specs.Prelude.{◌≡◌, ℕ, zero, suc, true, false, List, [], ◌∷◌, ◌++◌, map, replicate, refl}
+use Rattle.std.specs.List.{range_with_len}
 use Rattle.shapers_buffer.specs.declared.buffer.category.hb_unicode_general_category_t.TheVariants.{Mn}
 use Rattle.shapers_buffer.specs.declared.buffer.glyph.hb_glyph_info_t.{hb_glyph_info_t}
-use Rattle.shapers_indic.proofs.InitialWords.{C, V, N, H, ZWNJ, ZWJ, M, SM, MPst, Repha, Ra, CM, glyphs_from, of, plainly, marked, script, rules, no_masks, each_mask, with_reph_of, with_pref_of, numbers_of, positions_of, masks_of, clusters_after, reordered}
+use Rattle.shapers_indic.proofs.InitialWords.{C, H, ZWNJ, ZWJ, M, Ra, glyphs_from, of, plainly, script, rules, no_masks, each_mask, with_reph_of, numbers_of, positions_of, masks_of, clusters_after, reordered}
 use Rattle.shapers_indic.specs.InitialReordering.{initial_order, initial_steps, is_reordered}
-use Rattle.shapers_indic.specs.InitialRules.{Rules}
 
 abbrev half_alone : List ℕ
 half_alone = 0 ∷ 0 ∷ 0 ∷ 0 ∷ 0 ∷ 0 ∷ 0 ∷ 16 ∷ 0 ∷ 0 ∷ 0 ∷ 0 ∷ 0 ∷ 0 ∷ 0 ∷ 0 ∷ 0 ∷ []
@@ -95,7 +93,8 @@ of_128 = refl
 
 -- 150 times C H: the last C is the base, and it merges with what follows
 abbrev times : ℕ → List (ℕ × ℕ)
-times n = flat_map (λ _. (C, 4) ∷ (H, 4) ∷ []) (replicate n 0)
+times zero = []
+times (suc n) = (C, 4) ∷ (H, 4) ∷ times n
 
 of_300 : clusters_after (rules "Deva" false no_masks) (script "Deva") (of (times 150)) ≡ range_with_len 0 298 ++ 298 ∷ 298 ∷ []
 of_300 = refl

@@ -1,7 +1,6 @@
 -- Syllables and rules for rows of the initial reordering.
 use Prim.Native.String.{String}
-use Rattle.std.specs.Prelude.{ℕ, ◌+◌, ◌==◌, nat_eq, Bool, false, List, [], ◌∷◌, map, Option, Some, codes}
-use Rattle.std.specs.List.{list_any}
+use Rattle.std.specs.Prelude.{ℕ, ◌+◌, nat_eq, Bool, false, List, [], ◌∷◌, map, Option, Some, codes}
 use Rattle.std.specs.Cmp.Lexicographic.{pointwise}
 use Rattle.shapers_buffer.specs.declared.buffer.glyph.hb_glyph_info_t.{hb_glyph_info_t}
 use Rattle.shapers_buffer.specs.declared.buffer.tag.Script.{Script}
@@ -9,7 +8,7 @@ use Rattle.shapers_buffer.specs.declared.buffer.level.BufferClusterLevel.TheVari
 use Rattle.shapers_buffer.specs.Glyph.{clusters, default_glyph}
 use Rattle.shapers_base.specs.declared.font.GlyphId.{GlyphId}
 use Rattle.shapers_clusters.specs.Steps.{run_steps}
-use Rattle.shapers_indic.specs.InitialReordering.{initial_order, initial_steps, positioned}
+use Rattle.shapers_indic.specs.InitialReordering.{initial_order, initial_steps}
 use Rattle.shapers_indic.specs.InitialRules.{Rules}
 use Rattle.shapers_indic.specs.Plan.{config_of}
 

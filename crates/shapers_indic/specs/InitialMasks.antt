@@ -1,5 +1,5 @@
 -- The masks of a syllable in its new order, by where its base stands. (OpenType, development of Indic scripts: which features apply where.)
-use Rattle.std.specs.Prelude.{ℕ, ◌+◌, ◌-◌, ◌==◌, nat_lt, bit_and, bit_or, Bool, ◌&&◌, ◌||◌, true, false, not, List, [], ◌∷◌, ◌++◌, length, map, take, drop, Option, None, Some, codes, if◌then◌else◌}
+use Rattle.std.specs.Prelude.{ℕ, ◌+◌, ◌-◌, ◌==◌, nat_lt, bit_and, bit_or, Bool, ◌&&◌, ◌||◌, true, false, not, List, [], ◌∷◌, length, map, take, Option, None, Some, codes, if◌then◌else◌}
 use Rattle.std.specs.List.{enumerate_from, list_any, prefix_len}
 use Rattle.shapers_buffer.specs.declared.buffer.glyph.hb_glyph_info_t.{hb_glyph_info_t}
 use Rattle.shapers_buffer.specs.declared.buffer.tag.Script.{Script}
