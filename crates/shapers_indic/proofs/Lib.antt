@@ -1,4 +1,6 @@
 mod CharacterRows
 mod ConstantRows
+mod InitialRows
+mod InitialWords
 mod PlanRows
 mod RequestRows

@@ -1,3 +1,10 @@
 pub mod Characters
+pub mod InitialBase
+pub mod InitialFont
+pub mod InitialMasks
+pub mod InitialOrder
+pub mod InitialPositions
+pub mod InitialReordering
+pub mod InitialRules
 pub mod Plan
 pub mod Requests

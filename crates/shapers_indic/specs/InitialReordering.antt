@@ -1,0 +1,67 @@
+-- The initial reordering of a syllable: what it becomes, and the merges and moves that lead there. (OpenType, development of Indic scripts.)
+use Rattle.std.specs.Prelude.{ℕ, ◌==◌, Bool, false, List, [], ◌∷◌, length, Option, if◌then◌else◌}
+use Rattle.std.specs.List.{list_any}
+use Rattle.shapers_buffer.specs.declared.buffer.glyph.hb_glyph_info_t.{hb_glyph_info_t}
+use Rattle.shapers_buffer.specs.declared.buffer.tag.Script.{Script}
+use Rattle.shapers_buffer.specs.Places.{pick}
+use Rattle.shapers_buffer.specs.Syllables.{kind_of}
+use Rattle.shapers_clusters.specs.Steps.{Step, still_step, swap_step}
+use Rattle.shapers_indic.specs.InitialBase.{base_place, has_reph, joiner_comes_first}
+use Rattle.shapers_indic.specs.InitialMasks.{with_initial_masks}
+use Rattle.shapers_indic.specs.InitialOrder.{ordered_base, ordered_places, ordered_stretches}
+use Rattle.shapers_indic.specs.InitialPositions.{by_base, halant_places, with_marks_attached, with_owners_after}
+use Rattle.shapers_indic.specs.InitialRules.{Rules}
+use Rattle.shapers_syllabic.specs.declared.ot_shaper_syllabic.kinds.indic_syllable.TheConstants.{BROKEN_CLUSTER, CONSONANT_SYLLABLE, STANDALONE_CLUSTER, VOWEL_SYLLABLE}
+
+-- whether a syllable is reordered: one of a consonant or a vowel, a standalone one, or a broken one
+abbrev pub is_reordered : List hb_glyph_info_t → Bool
+is_reordered [] = false
+is_reordered (g ∷ gs) = list_any (λ kind. kind == kind_of g.syllable) (CONSONANT_SYLLABLE ∷ VOWEL_SYLLABLE ∷ STANDALONE_CLUSTER ∷ BROKEN_CLUSTER ∷ [])
+
+-- the step of Kannada: H and a ZWJ behind it merge and change places
+abbrev pub joiner_step : Option Script → List hb_glyph_info_t → Step
+joiner_step script gs = if joiner_comes_first script gs then swap_step (length gs) 1 else still_step (length gs)
+
+-- the syllable after it
+abbrev pub with_joiner_first : Option Script → List hb_glyph_info_t → List hb_glyph_info_t
+with_joiner_first script gs = pick (joiner_step script gs).places gs
+
+-- the syllable with its positions by the base
+abbrev pub with_base : Rules → List hb_glyph_info_t → List hb_glyph_info_t
+with_base r gs = by_base (base_place r gs) (has_reph r gs) gs
+
+-- the step of the older specification's H
+abbrev pub halant_step : Rules → Option Script → ℕ → List hb_glyph_info_t → Step
+halant_step r script base gs = record { merged_first = []; places = halant_places r script base gs; merged_then = [] }
+
+-- the syllable after that, all its positions set
+abbrev pub with_all_positions : Rules → Option Script → ℕ → List hb_glyph_info_t → List hb_glyph_info_t
+with_all_positions r script base gs = with_owners_after base (with_marks_attached (pick (halant_step r script base gs).places gs))
+
+abbrev pub positioned : Rules → Option Script → List hb_glyph_info_t → List hb_glyph_info_t
+positioned r script gs = let opened = with_joiner_first script gs in with_all_positions r script (base_place r opened) (with_base r opened)
+
+-- a syllable with positions in the order that they give
+abbrev pub in_order : List hb_glyph_info_t → List hb_glyph_info_t
+in_order gs = pick (ordered_places gs) gs
+
+-- the step of the order, and what merges then
+abbrev pub order_step : Rules → List hb_glyph_info_t → Step
+order_step r gs = record { merged_first = []; places = ordered_places gs; merged_then = ordered_stretches r (ordered_places gs) (ordered_base (in_order gs)) }
+
+-- an ordered syllable with its masks
+abbrev pub masked_in_order : Rules → Option Script → List hb_glyph_info_t → List hb_glyph_info_t
+masked_in_order r script gs = with_initial_masks r script (ordered_base gs) gs
+
+-- what a syllable becomes
+abbrev pub initial_order : Rules → Option Script → List hb_glyph_info_t → List hb_glyph_info_t
+initial_order r script gs = if is_reordered gs then masked_in_order r script (in_order (positioned r script gs)) else gs
+
+-- the steps that lead there
+abbrev pub steps_of_reordered : Rules → Option Script → List hb_glyph_info_t → List Step
+steps_of_reordered r script gs =
+    let opened = with_joiner_first script gs in
+    joiner_step script gs ∷ halant_step r script (base_place r opened) (with_base r opened) ∷ order_step r (positioned r script gs) ∷ []
+
+abbrev pub initial_steps : Rules → Option Script → List hb_glyph_info_t → List Step
+initial_steps r script gs = if is_reordered gs then steps_of_reordered r script gs else []

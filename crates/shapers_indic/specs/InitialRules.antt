@@ -1,0 +1,70 @@
+-- What the initial reordering of a syllable reads of the plan and the font, and the words on glyphs and places that its definitions use.
+use Rattle.std.specs.Prelude.{ℕ, ◌-◌, ◌==◌, Bool, ◌&&◌, false, not, List, [], ◌∷◌, map, find, reverse, slice_index, Option}
+use Rattle.std.specs.List.{list_any, range_with_len, slice_get}
+use Rattle.std.specs.Option.{option_map_or}
+use Rattle.shapers_buffer.specs.declared.buffer.glyph.hb_glyph_info_t.{hb_glyph_info_t}
+use Rattle.shapers_buffer.specs.Marks.{is_ligated}
+use Rattle.shapers_base.specs.declared.font.GlyphId.{GlyphId}
+use Rattle.shapers_base.specs.declared.plan.indic.IndicConfig.{IndicConfig}
+use Rattle.shapers_base.specs.declared.plan.indic.indic_shape_plan_t.{indic_shape_plan_t}
+use Rattle.shapers_base.specs.declared.plan.ot_category_t.TheConstants.{OT_M, OT_MPst, OT_ZWJ, OT_ZWNJ}
+use Rattle.shapers_base.specs.Font.{Font}
+use Rattle.shapers_base.specs.Map.{Map}
+use Rattle.shapers_base.specs.Questions.{would_by}
+
+-- what the script asks for, whether the older specification holds, the masks by feature, and of which glyphs the font forms a reph or a consonant that is reordered before the base
+pub record Rules : Type 0 where
+  pub config : IndicConfig
+  pub old : Bool
+  pub masks : List ℕ
+  pub forms_reph : List GlyphId → Bool
+  pub forms_pref : List GlyphId → Bool
+
+-- so by a plan and a font
+abbrev pub rules_of : Font → Map → indic_shape_plan_t → Rules
+rules_of font m p = record { config = p.config; old = p.is_old_spec; masks = p.mask_array; forms_reph = would_by font.applies m p.rphf; forms_pref = would_by font.applies m p.pref }
+
+-- the mask of a feature
+abbrev pub mask_at : Rules → ℕ → ℕ
+mask_at r feature = slice_index r.masks feature
+
+-- glyphs by their numbers, as fonts are asked about them
+abbrev pub numbers : List hb_glyph_info_t → List GlyphId
+numbers gs = map (λ g. record { 0 = g.glyph_id }) gs
+
+-- whether a glyph is of a category; whether it is of one of these and no lookup put it in for several
+abbrev pub has_category : ℕ → hb_glyph_info_t → Bool
+has_category c g = g.category == c
+
+abbrev pub is_one_of : List ℕ → hb_glyph_info_t → Bool
+is_one_of cs g = not (is_ligated g.marks) && list_any (λ c. c == g.category) cs
+
+abbrev pub is_joiner : hb_glyph_info_t → Bool
+is_joiner = is_one_of (OT_ZWJ ∷ OT_ZWNJ ∷ [])
+
+abbrev pub is_matra : hb_glyph_info_t → Bool
+is_matra g = list_any (λ c. c == g.category) (OT_M ∷ OT_MPst ∷ [])
+
+-- the position of a glyph in its syllable, and the glyph with another one
+abbrev pub has_position : ℕ → hb_glyph_info_t → Bool
+has_position p g = g.auxiliary == p
+
+abbrev pub at_position : ℕ → hb_glyph_info_t → hb_glyph_info_t
+at_position p g = record g { auxiliary = p }
+
+-- whether the glyph at place i passes a test
+abbrev pub passes : (hb_glyph_info_t → Bool) → List hb_glyph_info_t → ℕ → Bool
+passes test gs i = option_map_or test (slice_get gs i) false
+
+-- the places from s on and before e; whether one of them has a property, the least one that has it, and the greatest
+abbrev pub places : ℕ → ℕ → List ℕ
+places s e = range_with_len s (e - s)
+
+abbrev pub some_place : (ℕ → Bool) → ℕ → ℕ → Bool
+some_place property s e = list_any property (places s e)
+
+abbrev pub least_place : (ℕ → Bool) → ℕ → ℕ → Option ℕ
+least_place property s e = find property (places s e)
+
+abbrev pub greatest_place : (ℕ → Bool) → ℕ → ℕ → Option ℕ
+greatest_place property s e = find property (reverse (places s e))
