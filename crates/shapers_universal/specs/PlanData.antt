@@ -7,6 +7,7 @@ use Rattle.shapers_base.specs.Map.{Map, mask_of}
 use Rattle.shapers_base.specs.declared.plan.PlanData.{PlanData}
 use Rattle.shapers_base.specs.declared.plan.PlanData.TheVariants.{Universal}
 use Rattle.shapers_base.specs.declared.plan.arabic.arabic_shape_plan_t.{arabic_shape_plan_t}
+use Rattle.shapers_base.specs.declared.plan.arabic.StretchStart.{StretchStart}
 use Rattle.shapers_base.specs.declared.plan.universal.use_shape_plan_t.{use_shape_plan_t}
 use Rattle.shapers_arabic.specs.PlanData.{arabic_plan}
 
@@ -20,10 +21,10 @@ joins_letters None = false
 joins_letters (Some s) = list_any (λ t. pointwise nat_eq t.0 s.0) joining_scripts
 
 -- the plan: the mask of rphf and, for a script whose letters join, the plan of Arabic
-abbrev pub universal_plan : Option Script → Map → use_shape_plan_t
-universal_plan script m = record {
+abbrev pub universal_plan : StretchStart → Option Script → Map → use_shape_plan_t
+universal_plan start script m = record {
   rphf_mask = mask_of (record { 0 = codes "rphf" }) m;
-  arabic_plan = if joins_letters script then Some (arabic_plan m) else None;
+  arabic_plan = if joins_letters script then Some (arabic_plan start m) else None;
 }
 
 -- whether the data are those of the universal shaper

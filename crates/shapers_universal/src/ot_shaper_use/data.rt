@@ -30,7 +30,7 @@ const JOINING_SCRIPTS: [Script; 13] = [
 /// What the shaper keeps in the plan: the mask of `rphf` and, for a script whose letters join, the
 /// plan of Arabic. It can't refuse and takes no memory.
 pub fn create_data(plan: &hb_ot_shape_plan_t) -> PlanData
-    ensures data { result ≡ Universal (universal_plan plan.now.script plan.now.ot_map) }
+    ensures data { result ≡ Universal (universal_plan plan.now.stretch_start plan.now.script plan.now.ot_map) }
     ensures off_flags { rphf_of result % 8 ≡ 0 }
 {
     PlanData::Universal(use_shape_plan_t {
@@ -41,7 +41,8 @@ pub fn create_data(plan: &hb_ot_shape_plan_t) -> PlanData
 
 // The plan of Arabic, for a script whose letters join.
 fn arabic_plan_for(plan: &hb_ot_shape_plan_t) -> Option<arabic_shape_plan_t>
-    ensures { result ≡ (if joins_letters plan.now.script then Some (arabic_plan plan.now.ot_map) else None) }
+    ensures { let plan_of_arabic = arabic_plan plan.now.stretch_start plan.now.ot_map in
+        result ≡ (if joins_letters plan.now.script then Some plan_of_arabic else None) }
 {
     if has_arabic_joining(plan.script) {
         Some(data_create_arabic(plan))
