@@ -3,7 +3,7 @@ use Rattle.std.proofs.Common.{ℕ, suc, ◌+◌, ◌-◌, ◌<◌, ◌≤◌, �
 use Rattle.std.specs.Prelude.{All, Option}
 use Rattle.std.specs.List.{AllByRecursion, flat_map, prefix_len}
 use Rattle.std.proofs.lemmas.List.{drop-map, length-map, take_at, drop_at, drop-drop}
-use Rattle.std.proofs.lemmas.List.Elements.{All-cons, All-head, All-nil, All-tail}
+use Rattle.std.proofs.lemmas.List.Elements.{All-head, All-tail}
 use Rattle.std.proofs.lemmas.List.Sums.{fold-append, prefix_len-le-length}
 use Rattle.shapers_buffer.specs.declared.buffer.glyph.hb_glyph_info_t.{hb_glyph_info_t}
 use Rattle.shapers_buffer.specs.declared.buffer.tag.Script.{Script}
@@ -149,8 +149,3 @@ reordered_next_in meaning steps can old now new start end laws to some end_is do
 -- a buffer with its circles, and then reordered
 pub pause_reordered : (circles : Option DottedCircles) (meaning : Option Script → List hb_glyph_info_t → List hb_glyph_info_t) (steps : Option Script → List hb_glyph_info_t → List Step) (old opened new : Buffer) → opened ≡ record old { glyphs = circled circles old.glyphs } → SyllablesReordered (meaning opened.script) (steps opened.script) opened new → PauseReordered circles (meaning old.script) (steps old.script) old new
 pause_reordered circles meaning steps old opened new is done = subst (λ (b : Buffer). SyllablesReordered (meaning b.script) (steps b.script) b new) is done
-
--- a condition that every syllable meets
-pub can_all : (can : List hb_glyph_info_t → Type 0) → ((gs : List hb_glyph_info_t) → can gs) → (pieces : List (List hb_glyph_info_t)) → All can pieces
-can_all can h [] = All-nil can
-can_all can h (piece ∷ pieces) = All-cons can piece pieces (h piece) (can_all can h pieces)
