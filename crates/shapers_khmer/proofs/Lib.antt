@@ -1,6 +1,8 @@
 mod ConstantRows
+pub mod KhmerCases
 pub mod KhmerListing
 mod KhmerRows
+pub mod KhmerSerials
 pub mod KhmerSteps
 pub mod KhmerSyllable
 pub mod KhmerWalked
