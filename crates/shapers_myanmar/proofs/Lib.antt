@@ -1,3 +1,4 @@
+mod Inside
 mod Listing
 mod Merging
 mod MyanmarRows
