@@ -41,8 +41,6 @@ fn composes_and_parts_syllables(rt: HostRuntime) -> Result<(), Fail> {
         ("1100 1161", "", "AC00 11C3", "1100 0 1, 1161 0 2, 11c3 1 0"),
         ("AC00 AC01", "", "AC00 11A8", "ac01 0 0"),
         ("41", "", "115F 1160", "115f 0 1, 1160 0 2"),
-        ("41", "set level 1\n", "115F 1160", "115f 0 1, 1160 1 2"),
-        ("41", "set level 2\n", "115F 1160", "115f 0 1, 1160 1 2"),
         ("41", "", "41 1100", "0041 0 0, 1100 1 0"),
     ];
     for row in rows {
@@ -121,6 +119,40 @@ fn masks_jamo_and_refuses(rt: HostRuntime) -> Result<(), Fail> {
                 "",
                 "refused: TooLong\n",
                 1,
+            ),
+        ],
+    )
+}
+
+#[test]
+fn flags_what_a_break_would_tear(rt: HostRuntime) -> Result<(), Fail> {
+    expect_rows(
+        &rt,
+        rt.alloc(),
+        &[
+            (
+                "set shaper hangul\nset level 1\ntext 115F 1160\nrun preprocess\n",
+                "115f 0 00000000 00 0 1 0\n1160 1 00000003 00 0 2 0\n",
+                "",
+                0,
+            ),
+            (
+                "set shaper hangul\nset level 2\ntext 115F 1160\nrun preprocess\n",
+                "115f 0 00000000 00 0 1 0\n1160 1 00000003 00 0 2 0\n",
+                "",
+                0,
+            ),
+            (
+                "set shaper hangul\nfont AC00 1 9\ntext AC00 11C3\nrun preprocess\n",
+                "ac00 0 00000000 00 0 0 0\n11c3 1 00000003 00 0 0 0\n",
+                "",
+                0,
+            ),
+            (
+                "set shaper hangul\nfont 1100 1 9\nfont 1161 2 9\ntext AC00 11A8\nrun preprocess\n",
+                "1100 0 00000000 00 0 1 0\n1161 0 00000000 00 0 2 0\n11a8 1 00000003 00 0 0 0\n",
+                "",
+                0,
             ),
         ],
     )
