@@ -24,13 +24,13 @@ row_of_hangul = refl
 row_of_hebrew : row Hebrew ≡ Lacks ∷ Lacks ∷ Lacks ∷ Lacks ∷ Lacks ∷ Has ∷ Lacks ∷ Lacks ∷ Has ∷ []
 row_of_hebrew = refl
 
-row_of_indic : row Indic ≡ Has ∷ Has ∷ WillHave ∷ Has ∷ Lacks ∷ WillHave ∷ WillHave ∷ WillHave ∷ Lacks ∷ []
+row_of_indic : row Indic ≡ Has ∷ Has ∷ Has ∷ Has ∷ Lacks ∷ Has ∷ Has ∷ Has ∷ Lacks ∷ []
 row_of_indic = refl
 
-row_of_khmer : row Khmer ≡ Has ∷ Has ∷ WillHave ∷ Lacks ∷ Lacks ∷ WillHave ∷ WillHave ∷ WillHave ∷ Lacks ∷ []
+row_of_khmer : row Khmer ≡ Has ∷ Has ∷ Has ∷ Lacks ∷ Lacks ∷ Has ∷ Has ∷ Has ∷ Lacks ∷ []
 row_of_khmer = refl
 
-row_of_myanmar : row Myanmar ≡ Has ∷ Lacks ∷ Lacks ∷ Lacks ∷ Lacks ∷ Lacks ∷ Lacks ∷ WillHave ∷ Lacks ∷ []
+row_of_myanmar : row Myanmar ≡ Has ∷ Lacks ∷ Lacks ∷ Lacks ∷ Lacks ∷ Lacks ∷ Lacks ∷ Has ∷ Lacks ∷ []
 row_of_myanmar = refl
 
 row_of_myanmarzawgyi : row MyanmarZawgyi ≡ Lacks ∷ Lacks ∷ Lacks ∷ Lacks ∷ Lacks ∷ Lacks ∷ Lacks ∷ Lacks ∷ Lacks ∷ []
@@ -39,7 +39,7 @@ row_of_myanmarzawgyi = refl
 row_of_thai : row Thai ≡ Lacks ∷ Lacks ∷ Lacks ∷ Has ∷ Lacks ∷ Lacks ∷ Lacks ∷ Lacks ∷ Lacks ∷ []
 row_of_thai = refl
 
-row_of_universal : row Universal ≡ Has ∷ Lacks ∷ WillHave ∷ Has ∷ Lacks ∷ WillHave ∷ Lacks ∷ WillHave ∷ Lacks ∷ []
+row_of_universal : row Universal ≡ Has ∷ Lacks ∷ Has ∷ Has ∷ Lacks ∷ Has ∷ Lacks ∷ Has ∷ Lacks ∷ []
 row_of_universal = refl
 
 -- a hook may be asked unless it is to come, and is there only if it is built

@@ -44,12 +44,12 @@ abbrev pub DataCreated : hb_ot_shaper_t → hb_ot_shape_plan_t → Option PlanDa
 DataCreated Arabic plan answer = answer ≡ Some (data_of.Arabic (arabic_plan plan.stretch_start plan.ot_map))
 DataCreated Hangul plan answer = answer ≡ Some (data_of.Hangul (record { mask_array = jamo_masks plan.ot_map }))
 DataCreated Hebrew plan answer = answer ≡ None
-DataCreated Indic plan answer = Unbuilt
-DataCreated Khmer plan answer = Unbuilt
+DataCreated Indic plan answer = answer ≡ Some (data_of.Indic (indic_plan plan.script plan.ot_map))
+DataCreated Khmer plan answer = answer ≡ Some (data_of.Khmer (record { mask_array = khmer_masks plan.ot_map }))
 DataCreated Myanmar plan answer = answer ≡ None
 DataCreated MyanmarZawgyi plan answer = answer ≡ None
 DataCreated Thai plan answer = answer ≡ None
-DataCreated Universal plan answer = Unbuilt
+DataCreated Universal plan answer = answer ≡ Some (data_of.Universal (universal_plan plan.stretch_start plan.script plan.ot_map))
 
 -- the plan's data are of the kind that the shaper reads
 abbrev pub PlanFits : hb_ot_shaper_t → hb_ot_shape_plan_t → Type 0
@@ -61,19 +61,19 @@ PlanFits Khmer plan = Unit {0}
 PlanFits Myanmar plan = Unit {0}
 PlanFits MyanmarZawgyi plan = Unit {0}
 PlanFits Thai plan = Unit {0}
-PlanFits Universal plan = Unit {0}
+PlanFits Universal plan = is_universal plan.plan_data ≡ true
 
--- what setting masks asks of the glyphs: for Arabic they are characters
-abbrev pub GlyphsFit : hb_ot_shaper_t → List hb_glyph_info_t → Type 0
-GlyphsFit Arabic gs = All (λ g. IsScalar g.glyph_id) gs
-GlyphsFit Hangul gs = Unit {0}
-GlyphsFit Hebrew gs = Unit {0}
-GlyphsFit Indic gs = Unit {0}
-GlyphsFit Khmer gs = Unit {0}
-GlyphsFit Myanmar gs = Unit {0}
-GlyphsFit MyanmarZawgyi gs = Unit {0}
-GlyphsFit Thai gs = Unit {0}
-GlyphsFit Universal gs = Unit {0}
+-- what setting masks asks of the glyphs: for Arabic, and the universal shaper where letters join, they are characters
+abbrev pub GlyphsFit : hb_ot_shaper_t → hb_ot_shape_plan_t → List hb_glyph_info_t → Type 0
+GlyphsFit Arabic plan gs = All (λ g. IsScalar g.glyph_id) gs
+GlyphsFit Hangul plan gs = Unit {0}
+GlyphsFit Hebrew plan gs = Unit {0}
+GlyphsFit Indic plan gs = Unit {0}
+GlyphsFit Khmer plan gs = Unit {0}
+GlyphsFit Myanmar plan gs = Unit {0}
+GlyphsFit MyanmarZawgyi plan gs = Unit {0}
+GlyphsFit Thai plan gs = Unit {0}
+GlyphsFit Universal plan gs = CanJoin (arabic_of plan.plan_data) gs
 
 -- what reordering marks asks of the stretch: for Arabic at most 32 places
 abbrev pub MarksFit : hb_ot_shaper_t → ℕ → ℕ → Type 0
@@ -164,20 +164,20 @@ abbrev pub Composed : hb_ot_shaper_t → hb_ot_shape_plan_t → CharacterTables 
 Composed Arabic plan tables a b answer = answer ≡ None
 Composed Hangul plan tables a b answer = answer ≡ None
 Composed Hebrew plan tables a b answer = answer ≡ Some (composed_in_hebrew (tables.composed a b) plan.has_gpos_mark a b)
-Composed Indic plan tables a b answer = Unbuilt
-Composed Khmer plan tables a b answer = Unbuilt
+Composed Indic plan tables a b answer = answer ≡ Some (composed_in_indic tables a b)
+Composed Khmer plan tables a b answer = answer ≡ Some (composed_behind tables a b)
 Composed Myanmar plan tables a b answer = answer ≡ None
 Composed MyanmarZawgyi plan tables a b answer = answer ≡ None
 Composed Thai plan tables a b answer = answer ≡ None
-Composed Universal plan tables a b answer = Unbuilt
+Composed Universal plan tables a b answer = answer ≡ Some (composed_behind tables a b)
 
 -- what a character decomposes to
 abbrev pub Decomposed : hb_ot_shaper_t → hb_ot_shape_plan_t → CharacterTables → ℕ → Option (Option (ℕ × ℕ)) → Type 0
 Decomposed Arabic plan tables ab answer = answer ≡ None
 Decomposed Hangul plan tables ab answer = answer ≡ None
 Decomposed Hebrew plan tables ab answer = answer ≡ None
-Decomposed Indic plan tables ab answer = Unbuilt
-Decomposed Khmer plan tables ab answer = Unbuilt
+Decomposed Indic plan tables ab answer = answer ≡ Some (decomposed_in_indic tables ab)
+Decomposed Khmer plan tables ab answer = answer ≡ Some (decomposed_in_khmer tables ab)
 Decomposed Myanmar plan tables ab answer = answer ≡ None
 Decomposed MyanmarZawgyi plan tables ab answer = answer ≡ None
 Decomposed Thai plan tables ab answer = answer ≡ None
@@ -189,11 +189,11 @@ MasksSet Arabic plan tables old new = IsJoined (masks_of plan.plan_data) plan.sc
 MasksSet Hangul plan tables old new = new ≡ with_jamo_masks plan.plan_data old
 MasksSet Hebrew plan tables old new = new ≡ old
 MasksSet Indic plan tables old new = Unbuilt
-MasksSet Khmer plan tables old new = Unbuilt
-MasksSet Myanmar plan tables old new = Unbuilt
+MasksSet Khmer plan tables old new = new ≡ record old { glyphs = map (with_category tables) old.glyphs }
+MasksSet Myanmar plan tables old new = new ≡ record old { glyphs = map (with_category tables) old.glyphs }
 MasksSet MyanmarZawgyi plan tables old new = new ≡ old
 MasksSet Thai plan tables old new = new ≡ old
-MasksSet Universal plan tables old new = Unbuilt
+MasksSet Universal plan tables old new = MasksAreSet (arabic_of plan.plan_data) plan.script tables old new
 
 -- the buffer before and after the marks from start to end are reordered
 abbrev pub MarksReordered : hb_ot_shaper_t → ℕ → ℕ → Buffer → Buffer → Type 0

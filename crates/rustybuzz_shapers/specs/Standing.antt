@@ -17,12 +17,12 @@ abbrev pub hooks_of : hb_ot_shaper_t → Hooks
 hooks_of Arabic = row Has Lacks Has Lacks WillHave Lacks Lacks Has Has
 hooks_of Hangul = row Has Has Has Has Lacks Lacks Lacks Has Lacks
 hooks_of Hebrew = row Lacks Lacks Lacks Lacks Lacks Has Lacks Lacks Has
-hooks_of Indic = row Has Has WillHave Has Lacks WillHave WillHave WillHave Lacks
-hooks_of Khmer = row Has Has WillHave Lacks Lacks WillHave WillHave WillHave Lacks
-hooks_of Myanmar = row Has Lacks Lacks Lacks Lacks Lacks Lacks WillHave Lacks
+hooks_of Indic = row Has Has Has Has Lacks Has Has Has Lacks
+hooks_of Khmer = row Has Has Has Lacks Lacks Has Has Has Lacks
+hooks_of Myanmar = row Has Lacks Lacks Lacks Lacks Lacks Lacks Has Lacks
 hooks_of MyanmarZawgyi = row Lacks Lacks Lacks Lacks Lacks Lacks Lacks Lacks Lacks
 hooks_of Thai = row Lacks Lacks Lacks Has Lacks Lacks Lacks Lacks Lacks
-hooks_of Universal = row Has Lacks WillHave Has Lacks WillHave Lacks WillHave Lacks
+hooks_of Universal = row Has Lacks Has Has Lacks Has Lacks Has Lacks
 
 -- how a row stands to a hook
 abbrev pub column : Hooks → Hook → Standing

@@ -136,7 +136,7 @@ made_copies gs = record {
   as_jamo = λ feature m. record m { glyph = glyph_copies.as_jamo feature m.glyph; same = m.same };
 }
 
--- clusters that no one of which rises
+-- no cluster rises, where others of the same clusters fell
 none_rises : (gs ps rs : List hb_glyph_info_t) → AllZip FlagsFall gs ps → clusters ps ≡ clusters rs → AllZip (λ old new. new.cluster ≤ old.cluster) gs rs
 none_rises [] [] [] falls same = tt
 none_rises [] [] (r ∷ rs) falls same = absurd (omega (arith, ap length same))

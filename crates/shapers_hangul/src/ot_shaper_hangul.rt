@@ -55,9 +55,9 @@ pub fn override_features(planner: &mut hb_ot_shape_planner_t) -> Result<(), Shap
 /// Rewrites a Hangul text before its characters become glyphs, unit by unit: jamo that combine become
 /// one syllable character where the font has it, else they are marked for the features of jamo; so
 /// are the jamo of a syllable character that the font lacks. A tone moves before the syllable that it
-/// follows, unless it has advance 0; without one it gets a dotted circle. Refuses as a growth to the
-/// length of the result does. (The Unicode Standard, "Conjoining Jamo Behavior"; OpenType's notes on
-/// Hangul.)
+/// follows, unless it has advance 0; without one it gets a dotted circle. What a break would tear
+/// apart is flagged. Refuses as a growth to the length of the result does. (The Unicode Standard,
+/// "Conjoining Jamo Behavior"; OpenType's notes on Hangul.)
 pub fn preprocess_text<F: hb_font_t>(
     plan: &hb_ot_shape_plan_t,
     face: &F,
@@ -74,8 +74,8 @@ pub fn preprocess_text<F: hb_font_t>(
     rewrite(face, buffer)
 }
 
-/// What the rewriting makes of clusters and glyph flags: flags and old clusters, the cluster law of
-/// tones, and exact cuts.
+/// What the rewriting makes of clusters: each glyph is its source where that stood, joined with what
+/// belongs to it; no cluster rises, none is new; the cluster law of tones, and exact cuts.
 pub fn rewriting_law()
     ensures { RewrittenLaw }
 {}

@@ -111,7 +111,7 @@ impl hb_ot_shaper_t {
             Self::Khmer => KHMER_HOOKS,
             Self::Myanmar => Hooks {
                 collect_features: Has,
-                setup_masks: WillHave,
+                setup_masks: Has,
                 ..NO_HOOKS
             },
             Self::MyanmarZawgyi => NO_HOOKS,
@@ -121,10 +121,10 @@ impl hb_ot_shaper_t {
             },
             Self::Universal => Hooks {
                 collect_features: Has,
-                create_data: WillHave,
+                create_data: Has,
                 preprocess_text: Has,
-                compose: WillHave,
-                setup_masks: WillHave,
+                compose: Has,
+                setup_masks: Has,
                 ..NO_HOOKS
             },
         }
@@ -148,9 +148,9 @@ const NO_HOOKS: Hooks = Hooks {
 const KHMER_HOOKS: Hooks = Hooks {
     collect_features: Has,
     override_features: Has,
-    create_data: WillHave,
-    compose: WillHave,
-    decompose: WillHave,
-    setup_masks: WillHave,
+    create_data: Has,
+    compose: Has,
+    decompose: Has,
+    setup_masks: Has,
     ..NO_HOOKS
 };

@@ -61,8 +61,8 @@ impl Cut {
     }
 }
 
-// The length of the result where the text changes, None where it stays, and the items. Refuses where
-// the result would be longer than `limit`, and for nothing else.
+// The length of the result where the text changes, None where it stays, and the items. Refuses
+// where the result would be longer than `limit`, and for nothing else.
 fn measure<F: hb_font_t>(
     face: &F,
     circles: bool,
