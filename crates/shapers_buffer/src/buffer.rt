@@ -41,7 +41,7 @@ pub use syllables::{
 };
 
 pub use tag::{Script, hb_tag_t};
-pub use walking::{GlyphChange, GlyphWalk};
+pub use walking::{GlyphChange, GlyphWalk, PositionedWalk};
 
 /// How many characters of context a buffer keeps on each side.
 pub const CONTEXT_LENGTH: usize = 5;

@@ -2,5 +2,6 @@ mod MeasureRows
 mod RecordedRows
 mod StretchRows
 pub mod Moves
+pub mod Numbers
 pub mod Sums
 pub mod Widths
