@@ -3,5 +3,7 @@ mod RecordedRows
 mod StretchRows
 pub mod Moves
 pub mod Numbers
+pub mod Parts
+pub mod Pen
 pub mod Sums
 pub mod Widths
