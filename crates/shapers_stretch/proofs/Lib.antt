@@ -5,5 +5,6 @@ pub mod Moves
 pub mod Numbers
 pub mod Parts
 pub mod Pen
+pub mod Steps
 pub mod Sums
 pub mod Widths
