@@ -40,7 +40,7 @@ pub use syllables::{
     Span, has_span_of_kind, set_syllable, spans_cover, syllable_run_len, syllables_are_runs,
 };
 pub use tag::{Script, hb_tag_t};
-pub use walking::{GlyphChange, GlyphWalk};
+pub use walking::{GlyphChange, GlyphWalk, PositionedWalk};
 
 /// How many characters of context a buffer keeps on each side.
 pub const CONTEXT_LENGTH: usize = 5;

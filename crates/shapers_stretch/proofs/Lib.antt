@@ -2,5 +2,9 @@ mod MeasureRows
 mod RecordedRows
 mod StretchRows
 pub mod Moves
+pub mod Numbers
+pub mod Parts
+pub mod Pen
+pub mod Steps
 pub mod Sums
 pub mod Widths

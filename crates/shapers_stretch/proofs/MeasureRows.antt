@@ -1,7 +1,8 @@
 -- The numbers of a stretched mark, computed.
 use Rattle.std.specs.Prelude.{◌≡◌, ℕ, ℤ, pos, negsuc, true, false, List, [], ◌∷◌, map, refl}
 use Rattle.shapers_base.specs.declared.plan.arabic.StretchStart.TheVariants.{AsCode, Centred}
-use Rattle.shapers_stretch.specs.Measure.{Run, left, fitting, copies_added, overlap, start, laid_width, reach, added, numbers, fits_i32}
+use Rattle.shapers_stretch.specs.declared.ot_shaper_arabic_stretch.measuring.Run.{Run}
+use Rattle.shapers_stretch.specs.Measure.{copies_added, overlap, start, laid_width, numbers, fits_i32}
 
 -- a run by its word, its fixed and its repeating tiles, and how many of these there are
 abbrev run : ℤ → ℤ → ℤ → ℕ → Run

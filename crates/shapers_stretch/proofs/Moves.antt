@@ -1,5 +1,5 @@
 -- The copies of a run move the pen by its laid width.
-use Rattle.std.proofs.Common.{◌≡◌, ◌<◌, ◌<ℤ◌, ℕ, zero, suc, ◌+◌, ◌*◌, ℤ, pos, ◌+ℤ◌, ◌-ℤ◌, ◌*ℤ◌, neg_ℤ, Bool, true, false, cond, not, List, [], ◌∷◌, ◌++◌, length, map, filter, reverse, flat_map, replicate, refl, sym, ◌∙◌, ap, arith, mul-suc, mul-zero, add_comm}
+use Rattle.std.proofs.Common.{◌≡◌, ◌<◌, ◌<ℤ◌, ℕ, zero, suc, ◌*◌, ℤ, pos, ◌+ℤ◌, ◌-ℤ◌, ◌*ℤ◌, neg_ℤ, Bool, true, false, cond, not, List, [], ◌∷◌, ◌++◌, length, map, reverse, flat_map, replicate, refl, sym, ◌∙◌, ap, arith, mul-suc, mul-zero, add_comm}
 use Rattle.std.proofs.lemmas.Int.{ints}
 use Rattle.std.proofs.lemmas.List.{append-nil, map-append}
 use Rattle.std.proofs.lemmas.List.Concat.{flat_map-append}
@@ -7,9 +7,11 @@ use Rattle.std.proofs.lemmas.Grind.{reverse_onto}
 use lib.IntN.{*ℤ-zero}
 use Rattle.shapers_stretch.specs.StretchLaws.{TilesFit, CoversTheWord}
 use Rattle.shapers_stretch.proofs.Widths.{covers}
+use Rattle.shapers_buffer.specs.declared.buffer.glyph.hb_glyph_info_t.{hb_glyph_info_t}
 use Rattle.shapers_base.specs.Font.{Font}
-use Rattle.shapers_stretch.specs.Cells.{Cell, repeats, tiles_of}
-use Rattle.shapers_stretch.specs.Measure.{Run, added, overlap, total, laid_width}
+use Rattle.shapers_stretch.specs.Cells.{Cell, repeats, tiles_of, glyphs_of}
+use Rattle.shapers_stretch.specs.declared.ot_shaper_arabic_stretch.measuring.Run.{Run}
+use Rattle.shapers_stretch.specs.Measure.{added, overlap, total, laid_width}
 use Rattle.shapers_stretch.specs.Stretch.{Copy, copies, copies_of, moves, width_of, repeating, fixed, run_of}
 use Rattle.shapers_stretch.proofs.Sums.{total_cons, total-append, times_suc, times_sum, times_add, times_zero, total-replicate}
 
@@ -35,7 +37,7 @@ moves_if false c w o n = omega (arith, ints)
 pub moves-append : (xs ys : List Copy) → moves (xs ++ ys) ≡ moves xs +ℤ moves ys
 moves-append xs ys = ap total (map-append (λ copy. copy.move) xs ys) ∙ total-append (map (λ copy. copy.move) xs) (map (λ copy. copy.move) ys)
 
-total_if : (f : Cell → ℤ) (b : Bool) (c : Cell) (ys : List Cell) → total (map f (cond b (c ∷ ys) ys)) ≡ cond b (f c +ℤ total (map f ys)) (total (map f ys))
+total_if : {X : Type 0} (f : X → ℤ) (b : Bool) (c : X) (ys : List X) → total (map f (cond b (c ∷ ys) ys)) ≡ cond b (f c +ℤ total (map f ys)) (total (map f ys))
 total_if f true c ys = total_cons (f c) (map f ys)
 total_if f false c ys = refl
 
@@ -50,27 +52,27 @@ one_more true w F R M o k n e =
     omega (arith, ints, times_sum (suc n) w R)
 one_more false w F R M o k n e = omega (arith, ints)
 
-tiles_moves : (font : Font) (z : Run) (cs : List Cell) → moves (copies font z cs) ≡ total (map (width_of font) (fixed cs)) +ℤ (pos (suc (added z)) *ℤ total (map (width_of font) (repeating cs)) -ℤ pos (added z * length (repeating cs)) *ℤ overlap z)
+tiles_moves : (font : Font) (z : Run) (cs : List Cell) → moves (copies font z cs) ≡ total (map (width_of font) (fixed (glyphs_of cs))) +ℤ (pos (suc (added z)) *ℤ total (map (width_of font) (repeating (glyphs_of cs))) -ℤ pos (added z * length (repeating (glyphs_of cs))) *ℤ overlap z)
 tiles_moves font z [] = omega (arith, ints, times_zero (overlap z), *ℤ-zero (pos (suc (added z))), ap (λ m. pos m *ℤ overlap z) (mul-zero (added z)))
 tiles_moves font z (c ∷ cs) =
-    let w = width_of font c in
+    let w = width_of font c.0 in
     let cut : copies font z (c ∷ cs) ≡ copies font z cs ++ (copies_of font z c ++ []) = ap (flat_map (copies_of font z)) (reverse_onto cs c []) ∙ flat_map-append (copies_of font z) (reverse cs) (c ∷ []) in
     let whole : moves (copies font z (c ∷ cs)) ≡ moves (copies font z cs) +ℤ tile_moves (repeats c.0) w (added z) (overlap z) =
     ap moves cut ∙ moves-append (copies font z cs) (copies_of font z c ++ []) ∙ ap (λ m. moves (copies font z cs) +ℤ m) (ap moves (append-nil (copies_of font z c)) ∙ moves_if (repeats c.0) c w (overlap z) (added z)) in
-    let step = one_more (repeats c.0) w (total (map (width_of font) (fixed cs))) (total (map (width_of font) (repeating cs))) (moves (copies font z cs)) (overlap z) (length (repeating cs)) (added z) (tiles_moves font z cs) in
-    let F : total (map (width_of font) (fixed (c ∷ cs))) ≡ cond (not (repeats c.0)) (w +ℤ total (map (width_of font) (fixed cs))) (total (map (width_of font) (fixed cs))) = total_if (width_of font) (not (repeats c.0)) c (fixed cs) in
-    let R : total (map (width_of font) (repeating (c ∷ cs))) ≡ cond (repeats c.0) (w +ℤ total (map (width_of font) (repeating cs))) (total (map (width_of font) (repeating cs))) = total_if (width_of font) (repeats c.0) c (repeating cs) in
-    let K : length (repeating (c ∷ cs)) ≡ cond (repeats c.0) (suc (length (repeating cs))) (length (repeating cs)) = length_if (repeats c.0) c (repeating cs) in
+    let step = one_more (repeats c.0) w (total (map (width_of font) (fixed (glyphs_of cs)))) (total (map (width_of font) (repeating (glyphs_of cs)))) (moves (copies font z cs)) (overlap z) (length (repeating (glyphs_of cs))) (added z) (tiles_moves font z cs) in
+    let F : total (map (width_of font) (fixed (glyphs_of (c ∷ cs)))) ≡ cond (not (repeats c.0)) (w +ℤ total (map (width_of font) (fixed (glyphs_of cs)))) (total (map (width_of font) (fixed (glyphs_of cs)))) = total_if (width_of font) (not (repeats c.0)) c.0 (fixed (glyphs_of cs)) in
+    let R : total (map (width_of font) (repeating (glyphs_of (c ∷ cs)))) ≡ cond (repeats c.0) (w +ℤ total (map (width_of font) (repeating (glyphs_of cs)))) (total (map (width_of font) (repeating (glyphs_of cs)))) = total_if (width_of font) (repeats c.0) c.0 (repeating (glyphs_of cs)) in
+    let K : length (repeating (glyphs_of (c ∷ cs))) ≡ cond (repeats c.0) (suc (length (repeating (glyphs_of cs)))) (length (repeating (glyphs_of cs))) = length_if (repeats c.0) c.0 (repeating (glyphs_of cs)) in
     let sides : ℤ → ℤ → ℕ → ℤ = λ F R k. F +ℤ (pos (suc (added z)) *ℤ R -ℤ pos (added z * k) *ℤ overlap z) in
-    whole ∙ step ∙ sym (ap (λ x. sides x (total (map (width_of font) (repeating (c ∷ cs)))) (length (repeating (c ∷ cs)))) F ∙ ap (λ x. sides (cond (not (repeats c.0)) (w +ℤ total (map (width_of font) (fixed cs))) (total (map (width_of font) (fixed cs)))) x (length (repeating (c ∷ cs)))) R ∙ ap (λ x. sides (cond (not (repeats c.0)) (w +ℤ total (map (width_of font) (fixed cs))) (total (map (width_of font) (fixed cs)))) (cond (repeats c.0) (w +ℤ total (map (width_of font) (repeating cs))) (total (map (width_of font) (repeating cs)))) x) K)
+    whole ∙ step ∙ sym (ap (λ x. sides x (total (map (width_of font) (repeating (glyphs_of (c ∷ cs))))) (length (repeating (glyphs_of (c ∷ cs))))) F ∙ ap (λ x. sides (cond (not (repeats c.0)) (w +ℤ total (map (width_of font) (fixed (glyphs_of cs)))) (total (map (width_of font) (fixed (glyphs_of cs))))) x (length (repeating (glyphs_of (c ∷ cs))))) R ∙ ap (λ x. sides (cond (not (repeats c.0)) (w +ℤ total (map (width_of font) (fixed (glyphs_of cs)))) (total (map (width_of font) (fixed (glyphs_of cs))))) (cond (repeats c.0) (w +ℤ total (map (width_of font) (repeating (glyphs_of cs)))) (total (map (width_of font) (repeating (glyphs_of cs))))) x) K)
 
 pub moves_hold : (font : Font) (part : List Cell) → moves (copies font (run_of font part) (tiles_of part)) ≡ laid_width (run_of font part)
 moves_hold font part = omega (arith, ints, tiles_moves font (run_of font part) (tiles_of part))
 
 -- without a tile that repeats they have no width
-no_repeating : (font : Font) (cs : List Cell) → pos 0 <ℤ total (map (width_of font) cs) → 0 < length cs
+no_repeating : (font : Font) (gs : List hb_glyph_info_t) → pos 0 <ℤ total (map (width_of font) gs) → 0 < length gs
 no_repeating font [] p = absurd (omega (arith, ints))
-no_repeating font (c ∷ cs) p = omega arith
+no_repeating font (g ∷ gs) p = omega arith
 
 pub widths_hold : (font : Font) (part : List Cell) → TilesFit (run_of font part) → CoversTheWord (run_of font part)
-widths_hold font part fits = covers (run_of font part) (no_repeating font (repeating (tiles_of part)) fits.0) fits
+widths_hold font part fits = covers (run_of font part) (no_repeating font (repeating (glyphs_of (tiles_of part))) fits.0) fits

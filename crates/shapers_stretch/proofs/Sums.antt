@@ -1,6 +1,8 @@
 -- Sums of whole numbers.
-use Rattle.std.proofs.Common.{◌≡◌, ℕ, zero, suc, ◌+◌, ◌*◌, ℤ, pos, ◌+ℤ◌, ◌*ℤ◌, List, [], ◌∷◌, ◌++◌, fold, replicate, map, length, flat_map, refl, sym, ◌∙◌, ap, arith}
+use Rattle.std.proofs.Common.{◌≡◌, ℕ, zero, suc, ◌+◌, ℤ, pos, ◌+ℤ◌, ◌*ℤ◌, List, [], ◌∷◌, ◌++◌, fold, replicate, map, length, sym, ◌∙◌, ap, arith, ◌<◌, Bool, true, false, cond, filter, take, get_or, add-one}
 use Rattle.std.proofs.lemmas.Int.{ints}
+use Rattle.std.proofs.lemmas.List.{append-nil, length_push, map-append, take_more}
+use Rattle.std.proofs.lemmas.List.Elements.{filter-append}
 use lib.IntN.{suc_ℤ-*ℤ, zero-*ℤ}
 use Rattle.shapers_stretch.specs.Measure.{total}
 
@@ -32,3 +34,31 @@ times_add (suc m) n a = omega (arith, ints, times_suc (m + n) a, times_suc m a, 
 pub total-replicate : (n : ℕ) (a : ℤ) → total (replicate n a) ≡ pos n *ℤ a
 total-replicate zero a = sym (times_zero a)
 total-replicate (suc n) a = omega (arith, ints, total_cons a (replicate n a), times_suc n a, total-replicate n a)
+
+-- one more at the end
+pub total-push : (xs : List ℤ) (x : ℤ) → total (xs ++ x ∷ []) ≡ total xs +ℤ x
+total-push xs x = omega (arith, ints, total-append xs (x ∷ []))
+
+sum_if : {X : Type 0} (f : X → ℤ) (b : Bool) (xs : List X) (x : X) → total (map f (xs ++ cond b (x ∷ []) [])) ≡ cond b (total (map f xs) +ℤ f x) (total (map f xs))
+sum_if f true xs x = ap total (map-append f xs (x ∷ [])) ∙ total-push (map f xs) (f x)
+sum_if f false xs x = ap (λ ys. total (map f ys)) (append-nil xs)
+
+sum_push : {X : Type 0} (f : X → ℤ) (test : X → Bool) (xs : List X) (x : X) → total (map f (filter test (xs ++ x ∷ []))) ≡ cond (test x) (total (map f (filter test xs)) +ℤ f x) (total (map f (filter test xs)))
+sum_push f test xs x = ap (λ ys. total (map f ys)) (filter-append test xs (x ∷ [])) ∙ sum_if f (test x) (filter test xs) x
+
+count_if : {X : Type 0} (b : Bool) (xs : List X) (x : X) → length (xs ++ cond b (x ∷ []) []) ≡ cond b (suc (length xs)) (length xs)
+count_if true xs x = length_push xs x ∙ add-one (length xs)
+count_if false xs x = ap length (append-nil xs)
+
+count_push : {X : Type 0} (test : X → Bool) (xs : List X) (x : X) → length (filter test (xs ++ x ∷ [])) ≡ cond (test x) (suc (length (filter test xs))) (length (filter test xs))
+count_push test xs x = ap length (filter-append test xs (x ∷ [])) ∙ count_if (test x) (filter test xs) x
+
+-- what the next place adds to the sum of what passes a test, and to its count
+pub sum_next : {X : Type 0} (f : X → ℤ) (test : X → Bool) (xs : List X) (i : ℕ) (d : X) → i < length xs → total (map f (filter test (take (i + 1) xs))) ≡ cond (test (get_or xs i d)) (total (map f (filter test (take i xs))) +ℤ f (get_or xs i d)) (total (map f (filter test (take i xs))))
+sum_next f test xs i d p = ap (λ ys. total (map f (filter test ys))) (take_more xs i d p) ∙ sum_push f test (take i xs) (get_or xs i d)
+
+pub count_next : {X : Type 0} (test : X → Bool) (xs : List X) (i : ℕ) (d : X) → i < length xs → length (filter test (take (i + 1) xs)) ≡ cond (test (get_or xs i d)) (suc (length (filter test (take i xs)))) (length (filter test (take i xs)))
+count_next test xs i d p = ap (λ ys. length (filter test ys)) (take_more xs i d p) ∙ count_push test (take i xs) (get_or xs i d)
+
+pub total_next : {X : Type 0} (f : X → ℤ) (xs : List X) (i : ℕ) (d : X) → i < length xs → total (map f (take (i + 1) xs)) ≡ total (map f (take i xs)) +ℤ f (get_or xs i d)
+total_next f xs i d p = ap (λ ys. total (map f ys)) (take_more xs i d p) ∙ ap total (map-append f (take i xs) (get_or xs i d ∷ [])) ∙ total-push (map f (take i xs)) (f (get_or xs i d))

@@ -1,8 +1,9 @@
 -- The law of widths.
-use Rattle.std.proofs.Common.{◌≡◌, ℕ, zero, suc, ◌+◌, ◌-◌, ◌*◌, ◌/◌, ◌%◌, ◌<◌, ◌≤◌, ℤ, pos, negsuc, ◌+ℤ◌, ◌-ℤ◌, ◌*ℤ◌, ◌≤ℤ◌, ◌<ℤ◌, nat_abs, int_lt, int_div, Bool, true, false, cond, ◌&&◌, nat_lt, ◌⊎◌, inl, inr, subst, refl, sym, ◌∙◌, ap, arith, mul_comm, suc-mul, mul-zero, mul-pos, sub-one}
+use Rattle.std.proofs.Common.{◌≡◌, ℕ, zero, suc, ◌+◌, ◌-◌, ◌*◌, ◌/◌, ◌%◌, ◌<◌, ◌≤◌, ℤ, pos, negsuc, ◌+ℤ◌, ◌-ℤ◌, ◌*ℤ◌, ◌≤ℤ◌, ◌<ℤ◌, nat_abs, int_lt, int_div, Bool, true, false, cond, ◌&&◌, nat_lt, ◌⊎◌, inl, inr, subst, refl, sym, ◌∙◌, ap, arith, mul_comm, suc-mul, mul-zero, mul-pos}
 use Rattle.std.proofs.lemmas.Int.{ints}
 use borrow.Author.Tests.{ltb-true, ltb-false, lt-true}
-use Rattle.shapers_stretch.specs.Measure.{Run, left, falls_short, laid_width, copies_added}
+use Rattle.shapers_stretch.specs.declared.ot_shaper_arabic_stretch.measuring.Run.{Run}
+use Rattle.shapers_stretch.specs.Measure.{fit, left, falls_short, laid_width, copies_added}
 use Rattle.shapers_stretch.specs.StretchLaws.{TilesFit, CoversTheWord}
 use Rattle.shapers_stretch.proofs.Sums.{times_suc}
 use lib.IntN.{pos-*ℤ-pos, *ℤ-zero}
@@ -21,9 +22,6 @@ fit_if b R M = cond (b && true) (M / suc R - 1) 0
 fit_if_bounds : (b : Bool) (R M : ℕ) → (b ≡ true → suc R < M) → (b ≡ false → M ≤ suc R) → suc R ≤ M → (suc (fit_if b R M) * suc R ≤ M) × (M < suc (fit_if b R M) * suc R + suc R)
 fit_if_bounds true R M above most h = fits_times R M (M / suc R) (M % suc R) (omega arith) (omega arith) h
 fit_if_bounds false R M above most h = let at : M ≤ suc R = most refl in (omega (arith, suc-mul 0 (suc R)), omega (arith, suc-mul 0 (suc R)))
-
-abbrev pub fit : ℤ → ℤ → ℕ
-fit r m = cond (int_lt r m && int_lt (pos 0) r) (nat_abs (int_div m r) - 1) 0
 
 pub fit_bounds : (r m : ℤ) → pos 0 <ℤ r → r ≤ℤ m → ((pos (suc (fit r m)) *ℤ r) ≤ℤ m) × (m <ℤ (pos (suc (fit r m)) *ℤ r +ℤ r))
 fit_bounds (pos zero) m p h = absurd (omega (arith, ints))

@@ -1,5 +1,5 @@
 -- A text in parts: each ends with a longest run of tiles, before which stands its word. A cell is a glyph with its position.
-use Rattle.std.specs.Prelude.{ℕ, ◌==◌, Bool, false, not, ◌&&◌, ◌||◌, List, [], ◌∷◌, if◌then◌else◌}
+use Rattle.std.specs.Prelude.{◌==◌, Bool, false, not, ◌&&◌, ◌||◌, List, [], ◌∷◌, map, if◌then◌else◌}
 use Rattle.std.specs.List.{onto_first}
 use Rattle.shapers_buffer.specs.declared.buffer.category.hb_unicode_general_category_t.{hb_unicode_general_category_t}
 use Rattle.shapers_buffer.specs.declared.buffer.category.hb_unicode_general_category_t.TheVariants.{Cn, Co, Lm, Lo, Mc, Me, Mn, Nd, Nl, No, Sc, Sk, Sm, So}
@@ -13,6 +13,13 @@ use Rattle.std.specs.Prelude.{true}
 -- a glyph with its position
 abbrev pub Cell : Type 0
 Cell = hb_glyph_info_t × GlyphPosition
+
+-- the glyphs and the positions of cells
+abbrev pub glyphs_of : List Cell → List hb_glyph_info_t
+glyphs_of cs = map (λ c. c.0) cs
+
+abbrev pub positions_of : List Cell → List GlyphPosition
+positions_of cs = map (λ c. c.1) cs
 
 -- whether a glyph is a tile, and whether it is one that repeats
 abbrev pub is_tile : hb_glyph_info_t → Bool

@@ -1,15 +1,9 @@
--- The numbers of a stretched mark, over whole numbers without bound. Division rounds toward zero.
-use Rattle.std.specs.Prelude.{ℕ, suc, ◌+◌, ◌*◌, ◌-◌, nat_lt, ℤ, pos, negsuc, ◌^◌, ◌+ℤ◌, ◌-ℤ◌, ◌*ℤ◌, neg_ℤ, nat_abs, int_lt, int_div, Bool, ◌&&◌, List, [], ◌∷◌, ◌++◌, length, map, fold, filter, not, if◌then◌else◌}
-use Rattle.std.specs.List.{list_any}
+-- The numbers of a stretched mark, over whole numbers without bound, from what its run measures: the advance of the word, of the
+-- fixed and of the repeating tiles, and how many tiles repeat. Division rounds toward zero.
+use Rattle.std.specs.Prelude.{ℕ, suc, ◌*◌, ◌-◌, nat_lt, ℤ, pos, negsuc, ◌^◌, ◌+ℤ◌, ◌-ℤ◌, ◌*ℤ◌, neg_ℤ, nat_abs, int_lt, int_div, Bool, ◌&&◌, List, [], ◌∷◌, ◌++◌, fold, if◌then◌else◌}
+use Rattle.shapers_stretch.specs.declared.ot_shaper_arabic_stretch.measuring.Run.{Run}
 use Rattle.shapers_base.specs.declared.plan.arabic.StretchStart.{StretchStart}
 use Rattle.shapers_base.specs.declared.plan.arabic.StretchStart.TheVariants.{AsCode, Centred}
-
--- What a run measures: the advance of its word, of its fixed and of its repeating tiles, and how many tiles repeat.
-pub record Run : Type 0 where
-  pub word : ℤ
-  pub fixed : ℤ
-  pub repeating : ℤ
-  pub repeaters : ℕ
 
 -- what the fixed tiles leave of the word
 abbrev pub left : Run → ℤ
@@ -20,8 +14,11 @@ abbrev pub reach : Run → ℕ → ℤ
 reach z n = pos (suc n) *ℤ z.repeating
 
 -- how many times more they fit into what is left
+abbrev pub fit : ℤ → ℤ → ℕ
+fit width room = if int_lt width room && int_lt (pos 0) width then nat_abs (int_div room width) - 1 else 0
+
 abbrev pub fitting : Run → ℕ
-fitting z = if int_lt z.repeating (left z) && int_lt (pos 0) z.repeating then nat_abs (int_div (left z) z.repeating) - 1 else 0
+fitting z = fit z.repeating (left z)
 
 -- whether then something is left yet, and a tile to fill it
 abbrev pub falls_short : Run → Bool

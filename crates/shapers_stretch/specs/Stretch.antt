@@ -1,5 +1,5 @@
 -- Stretched marks: the tiles of a run are laid, and laid again, over the word before it. (OpenType `stch`.)
-use Rattle.std.specs.Prelude.{ℕ, nat_lt, ℤ, pos, ◌+ℤ◌, ◌-ℤ◌, Bool, not, ◌&&◌, List, [], ◌∷◌, ◌++◌, length, map, filter, flat_map, replicate, reverse, take, drop, Option, None, Some, if◌then◌else◌}
+use Rattle.std.specs.Prelude.{nat_lt, ℤ, pos, ◌+ℤ◌, ◌-ℤ◌, Bool, not, ◌&&◌, List, [], ◌∷◌, ◌++◌, length, map, filter, flat_map, replicate, reverse, take, drop, Option, None, Some, if◌then◌else◌}
 use Rattle.std.specs.List.{list_all, list_any, zip}
 use Rattle.shapers_buffer.specs.declared.buffer.glyph.GlyphPosition.{GlyphPosition}
 use Rattle.shapers_buffer.specs.declared.buffer.glyph.hb_glyph_info_t.{hb_glyph_info_t}
@@ -12,8 +12,9 @@ use Rattle.shapers_buffer.specs.GlyphFlags.{flagged}
 use Rattle.shapers_buffer.specs.Lists.{each_after}
 use Rattle.shapers_base.specs.declared.plan.arabic.StretchStart.{StretchStart}
 use Rattle.shapers_base.specs.Font.{Font}
-use Rattle.shapers_stretch.specs.Cells.{Cell, is_tile, repeats, parts, tiles_of, word_of, before_word}
-use Rattle.shapers_stretch.specs.Measure.{Run, added, overlap, start, numbers, fits_i32, total}
+use Rattle.shapers_stretch.specs.Cells.{Cell, glyphs_of, positions_of, repeats, parts, tiles_of, word_of, before_word}
+use Rattle.shapers_stretch.specs.declared.ot_shaper_arabic_stretch.measuring.Run.{Run}
+use Rattle.shapers_stretch.specs.Measure.{added, overlap, start, numbers, fits_i32, total}
 use Rattle.std.specs.Prelude.{true, false}
 
 -- how a font's tiles are laid: from which start, and in which direction
@@ -23,24 +24,28 @@ pub record Laying : Type 0 where
   pub right_to_left : Bool
 
 -- how far a glyph of the font moves the pen
-abbrev pub width_of : Font → Cell → ℤ
-width_of font c = font.advance (record { 0 = c.0.glyph_id })
+abbrev pub width_of : Font → hb_glyph_info_t → ℤ
+width_of font g = font.advance (record { 0 = g.glyph_id })
 
 -- the tiles of a run that repeat, and those that don't
-abbrev pub repeating : List Cell → List Cell
-repeating tiles = filter (λ c. repeats c.0) tiles
+abbrev pub repeating : List hb_glyph_info_t → List hb_glyph_info_t
+repeating tiles = filter repeats tiles
 
-abbrev pub fixed : List Cell → List Cell
-fixed tiles = filter (λ c. not (repeats c.0)) tiles
+abbrev pub fixed : List hb_glyph_info_t → List hb_glyph_info_t
+fixed tiles = filter (λ g. not (repeats g)) tiles
+
+-- what tiles and the word before them measure
+abbrev pub measured : Font → List GlyphPosition → List hb_glyph_info_t → Run
+measured font word tiles = record {
+  word = total (map (λ p. p.x_advance) word);
+  fixed = total (map (width_of font) (fixed tiles));
+  repeating = total (map (width_of font) (repeating tiles));
+  repeaters = length (repeating tiles);
+}
 
 -- what the run of a part measures
 abbrev pub run_of : Font → List Cell → Run
-run_of font part = record {
-  word = total (map (λ c. c.1.x_advance) (word_of part));
-  fixed = total (map (width_of font) (fixed (tiles_of part)));
-  repeating = total (map (width_of font) (repeating (tiles_of part)));
-  repeaters = length (repeating (tiles_of part));
-}
+run_of font part = measured font (positions_of (word_of part)) (glyphs_of (tiles_of part))
 
 -- A copy of a tile, and how far it moves the pen.
 pub record Copy : Type 0 where
@@ -50,7 +55,7 @@ pub record Copy : Type 0 where
 -- the copies of one tile: one, and where it repeats the added ones, each less far by the overlap
 abbrev pub copies_of : Font → Run → Cell → List Copy
 copies_of font z c =
-    let width = width_of font c in
+    let width = width_of font c.0 in
     record { tile = c; move = width } ∷ (if repeats c.0 then replicate (added z) (record { tile = c; move = width -ℤ overlap z }) else [])
 
 -- the copies of a run as they are laid, from its last tile to its first
@@ -79,7 +84,7 @@ laid_run how z tiles = laid how.right_to_left (start how.choice how.right_to_lef
 
 -- no break inside these cells
 abbrev pub unbroken : List Cell → List Cell
-unbroken cs = zip (flagged 3 (map (λ c. c.0) cs)) (map (λ c. c.1) cs)
+unbroken cs = zip (flagged 3 (glyphs_of cs)) (positions_of cs)
 
 -- A part stretched: word and run flagged together, and the laid list in the place of the run, later copies before earlier ones.
 -- Without a run it stays.
@@ -130,7 +135,7 @@ stretched_cells font choice b =
 
 -- the buffer stretched: nothing without the mark "has stch"
 abbrev pub with_cells : List Cell → Buffer → Buffer
-with_cells cs b = record b { glyphs = map (λ c. c.0) cs; positions = map (λ c. c.1) cs }
+with_cells cs b = record b { glyphs = glyphs_of cs; positions = positions_of cs }
 
 abbrev pub marks_stretched : Font → StretchStart → Buffer → Buffer
 marks_stretched font choice b = if b.stch then with_cells (stretched_cells font choice b) b else b

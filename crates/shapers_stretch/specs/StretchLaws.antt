@@ -1,8 +1,9 @@
 -- The law of widths.
-use Rattle.std.specs.Prelude.{◌≡◌, ℕ, List, ℤ, pos, ◌+ℤ◌, ◌≤ℤ◌, ◌<ℤ◌, ◌⊎◌}
+use Rattle.std.specs.Prelude.{◌≡◌, List, pos, ◌+ℤ◌, ◌≤ℤ◌, ◌<ℤ◌, ◌⊎◌}
 use Rattle.shapers_base.specs.Font.{Font}
 use Rattle.shapers_stretch.specs.Cells.{Cell, tiles_of}
-use Rattle.shapers_stretch.specs.Measure.{Run, left, laid_width, copies_added}
+use Rattle.shapers_stretch.specs.declared.ot_shaper_arabic_stretch.measuring.Run.{Run}
+use Rattle.shapers_stretch.specs.Measure.{left, laid_width, copies_added}
 use Rattle.shapers_stretch.specs.Stretch.{run_of, copies, moves}
 
 -- the repeating tiles have a width, and fit into what the fixed ones leave of the word

@@ -2,6 +2,8 @@
 //! `stch`.)
 ghost use Rattle.shapers_stretch.specs.StretchLaws.{WidthsHold};
 
+mod measuring;
+mod parts;
 mod recording;
 
 pub use recording::record_stch;

@@ -23,6 +23,13 @@ impl hb_buffer_t {
         self.pos[i] = position;
     }
 
+    /// Where the glyphs are drawn: none, or one a glyph.
+    pub fn positions(&self) -> &[GlyphPosition]
+        ensures { result.now ≡ self.now.positions }
+    {
+        self.pos.as_slice()
+    }
+
     /// How many positions there are: none, or one a glyph.
     pub fn positions_len(&self) -> usize
         ensures length { result ≡ length self.now.positions }

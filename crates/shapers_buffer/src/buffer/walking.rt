@@ -2,7 +2,7 @@
 ghost use Rattle.std.specs.Prelude.{◌≡◌, ◌<◌, ◌≤◌, List, length, map};
 ghost use Rattle.shapers_buffer.specs.Clusters.{with_stretch};
 
-use super::glyph::hb_glyph_info_t;
+use super::glyph::{GlyphPosition, hb_glyph_info_t};
 use super::hb_buffer_t;
 
 /// A change of one glyph, which looks at nothing else.
@@ -30,6 +30,21 @@ pub trait GlyphWalk {
         ensures { walks self.old self.new glyphs.old glyphs.new };
 }
 
+/// A walk over all glyphs with their positions.
+pub trait PositionedWalk {
+    ghost use Rattle.shapers_buffer.specs.declared.buffer.glyph.GlyphPosition.{GlyphPosition};
+    ghost use Rattle.shapers_buffer.specs.declared.buffer.glyph.hb_glyph_info_t.{hb_glyph_info_t};
+
+    ghost can_walk: { Self → List hb_glyph_info_t → List GlyphPosition → Type 0 };
+
+    ghost walks: { Self → List hb_glyph_info_t → List GlyphPosition → List hb_glyph_info_t → List GlyphPosition → Type 0 };
+
+    /// Walks over the glyphs and their positions.
+    fn walk(&self, glyphs: &mut [hb_glyph_info_t], positions: &mut [GlyphPosition])
+        requires { can_walk self.now glyphs.old positions.old }
+        ensures { walks self.now glyphs.old positions.old glyphs.new positions.new };
+}
+
 impl hb_buffer_t {
     /// Changes each glyph from `s` to `e`. It takes no memory.
     pub fn change_each<C: GlyphChange>(&mut self, s: usize, e: usize, change: &C)
@@ -48,6 +63,15 @@ impl hb_buffer_t {
         ensures others { self.new ≡ record self.old { glyphs = self.new.glyphs } }
     {
         walk.walk(&mut self.info);
+    }
+
+    /// Walks over all glyphs and their positions. It takes no memory.
+    pub fn walk_positioned<W: PositionedWalk>(&mut self, walk: &W)
+        requires { W.can_walk walk.now self.old.glyphs self.old.positions }
+        ensures walked { W.walks walk.now self.old.glyphs self.old.positions self.new.glyphs self.new.positions }
+        ensures others { self.new ≡ record self.old { glyphs = self.new.glyphs; positions = self.new.positions } }
+    {
+        walk.walk(&mut self.info, &mut self.pos);
     }
 }
 

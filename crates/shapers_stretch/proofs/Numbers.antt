@@ -1,0 +1,183 @@
+-- What the code computes of the numbers of a run.
+use Rattle.std.proofs.Common.{◌≡◌, ◌^◌, ℕ, suc, ◌-◌, ◌/◌, ◌<◌, ℤ, pos, negsuc, ◌-ℤ◌, ◌≤ℤ◌, ◌<ℤ◌, nat_abs, unsigned_abs, int_lt, int_div, Bool, true, false, cond, ◌&&◌, IsTrue, nat_lt, FitsSigned, [], ◌∷◌, Option, None, Some, refl, sym, subst, ◌∙◌, ap, arith, mul-pos, div-le_self}
+use Rattle.std.specs.List.{list_all}
+use Rattle.std.proofs.lemmas.Int.{ints, by_lt_z}
+use borrow.Author.Tests.{ltb-true, clash}
+use Rattle.std.proofs.lemmas.Option.{none-some}
+use Rattle.std.proofs.lemmas.Bool.Decides.{nat_tests}
+use mir.Syntax.{w32}
+use Rattle.shapers_stretch.specs.declared.ot_shaper_arabic_stretch.measuring.Run.{Run}
+use Rattle.shapers_base.specs.declared.plan.arabic.StretchStart.{StretchStart}
+use Rattle.shapers_base.specs.declared.plan.arabic.StretchStart.TheVariants.{AsCode, Centred}
+use Rattle.shapers_stretch.specs.declared.ot_shaper_arabic_stretch.measuring.Lay.{Lay}
+use Rattle.shapers_stretch.specs.Lays.{RunFits, lay_if_fits, lay_of, start_if_fits}
+use Rattle.shapers_stretch.specs.Measure.{added, copies_added, excess, falls_short, fit, fits_i32, fitting, left, overlap, laid_width, reach, squeezes, start}
+
+-- a number that passes the test fits, and each of a list that does
+pub fits_from : (x : ℤ) → fits_i32 x ≡ true → FitsSigned w32 x
+fits_from (pos n) e = record { sfits = ltb-true n (2 ^ 31) e }
+fits_from (negsuc n) e = record { sfits = ltb-true n (2 ^ 31) e }
+
+pub and_both : (a b : Bool) → (a && b) ≡ true → (a ≡ true) × (b ≡ true)
+and_both true b e = (refl, e)
+and_both false b e = absurd (clash e)
+
+-- what IsTrue says
+pub is_true_from : (b : Bool) → IsTrue b → b ≡ true
+is_true_from b t = t
+
+pub run_fits_from : (z : Run) → IsTrue (list_all fits_i32 (z.word ∷ z.fixed ∷ z.repeating ∷ left z ∷ [])) → RunFits z
+run_fits_from z t =
+    let first = and_both (fits_i32 z.word) _ (is_true_from _ t) in
+    let second = and_both (fits_i32 z.fixed) _ first.1 in
+    let third = and_both (fits_i32 z.repeating) _ second.1 in
+    let fourth = and_both (fits_i32 (left z)) _ third.1 in
+    record { word = fits_from z.word first.0; fixed = fits_from z.fixed second.0; repeating = fits_from z.repeating third.0; left = fits_from (left z) fourth.0 }
+
+pub quotient_abs : (a b : ℤ) → pos 0 <ℤ a → pos 0 <ℤ b → nat_abs (int_div a b) ≡ unsigned_abs a / unsigned_abs b
+quotient_abs (pos a) (pos b) p q = refl
+quotient_abs (pos a) (negsuc b) p q = absurd (omega (arith, ints))
+quotient_abs (negsuc a) b p q = absurd (omega (arith, ints))
+
+if_both : {X : Type 0} (a b : Bool) (x y : X) → a ≡ true → b ≡ true → cond (a && b) x y ≡ x
+if_both a b x y e f = ap (λ v. cond (v && b) x y) e ∙ ap (λ v. cond v x y) f
+
+if_first : {X : Type 0} (a b : Bool) (x y : X) → a ≡ false → cond (a && b) x y ≡ y
+if_first a b x y e = ap (λ v. cond (v && b) x y) e
+
+if_second : {X : Type 0} (a b : Bool) (x y : X) → b ≡ false → cond (a && b) x y ≡ y
+if_second true b x y f = ap (λ v. cond v x y) f
+if_second false b x y f = refl
+
+pub lt_yes : (a b : ℤ) → a <ℤ b → int_lt a b ≡ true
+lt_yes a b h = grind (arith, ints)
+
+pub lt_not : (a b : ℤ) → b ≤ℤ a → int_lt a b ≡ false
+lt_not a b h = grind (arith, ints)
+
+pub fit_yes : (r m : ℤ) → r <ℤ m → pos 0 <ℤ r → fit r m ≡ nat_abs (int_div m r) - 1
+fit_yes r m h p = if_both _ _ _ _ (lt_yes r m h) (lt_yes (pos 0) r p)
+
+pub fit_room : (r m : ℤ) → m ≤ℤ r → fit r m ≡ 0
+fit_room r m h = if_first _ _ _ _ (lt_not r m h)
+
+pub fit_width : (r m : ℤ) → r ≤ℤ pos 0 → fit r m ≡ 0
+fit_width r m h = if_second (int_lt r m) _ _ _ (lt_not (pos 0) r h)
+
+pub added_yes : (z : Run) → pos 0 <ℤ (left z -ℤ reach z (fitting z)) → 0 < z.repeaters → added z ≡ suc (fitting z)
+added_yes z h p = if_both _ _ _ _ (lt_yes (pos 0) (left z -ℤ reach z (fitting z)) h) (grind (arith, nat_tests))
+
+pub added_full : (z : Run) → (left z -ℤ reach z (fitting z)) ≤ℤ pos 0 → added z ≡ fitting z
+added_full z h = if_first _ _ _ _ (lt_not (pos 0) (left z -ℤ reach z (fitting z)) h)
+
+pub added_none : (z : Run) → z.repeaters ≡ 0 → added z ≡ fitting z
+added_none z h = if_second (int_lt (pos 0) (left z -ℤ reach z (fitting z))) _ _ _ (grind (arith, nat_tests))
+
+-- the reach of as many times as fit, by a number that equals them
+pub rest_at : (z : Run) (n : ℕ) → n ≡ fitting z → reach z n ≡ reach z (fitting z)
+rest_at z n e = ap (reach z) e
+
+-- where tiles fall short, there is one to be copied
+short_is : (z : Run) → pos 0 <ℤ (left z -ℤ reach z (fitting z)) → 0 < z.repeaters → falls_short z ≡ true
+short_is z h p = ap (λ v. v && nat_lt 0 z.repeaters) (lt_yes (pos 0) (left z -ℤ reach z (fitting z)) h) ∙ grind (arith, nat_tests)
+
+full_is : (z : Run) → (left z -ℤ reach z (fitting z)) ≤ℤ pos 0 → falls_short z ≡ false
+full_is z h = ap (λ v. v && nat_lt 0 z.repeaters) (lt_not (pos 0) (left z -ℤ reach z (fitting z)) h)
+
+no_second : (a b : Bool) → b ≡ false → (a && b) ≡ false
+no_second true b e = e
+no_second false b e = refl
+
+none_is : (z : Run) → z.repeaters ≡ 0 → falls_short z ≡ false
+none_is z h = no_second (int_lt (pos 0) (left z -ℤ reach z (fitting z))) _ (grind (arith, nat_tests))
+
+pub squeezes_full : (z : Run) → (left z -ℤ reach z (fitting z)) ≤ℤ pos 0 → squeezes z ≡ false
+squeezes_full z h = ap (λ v. v && int_lt (pos 0) (excess z)) (full_is z h)
+
+pub squeezes_none : (z : Run) → z.repeaters ≡ 0 → squeezes z ≡ false
+squeezes_none z h = ap (λ v. v && int_lt (pos 0) (excess z)) (none_is z h)
+
+pub squeezes_short : (z : Run) → pos 0 <ℤ (left z -ℤ reach z (fitting z)) → 0 < z.repeaters → squeezes z ≡ int_lt (pos 0) (excess z)
+squeezes_short z h p = ap (λ v. v && int_lt (pos 0) (excess z)) (short_is z h p)
+
+-- where copies overlap, there are some, and they reach too far
+pub squeezed_some : (z : Run) → squeezes z ≡ true → (0 < copies_added z) × (pos 0 <ℤ excess z)
+squeezed_some z e =
+    let both = and_both (falls_short z) _ e in
+    let short = and_both (int_lt (pos 0) (left z -ℤ reach z (fitting z))) (nat_lt 0 z.repeaters) both.0 in
+    let some : 0 < z.repeaters = ltb-true 0 z.repeaters short.1 in
+    let one_more : added z ≡ suc (fitting z) = ap (λ v. cond v (suc (fitting z)) (fitting z)) both.0 in
+    let many : 0 < added z = omega arith in
+    (mul-pos many some, grind (arith, ints))
+
+pub overlap_yes : (z : Run) → squeezes z ≡ true → overlap z ≡ int_div (excess z) (pos (copies_added z))
+overlap_yes z e = ap (λ v. cond v (int_div (excess z) (pos (copies_added z))) (pos 0)) e
+
+pub overlap_no : (z : Run) → squeezes z ≡ false → overlap z ≡ pos 0
+overlap_no z e = ap (λ v. cond v (int_div (excess z) (pos (copies_added z))) (pos 0)) e
+
+pub quotient_bounds : (a : ℤ) (n : ℕ) → pos 0 ≤ℤ a → 0 < n → (pos 0 ≤ℤ int_div a (pos n)) × (int_div a (pos n) ≤ℤ a)
+quotient_bounds (pos a) n h p = (omega (arith, ints), omega (arith, ints, div-le_self a n))
+quotient_bounds (negsuc a) n h p = absurd (omega (arith, ints))
+
+lt_gap : (a b : ℤ) → int_lt a b ≡ int_lt (pos 0) (b -ℤ a)
+lt_gap a b = by_lt_z a b (λ h. let over : pos 0 <ℤ (b -ℤ a) = omega (arith, ints) in lt_yes a b h ∙ sym (lt_yes (pos 0) (b -ℤ a) over)) (λ h. let under : (b -ℤ a) ≤ℤ pos 0 = omega (arith, ints) in lt_not a b h ∙ sym (lt_not (pos 0) (b -ℤ a) under))
+
+pub squeezes_at : (z : Run) (l r : ℤ) → l ≡ left z → r ≡ reach z (added z) → pos 0 <ℤ (left z -ℤ reach z (fitting z)) → 0 < z.repeaters → int_lt l r ≡ squeezes z
+squeezes_at z l r e f h p = ap (λ l. int_lt l r) e ∙ ap (λ r. int_lt (left z) r) f ∙ lt_gap (left z) (reach z (added z)) ∙ sym (squeezes_short z h p)
+
+-- the quotient that overlap is, and its bounds
+pub overlap_at : (z : Run) (q ex n : ℤ) → squeezes z ≡ true → q ≡ int_div ex n → ex ≡ excess z → n ≡ pos (copies_added z) → q ≡ overlap z
+overlap_at z q ex n e d f h = d ∙ ap (λ x. int_div x n) f ∙ ap (λ m. int_div (excess z) m) h ∙ sym (overlap_yes z e)
+
+pub overlap_bounds : (z : Run) → squeezes z ≡ true → (pos 0 ≤ℤ overlap z) × (overlap z ≤ℤ excess z)
+overlap_bounds z e =
+    let some = squeezed_some z e in
+    let P : ℤ → Type 0 = λ o. (pos 0 ≤ℤ o) × (o ≤ℤ excess z) in
+    subst P (sym (overlap_yes z e)) (quotient_bounds (excess z) (copies_added z) (omega (arith, ints)) some.0)
+
+-- the second choice of a start, from a number that is the laid width
+pub centred_wide : (right_to_left : Bool) (z : Run) (w : ℤ) → w ≡ laid_width z → fits_i32 w ≡ false → None ≡ start_if_fits Centred right_to_left z
+centred_wide right_to_left z w e f = sym (if_first (fits_i32 (laid_width z)) _ _ _ (sym (ap fits_i32 e) ∙ f))
+
+pub centred_apart : (right_to_left : Bool) (z : Run) (w : ℤ) → w ≡ laid_width z → fits_i32 (z.word -ℤ w) ≡ false → None ≡ start_if_fits Centred right_to_left z
+centred_apart right_to_left z w e f = sym (if_second (fits_i32 (laid_width z)) _ _ _ (ap (λ b. b && true) (sym (ap (λ w. fits_i32 (z.word -ℤ w)) e) ∙ f)))
+
+pub centred_fits : (right_to_left : Bool) (z : Run) (w : ℤ) → w ≡ laid_width z → fits_i32 w ≡ true → fits_i32 (z.word -ℤ w) ≡ true → Some (start Centred right_to_left z) ≡ start_if_fits Centred right_to_left z
+centred_fits right_to_left z w e f h = sym (if_both (fits_i32 (laid_width z)) _ _ _ (sym (ap fits_i32 e) ∙ f) (ap (λ b. b && true) (sym (ap (λ w. fits_i32 (z.word -ℤ w)) e) ∙ h)))
+
+-- how a run is laid, by the tests in turn
+four_true : (a b c d : Bool) (rest : Bool) → (a && (b && (c && (d && true)))) ≡ true → (a && (b && (c && (d && rest)))) ≡ rest
+four_true true true true true rest e = refl
+four_true true true true false rest e = absurd (clash e)
+four_true true true false d rest e = absurd (clash e)
+four_true true false c d rest e = absurd (clash e)
+four_true false b c d rest e = absurd (clash e)
+
+two_true : (a b : Bool) (rest : Bool) → (a && (b && true)) ≡ true → (a && (b && rest)) ≡ rest
+two_true true true rest e = refl
+two_true true false rest e = absurd (clash e)
+two_true false b rest e = absurd (clash e)
+
+abbrev number_or : Option ℤ → ℤ
+number_or (Some x) = x
+number_or None = pos 0
+
+some_same : {x y : ℤ} → Some x ≡ Some y → x ≡ y
+some_same e = ap number_or e
+
+as_code_found : (right_to_left : Bool) (z : Run) (b : Bool) (s : ℤ) → b ≡ true → start AsCode right_to_left z ≡ s → cond b (Some (lay_of AsCode right_to_left z)) None ≡ Some (record (lay_of AsCode right_to_left z) { start = s })
+as_code_found right_to_left z b s e f = ap (λ b. cond b (Some (lay_of AsCode right_to_left z)) None) e ∙ ap (λ s. let r : Lay = record (lay_of AsCode right_to_left z) { start = s } in Some r) f
+
+pub four_and_two : (z : Run) (rest : Bool) → list_all fits_i32 (z.word ∷ z.fixed ∷ z.repeating ∷ left z ∷ []) ≡ true → list_all fits_i32 (reach z (added z) ∷ pos (copies_added z) ∷ []) ≡ true → (fits_i32 z.word && (fits_i32 z.fixed && (fits_i32 z.repeating && (fits_i32 (left z) && (fits_i32 (reach z (added z)) && (fits_i32 (pos (copies_added z)) && rest)))))) ≡ rest
+four_and_two z rest e f = four_true (fits_i32 z.word) (fits_i32 z.fixed) (fits_i32 z.repeating) (fits_i32 (left z)) _ e ∙ two_true (fits_i32 (reach z (added z))) (fits_i32 (pos (copies_added z))) rest f
+
+centred_found : (right_to_left : Bool) (z : Run) (b : Bool) (s : ℤ) → cond b (Some (start Centred right_to_left z)) None ≡ Some s → cond b (Some (lay_of Centred right_to_left z)) None ≡ Some (record (lay_of Centred right_to_left z) { start = s })
+centred_found right_to_left z true s e = ap (λ s. let r : Lay = record (lay_of Centred right_to_left z) { start = s } in Some r) (some_same e)
+centred_found right_to_left z false s e = absurd (none-some s e)
+
+pub lay_found : (choice : StretchStart) (right_to_left : Bool) (z : Run) (s : ℤ) → list_all fits_i32 (z.word ∷ z.fixed ∷ z.repeating ∷ left z ∷ []) ≡ true → list_all fits_i32 (reach z (added z) ∷ pos (copies_added z) ∷ []) ≡ true → start_if_fits choice right_to_left z ≡ Some s → lay_if_fits choice right_to_left z ≡ Some (record (lay_of choice right_to_left z) { start = s })
+lay_found AsCode right_to_left z s e f h = as_code_found right_to_left z _ s (four_and_two z true e f) (some_same h)
+lay_found Centred right_to_left z s e f h =
+    let rest = list_all fits_i32 (laid_width z ∷ (z.word -ℤ laid_width z) ∷ []) in
+    ap (λ b. cond b (Some (lay_of Centred right_to_left z)) None) (four_and_two z rest e f) ∙ centred_found right_to_left z rest s h

@@ -1,0 +1,61 @@
+-- A laid list as a walk of a pen, which each copy moves.
+use Rattle.std.proofs.Common.{◌≡◌, ℤ, pos, ◌+ℤ◌, ◌-ℤ◌, Bool, true, false, List, [], ◌∷◌, ◌++◌, map, refl, sym, ◌∙◌, ap, arith}
+use Rattle.std.proofs.lemmas.Int.{ints}
+use Rattle.shapers_buffer.specs.Lists.{each_after}
+use Rattle.shapers_stretch.specs.Cells.{Cell}
+use Rattle.shapers_stretch.specs.Stretch.{Copy, laid, laid_at, moves, offset}
+use Rattle.shapers_stretch.proofs.Moves.{moves-append}
+use Rattle.shapers_stretch.proofs.Sums.{total_cons}
+
+-- where a copy stands when the pen is here, and where the pen is behind it
+abbrev pub stands : Bool → ℤ → ℤ → ℤ
+stands true pen move = pen -ℤ move
+stands false pen move = pen
+
+abbrev pub moved : Bool → ℤ → ℤ → ℤ
+moved true pen move = pen -ℤ move
+moved false pen move = pen +ℤ move
+
+-- copies laid from a pen on
+abbrev pub laid_on : Bool → ℤ → List Copy → List Cell
+laid_on right_to_left pen [] = []
+laid_on right_to_left pen (c ∷ cs) = laid_at (stands right_to_left pen c.move) c.tile ∷ laid_on right_to_left (moved right_to_left pen c.move) cs
+
+-- one more copy
+moves-push : (before : List Copy) (c : Copy) → moves (before ++ c ∷ []) ≡ moves before +ℤ c.move
+moves-push before c = omega (arith, ints, moves-append before (c ∷ []), total_cons c.move [])
+
+offset_is : (right_to_left : Bool) (from : ℤ) (before : List Copy) (c : Copy) → offset right_to_left from before c ≡ stands right_to_left (moved right_to_left from (moves before)) c.move
+offset_is true from before c = omega (arith, ints, moves-push before c)
+offset_is false from before c = refl
+
+pen_next : (right_to_left : Bool) (from : ℤ) (before : List Copy) (c : Copy) → moved right_to_left from (moves (before ++ c ∷ [])) ≡ moved right_to_left (moved right_to_left from (moves before)) c.move
+pen_next true from before c = omega (arith, ints, moves-push before c)
+pen_next false from before c = omega (arith, ints, moves-push before c)
+
+laid_after : (right_to_left : Bool) (from : ℤ) (before cs : List Copy) → map (λ p. laid_at (offset right_to_left from p.0 p.1) p.1.tile) (each_after before cs) ≡ laid_on right_to_left (moved right_to_left from (moves before)) cs
+laid_after right_to_left from before [] = refl
+laid_after right_to_left from before (c ∷ cs) =
+    let rest = map (λ p. laid_at (offset right_to_left from p.0 p.1) p.1.tile) (each_after (before ++ c ∷ []) cs) in
+    let first = laid_at (stands right_to_left (moved right_to_left from (moves before)) c.move) c.tile in
+    ap (λ x. laid_at x c.tile ∷ rest) (offset_is right_to_left from before c) ∙ ap (λ ys. first ∷ ys) (laid_after right_to_left from (before ++ c ∷ []) cs ∙ ap (λ pen. laid_on right_to_left pen cs) (pen_next right_to_left from before c))
+
+no_move : (right_to_left : Bool) (from : ℤ) → moved right_to_left from (moves []) ≡ from
+no_move true from = omega (arith, ints)
+no_move false from = omega (arith, ints)
+
+-- so the laid list of a run is laid from its start on
+pub laid_is : (right_to_left : Bool) (from : ℤ) (cs : List Copy) → laid right_to_left from cs ≡ laid_on right_to_left from cs
+laid_is right_to_left from cs = laid_after right_to_left from [] cs ∙ ap (λ pen. laid_on right_to_left pen cs) (no_move right_to_left from)
+
+moved_on : (right_to_left : Bool) (pen : ℤ) (c : Copy) (xs : List Copy) → moved right_to_left (moved right_to_left pen c.move) (moves xs) ≡ moved right_to_left pen (moves (c ∷ xs))
+moved_on true pen c xs = omega (arith, ints, total_cons c.move (map (λ copy. copy.move) xs))
+moved_on false pen c xs = omega (arith, ints, total_cons c.move (map (λ copy. copy.move) xs))
+
+-- copies and then others
+pub laid_on-append : (right_to_left : Bool) (pen : ℤ) (xs ys : List Copy) → laid_on right_to_left pen (xs ++ ys) ≡ laid_on right_to_left pen xs ++ laid_on right_to_left (moved right_to_left pen (moves xs)) ys
+laid_on-append right_to_left pen [] ys = ap (λ pen. laid_on right_to_left pen ys) (sym (no_move right_to_left pen))
+laid_on-append right_to_left pen (c ∷ xs) ys =
+    let first = laid_at (stands right_to_left pen c.move) c.tile in
+    let rest = laid_on right_to_left (moved right_to_left pen c.move) xs in
+    ap (λ zs. first ∷ zs) (laid_on-append right_to_left (moved right_to_left pen c.move) xs ys ∙ ap (λ pen. rest ++ laid_on right_to_left pen ys) (moved_on right_to_left pen c xs))
