@@ -1,5 +1,5 @@
 -- What each hook does, shaper by shaper. Where a shaper lacks a hook, nothing changes and the answer is None.
-use Rattle.std.specs.Prelude.{ℕ, ◌+◌, ◌≤◌, List, true, false, ◌≡◌, length, Option, None, Some, Result, IsOk}
+use Rattle.std.specs.Prelude.{ℕ, ◌+◌, ◌≤◌, List, map, true, false, ◌≡◌, length, Option, None, Some, Result, IsOk}
 use Rattle.std.specs.Char.{IsScalar}
 use Rattle.std.specs.List.{All, list_any}
 use Rattle.shapers_buffer.specs.Buffer.{Buffer}
@@ -21,6 +21,13 @@ use Rattle.shapers_clusters.specs.Steps.{run_step}
 use Rattle.shapers_hangul.specs.Hangul as hangul
 use Rattle.shapers_hangul.specs.HangulLaws.{KeepsClusters, SpellsSame}
 use Rattle.shapers_hangul.specs.Masks.{is_hangul_data, jamo_masks, with_jamo_masks}
+use Rattle.shapers_indic.specs.Characters.{composed_in_indic, decomposed_in_indic}
+use Rattle.shapers_indic.specs.Plan.{indic_plan}
+use Rattle.shapers_khmer.specs.Khmer.{decomposed_in_khmer}
+use Rattle.shapers_khmer.specs.Plan.{khmer_masks}
+use Rattle.shapers_syllabic.specs.Characters.{composed_behind, with_category, with_category_and_position}
+use Rattle.shapers_universal.specs.PlanData.{arabic_of, is_universal, universal_plan}
+use Rattle.shapers_universal.specs.UniversalMasks.{CanJoin, MasksAreSet}
 use Rattle.shapers_text.specs.Hebrew as hebrew
 use Rattle.shapers_text.specs.Hebrew.{composed_in_hebrew, mark_step}
 use Rattle.shapers_text.specs.Thai.{characters, is_sara_am, glyphs_in_two}
@@ -188,7 +195,7 @@ abbrev pub MasksSet : hb_ot_shaper_t → hb_ot_shape_plan_t → CharacterTables 
 MasksSet Arabic plan tables old new = IsJoined (masks_of plan.plan_data) plan.script tables.joining tables.general old new × CutsAsHalves plan.script tables.joining tables.general old new
 MasksSet Hangul plan tables old new = new ≡ with_jamo_masks plan.plan_data old
 MasksSet Hebrew plan tables old new = new ≡ old
-MasksSet Indic plan tables old new = Unbuilt
+MasksSet Indic plan tables old new = new ≡ record old { glyphs = map (with_category_and_position tables) old.glyphs }
 MasksSet Khmer plan tables old new = new ≡ record old { glyphs = map (with_category tables) old.glyphs }
 MasksSet Myanmar plan tables old new = new ≡ record old { glyphs = map (with_category tables) old.glyphs }
 MasksSet MyanmarZawgyi plan tables old new = new ≡ old

@@ -1,10 +1,30 @@
 -- What each pause does to the buffer.
-use Rattle.std.specs.Prelude.{ℕ, ◌≡◌, Bool, true, false, List, map, Result, IsOk}
+use Rattle.std.specs.Prelude.{ℕ, ◌≡◌, Bool, true, false, List, map, length, Option, None, Some, is_some, Result, IsOk}
+use Rattle.shapers_arabic.specs.PlanData.{IsArabic}
+use Rattle.shapers_base.specs.declared.plan.ot_category_t.TheConstants.{OT_DOTTEDCIRCLE}
+use Rattle.shapers_buffer.specs.Glyph.{order_view}
+use Rattle.shapers_buffer.specs.declared.buffer.glyph.hb_glyph_info_t.{hb_glyph_info_t}
+use Rattle.shapers_clusters.specs.Laws.{ReorderedHold}
+use Rattle.shapers_clusters.specs.Steps.{Step}
+use Rattle.shapers_khmer.specs.Khmer.{khmer_circles, khmer_order, khmer_steps, order_in}
+use Rattle.shapers_khmer.specs.Plan.{is_khmer_data}
+use Rattle.shapers_myanmar.specs.Myanmar.{myanmar_order, myanmar_steps}
+use Rattle.shapers_stretch.specs.Recorded.{tiles_recorded}
+use Rattle.shapers_syllabic.specs.Borders.{SetUpCutsAtSpans, spans_set_up}
+use Rattle.shapers_syllabic.specs.Circles.{circled, circles_for}
+use Rattle.shapers_syllabic.specs.Reordering.{PauseReordered, carried, circles_of_sort, text_steps}
+use Rattle.shapers_syllabic.specs.ReorderingLaws.{PauseCutsAtBorders}
+use Rattle.shapers_syllabic.specs.declared.ot_shaper_syllabic.circles.DottedCircles.{DottedCircles}
+use Rattle.shapers_syllabic.specs.declared.ot_shaper_syllabic.kinds.use_syllable.TheConstants.{BROKEN_CLUSTER}
+use Rattle.shapers_universal.specs.PlanData.{is_universal, rphf_of}
+use Rattle.shapers_universal.specs.Universal.{universal_order, universal_steps}
+use Rattle.shapers_universal.specs.UniversalSyllables.{syllables_set_up, with_pref_recorded, with_rphf_recorded}
+use Rattle.shapers_universal.specs.declared.ot_shaper_use.category.TheConstants.{B, R}
 use Rattle.shapers_buffer.specs.Buffer.{Buffer}
 use Rattle.shapers_base.specs.Font.{Font}
-use Rattle.shapers_buffer.specs.Refusals.{RefusesInput}
-use Rattle.shapers_syllabic.specs.Syllabic.{with_unsafe_syllables, unsubstituted}
-use Rattle.shapers_buffer.specs.Syllables.{in_syllable, spans_refusal, with_spans}
+use Rattle.shapers_buffer.specs.Refusals.{Refuses, RefusesInput}
+use Rattle.shapers_syllabic.specs.Syllabic.{unsubstituted}
+use Rattle.shapers_buffer.specs.Syllables.{in_syllable, spans_refusal, unknown_refusal}
 use Rattle.shapers_buffer.specs.declared.buffer.refusal.ShaperError.{ShaperError}
 use Rattle.shapers_buffer.specs.declared.buffer.syllables.Span.{Span}
 use Rattle.shapers_base.specs.declared.plan.hb_ot_shape_plan_t.{hb_ot_shape_plan_t}
@@ -20,15 +40,15 @@ abbrev pub pause_standing : Pause → Standing
 pause_standing SetupSyllablesIndic = Has
 pause_standing SetupSyllablesKhmer = Has
 pause_standing SetupSyllablesMyanmar = Has
-pause_standing SetupSyllablesUse = WillHave
+pause_standing SetupSyllablesUse = Has
 pause_standing InitialReordering = WillHave
-pause_standing ReorderKhmer = WillHave
-pause_standing ReorderMyanmar = WillHave
-pause_standing ReorderUse = WillHave
+pause_standing ReorderKhmer = Has
+pause_standing ReorderMyanmar = Has
+pause_standing ReorderUse = Has
 pause_standing FinalReordering = WillHave
-pause_standing RecordStch = WillHave
-pause_standing RecordRphf = WillHave
-pause_standing RecordPref = WillHave
+pause_standing RecordStch = Has
+pause_standing RecordRphf = Has
+pause_standing RecordPref = Has
 pause_standing SyllabicClearVar = Has
 pause_standing ClearSubstitutionFlags = Has
 pause_standing ArabicFallbackShape = Has
@@ -37,60 +57,111 @@ pause_standing ArabicFallbackShape = Has
 abbrev pub CanPause : Pause → Type 0
 CanPause pause = is_settled (pause_standing pause) ≡ true
 
--- the spans' bytes, the mark where one is of the broken kind, and no break inside a syllable
-abbrev pub set_up : List Span → ℕ → Buffer → Buffer
-set_up spans broken_kind b = with_unsafe_syllables (with_spans spans broken_kind b)
+-- the plan's data are of the kind that the pause reads
+abbrev pub PauseFits : Pause → hb_ot_shape_plan_t → Type 0
+PauseFits SetupSyllablesIndic plan = Unit {0}
+PauseFits SetupSyllablesKhmer plan = Unit {0}
+PauseFits SetupSyllablesMyanmar plan = Unit {0}
+PauseFits SetupSyllablesUse plan = is_universal plan.plan_data ≡ true
+PauseFits InitialReordering plan = Unit {0}
+PauseFits ReorderKhmer plan = is_khmer_data plan.plan_data ≡ true
+PauseFits ReorderMyanmar plan = Unit {0}
+PauseFits ReorderUse plan = Unit {0}
+PauseFits FinalReordering plan = Unit {0}
+PauseFits RecordStch plan = IsArabic plan.plan_data
+PauseFits RecordRphf plan = is_universal plan.plan_data ≡ true
+PauseFits RecordPref plan = Unit {0}
+PauseFits SyllabicClearVar plan = Unit {0}
+PauseFits ClearSubstitutionFlags plan = Unit {0}
+PauseFits ArabicFallbackShape plan = Unit {0}
+
+-- the dotted circles that a reordering pause opens: of Khmer and the universal shaper behind rephas, of Myanmar in front
+abbrev pub circles_of : Pause → Font → Buffer → Option DottedCircles
+circles_of ReorderKhmer font b = circles_of_sort khmer_circles font b
+circles_of ReorderMyanmar font b = circles_for (font.nominal 0x25CC) 2 OT_DOTTEDCIRCLE None None b
+circles_of ReorderUse font b = circles_for (font.nominal 0x25CC) BROKEN_CLUSTER B (Some R) None b
+circles_of _ font b = None
+
+-- the text after its circles
+abbrev pub opened : Option DottedCircles → Buffer → List hb_glyph_info_t
+opened circles b = circled circles b.glyphs
 
 -- the buffer before and after the pause: broken kinds are Indic 4, Khmer 1, Myanmar 2
 abbrev pub Paused : Pause → hb_ot_shape_plan_t → Font → List Span → Buffer → Buffer → Type 0
-Paused SetupSyllablesIndic plan font spans old new = new ≡ set_up spans 4 old
-Paused SetupSyllablesKhmer plan font spans old new = new ≡ set_up spans 1 old
-Paused SetupSyllablesMyanmar plan font spans old new = new ≡ set_up spans 2 old
-Paused SetupSyllablesUse plan font spans old new = Unbuilt
+Paused SetupSyllablesIndic plan font spans old new = new ≡ spans_set_up spans 4 old
+Paused SetupSyllablesKhmer plan font spans old new = new ≡ spans_set_up spans 1 old
+Paused SetupSyllablesMyanmar plan font spans old new = new ≡ spans_set_up spans 2 old
+Paused SetupSyllablesUse plan font spans old new = new ≡ syllables_set_up plan.plan_data plan.ot_map spans old
 Paused InitialReordering plan font spans old new = Unbuilt
-Paused ReorderKhmer plan font spans old new = Unbuilt
-Paused ReorderMyanmar plan font spans old new = Unbuilt
-Paused ReorderUse plan font spans old new = Unbuilt
+Paused ReorderKhmer plan font spans old new = PauseReordered (circles_of ReorderKhmer font old) (khmer_order (order_in plan.plan_data)) khmer_steps old new
+Paused ReorderMyanmar plan font spans old new = PauseReordered (circles_of ReorderMyanmar font old) myanmar_order myanmar_steps old new
+Paused ReorderUse plan font spans old new = PauseReordered (circles_of ReorderUse font old) universal_order universal_steps old new
 Paused FinalReordering plan font spans old new = Unbuilt
-Paused RecordStch plan font spans old new = Unbuilt
-Paused RecordRphf plan font spans old new = Unbuilt
-Paused RecordPref plan font spans old new = Unbuilt
+Paused RecordStch plan font spans old new = new ≡ tiles_recorded plan.plan_data old
+Paused RecordRphf plan font spans old new = new ≡ with_rphf_recorded (rphf_of plan.plan_data) old
+Paused RecordPref plan font spans old new = new ≡ with_pref_recorded old
 Paused SyllabicClearVar plan font spans old new = new ≡ record old { glyphs = map (in_syllable 0) old.glyphs }
 Paused ClearSubstitutionFlags plan font spans old new = new ≡ record old { glyphs = map unsubstituted old.glyphs }
 Paused ArabicFallbackShape plan font spans old new = new ≡ old
+
+-- what a reordering pause keeps: a text cut at any border of syllables gives the halves' results joined; no glyph is lost, exact cuts, the cluster law and the flag law
+abbrev pub ReorderingKeeps : Option DottedCircles → (List hb_glyph_info_t → List hb_glyph_info_t) → (List hb_glyph_info_t → List Step) → Buffer → Buffer → Type 0
+ReorderingKeeps circles meaning steps old new = PauseCutsAtBorders circles meaning steps old new × ReorderedHold carried old.level (text_steps steps (order_view (opened circles old))) (opened circles old) new.glyphs
+
+-- the laws of a pause: spans may be cut between any two, and texts at any border of syllables
+abbrev pub PauseKeeps : Pause → hb_ot_shape_plan_t → Font → List Span → Buffer → Buffer → Type 0
+PauseKeeps SetupSyllablesIndic plan font spans old new = SetUpCutsAtSpans spans 4 old new
+PauseKeeps SetupSyllablesKhmer plan font spans old new = SetUpCutsAtSpans spans 1 old new
+PauseKeeps SetupSyllablesMyanmar plan font spans old new = SetUpCutsAtSpans spans 2 old new
+PauseKeeps SetupSyllablesUse plan font spans old new = Unit {0}
+PauseKeeps InitialReordering plan font spans old new = Unbuilt
+PauseKeeps ReorderKhmer plan font spans old new = ReorderingKeeps (circles_of ReorderKhmer font old) (khmer_order (order_in plan.plan_data)) khmer_steps old new
+PauseKeeps ReorderMyanmar plan font spans old new = ReorderingKeeps (circles_of ReorderMyanmar font old) myanmar_order myanmar_steps old new
+PauseKeeps ReorderUse plan font spans old new = ReorderingKeeps (circles_of ReorderUse font old) universal_order universal_steps old new
+PauseKeeps FinalReordering plan font spans old new = Unbuilt
+PauseKeeps RecordStch plan font spans old new = Unit {0}
+PauseKeeps RecordRphf plan font spans old new = Unit {0}
+PauseKeeps RecordPref plan font spans old new = Unit {0}
+PauseKeeps SyllabicClearVar plan font spans old new = Unit {0}
+PauseKeeps ClearSubstitutionFlags plan font spans old new = Unit {0}
+PauseKeeps ArabicFallbackShape plan font spans old new = Unit {0}
 
 -- whether it answers that circles were wanted
 abbrev pub PauseAnswers : Pause → Font → Buffer → Bool → Type 0
 PauseAnswers SetupSyllablesIndic font old answer = answer ≡ false
 PauseAnswers SetupSyllablesKhmer font old answer = answer ≡ false
 PauseAnswers SetupSyllablesMyanmar font old answer = answer ≡ false
-PauseAnswers SetupSyllablesUse font old answer = Unbuilt
+PauseAnswers SetupSyllablesUse font old answer = answer ≡ false
 PauseAnswers InitialReordering font old answer = Unbuilt
-PauseAnswers ReorderKhmer font old answer = Unbuilt
-PauseAnswers ReorderMyanmar font old answer = Unbuilt
-PauseAnswers ReorderUse font old answer = Unbuilt
+PauseAnswers ReorderKhmer font old answer = answer ≡ is_some (circles_of ReorderKhmer font old)
+PauseAnswers ReorderMyanmar font old answer = answer ≡ is_some (circles_of ReorderMyanmar font old)
+PauseAnswers ReorderUse font old answer = answer ≡ is_some (circles_of ReorderUse font old)
 PauseAnswers FinalReordering font old answer = Unbuilt
-PauseAnswers RecordStch font old answer = Unbuilt
-PauseAnswers RecordRphf font old answer = Unbuilt
-PauseAnswers RecordPref font old answer = Unbuilt
+PauseAnswers RecordStch font old answer = answer ≡ false
+PauseAnswers RecordRphf font old answer = answer ≡ false
+PauseAnswers RecordPref font old answer = answer ≡ false
 PauseAnswers SyllabicClearVar font old answer = answer ≡ false
 PauseAnswers ClearSubstitutionFlags font old answer = answer ≡ false
 PauseAnswers ArabicFallbackShape font old answer = answer ≡ false
 
+-- when a reordering refuses: an unknown kind first; then as a growth to the text with its circles does; never where no circle opens
+abbrev pub RefusesReordering : {T : Type 0} → Option ShaperError → Option DottedCircles → Buffer → Result T ShaperError → Type 0
+RefusesReordering unknown circles old r = Refuses unknown old.max_len (length (opened circles old)) r × (unknown ≡ None → opened circles old ≡ old.glyphs → IsOk r)
+
 -- when it refuses
-abbrev pub RefusesPause : {T : Type 0} → Pause → List Span → Buffer → Result T ShaperError → Type 0
-RefusesPause SetupSyllablesIndic spans old r = RefusesInput (spans_refusal spans old) r
-RefusesPause SetupSyllablesKhmer spans old r = RefusesInput (spans_refusal spans old) r
-RefusesPause SetupSyllablesMyanmar spans old r = RefusesInput (spans_refusal spans old) r
-RefusesPause SetupSyllablesUse spans old r = Unbuilt
-RefusesPause InitialReordering spans old r = Unbuilt
-RefusesPause ReorderKhmer spans old r = Unbuilt
-RefusesPause ReorderMyanmar spans old r = Unbuilt
-RefusesPause ReorderUse spans old r = Unbuilt
-RefusesPause FinalReordering spans old r = Unbuilt
-RefusesPause RecordStch spans old r = Unbuilt
-RefusesPause RecordRphf spans old r = Unbuilt
-RefusesPause RecordPref spans old r = Unbuilt
-RefusesPause SyllabicClearVar spans old r = IsOk r
-RefusesPause ClearSubstitutionFlags spans old r = IsOk r
-RefusesPause ArabicFallbackShape spans old r = IsOk r
+abbrev pub RefusesPause : {T : Type 0} → Pause → Font → List Span → Buffer → Result T ShaperError → Type 0
+RefusesPause SetupSyllablesIndic font spans old r = RefusesInput (spans_refusal spans old) r
+RefusesPause SetupSyllablesKhmer font spans old r = RefusesInput (spans_refusal spans old) r
+RefusesPause SetupSyllablesMyanmar font spans old r = RefusesInput (spans_refusal spans old) r
+RefusesPause SetupSyllablesUse font spans old r = RefusesInput (spans_refusal spans old) r
+RefusesPause InitialReordering font spans old r = Unbuilt
+RefusesPause ReorderKhmer font spans old r = RefusesReordering (unknown_refusal 2 old.glyphs) (circles_of ReorderKhmer font old) old r
+RefusesPause ReorderMyanmar font spans old r = RefusesReordering (unknown_refusal 3 old.glyphs) (circles_of ReorderMyanmar font old) old r
+RefusesPause ReorderUse font spans old r = RefusesReordering None (circles_of ReorderUse font old) old r
+RefusesPause FinalReordering font spans old r = Unbuilt
+RefusesPause RecordStch font spans old r = IsOk r
+RefusesPause RecordRphf font spans old r = IsOk r
+RefusesPause RecordPref font spans old r = IsOk r
+RefusesPause SyllabicClearVar font spans old r = IsOk r
+RefusesPause ClearSubstitutionFlags font spans old r = IsOk r
+RefusesPause ArabicFallbackShape font spans old r = IsOk r

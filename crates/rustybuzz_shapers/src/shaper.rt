@@ -15,6 +15,7 @@ mod conditions;
 mod pauses;
 mod standing;
 
+pub use conditions::pause_fits;
 pub use pauses::{pause_standing, run_pause};
 use shapers_arabic::ot_shaper_arabic;
 pub use shapers_base::plan::{NormalizationMode, Pause, PlanData, Preprocess, ZeroWidthMarks};
@@ -168,8 +169,10 @@ impl hb_ot_shaper_t {
         match self {
             Self::Arabic => Some(ot_shaper_arabic::create_data(plan)),
             Self::Hangul => Some(ot_shaper_hangul::create_data(plan)),
+            Self::Indic => Some(ot_shaper_indic::create_data(plan)),
+            Self::Khmer => Some(ot_shaper_khmer::create_data(plan)),
+            Self::Universal => Some(ot_shaper_use::create_data(plan)),
             Self::Hebrew | Self::Myanmar | Self::MyanmarZawgyi | Self::Thai => None,
-            Self::Indic | Self::Khmer | Self::Universal => unreachable!(),
         }
     }
 
@@ -236,7 +239,8 @@ impl hb_ot_shaper_t {
     }
 
     /// The character that two characters compose to for this shaper: for Hebrew also, where GPOS
-    /// places no marks, the form of a letter and a point.
+    /// places no marks, the form of a letter and a point; for Indic, Khmer and the universal shaper
+    /// none behind a mark, and for Indic also YA with its nukta.
     pub fn compose<T: Tables>(
         self,
         plan: &hb_ot_shape_plan_t,
@@ -249,12 +253,15 @@ impl hb_ot_shaper_t {
     {
         match self {
             Self::Hebrew => Some(ot_shaper_hebrew::compose(plan, tables, a, b)),
-            Self::Indic | Self::Khmer | Self::Universal => unreachable!(),
+            Self::Indic => Some(ot_shaper_indic::compose(tables, a, b)),
+            Self::Khmer => Some(ot_shaper_khmer::compose(tables, a, b)),
+            Self::Universal => Some(ot_shaper_use::compose(tables, a, b)),
             Self::Arabic | Self::Hangul | Self::Myanmar | Self::MyanmarZawgyi | Self::Thai => None,
         }
     }
 
-    /// The two characters that a character decomposes to for this shaper.
+    /// The two characters that a character decomposes to for this shaper: for Indic not of letters
+    /// that fonts know whole, for Khmer also of split vowels.
     pub fn decompose<T: Tables>(
         self,
         plan: &hb_ot_shape_plan_t,
@@ -265,7 +272,8 @@ impl hb_ot_shaper_t {
         ensures { Decomposed self plan.now (T.tables tables.now) ab result }
     {
         match self {
-            Self::Indic | Self::Khmer => unreachable!(),
+            Self::Indic => Some(ot_shaper_indic::decompose(tables, ab)),
+            Self::Khmer => Some(ot_shaper_khmer::decompose(tables, ab)),
             Self::Arabic
             | Self::Hangul
             | Self::Hebrew
@@ -277,8 +285,9 @@ impl hb_ot_shaper_t {
     }
 
     /// Sets the masks of the glyphs: for Arabic, the form that each letter takes between its
-    /// neighbours, and the form's mask; for Hangul those of marked jamo. It can't refuse and takes no
-    /// memory.
+    /// neighbours, and the form's mask; for Hangul those of marked jamo; for Indic, Khmer and Myanmar
+    /// categories alone, for the universal shaper these and, where letters join, Arabic's forms. It
+    /// can't refuse and takes no memory.
     pub fn setup_masks<F: hb_font_t, T: Tables>(
         self,
         plan: &hb_ot_shape_plan_t,
@@ -289,15 +298,18 @@ impl hb_ot_shaper_t {
         requires without_positions { buffer.old.positions ≡ [] }
         requires settled { CanAsk self Hook.SetupMasks }
         requires data { PlanFits self plan.now }
-        requires glyphs { GlyphsFit self buffer.old.glyphs }
+        requires glyphs { GlyphsFit self plan.now buffer.old.glyphs }
         ensures answer { is_some result ≡ is_there (standing self Hook.SetupMasks) }
         ensures masks { MasksSet self plan.now (T.tables tables.now) buffer.old buffer.new }
     {
         match self {
             Self::Arabic => Some(ot_shaper_arabic::setup_masks(plan, tables, buffer)),
             Self::Hangul => Some(ot_shaper_hangul::setup_masks(plan, buffer)),
+            Self::Indic => Some(ot_shaper_indic::setup_masks(tables, buffer)),
+            Self::Khmer => Some(ot_shaper_khmer::setup_masks(tables, buffer)),
+            Self::Myanmar => Some(ot_shaper_myanmar::setup_masks(tables, buffer)),
+            Self::Universal => Some(ot_shaper_use::setup_masks(plan, tables, buffer)),
             Self::Hebrew | Self::MyanmarZawgyi | Self::Thai => None,
-            Self::Indic | Self::Khmer | Self::Myanmar | Self::Universal => unreachable!(),
         }
     }
 

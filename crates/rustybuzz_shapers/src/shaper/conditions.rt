@@ -1,12 +1,17 @@
 //! What the hooks ask of their callers: the plan's data, and tests of the rest.
-ghost use Rattle.std.specs.Prelude.{◌≡◌, ◌≤◌, ◌↔◌, All, IsTrue};
+ghost use Rattle.std.specs.Prelude.{◌≡◌, ◌≤◌, ◌↔◌, All, IsTrue, is_some};
 ghost use Rattle.std.specs.Char.{IsScalar};
+ghost use Rattle.rustybuzz_shapers.specs.Pauses.{PauseFits};
+ghost use Rattle.shapers_universal.specs.PlanData.{arabic_of};
 
 use super::hb_ot_shaper_t;
 use shapers_arabic::ot_shaper_arabic;
 use shapers_base::buffer::{hb_buffer_t, hb_glyph_info_t};
-use shapers_base::plan::hb_ot_shape_plan_t;
+use shapers_base::plan::{Pause, PlanData, hb_ot_shape_plan_t};
 use shapers_hangul::ot_shaper_hangul;
+use shapers_indic::ot_shaper_indic;
+use shapers_khmer::ot_shaper_khmer;
+use shapers_universal::ot_shaper_use;
 
 impl hb_ot_shaper_t {
     ghost use Rattle.rustybuzz_shapers.specs.Hooks.{GlyphsFit, MarksFit, PlanFits};
@@ -19,13 +24,10 @@ impl hb_ot_shaper_t {
         match self {
             Self::Arabic => plan.plan_data = ot_shaper_arabic::create_data(&plan),
             Self::Hangul => plan.plan_data = ot_shaper_hangul::create_data(&plan),
-            Self::Hebrew
-            | Self::Indic
-            | Self::Khmer
-            | Self::Myanmar
-            | Self::MyanmarZawgyi
-            | Self::Thai
-            | Self::Universal => {}
+            Self::Indic => plan.plan_data = ot_shaper_indic::create_data(&plan),
+            Self::Khmer => plan.plan_data = ot_shaper_khmer::create_data(&plan),
+            Self::Universal => plan.plan_data = ot_shaper_use::create_data(&plan),
+            Self::Hebrew | Self::Myanmar | Self::MyanmarZawgyi | Self::Thai => {}
         }
         plan
     }
@@ -48,21 +50,56 @@ impl hb_ot_shaper_t {
         }
     }
 
-    /// Whether the glyphs are such as `setup_masks` asks for: for Arabic, characters.
-    pub fn glyphs_fit(self, buffer: &hb_buffer_t) -> bool
-        ensures { IsTrue result ↔ GlyphsFit self buffer.now.glyphs }
+    /// Whether the glyphs are such as `setup_masks` asks for: for Arabic, and for the universal shaper
+    /// where letters join, characters.
+    pub fn glyphs_fit(self, plan: &hb_ot_shape_plan_t, buffer: &hb_buffer_t) -> bool
+        ensures { IsTrue result ↔ GlyphsFit self plan.now buffer.now.glyphs }
     {
         match self {
             Self::Arabic => are_characters(buffer.glyphs()),
+            Self::Universal => !joins_letters(&plan.plan_data) || are_characters(buffer.glyphs()),
             Self::Hangul
             | Self::Hebrew
             | Self::Indic
             | Self::Khmer
             | Self::Myanmar
             | Self::MyanmarZawgyi
-            | Self::Thai
-            | Self::Universal => true,
+            | Self::Thai => true,
         }
+    }
+}
+
+/// Whether the plan's data are of the kind that the pause reads.
+pub fn pause_fits(pause: Pause, plan: &hb_ot_shape_plan_t) -> bool
+    ensures { IsTrue result ↔ PauseFits pause plan.now }
+{
+    match pause {
+        Pause::ReorderKhmer => matches!(plan.plan_data, PlanData::Khmer(_)),
+        Pause::SetupSyllablesUse | Pause::RecordRphf => {
+            matches!(plan.plan_data, PlanData::Universal(_))
+        }
+        Pause::RecordStch => matches!(plan.plan_data, PlanData::Arabic(_)),
+        Pause::SetupSyllablesIndic
+        | Pause::SetupSyllablesKhmer
+        | Pause::SetupSyllablesMyanmar
+        | Pause::InitialReordering
+        | Pause::ReorderMyanmar
+        | Pause::ReorderUse
+        | Pause::FinalReordering
+        | Pause::RecordPref
+        | Pause::SyllabicClearVar
+        | Pause::ClearSubstitutionFlags
+        | Pause::ArabicFallbackShape => true,
+    }
+}
+
+// Whether the universal shaper has a plan of Arabic.
+fn joins_letters(plan_data: &PlanData) -> bool
+    ensures { result ≡ is_some (arabic_of plan_data.now) }
+{
+    match plan_data {
+        PlanData::Universal(kept) => kept.arabic_plan.is_some(),
+        _ => false,
     }
 }
 

@@ -1,6 +1,6 @@
 //! The pauses behind one dispatcher.
 ghost use Rattle.std.specs.Prelude.{◌≡◌, ◌≤◌, [], All, IfOk, OnOk, OnErr};
-ghost use Rattle.rustybuzz_shapers.specs.Pauses.{CanPause, PauseAnswers, Paused, pause_standing, RefusesPause};
+ghost use Rattle.rustybuzz_shapers.specs.Pauses.{CanPause, PauseAnswers, PauseFits, PauseKeeps, Paused, pause_standing, RefusesPause};
 
 use super::standing::Standing;
 use shapers_base::buffer::{ShaperError, Span, hb_buffer_t};
@@ -10,6 +10,10 @@ use shapers_syllabic::ot_shaper_syllabic::{
     set_up_syllables,
 };
 use shapers_base::plan::{Pause, hb_ot_shape_plan_t};
+use shapers_khmer::ot_shaper_khmer;
+use shapers_myanmar::ot_shaper_myanmar;
+use shapers_stretch::ot_shaper_arabic_stretch;
+use shapers_universal::ot_shaper_use;
 
 /// Whether a pause is built.
 pub fn pause_standing(pause: Pause) -> Standing
@@ -19,24 +23,25 @@ pub fn pause_standing(pause: Pause) -> Standing
         Pause::SetupSyllablesIndic
         | Pause::SetupSyllablesKhmer
         | Pause::SetupSyllablesMyanmar
-        | Pause::SyllabicClearVar
-        | Pause::ClearSubstitutionFlags
-        | Pause::ArabicFallbackShape => Standing::Has,
-        Pause::SetupSyllablesUse
-        | Pause::InitialReordering
+        | Pause::SetupSyllablesUse
         | Pause::ReorderKhmer
         | Pause::ReorderMyanmar
         | Pause::ReorderUse
-        | Pause::FinalReordering
         | Pause::RecordStch
         | Pause::RecordRphf
-        | Pause::RecordPref => Standing::WillHave,
+        | Pause::RecordPref
+        | Pause::SyllabicClearVar
+        | Pause::ClearSubstitutionFlags
+        | Pause::ArabicFallbackShape => Standing::Has,
+        Pause::InitialReordering | Pause::FinalReordering => Standing::WillHave,
     }
 }
 
 /// Does what a shaper does between two stages of substitution, and answers whether dotted circles
 /// were wanted. Spans are read by the pauses that set syllables alone: those refuse with
-/// `SpansDontCover` where a span is empty or they don't add up, and the buffer is as it was.
+/// `SpansDontCover` where a span is empty or they don't add up. Reorderings refuse unknown kinds of
+/// syllables, but for the universal shaper's, and then as circles do. A refused pause leaves the
+/// buffer as it was.
 pub fn run_pause<F: hb_font_t>(
     pause: Pause,
     plan: &hb_ot_shape_plan_t,
@@ -47,9 +52,11 @@ pub fn run_pause<F: hb_font_t>(
     requires without_positions { buffer.old.positions ≡ [] }
     requires kinds { All (λ span. span.kind ≤ 15) spans.now }
     requires settled { CanPause pause }
+    requires data { PauseFits pause plan.now }
     ensures answer { IfOk result (PauseAnswers pause (F.font face.now) buffer.old) }
     ensures ok { OnOk result (Paused pause plan.now (F.font face.now) spans.now buffer.old buffer.new) }
-    ensures refusal { RefusesPause pause spans.now buffer.old result }
+    ensures laws { OnOk result (PauseKeeps pause plan.now (F.font face.now) spans.now buffer.old buffer.new) }
+    ensures refusal { RefusesPause pause (F.font face.now) spans.now buffer.old result }
     ensures err { OnErr result (buffer.new ≡ buffer.old) }
 {
     match pause {
@@ -62,18 +69,17 @@ pub fn run_pause<F: hb_font_t>(
         Pause::SetupSyllablesMyanmar => {
             set_up_syllables(spans, myanmar_syllable::BROKEN_CLUSTER, buffer)?;
         }
+        Pause::SetupSyllablesUse => ot_shaper_use::setup_syllables_use(plan, spans, buffer)?,
+        Pause::ReorderKhmer => return ot_shaper_khmer::reorder_khmer(plan, face, buffer),
+        Pause::ReorderMyanmar => return ot_shaper_myanmar::reorder_myanmar(face, buffer),
+        Pause::ReorderUse => return ot_shaper_use::reorder_use(face, buffer),
+        Pause::RecordStch => ot_shaper_arabic_stretch::record_stch(plan, buffer),
+        Pause::RecordRphf => ot_shaper_use::record_rphf(plan, buffer),
+        Pause::RecordPref => ot_shaper_use::record_pref(buffer),
         Pause::SyllabicClearVar => clear_syllables(buffer),
         Pause::ClearSubstitutionFlags => clear_substitution_flags(buffer),
         Pause::ArabicFallbackShape => {}
-        Pause::SetupSyllablesUse
-        | Pause::InitialReordering
-        | Pause::ReorderKhmer
-        | Pause::ReorderMyanmar
-        | Pause::ReorderUse
-        | Pause::FinalReordering
-        | Pause::RecordStch
-        | Pause::RecordRphf
-        | Pause::RecordPref => unreachable!(),
+        Pause::InitialReordering | Pause::FinalReordering => unreachable!(),
     }
     Ok(false)
 }
