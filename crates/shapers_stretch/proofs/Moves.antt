@@ -41,7 +41,7 @@ total_if : {X : Type 0} (f : X → ℤ) (b : Bool) (c : X) (ys : List X) → tot
 total_if f true c ys = total_cons (f c) (map f ys)
 total_if f false c ys = refl
 
-length_if : {X : Type 0} (b : Bool) (c : X) (ys : List X) → length (cond b (c ∷ ys) ys) ≡ cond b (suc (length ys)) (length ys)
+pub length_if : {X : Type 0} (b : Bool) (c : X) (ys : List X) → length (cond b (c ∷ ys) ys) ≡ cond b (suc (length ys)) (length ys)
 length_if true c ys = refl
 length_if false c ys = refl
 

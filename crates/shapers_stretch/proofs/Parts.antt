@@ -1,5 +1,5 @@
 -- The parts of a text, from its end: what stands before its last part, and that part.
-use Rattle.std.proofs.Common.{◌≡◌, Bool, true, false, cond, not, ◌&&◌, List, [], ◌∷◌, ◌++◌, length, map, reverse, refl, sym, ◌∙◌, ap}
+use Rattle.std.proofs.Common.{◌≡◌, Bool, true, false, cond, not, ◌&&◌, List, [], ◌∷◌, ◌++◌, refl, sym, ◌∙◌, ap}
 use Rattle.std.specs.List.{onto_first}
 use Rattle.shapers_stretch.specs.Cells.{Cell, cut_between, cut_here, is_tile, parts, run_ends}
 

@@ -1,5 +1,5 @@
 -- Equal steps: what stands between two ends stays between them.
-use Rattle.std.proofs.Common.{◌≡◌, ℕ, zero, suc, ◌+◌, ◌-◌, ◌≤◌, ℤ, pos, ◌+ℤ◌, ◌*ℤ◌, ◌≤ℤ◌, ◌<ℤ◌, ◌-ℤ◌, ◌^◌, negsuc, neg_ℤ, Bool, true, false, ◌&&◌, List, [], ◌∷◌, map, replicate, refl, sym, ◌∙◌, arith, ap}
+use Rattle.std.proofs.Common.{◌≡◌, ℕ, zero, suc, ◌+◌, ℤ, pos, ◌+ℤ◌, ◌*ℤ◌, ◌≤ℤ◌, ◌-ℤ◌, ◌^◌, negsuc, neg_ℤ, Bool, true, false, ◌&&◌, List, [], ◌∷◌, map, replicate, refl, sym, ◌∙◌, arith, ap}
 use Rattle.std.specs.List.{list_all}
 use borrow.Author.Tests.{lt-true}
 use Rattle.std.proofs.lemmas.Int.{ints, by_lt_z}

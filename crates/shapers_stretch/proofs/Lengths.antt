@@ -1,0 +1,43 @@
+-- How many copies a run is laid in.
+use Rattle.std.proofs.Common.{◌≡◌, ℕ, zero, suc, ◌+◌, ◌*◌, ℤ, ◌-ℤ◌, Bool, true, false, cond, List, [], ◌∷◌, ◌++◌, length, reverse, replicate, flat_map, refl, sym, ◌∙◌, ap, arith, mul-suc, mul-zero}
+use Rattle.std.proofs.lemmas.List.{append-nil, length-append}
+use Rattle.std.proofs.lemmas.List.Concat.{flat_map-append}
+use Rattle.std.proofs.lemmas.Grind.{reverse_onto}
+use Rattle.shapers_base.specs.Font.{Font}
+use Rattle.shapers_stretch.specs.Cells.{Cell, glyphs_of, repeats}
+use Rattle.shapers_stretch.specs.declared.ot_shaper_arabic_stretch.measuring.Run.{Run}
+use Rattle.shapers_stretch.specs.Measure.{added, overlap}
+use Rattle.shapers_stretch.specs.Stretch.{Copy, copies, copies_of, laid, repeating, width_of}
+use Rattle.shapers_stretch.proofs.Moves.{length_if}
+use Rattle.shapers_stretch.proofs.Pen.{laid_is, laid_on, moved}
+
+length-replicated : {X : Type 0} (n : ℕ) (x : X) → length (replicate n x) ≡ n
+length-replicated zero x = refl
+length-replicated (suc n) x = ap suc (length-replicated n x)
+
+copies_if : (b : Bool) (n : ℕ) (first copy : Copy) → length (first ∷ cond b (replicate n copy) []) ≡ suc (cond b n 0)
+copies_if true n first copy = ap suc (length-replicated n copy)
+copies_if false n first copy = refl
+
+count_if : (b : Bool) (n k m total : ℕ) → total ≡ m + n * k → total + suc (cond b n 0) ≡ suc m + n * cond b (suc k) k
+count_if true n k m total e = omega (arith, mul-suc n k)
+count_if false n k m total e = omega arith
+
+-- one for each tile, and the added copies of those that repeat
+pub length-copies : (font : Font) (z : Run) (cs : List Cell) → length (copies font z cs) ≡ length cs + added z * length (repeating (glyphs_of cs))
+length-copies font z [] = omega (arith, mul-zero (added z))
+length-copies font z (c ∷ cs) =
+    let cut : copies font z (c ∷ cs) ≡ copies font z cs ++ (copies_of font z c ++ []) = ap (flat_map (copies_of font z)) (reverse_onto cs c []) ∙ flat_map-append (copies_of font z) (reverse cs) (c ∷ []) in
+    let tile : length (copies_of font z c) ≡ suc (cond (repeats c.0) (added z) 0) = copies_if (repeats c.0) (added z) (record { tile = c; move = width_of font c.0 }) (record { tile = c; move = width_of font c.0 -ℤ overlap z }) in
+    let whole : length (copies font z (c ∷ cs)) ≡ length (copies font z cs) + suc (cond (repeats c.0) (added z) 0) =
+    ap length cut ∙ length-append (copies font z cs) (copies_of font z c ++ []) ∙ ap (λ n. length (copies font z cs) + n) (ap length (append-nil (copies_of font z c)) ∙ tile) in
+    let step = count_if (repeats c.0) (added z) (length (repeating (glyphs_of cs))) (length cs) (length (copies font z cs)) (length-copies font z cs) in
+    let some : length (repeating (glyphs_of (c ∷ cs))) ≡ cond (repeats c.0) (suc (length (repeating (glyphs_of cs)))) (length (repeating (glyphs_of cs))) = length_if (repeats c.0) c.0 (repeating (glyphs_of cs)) in
+    whole ∙ step ∙ sym (ap (λ k. suc (length cs) + added z * k) some)
+
+length-laid_on : (right_to_left : Bool) (pen : ℤ) (cs : List Copy) → length (laid_on right_to_left pen cs) ≡ length cs
+length-laid_on right_to_left pen [] = refl
+length-laid_on right_to_left pen (c ∷ cs) = ap suc (length-laid_on right_to_left (moved right_to_left pen c.move) cs)
+
+pub length-laid : (right_to_left : Bool) (from : ℤ) (cs : List Copy) → length (laid right_to_left from cs) ≡ length cs
+length-laid right_to_left from cs = ap length (laid_is right_to_left from cs) ∙ length-laid_on right_to_left from cs
