@@ -9,7 +9,10 @@ use Rattle.shapers_base.specs.Font.{CharacterTables}
 use Rattle.shapers_base.specs.declared.plan.joining.hb_arabic_joining_type_t.TheVariants.{U}
 use Rattle.shapers_clusters.specs.Steps.{run_step}
 use Rattle.shapers_khmer.specs.declared.ot_shaper_khmer.reordering.KhmerOrder.{KhmerOrder}
-use Rattle.shapers_khmer.specs.Khmer.{decomposed_in_khmer, is_coeng, is_ro, is_left_vowel, is_reordered, khmer_order, khmer_step, with_mask}
+use Rattle.shapers_khmer.specs.Khmer.{decomposed_in_khmer, is_coeng, is_ro, is_left_vowel, is_reordered, khmer_order, khmer_step, order_in, with_mask}
+use Rattle.shapers_base.specs.declared.plan.PlanData.TheVariants.{Khmer}
+use Rattle.shapers_buffer.specs.Syllables.{unknown_refusal}
+use Rattle.shapers_buffer.specs.declared.buffer.refusal.ShaperError.TheVariants.{UnknownSyllable}
 use Rattle.shapers_syllabic.specs.Characters.{composed_behind, with_category, with_category_and_position}
 
 -- CHARACTERS, by a table in which 17C1 and 17D2 are marks, all compose to 1 and decompose to 2 and 3, and each has category 15 and position 8
@@ -146,3 +149,11 @@ alone = refl
 
 empty : khmer_order by_masks [] ≡ []
 empty = refl
+
+-- a kind that isn't known
+unknown : unknown_refusal 2 (glyphs 2 (c 1 ∷ []) ++ glyphs 3 (c 2 ∷ [])) ≡ Some (UnknownSyllable 1)
+unknown = refl
+
+-- the masks by the plan's data
+by_plan : order_in (Khmer (record { mask_array = 0x10 ∷ 0x20 ∷ 0x40 ∷ 0x80 ∷ 0x100 ∷ 0 ∷ 0 ∷ 0 ∷ 0 ∷ [] })) ≡ by_masks
+by_plan = refl

@@ -1,5 +1,4 @@
 mod ConstantRows
-pub mod KhmerCases
 pub mod KhmerListing
 mod KhmerRows
 pub mod KhmerSerials

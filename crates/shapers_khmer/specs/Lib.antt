@@ -1,7 +1,9 @@
 pub mod Khmer
+pub mod KhmerCases
 pub mod KhmerLaws
 pub mod KhmerMasks
 pub mod KhmerMoves
+pub mod KhmerPlaces
 pub mod KhmerWalk
 pub mod Plan
 pub mod Requests

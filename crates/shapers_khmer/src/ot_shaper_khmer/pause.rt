@@ -4,7 +4,7 @@ ghost use Rattle.shapers_buffer.specs.Glyph.{order_view};
 ghost use Rattle.shapers_buffer.specs.Refusals.{Refuses};
 ghost use Rattle.shapers_buffer.specs.Syllables.{unknown_refusal};
 ghost use Rattle.shapers_clusters.specs.Laws.{ReorderedHold};
-ghost use Rattle.shapers_khmer.specs.Khmer.{KhmerReadsNoSerials, MovesByCases, khmer_circles, khmer_order, khmer_steps, order_in, with_khmer_circles};
+ghost use Rattle.shapers_khmer.specs.Khmer.{KhmerReadsNoSerials, khmer_circles, khmer_order, khmer_steps, order_in, with_khmer_circles};
 ghost use Rattle.shapers_khmer.specs.Plan.{is_khmer_data};
 ghost use Rattle.shapers_syllabic.specs.Reordering.{PauseReordered, carried, circles_of_sort, text_steps};
 ghost use Rattle.shapers_syllabic.specs.ReorderingLaws.{PauseCutsAtBorders};
@@ -81,10 +81,4 @@ fn order_of(plan_data: &PlanData) -> KhmerOrder
 /// two spans.
 pub fn khmer_reads_no_serials()
     ensures { KhmerReadsNoSerials }
-{}
-
-/// The moves of a syllable are those of the rule by cases: of each glyph in its turn, with what stands
-/// before it and behind it.
-pub fn khmer_moves_by_cases()
-    ensures { MovesByCases }
 {}
