@@ -23,8 +23,8 @@ use shapers_hangul::ot_shaper_hangul;
 use shapers_indic::ot_shaper_indic;
 use shapers_khmer::ot_shaper_khmer;
 use shapers_myanmar::ot_shaper_myanmar;
-use shapers_universal::ot_shaper_use;
 use shapers_text::{ot_shaper_hebrew, ot_shaper_thai};
+use shapers_universal::ot_shaper_use;
 pub use standing::{Hook, Hooks, Standing};
 
 /// A script shaper.

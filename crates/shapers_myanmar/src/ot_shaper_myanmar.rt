@@ -3,12 +3,14 @@ ghost use Rattle.std.specs.Prelude.{◌≡◌, [], IfOk, IsOk, IsOkUnless, None,
 ghost use Rattle.shapers_buffer.specs.declared.buffer.refusal.ShaperError.TheVariants.{Memory};
 ghost use Rattle.shapers_base.specs.declared.plan.ot_category_t.TheConstants.{OT_DOTTEDCIRCLE};
 ghost use Rattle.shapers_base.specs.Planner.{with_requests};
+ghost use Rattle.shapers_buffer.specs.Glyph.{order_view};
+ghost use Rattle.shapers_clusters.specs.Laws.{ReorderedHold};
 ghost use Rattle.shapers_buffer.specs.Refusals.{Refuses};
 ghost use Rattle.shapers_buffer.specs.Syllables.{unknown_refusal};
 ghost use Rattle.shapers_syllabic.specs.Characters.{with_category};
 ghost use Rattle.shapers_syllabic.specs.Circles.{circled, circles_for};
-ghost use Rattle.shapers_syllabic.specs.Reordering.{PauseReordered};
-ghost use Rattle.shapers_syllabic.specs.ReorderingLaws.{PauseCutsAtBorders, TextReordered};
+ghost use Rattle.shapers_syllabic.specs.Reordering.{PauseReordered, carried, text_steps};
+ghost use Rattle.shapers_syllabic.specs.ReorderingLaws.{PauseCutsAtBorders};
 ghost use Rattle.shapers_myanmar.specs.Myanmar.{myanmar_order, myanmar_steps};
 ghost use Rattle.shapers_myanmar.specs.Requests.{myanmar_list};
 
@@ -96,7 +98,8 @@ pub fn reorder_myanmar<F: hb_font_t>(
     ensures laws { let circles = circles_for ((F.font face.now).nominal 0x25CC)
         2 OT_DOTTEDCIRCLE None None buffer.old in
         let opened = record buffer.old { glyphs = circled circles buffer.old.glyphs } in
-        OnOk result (TextReordered myanmar_steps opened buffer.new) }
+        let steps = text_steps myanmar_steps (order_view opened.glyphs) in
+        OnOk result (ReorderedHold carried opened.level steps opened.glyphs buffer.new.glyphs) }
     ensures refusal { let circles = circles_for ((F.font face.now).nominal 0x25CC)
         2 OT_DOTTEDCIRCLE None None buffer.old in
         Refuses (unknown_refusal 3 buffer.old.glyphs)

@@ -9,7 +9,9 @@ mod reordering;
 mod set_up;
 
 pub use characters::{compose, set_categories, set_categories_and_positions};
-pub use circles::{circles_can_be_erased, circles_keep_clusters, insert_dotted_circles};
+pub use circles::{
+    DottedCircles, circles_can_be_erased, circles_keep_clusters, insert_dotted_circles,
+};
 pub use clearing::{clear_substitution_flags, clear_syllables};
 pub use consonants::is_consonant;
 pub use kinds::{indic_syllable, khmer_syllable, myanmar_syllable, use_syllable};

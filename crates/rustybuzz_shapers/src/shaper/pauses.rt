@@ -5,14 +5,14 @@ ghost use Rattle.rustybuzz_shapers.specs.Pauses.{CanPause, PauseAnswers, PauseFi
 use super::standing::Standing;
 use shapers_base::buffer::{ShaperError, Span, hb_buffer_t};
 use shapers_base::font::hb_font_t;
-use shapers_syllabic::ot_shaper_syllabic::{
-    clear_substitution_flags, clear_syllables, indic_syllable, khmer_syllable, myanmar_syllable,
-    set_up_syllables,
-};
 use shapers_base::plan::{Pause, hb_ot_shape_plan_t};
 use shapers_khmer::ot_shaper_khmer;
 use shapers_myanmar::ot_shaper_myanmar;
 use shapers_stretch::ot_shaper_arabic_stretch;
+use shapers_syllabic::ot_shaper_syllabic::{
+    clear_substitution_flags, clear_syllables, indic_syllable, khmer_syllable, myanmar_syllable,
+    set_up_syllables,
+};
 use shapers_universal::ot_shaper_use;
 
 /// Whether a pause is built.

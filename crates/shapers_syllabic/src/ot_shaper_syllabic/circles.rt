@@ -18,15 +18,15 @@ use std::alloc::Global;
 // The character of the dotted circle.
 const DOTTED_CIRCLE: u32 = 0x25CC;
 
-// What circles look like, and where they stand.
+/// What circles look like, and where they stand.
 #[derive(Clone, Copy)]
-struct DottedCircles {
-    // the kind of the syllables that get one
-    broken_kind: u8,
-    // the circle, but for cluster, mask and syllable
-    circle: hb_glyph_info_t,
-    // the category of glyphs that stay in front of it
-    repha: Option<u8>,
+pub struct DottedCircles {
+    /// The kind of the syllables that get one.
+    pub broken_kind: u8,
+    /// The circle, but for cluster, mask and syllable.
+    pub circle: hb_glyph_info_t,
+    /// The category of glyphs that stay in front of it.
+    pub repha: Option<u8>,
 }
 
 // Where a syllable stands: its first place, and the one behind it.

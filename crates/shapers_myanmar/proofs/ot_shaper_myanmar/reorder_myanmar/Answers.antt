@@ -1,0 +1,6 @@
+-- The laws of a hook that reorders, since each syllable moves only inside what merged.
+use Rattle.shapers_myanmar.proofs.Inside.{on_merged}
+use Rattle.shapers_myanmar.proofs.ot_shaper_myanmar.reorder_myanmar.Goals as goal
+
+pub returns-clause-laws : goal.returns-clause-laws
+returns-clause-laws g c = on_merged c.reorder_pause.result _ c.reorder_pause.new.buffer c.reorder_pause.ensures.laws
