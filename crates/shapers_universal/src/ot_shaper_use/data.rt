@@ -41,7 +41,8 @@ pub fn create_data(plan: &hb_ot_shape_plan_t) -> PlanData
 
 // The plan of Arabic, for a script whose letters join.
 fn arabic_plan_for(plan: &hb_ot_shape_plan_t) -> Option<arabic_shape_plan_t>
-    ensures { result ≡ (if joins_letters plan.now.script then Some (arabic_plan plan.now.ot_map) else None) }
+    ensures { let joins = joins_letters plan.now.script in
+        result ≡ (if joins then Some (arabic_plan plan.now.ot_map) else None) }
 {
     if has_arabic_joining(plan.script) {
         Some(data_create_arabic(plan))

@@ -92,7 +92,9 @@ impl GlyphWalk for SyllableOrder {
 
     ghost can_walk = { λ w gs. (w.start ≤ w.end) × (w.end ≤ length gs) };
 
-    ghost walks = { λ v w gs hs. hs ≡ run_steps v.level (map (widened v.start v.end (length gs)) (universal_steps (stretch_of v.start v.end gs))) gs };
+    ghost walks = { λ v w gs hs.
+        let steps = universal_steps (stretch_of v.start v.end gs) in
+        hs ≡ run_steps v.level (map (widened v.start v.end (length gs)) steps) gs };
 
     fn walk(&mut self, glyphs: &mut [hb_glyph_info_t]) {
         order_syllable(self.level, glyphs, self.start, self.end);
