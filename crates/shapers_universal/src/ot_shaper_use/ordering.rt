@@ -232,7 +232,7 @@ fn piece_len(glyphs: &[hb_glyph_info_t]) -> usize
     glyphs.len()
 }
 
-// Brings what goes to the front of the piece from `s` to `e` there, and merges it with what it passes.
+// Brings what goes to the front of the piece from `s` to `e` there, merged with what it passes.
 fn order_piece(level: BufferClusterLevel, glyphs: &mut [hb_glyph_info_t], s: usize, e: usize)
     requires in_order { s ≤ e }
     requires in_range { e ≤ length glyphs.old }
