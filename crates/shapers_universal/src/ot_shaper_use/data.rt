@@ -30,7 +30,8 @@ const JOINING_SCRIPTS: [Script; 13] = [
 /// What the shaper keeps in the plan: the mask of `rphf` and, for a script whose letters join, the
 /// plan of Arabic. It can't refuse and takes no memory.
 pub fn create_data(plan: &hb_ot_shape_plan_t) -> PlanData
-    ensures data { result ≡ Universal (universal_plan plan.now.stretch_start plan.now.script plan.now.ot_map) }
+    ensures data { let start = plan.now.stretch_start in
+        result ≡ Universal (universal_plan start plan.now.script plan.now.ot_map) }
     ensures off_flags { rphf_of result % 8 ≡ 0 }
 {
     PlanData::Universal(use_shape_plan_t {

@@ -21,7 +21,8 @@ pub(super) struct FormMasks {
 // Gives each syllable the mask of its form: in each unbroken run of syllables that join, a lone one
 // is isolated, the first initial, the last final, the others medial.
 pub(super) fn set_forms(map: &hb_ot_map_t, buffer: &mut hb_buffer_t)
-    ensures { buffer.new ≡ record buffer.old { glyphs = with_forms (form_masks map.now) buffer.old.glyphs } }
+    ensures { let masks = form_masks map.now in
+        buffer.new ≡ record buffer.old { glyphs = with_forms masks buffer.old.glyphs } }
 {
     let mut masks = FormMasks::of(map);
     if masks.all() != 0 {
@@ -80,7 +81,8 @@ impl FormMasks {
     fn set_at(self, glyphs: &mut [hb_glyph_info_t], s: usize, e: usize, before: bool)
         requires in_order { s ≤ e }
         requires in_range { e ≤ length glyphs.old }
-        ensures { glyphs.new ≡ with_stretch s e (formed self before (joins_runs (drop e glyphs.old))) glyphs.old }
+        ensures { let behind = joins_runs (drop e glyphs.old) in
+            glyphs.new ≡ with_stretch s e (formed self before behind) glyphs.old }
     {
         let behind = joins_runs(&glyphs[e..]);
         self.set(&mut glyphs[s..e], before, behind);

@@ -92,7 +92,9 @@ impl GlyphWalk for SyllableOrder {
 
     ghost can_walk = { λ w gs. (w.start ≤ w.end) × (w.end ≤ length gs) };
 
-    ghost walks = { λ v w gs hs. hs ≡ run_steps v.level (map (widened v.start v.end (length gs)) (universal_steps (stretch_of v.start v.end gs))) gs };
+    ghost walks = { λ v w gs hs.
+        let steps = universal_steps (stretch_of v.start v.end gs) in
+        hs ≡ run_steps v.level (map (widened v.start v.end (length gs)) steps) gs };
 
     fn walk(&mut self, glyphs: &mut [hb_glyph_info_t]) {
         order_syllable(self.level, glyphs, self.start, self.end);
@@ -230,7 +232,7 @@ fn piece_len(glyphs: &[hb_glyph_info_t]) -> usize
     glyphs.len()
 }
 
-// Brings what goes to the front of the piece from `s` to `e` there, and merges it with what it passes.
+// Brings what goes to the front of the piece from `s` to `e` there, merged with what it passes.
 fn order_piece(level: BufferClusterLevel, glyphs: &mut [hb_glyph_info_t], s: usize, e: usize)
     requires in_order { s ≤ e }
     requires in_range { e ≤ length glyphs.old }

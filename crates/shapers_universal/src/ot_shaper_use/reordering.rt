@@ -32,7 +32,8 @@ pub fn reorder_use<F: hb_font_t>(face: &F, buffer: &mut hb_buffer_t) -> Result<b
         OnOk result (TextOrdered buffer.old.level text buffer.new.glyphs) }
     ensures cut { let circles = circles_for ((F.font face.now).nominal 0x25CC) BROKEN_CLUSTER B
         (Some R) None buffer.old in
-        OnOk result (PauseCutsAtBorders circles universal_order universal_steps buffer.old buffer.new) }
+        OnOk result
+        (PauseCutsAtBorders circles universal_order universal_steps buffer.old buffer.new) }
     ensures length { let text = circled_use (F.font face.now) buffer.old in
         RefusesLength buffer.old.max_len (length text) result }
     ensures err { OnErr result (buffer.new ≡ buffer.old) }

@@ -41,7 +41,8 @@ pub fn setup_syllables_use(
 fn set_masks(plan: &hb_ot_shape_plan_t, buffer: &mut hb_buffer_t)
     requires { is_universal plan.now.plan_data ≡ true }
     ensures { let kept = plan.now.plan_data in
-        buffer.new ≡ record buffer.old { glyphs = with_syllable_masks kept plan.now.ot_map buffer.old.glyphs } }
+        let masked = with_syllable_masks kept plan.now.ot_map buffer.old.glyphs in
+        buffer.new ≡ record buffer.old { glyphs = masked } }
 {
     match &plan.plan_data {
         PlanData::Universal(universal_plan) => {
@@ -56,7 +57,8 @@ fn set_masks(plan: &hb_ot_shape_plan_t, buffer: &mut hb_buffer_t)
 
 // Gives each syllable the mask of `rphf`.
 fn set_rphf(mask: u32, buffer: &mut hb_buffer_t)
-    ensures { buffer.new ≡ record buffer.old { glyphs = flat_map (with_rphf mask) (syllables buffer.old.glyphs) } }
+    ensures { let masked = flat_map (with_rphf mask) (syllables buffer.old.glyphs) in
+        buffer.new ≡ record buffer.old { glyphs = masked } }
 {
     buffer.walk(&mut EachSyllable {
         change: &RphfMask { mask },
@@ -80,7 +82,7 @@ impl SyllableChange for RphfMask {
     }
 }
 
-// How many glyphs in front get the mask of `rphf`: a reph alone, else three, or as many as there are.
+// How many glyphs in front get the mask of `rphf`: a reph alone, else three or all.
 fn reph_len(syllable: &[hb_glyph_info_t]) -> usize
     ensures len { result ≡ reph_len syllable.now }
     ensures within { result ≤ length syllable.now }
