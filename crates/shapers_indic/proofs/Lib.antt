@@ -1,5 +1,10 @@
 mod CharacterRows
 mod ConstantRows
+mod InitialBaseRows
+mod InitialFontRows
+mod InitialMaskRows
+mod InitialOrderRows
+mod InitialPositionRows
 mod InitialRows
 mod InitialWords
 mod PlanRows
