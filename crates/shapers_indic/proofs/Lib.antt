@@ -4,6 +4,7 @@ mod InitialBaseRows
 mod InitialFontRows
 mod InitialMaskRows
 mod InitialOrderRows
+mod InitialPauseRows
 mod InitialPositionRows
 mod InitialRows
 mod InitialWords
