@@ -14,6 +14,7 @@ use shapers_base::plan::{Pause, Request, ShaperError, hb_ot_shape_planner_t};
 use shapers_syllabic::ot_shaper_syllabic;
 
 mod data;
+mod font_positions;
 pub mod indic_feature;
 
 pub use data::create_data;
