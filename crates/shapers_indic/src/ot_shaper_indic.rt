@@ -16,6 +16,7 @@ use shapers_syllabic::ot_shaper_syllabic;
 mod data;
 mod font_positions;
 pub mod indic_feature;
+mod reph;
 
 pub use data::create_data;
 

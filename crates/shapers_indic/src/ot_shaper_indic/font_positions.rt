@@ -43,7 +43,7 @@ fn virama_glyph<F: hb_font_t>(plan: &indic_shape_plan_t, face: &F) -> Option<Gly
 }
 
 // A glyph as fonts are asked about it.
-fn number(glyph: &hb_glyph_info_t) -> GlyphId
+pub(crate) fn number(glyph: &hb_glyph_info_t) -> GlyphId
     ensures { result ≡ number glyph.now }
 {
     GlyphId((glyph.glyph_id % 65536) as u16)
