@@ -1,5 +1,11 @@
 mod CharacterRows
 mod ConstantRows
+mod InitialBaseRows
+mod InitialFontRows
+mod InitialMaskRows
+mod InitialOrderRows
+mod InitialPauseRows
+mod InitialPositionRows
 mod InitialRows
 mod InitialWords
 mod PlanRows

@@ -8,7 +8,7 @@ use Rattle.shapers_base.specs.declared.plan.ot_position_t.TheConstants.{POS_BASE
 use Rattle.shapers_base.specs.Font.{Font}
 use Rattle.shapers_base.specs.Map.{Map}
 use Rattle.shapers_base.specs.Questions.{would_by}
-use Rattle.shapers_indic.specs.InitialRules.{at_position, has_position}
+use Rattle.shapers_indic.specs.InitialRules.{at_position, has_position, number}
 
 -- whether a feature would substitute the virama's glyph v and c, in either order
 abbrev pub joins_virama : Font → Map → IndicWouldSubstituteFeature → GlyphId → GlyphId → Bool
@@ -27,7 +27,7 @@ consonant_position font m p v c = if is_below_base font m p v c then POS_BELOW_C
 
 -- a glyph with its position by the font, where the table has BASE_C for it
 abbrev pub by_virama : Font → Map → indic_shape_plan_t → GlyphId → hb_glyph_info_t → hb_glyph_info_t
-by_virama font m p v g = if has_position POS_BASE_C g then at_position (consonant_position font m p v (record { 0 = g.glyph_id })) g else g
+by_virama font m p v g = if has_position POS_BASE_C g then at_position (consonant_position font m p v (number g)) g else g
 
 -- the glyph of the script's virama, where it has one and the font has a glyph for it
 abbrev pub virama_glyph : Font → indic_shape_plan_t → Option GlyphId

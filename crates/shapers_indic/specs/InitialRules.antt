@@ -1,5 +1,5 @@
 -- What the initial reordering of a syllable reads of the plan and the font, and the words on glyphs and places that its definitions use.
-use Rattle.std.specs.Prelude.{ℕ, ◌-◌, ◌==◌, Bool, ◌&&◌, false, not, List, [], ◌∷◌, map, find, reverse, slice_index, Option}
+use Rattle.std.specs.Prelude.{ℕ, ◌-◌, ◌%◌, ◌==◌, Bool, ◌&&◌, false, not, List, [], ◌∷◌, map, find, reverse, slice_index, Option}
 use Rattle.std.specs.List.{list_any, range_with_len, slice_get}
 use Rattle.std.specs.Option.{option_map_or}
 use Rattle.shapers_buffer.specs.declared.buffer.glyph.hb_glyph_info_t.{hb_glyph_info_t}
@@ -28,9 +28,12 @@ rules_of font m p = record { config = p.config; old = p.is_old_spec; masks = p.m
 abbrev pub mask_at : Rules → ℕ → ℕ
 mask_at r feature = slice_index r.masks feature
 
--- glyphs by their numbers, as fonts are asked about them
+-- glyphs by their numbers, as fonts are asked about them: those of fonts have 16 bits
+abbrev pub number : hb_glyph_info_t → GlyphId
+number g = record { 0 = g.glyph_id % 65536 }
+
 abbrev pub numbers : List hb_glyph_info_t → List GlyphId
-numbers gs = map (λ g. record { 0 = g.glyph_id }) gs
+numbers gs = map number gs
 
 -- whether a glyph is of a category; whether it is of one of these and no lookup put it in for several
 abbrev pub has_category : ℕ → hb_glyph_info_t → Bool

@@ -1,0 +1,89 @@
+-- The reph, the limit, where the search ends, and the base, computed case by case.
+use Rattle.std.specs.Prelude.{◌≡◌, ℕ, zero, suc, true, false, List, [], ◌∷◌, map, None, refl}
+use Rattle.shapers_buffer.specs.declared.buffer.glyph.hb_glyph_info_t.{hb_glyph_info_t}
+use Rattle.shapers_indic.proofs.InitialWords.{C, H, ZWNJ, ZWJ, M, Repha, Ra, of, plainly, marked, script, rules, no_masks, each_mask, with_reph_of}
+use Rattle.shapers_indic.specs.InitialBase.{base_place, has_reph, joiner_comes_first, limit, reph_len, search_from, search_start}
+use Rattle.shapers_indic.specs.InitialRules.{Rules}
+
+-- the glyph at a place put in by a lookup for several
+abbrev ligated_at : ℕ → List hb_glyph_info_t → List hb_glyph_info_t
+ligated_at i [] = []
+ligated_at zero (g ∷ gs) = marked 2 g ∷ gs
+ligated_at (suc i) (g ∷ gs) = g ∷ ligated_at i gs
+
+-- the joiner of Kannada: Ra, H, ZWJ in front, none of them a ligature
+abbrev ra_h_zwj : List hb_glyph_info_t
+ra_h_zwj = plainly (Ra ∷ H ∷ ZWJ ∷ C ∷ [])
+
+kannada : map (joiner_comes_first (script "Knda")) (ra_h_zwj ∷ plainly (Ra ∷ H ∷ ZWJ ∷ []) ∷ []) ≡ true ∷ true ∷ []
+kannada = refl
+
+not_so : map (joiner_comes_first (script "Knda")) (ligated_at 0 ra_h_zwj ∷ ligated_at 1 ra_h_zwj ∷ ligated_at 2 ra_h_zwj ∷ plainly (Ra ∷ H ∷ ZWNJ ∷ C ∷ []) ∷ plainly (C ∷ H ∷ ZWJ ∷ C ∷ []) ∷ plainly (Ra ∷ ZWJ ∷ H ∷ []) ∷ plainly (Ra ∷ H ∷ []) ∷ plainly (Ra ∷ []) ∷ [] ∷ []) ≡ false ∷ false ∷ false ∷ false ∷ false ∷ false ∷ false ∷ false ∷ false ∷ []
+not_so = refl
+
+other_scripts : joiner_comes_first (script "Telu") ra_h_zwj ∷ joiner_comes_first None ra_h_zwj ∷ [] ≡ false ∷ false ∷ []
+other_scripts = refl
+
+-- written as Ra, H: the third glyph is there and no joiner, be it a ligature of one; rphf has a mask, and the font forms it
+abbrev implicit : Rules
+implicit = with_reph_of (0 ∷ 1 ∷ []) (rules "Deva" false each_mask)
+
+implicit_rephs : map (reph_len implicit) (plainly (Ra ∷ H ∷ C ∷ []) ∷ plainly (C ∷ C ∷ M ∷ C ∷ []) ∷ plainly (Ra ∷ H ∷ ZWJ ∷ []) ∷ plainly (Ra ∷ H ∷ ZWNJ ∷ []) ∷ ligated_at 2 (plainly (Ra ∷ H ∷ ZWJ ∷ [])) ∷ plainly (Ra ∷ H ∷ []) ∷ plainly (Repha ∷ []) ∷ [] ∷ []) ≡ 2 ∷ 2 ∷ 0 ∷ 0 ∷ 2 ∷ 0 ∷ 0 ∷ 0 ∷ []
+implicit_rephs = refl
+
+no_mask : reph_len (with_reph_of (0 ∷ 1 ∷ []) (rules "Deva" false no_masks)) (plainly (Ra ∷ H ∷ C ∷ [])) ≡ 0
+no_mask = refl
+
+not_formed : reph_len (with_reph_of (1 ∷ 0 ∷ []) (rules "Deva" false each_mask)) (plainly (Ra ∷ H ∷ C ∷ [])) ∷ reph_len (with_reph_of (0 ∷ 1 ∷ 2 ∷ []) (rules "Deva" false each_mask)) (plainly (Ra ∷ H ∷ C ∷ [])) ∷ [] ≡ 0 ∷ 0 ∷ []
+not_formed = refl
+
+-- written as Ra, H, ZWJ: the ZWJ is there, be it a ligature, and the font forms it of two or of three
+explicit_rephs : map (λ ids. reph_len (with_reph_of ids (rules "Telu" false each_mask)) (plainly (Ra ∷ H ∷ ZWJ ∷ C ∷ []))) ((0 ∷ 1 ∷ []) ∷ (0 ∷ 1 ∷ 2 ∷ []) ∷ (1 ∷ 2 ∷ []) ∷ []) ≡ 2 ∷ 2 ∷ 0 ∷ []
+explicit_rephs = refl
+
+explicit_thirds : map (reph_len (with_reph_of (0 ∷ 1 ∷ []) (rules "Sinh" false each_mask))) (plainly (Ra ∷ H ∷ C ∷ []) ∷ plainly (Ra ∷ H ∷ ZWNJ ∷ []) ∷ ligated_at 2 (plainly (Ra ∷ H ∷ ZWJ ∷ [])) ∷ plainly (Ra ∷ H ∷ []) ∷ []) ≡ 0 ∷ 0 ∷ 2 ∷ 0 ∷ []
+explicit_thirds = refl
+
+-- a character of its own, whatever the font says
+rephas : map (reph_len (with_reph_of (0 ∷ 1 ∷ []) (rules "Mlym" false each_mask))) (plainly (Repha ∷ C ∷ []) ∷ plainly (Repha ∷ []) ∷ plainly (Ra ∷ H ∷ C ∷ []) ∷ plainly (C ∷ Repha ∷ []) ∷ [] ∷ []) ≡ 1 ∷ 1 ∷ 0 ∷ 0 ∷ 0 ∷ []
+rephas = refl
+
+-- the limit: behind the reph and the joiners after it
+limits : limit implicit (plainly (Ra ∷ H ∷ C ∷ [])) ∷ limit implicit (plainly (Ra ∷ H ∷ ZWJ ∷ C ∷ [])) ∷ limit (with_reph_of (0 ∷ 1 ∷ []) (rules "Telu" false each_mask)) (plainly (Ra ∷ H ∷ ZWJ ∷ ZWNJ ∷ C ∷ ZWJ ∷ [])) ∷ limit (rules "Mlym" false no_masks) (plainly (Repha ∷ ZWJ ∷ C ∷ [])) ∷ limit (rules "Mlym" false no_masks) (plainly (Repha ∷ ZWJ ∷ [])) ∷ [] ≡ 2 ∷ 0 ∷ 4 ∷ 2 ∷ 2 ∷ []
+limits = refl
+
+-- where the search ends: behind the last ZWJ that follows an H
+ends : map (search_from 0) (plainly (C ∷ H ∷ ZWJ ∷ C ∷ []) ∷ plainly (C ∷ ZWJ ∷ C ∷ []) ∷ plainly (C ∷ H ∷ ZWNJ ∷ C ∷ []) ∷ plainly (C ∷ H ∷ ZWJ ∷ C ∷ H ∷ ZWJ ∷ C ∷ []) ∷ plainly (C ∷ H ∷ ZWJ ∷ []) ∷ plainly (ZWJ ∷ C ∷ []) ∷ plainly (H ∷ ZWJ ∷ C ∷ []) ∷ []) ≡ 3 ∷ 0 ∷ 0 ∷ 6 ∷ 3 ∷ 0 ∷ 2 ∷ []
+ends = refl
+
+-- from a limit on: a ZWJ before it doesn't count, one at it does; no further than the last glyph
+from_a_limit : search_from 3 (plainly (Ra ∷ H ∷ ZWJ ∷ C ∷ [])) ∷ search_from 2 (plainly (Ra ∷ H ∷ ZWJ ∷ C ∷ [])) ∷ search_start (rules "Mlym" false no_masks) (plainly (Repha ∷ [])) ∷ search_start (rules "Mlym" false no_masks) (plainly (Repha ∷ ZWJ ∷ [])) ∷ search_start (rules "Mlym" false no_masks) (plainly (Repha ∷ ZWJ ∷ C ∷ [])) ∷ [] ≡ 3 ∷ 3 ∷ 0 ∷ 1 ∷ 2 ∷ []
+from_a_limit = refl
+
+-- three consonants by their positions: the last that is neither below nor post-base; a post-base one counts before one below; else the first
+abbrev base_of : List ℕ → ℕ
+base_of ps = base_place (rules "Deva" false no_masks) (of (map (λ p. (C, p)) ps))
+
+by_positions : map base_of ((4 ∷ 4 ∷ 4 ∷ []) ∷ (4 ∷ 4 ∷ 8 ∷ []) ∷ (4 ∷ 8 ∷ 8 ∷ []) ∷ (8 ∷ 8 ∷ 8 ∷ []) ∷ (4 ∷ 4 ∷ 11 ∷ []) ∷ (4 ∷ 8 ∷ 11 ∷ []) ∷ (4 ∷ 11 ∷ 8 ∷ []) ∷ (11 ∷ 11 ∷ 8 ∷ []) ∷ (11 ∷ 11 ∷ 11 ∷ []) ∷ (8 ∷ 11 ∷ 11 ∷ []) ∷ (8 ∷ 4 ∷ 8 ∷ []) ∷ (4 ∷ 13 ∷ 8 ∷ []) ∷ []) ≡ 2 ∷ 1 ∷ 0 ∷ 0 ∷ 1 ∷ 0 ∷ 1 ∷ 1 ∷ 0 ∷ 0 ∷ 1 ∷ 1 ∷ []
+by_positions = refl
+
+-- which categories may be the base, of a C and one more: those behind it at place 1, C V PLACEHOLDER DOTTEDCIRCLE Ra CS
+by_categories : map (λ c. base_place (rules "Deva" false no_masks) (plainly (C ∷ c ∷ []))) (0 ∷ 1 ∷ 2 ∷ 3 ∷ 4 ∷ 5 ∷ 6 ∷ 7 ∷ 8 ∷ 9 ∷ 10 ∷ 11 ∷ 12 ∷ 13 ∷ 14 ∷ 15 ∷ 16 ∷ 17 ∷ 18 ∷ []) ≡ 0 ∷ 1 ∷ 1 ∷ 0 ∷ 0 ∷ 0 ∷ 0 ∷ 0 ∷ 0 ∷ 0 ∷ 1 ∷ 1 ∷ 0 ∷ 0 ∷ 0 ∷ 1 ∷ 0 ∷ 0 ∷ 1 ∷ []
+by_categories = refl
+
+a_ligature : base_place (rules "Deva" false no_masks) (ligated_at 1 (plainly (C ∷ C ∷ []))) ≡ 0
+a_ligature = refl
+
+-- behind a ZWJ that ends the search: the first consonant there, none if there is none
+behind_zwj : map (base_place (rules "Deva" false no_masks)) (of ((C, 4) ∷ (H, 4) ∷ (ZWJ, 4) ∷ (C, 8) ∷ (C, 8) ∷ []) ∷ plainly (C ∷ H ∷ ZWJ ∷ M ∷ []) ∷ plainly (C ∷ H ∷ ZWJ ∷ []) ∷ plainly (M ∷ []) ∷ []) ≡ 3 ∷ 4 ∷ 3 ∷ 1 ∷ []
+behind_zwj = refl
+
+-- with a reph the search ends behind it, and without another base the reph is one; then it is none, unless joiners follow it
+rephs : map (λ gs. base_place implicit gs) (plainly (Ra ∷ H ∷ C ∷ []) ∷ plainly (Ra ∷ H ∷ M ∷ []) ∷ of ((Ra, 4) ∷ (H, 4) ∷ (C, 8) ∷ []) ∷ []) ≡ 2 ∷ 0 ∷ 2 ∷ []
+rephs = refl
+
+with_reph : map (has_reph implicit) (plainly (Ra ∷ H ∷ C ∷ []) ∷ plainly (Ra ∷ H ∷ M ∷ []) ∷ plainly (C ∷ []) ∷ []) ≡ true ∷ false ∷ false ∷ []
+with_reph = refl
+
+forced : has_reph (with_reph_of (0 ∷ 1 ∷ []) (rules "Telu" false each_mask)) (plainly (Ra ∷ H ∷ ZWJ ∷ M ∷ [])) ∷ has_reph (rules "Mlym" false no_masks) (plainly (Repha ∷ [])) ∷ has_reph (rules "Mlym" false no_masks) (plainly (Repha ∷ ZWJ ∷ M ∷ [])) ∷ has_reph (rules "Mlym" false no_masks) (plainly (Repha ∷ ZWJ ∷ ZWJ ∷ M ∷ [])) ∷ has_reph (rules "Mlym" false no_masks) (plainly (Repha ∷ C ∷ [])) ∷ [] ≡ true ∷ false ∷ false ∷ true ∷ true ∷ []
+forced = refl

@@ -1,0 +1,86 @@
+//! The reph that opens a syllable, and the limit of the search for its base. (OpenType, development of
+//! Indic scripts.)
+ghost use Rattle.std.specs.Prelude.{◌≡◌, ◌≤◌, length};
+ghost use Rattle.shapers_indic.specs.InitialBase.{font_decides_reph, limit, opens_with_repha, reph_is_formed, reph_len, third_lets_reph};
+ghost use Rattle.shapers_indic.specs.InitialRules.{is_joiner, rules_of};
+
+use super::font_positions::number;
+use super::indic_feature::RPHF;
+use shapers_base::buffer::hb_glyph_info_t;
+use shapers_base::font::hb_font_t;
+use shapers_base::map::hb_ot_map_t;
+use shapers_base::plan::ot_category_t::{OT_Repha, OT_ZWJ, OT_ZWNJ};
+use shapers_base::plan::{RephMode, indic_shape_plan_t};
+
+/// Whether a glyph is a joiner, and no lookup put it in for several.
+pub(crate) fn is_joiner(glyph: &hb_glyph_info_t) -> bool
+    ensures { result ≡ is_joiner glyph.now }
+{
+    !glyph.marks.is_ligated() && matches!(glyph.category, OT_ZWJ | OT_ZWNJ)
+}
+
+/// How many glyphs the reph that opens a syllable has, without joiners behind it; 0 if there is none.
+pub(crate) fn reph_len<F: hb_font_t>(
+    plan: &indic_shape_plan_t,
+    map: &hb_ot_map_t,
+    face: &F,
+    glyphs: &[hb_glyph_info_t],
+) -> usize
+    ensures { result ≡ reph_len (rules_of (F.font face.now) map.now plan.now) glyphs.now }
+{
+    if plan.mask_array[RPHF] != 0 && third_lets_reph(plan.config.reph_mode, glyphs) {
+        return if is_formed(plan, map, face, glyphs) {
+            2
+        } else {
+            0
+        };
+    }
+    if opens_with_repha(plan.config.reph_mode, glyphs) {
+        1
+    } else {
+        0
+    }
+}
+
+// Whether the third glyph lets the first two be a reph.
+fn third_lets_reph(mode: RephMode, glyphs: &[hb_glyph_info_t]) -> bool
+    ensures { result ≡ third_lets_reph mode glyphs.now }
+{
+    match (glyphs, mode) {
+        ([_, _, third, ..], RephMode::Implicit) => !is_joiner(third),
+        ([_, _, third, ..], RephMode::Explicit) => third.category == OT_ZWJ,
+        _ => false,
+    }
+}
+
+// Whether the font forms a reph of what opens the syllable.
+fn is_formed<F: hb_font_t>(
+    plan: &indic_shape_plan_t,
+    map: &hb_ot_map_t,
+    face: &F,
+    glyphs: &[hb_glyph_info_t],
+) -> bool
+    requires { 3 ≤ length glyphs.now }
+    ensures { let rules = rules_of (F.font face.now) map.now plan.now in
+        result ≡ reph_is_formed plan.now.config.reph_mode rules.forms_reph glyphs.now }
+{
+    let opening = [number(&glyphs[0]), number(&glyphs[1]), number(&glyphs[2])];
+    match plan.config.reph_mode {
+        RephMode::Implicit => plan.rphf.would_substitute(map, face, &opening[..2]),
+        RephMode::Explicit => {
+            plan.rphf.would_substitute(map, face, &opening[..2])
+                || plan.rphf.would_substitute(map, face, &opening)
+        }
+        RephMode::LogRepha => false,
+    }
+}
+
+// Whether the syllable opens with a reph that is a character of its own, in a script that writes it so.
+fn opens_with_repha(mode: RephMode, glyphs: &[hb_glyph_info_t]) -> bool
+    ensures { result ≡ opens_with_repha mode glyphs.now }
+{
+    match (glyphs, mode) {
+        ([first, ..], RephMode::LogRepha) => first.category == OT_Repha,
+        _ => false,
+    }
+}
