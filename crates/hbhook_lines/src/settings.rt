@@ -27,6 +27,7 @@ pub struct Settings {
     pub chosen: Option<hb_tag_t>,
     pub found: bool,
     pub gpos_mark: bool,
+    pub stretch_start: StretchStart,
     pub global_mask: u32,
     pub font: LineFont,
     pub tables: LineTables,
@@ -58,12 +59,13 @@ impl Settings {
         ensures chosen { IfOk result (λ plan. plan.ot_map.chosen ≡ self.now.chosen) }
         ensures global { IfOk result (λ plan. plan.ot_map.global ≡ self.now.global_mask) }
         ensures gpos_mark { IfOk result (λ plan. plan.has_gpos_mark ≡ self.now.gpos_mark) }
+        ensures stretch { IfOk result (λ plan. plan.stretch_start ≡ self.now.stretch_start) }
     {
         Ok(hb_ot_shape_plan_t {
             script: self.script,
             ot_map: self.map()?,
             has_gpos_mark: self.gpos_mark,
-            stretch_start: StretchStart::AsCode,
+            stretch_start: self.stretch_start,
             plan_data: PlanData::None,
         })
     }

@@ -1,8 +1,9 @@
 -- The pauses, computed: which are built, and what those that are do to a small buffer.
-use Rattle.std.specs.Prelude.{◌≡◌, ℕ, ◌+◌, true, false, List, [], ◌∷◌, map, Err, refl}
+use Rattle.std.specs.Prelude.{◌≡◌, ℕ, ◌+◌, true, false, List, [], ◌∷◌, map, Result, Err, IsOk, refl}
 use Rattle.shapers_buffer.specs.declared.buffer.category.hb_unicode_general_category_t.TheVariants.{Mn}
 use Rattle.shapers_buffer.specs.declared.buffer.glyph.hb_glyph_info_t.{hb_glyph_info_t}
-use Rattle.shapers_buffer.specs.declared.buffer.refusal.ShaperError.TheVariants.{SpansDontCover}
+use Rattle.shapers_buffer.specs.declared.buffer.refusal.ShaperError.{ShaperError}
+use Rattle.shapers_buffer.specs.declared.buffer.refusal.ShaperError.TheVariants.{SpansDontCover, UnknownSyllable}
 use Rattle.shapers_buffer.specs.declared.buffer.syllables.Span.{Span}
 use Rattle.shapers_base.specs.declared.plan.hb_ot_shape_plan_t.{hb_ot_shape_plan_t}
 use Rattle.shapers_base.specs.declared.plan.pause.Pause.{Pause}
@@ -10,11 +11,11 @@ use Rattle.shapers_base.specs.declared.plan.pause.Pause.TheVariants.{SetupSyllab
 use Rattle.shapers_buffer.specs.Buffer.{Buffer, new_buffer}
 use Rattle.shapers_base.specs.Font.{Font}
 use Rattle.shapers_buffer.specs.Glyph.{default_glyph}
-use Rattle.rustybuzz_shapers.specs.Pauses.{PauseAnswers, Paused, RefusesPause, pause_standing}
+use Rattle.rustybuzz_shapers.specs.Pauses.{PauseAnswers, Paused, RefusesPause, circles_of, opened, pause_standing}
 use Rattle.rustybuzz_shapers.specs.declared.shaper.standing.Standing.TheVariants.{Has, WillHave}
 
 -- each of the fifteen
-built : map pause_standing (SetupSyllablesIndic ∷ SetupSyllablesKhmer ∷ SetupSyllablesMyanmar ∷ SetupSyllablesUse ∷ InitialReordering ∷ ReorderKhmer ∷ ReorderMyanmar ∷ ReorderUse ∷ FinalReordering ∷ RecordStch ∷ RecordRphf ∷ RecordPref ∷ SyllabicClearVar ∷ ClearSubstitutionFlags ∷ ArabicFallbackShape ∷ []) ≡ Has ∷ Has ∷ Has ∷ WillHave ∷ WillHave ∷ WillHave ∷ WillHave ∷ WillHave ∷ WillHave ∷ WillHave ∷ WillHave ∷ WillHave ∷ Has ∷ Has ∷ Has ∷ []
+built : map pause_standing (SetupSyllablesIndic ∷ SetupSyllablesKhmer ∷ SetupSyllablesMyanmar ∷ SetupSyllablesUse ∷ InitialReordering ∷ ReorderKhmer ∷ ReorderMyanmar ∷ ReorderUse ∷ FinalReordering ∷ RecordStch ∷ RecordRphf ∷ RecordPref ∷ SyllabicClearVar ∷ ClearSubstitutionFlags ∷ ArabicFallbackShape ∷ []) ≡ Has ∷ Has ∷ Has ∷ Has ∷ WillHave ∷ Has ∷ Has ∷ Has ∷ WillHave ∷ Has ∷ Has ∷ Has ∷ Has ∷ Has ∷ Has ∷ []
 built = refl
 
 -- three glyphs, each with its cluster, byte and mask
@@ -68,9 +69,22 @@ cleared = (λ plan font. refl, λ plan font. refl, λ plan font. refl)
 abbrev too_short : List Span
 too_short = record { len = 2; kind = 0 } ∷ []
 
-refused : RefusesPause {T = Unit {0}} SetupSyllablesIndic too_short text (Err SpansDontCover) × RefusesPause {T = Unit {0}} SetupSyllablesKhmer too_short text (Err SpansDontCover) × RefusesPause {T = Unit {0}} SetupSyllablesMyanmar too_short text (Err SpansDontCover)
-refused = (refl, refl, refl)
+refused : (font : Font) → RefusesPause {T = Unit {0}} SetupSyllablesIndic font too_short text (Err SpansDontCover) × RefusesPause {T = Unit {0}} SetupSyllablesKhmer font too_short text (Err SpansDontCover) × RefusesPause {T = Unit {0}} SetupSyllablesMyanmar font too_short text (Err SpansDontCover) × RefusesPause {T = Unit {0}} SetupSyllablesUse font too_short text (Err SpansDontCover)
+refused font = (refl, refl, refl, refl)
+
+-- a reordering refuses a syllable of unknown kind by its first place: in Khmer one above 2, in Myanmar one above 3; the universal shaper none
+abbrev kinds_of : ℕ → ℕ → Buffer
+kinds_of k l = record text { glyphs = glyph 0 (0x10 + k) 8 ∷ glyph 1 (0x10 + k) 8 ∷ glyph 2 (0x20 + l) 8 ∷ [] }
+
+unknown : (font : Font) → (r : Result (Unit {0}) ShaperError) → RefusesPause ReorderKhmer font [] (kinds_of 2 3) r → r ≡ Err (UnknownSyllable 2)
+unknown font r h = h.0
+
+unknown_in_myanmar : (font : Font) → (r : Result (Unit {0}) ShaperError) → RefusesPause ReorderMyanmar font [] (kinds_of 4 4) r → r ≡ Err (UnknownSyllable 0)
+unknown_in_myanmar font r h = h.0
+
+known : (font : Font) → (r : Result (Unit {0}) ShaperError) → RefusesPause ReorderMyanmar font [] (kinds_of 3 2) r → opened (circles_of ReorderMyanmar font (kinds_of 3 2)) (kinds_of 3 2) ≡ (kinds_of 3 2).glyphs → IsOk r
+known font r h stays = h.1 refl stays
 
 -- none of them answers that circles were wanted
-answered : (font : Font) → PauseAnswers SetupSyllablesIndic font text false × PauseAnswers SetupSyllablesKhmer font text false × PauseAnswers SetupSyllablesMyanmar font text false × PauseAnswers SyllabicClearVar font text false × PauseAnswers ClearSubstitutionFlags font text false × PauseAnswers ArabicFallbackShape font text false
-answered font = (refl, refl, refl, refl, refl, refl)
+answered : (font : Font) → PauseAnswers SetupSyllablesIndic font text false × PauseAnswers SetupSyllablesKhmer font text false × PauseAnswers SetupSyllablesMyanmar font text false × PauseAnswers SetupSyllablesUse font text false × PauseAnswers RecordStch font text false × PauseAnswers RecordRphf font text false × PauseAnswers RecordPref font text false × PauseAnswers SyllabicClearVar font text false × PauseAnswers ClearSubstitutionFlags font text false × PauseAnswers ArabicFallbackShape font text false
+answered font = (refl, refl, refl, refl, refl, refl, refl, refl, refl, refl)

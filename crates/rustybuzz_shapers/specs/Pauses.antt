@@ -1,5 +1,5 @@
 -- What each pause does to the buffer.
-use Rattle.std.specs.Prelude.{ℕ, ◌≡◌, Bool, true, false, List, map, length, Option, None, Some, is_some, Result, IsOk}
+use Rattle.std.specs.Prelude.{◌≡◌, Bool, true, false, List, map, length, Option, None, Some, is_some, Result, IsOk}
 use Rattle.shapers_arabic.specs.PlanData.{IsArabic}
 use Rattle.shapers_base.specs.declared.plan.ot_category_t.TheConstants.{OT_DOTTEDCIRCLE}
 use Rattle.shapers_buffer.specs.Glyph.{order_view}

@@ -3,6 +3,7 @@ use super::fields::{decimal, four_characters, hexadecimal, yes_or_no};
 use crate::fault::LineFault;
 use bitflags::Flags;
 use rustybuzz_shapers::buffer::{BufferClusterLevel, BufferFlags, Direction, Script, hb_tag_t};
+use rustybuzz_shapers::plan::StretchStart;
 use rustybuzz_shapers::shaper::{
     ARABIC_SHAPER, HANGUL_SHAPER, HEBREW_SHAPER, INDIC_SHAPER, KHMER_SHAPER, MYANMAR_SHAPER,
     MYANMAR_ZAWGYI_SHAPER, THAI_SHAPER, UNIVERSAL_SHAPER, hb_ot_shaper_t,
@@ -28,6 +29,8 @@ pub enum Setting {
     Global(u32),
     /// Whether the buffer has positions.
     Positions(bool),
+    /// Where the tiles of a stretched mark begin.
+    Stretch(StretchStart),
 }
 
 impl Setting {
@@ -45,6 +48,7 @@ impl Setting {
             "maxlen" => Ok(Setting::MaxLen(decimal(value)?)),
             "global" => Ok(Setting::Global(hexadecimal(value)?)),
             "positions" => Ok(Setting::Positions(yes_or_no(value)?)),
+            "stretch" => Ok(Setting::Stretch(stretch_start(value)?)),
             _ => Err(LineFault::Unreadable),
         }
     }
@@ -85,4 +89,12 @@ fn cluster_level(number: &str) -> Result<BufferClusterLevel, LineFault> {
 // Flags of a buffer; an unknown bit doesn't read.
 fn buffer_flags(bits: &str) -> Result<BufferFlags, LineFault> {
     BufferFlags::from_bits(hexadecimal(bits)?).ok_or(LineFault::Unreadable)
+}
+
+fn stretch_start(name: &str) -> Result<StretchStart, LineFault> {
+    match name {
+        "code" => Ok(StretchStart::AsCode),
+        "centred" => Ok(StretchStart::Centred),
+        _ => Err(LineFault::Unreadable),
+    }
 }

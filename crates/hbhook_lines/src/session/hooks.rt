@@ -8,7 +8,7 @@ use crate::command::HookCall;
 use crate::fault::LineFault;
 use rustybuzz_shapers::buffer::Span;
 use rustybuzz_shapers::shaper::{
-    Hook, Pause, Preprocess, hb_ot_shaper_t, pause_standing, run_pause,
+    Hook, Pause, Preprocess, hb_ot_shaper_t, pause_fits, pause_standing, run_pause,
 };
 
 impl Session {
@@ -23,7 +23,7 @@ impl Session {
             HookCall::Marks(start, end) => self.reorder_marks(shaper, start, end),
             HookCall::Compose(a, b) => self.compose(shaper, a, b),
             HookCall::Decompose(ab) => self.decompose(shaper, ab),
-            HookCall::Pause(pause) => self.pause(pause),
+            HookCall::Pause(pause) => self.pause(shaper, pause),
         }
     }
 
@@ -44,8 +44,8 @@ impl Session {
     fn set_masks(&mut self, shaper: hb_ot_shaper_t) -> Result<(), LineFault> {
         self.check_no_positions()?;
         check_hook(shaper, Hook::SetupMasks)?;
-        check(shaper.glyphs_fit(&self.buffer))?;
         let plan = shaper.with_data(self.settings.plan()?);
+        check(shaper.glyphs_fit(&plan, &self.buffer))?;
         let (font, tables) = (&self.settings.font, &self.settings.tables);
         let answer = shaper.setup_masks(&plan, font, tables, &mut self.buffer);
         self.answer_if_absent(answer)
@@ -101,12 +101,13 @@ impl Session {
         }
     }
 
-    // A pause, which reads the spans so far.
-    fn pause(&mut self, pause: Pause) -> Result<(), LineFault> {
+    // A pause, which reads the spans so far, with what the shaper keeps in the plan.
+    fn pause(&mut self, shaper: hb_ot_shaper_t, pause: Pause) -> Result<(), LineFault> {
         self.check_no_positions()?;
         check_pause(pause)?;
         check(kinds_fit(self.settings.spans.as_slice()))?;
-        let plan = self.settings.plan()?;
+        let plan = shaper.with_data(self.settings.plan()?);
+        check(pause_fits(pause, &plan))?;
         let (font, spans) = (&self.settings.font, self.settings.spans.as_slice());
         run_pause(pause, &plan, font, spans, &mut self.buffer)?;
         Ok(())
