@@ -12,6 +12,7 @@ use Rattle.shapers_base.specs.Map.{Map}
 use Rattle.shapers_indic.proofs.InitialWords.{positions_of, script}
 use Rattle.shapers_buffer.specs.Glyph.{default_glyph}
 use Rattle.shapers_indic.specs.InitialFont.{positions_by_font}
+use Rattle.shapers_indic.specs.InitialRules.{number}
 use Rattle.shapers_indic.specs.Plan.{indic_plan}
 
 abbrev feature : String → ℕ → feature_map_t
@@ -65,3 +66,7 @@ old_contexts = refl
 
 new_contexts : positions_of (positions_by_font (font_with virama_alone with_context) (small (Some (record { 0 = codes "dev2" }))) (indic_plan (script "Deva") (small (Some (record { 0 = codes "dev2" })))) (glyphs 4)) ≡ 8 ∷ 8 ∷ 8 ∷ 8 ∷ 11 ∷ 11 ∷ 11 ∷ 11 ∷ 8 ∷ 4 ∷ 4 ∷ []
 new_contexts = refl
+
+-- a font is asked about the low 16 bits of a glyph's number
+asked_about : map number (map (λ i. let g : hb_glyph_info_t = record default_glyph { glyph_id = i } in g) (0 ∷ 1 ∷ 65535 ∷ 65536 ∷ 65537 ∷ [])) ≡ record { 0 = 0 } ∷ record { 0 = 1 } ∷ record { 0 = 65535 } ∷ record { 0 = 0 } ∷ record { 0 = 1 } ∷ []
+asked_about = refl

@@ -59,9 +59,12 @@ reph_len r gs =
     if font_decides_reph r gs then (if reph_is_formed r.config.reph_mode r.forms_reph gs then 2 else 0)
     else if opens_with_repha r.config.reph_mode gs then 1 else 0
 
--- the limit of the search: behind the reph and the joiners that follow it, or the start
+-- the limit of the search: behind a reph of n glyphs and the joiners that follow it, or the start
+abbrev pub limit_behind : ℕ → List hb_glyph_info_t → ℕ
+limit_behind n gs = if n == 0 then 0 else n + prefix_len is_joiner (drop n gs)
+
 abbrev pub limit : Rules → List hb_glyph_info_t → ℕ
-limit r gs = let n = reph_len r gs in if n == 0 then 0 else n + prefix_len is_joiner (drop n gs)
+limit r gs = limit_behind (reph_len r gs) gs
 
 -- whether the glyph at place i is a consonant that may be the base
 abbrev pub may_be_base : List hb_glyph_info_t → ℕ → Bool

@@ -1,7 +1,8 @@
 //! The reph that opens a syllable, and the limit of the search for its base. (OpenType, development of
 //! Indic scripts.)
 ghost use Rattle.std.specs.Prelude.{◌≡◌, ◌≤◌, length};
-ghost use Rattle.shapers_indic.specs.InitialBase.{font_decides_reph, limit, opens_with_repha, reph_is_formed, reph_len, third_lets_reph};
+ghost use Rattle.std.specs.List.{prefix_len};
+ghost use Rattle.shapers_indic.specs.InitialBase.{font_decides_reph, limit_behind, opens_with_repha, reph_is_formed, reph_len, third_lets_reph};
 ghost use Rattle.shapers_indic.specs.InitialRules.{is_joiner, rules_of};
 
 use super::font_positions::number;
@@ -26,7 +27,8 @@ pub(crate) fn reph_len<F: hb_font_t>(
     face: &F,
     glyphs: &[hb_glyph_info_t],
 ) -> usize
-    ensures { result ≡ reph_len (rules_of (F.font face.now) map.now plan.now) glyphs.now }
+    ensures len { result ≡ reph_len (rules_of (F.font face.now) map.now plan.now) glyphs.now }
+    ensures within { result ≤ length glyphs.now }
 {
     if plan.mask_array[RPHF] != 0 && third_lets_reph(plan.config.reph_mode, glyphs) {
         return if is_formed(plan, map, face, glyphs) {
@@ -40,6 +42,27 @@ pub(crate) fn reph_len<F: hb_font_t>(
     } else {
         0
     }
+}
+
+/// Where the search for the base ends, if no ZWJ ends it before: behind the reph and the joiners that
+/// follow it, or at the start.
+pub(crate) fn limit(reph_len: usize, glyphs: &[hb_glyph_info_t]) -> usize
+    requires { reph_len ≤ length glyphs.now }
+    ensures limit { result ≡ limit_behind reph_len glyphs.now }
+    ensures within { result ≤ length glyphs.now }
+{
+    if reph_len == 0 {
+        return 0;
+    }
+    reph_len + joiners_len(&glyphs[reph_len..])
+}
+
+// How many joiners stand in front.
+fn joiners_len(glyphs: &[hb_glyph_info_t]) -> usize
+    ensures len { result ≡ prefix_len is_joiner glyphs.now }
+    ensures within { result ≤ length glyphs.now }
+{
+    glyphs.iter().take_while(|glyph| is_joiner(glyph)).count()
 }
 
 // Whether the third glyph lets the first two be a reph.
