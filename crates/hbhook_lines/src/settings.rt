@@ -44,6 +44,7 @@ impl Settings {
             chosen: None,
             found: false,
             gpos_mark: false,
+            stretch_start: StretchStart::AsCode,
             global_mask: 0,
             font: LineFont::new(alloc),
             tables: LineTables::new(alloc),

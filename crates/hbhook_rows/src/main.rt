@@ -13,13 +13,18 @@ use std::alloc::{AllocError, Global};
 use std::{fs, io};
 
 /// The files of rows.
-const FILES: [&str; 6] = [
+const FILES: [&str; 11] = [
     "arabic.rows",
     "hangul.rows",
     "hebrew.rows",
     "hooks.rows",
+    "indic.rows",
+    "khmer.rows",
     "lines.rows",
+    "myanmar.rows",
+    "stretch.rows",
     "thai.rows",
+    "universal.rows",
 ];
 
 /// A row: the line of the file that it begins on, the lines of the run, what they print, and how the
