@@ -5,7 +5,7 @@ ghost use Rattle.rustybuzz_shapers.specs.Glyph.{clusters};
 use rustybuzz_shapers::buffer::{Script, ShaperError, hb_buffer_t, hb_glyph_info_t};
 use rustybuzz_shapers::font::hb_font_t;
 use rustybuzz_shapers::map::hb_ot_map_t;
-use rustybuzz_shapers::plan::{PlanData, hb_ot_shape_plan_t};
+use rustybuzz_shapers::plan::{PlanData, StretchStart, hb_ot_shape_plan_t};
 use rustybuzz_shapers::shaper::THAI_SHAPER;
 use std::alloc::Global;
 
@@ -38,6 +38,7 @@ fn thai_plan(alloc: Global) -> hb_ot_shape_plan_t {
         script: Some(Script(*b"Thai")),
         ot_map: map.unwrap(),
         has_gpos_mark: false,
+        stretch_start: StretchStart::AsCode,
         plan_data: PlanData::None,
     }
 }
