@@ -1,5 +1,7 @@
 mod ConstantRows
 pub mod KhmerListing
+pub mod KhmerMovers
+mod KhmerMoversRows
 mod KhmerRows
 pub mod KhmerSerials
 pub mod KhmerSteps

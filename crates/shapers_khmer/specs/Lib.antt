@@ -2,6 +2,7 @@ pub mod Khmer
 pub mod KhmerCases
 pub mod KhmerLaws
 pub mod KhmerMasks
+pub mod KhmerMovers
 pub mod KhmerMoves
 pub mod KhmerPlaces
 pub mod KhmerWalk

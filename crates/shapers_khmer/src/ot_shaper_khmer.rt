@@ -22,7 +22,7 @@ pub mod khmer_feature;
 mod pause;
 mod reordering;
 
-pub use pause::{khmer_reads_no_serials, reorder_khmer};
+pub use pause::{khmer_orders_by_movers, khmer_reads_no_serials, reorder_khmer};
 pub use reordering::KhmerOrder;
 
 // The basic features run at once, after the reordering.

@@ -5,6 +5,7 @@ ghost use Rattle.shapers_buffer.specs.Refusals.{Refuses};
 ghost use Rattle.shapers_buffer.specs.Syllables.{unknown_refusal};
 ghost use Rattle.shapers_clusters.specs.Laws.{ReorderedHold};
 ghost use Rattle.shapers_khmer.specs.Khmer.{KhmerReadsNoSerials, khmer_circles, khmer_order, khmer_steps, order_in, with_khmer_circles};
+ghost use Rattle.shapers_khmer.specs.KhmerMovers.{KhmerMoversLaw};
 ghost use Rattle.shapers_khmer.specs.Plan.{is_khmer_data};
 ghost use Rattle.shapers_syllabic.specs.Reordering.{PauseReordered, carried, circles_of_sort, text_steps};
 ghost use Rattle.shapers_syllabic.specs.ReorderingLaws.{PauseCutsAtBorders};
@@ -81,4 +82,11 @@ fn order_of(plan_data: &PlanData) -> KhmerOrder
 /// two spans.
 pub fn khmer_reads_no_serials()
     ensures { KhmerReadsNoSerials }
+{}
+
+/// The order by cases is, in a regular syllable, the order by movers: first what moves, the last first,
+/// and then the rest in order. What moves are the left vowels, and each Coeng with its Ro up to the first
+/// Coeng with another behind it, if the first Coeng with Ro is among the first three.
+pub fn khmer_orders_by_movers()
+    ensures { KhmerMoversLaw }
 {}

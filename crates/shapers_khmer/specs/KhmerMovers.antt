@@ -1,0 +1,57 @@
+-- Khmer: the order of a regular syllable, by what moves.
+use Rattle.std.specs.Prelude.{ℕ, ◌+◌, ◌≡◌, nat_lt, true, Bool, ◌&&◌, ◌||◌, not, List, [], ◌∷◌, ◌++◌, drop, filter, flat_map, reverse, if◌then◌else◌}
+use Rattle.std.specs.List.{list_all, prefix_len, zip}
+use Rattle.shapers_buffer.specs.Lists.{each_after}
+use Rattle.shapers_buffer.specs.declared.buffer.glyph.hb_glyph_info_t.{hb_glyph_info_t}
+use Rattle.shapers_khmer.specs.Khmer.{is_coeng, is_left_vowel, is_ro, khmer_places, sorts_of}
+
+-- whether a syllable of these categories is regular: its first is neither Coeng nor a left vowel, and each Coeng is last or
+-- directly followed by neither
+abbrev pub is_coeng_or_left_vowel : ℕ → Bool
+is_coeng_or_left_vowel sort = is_coeng sort || is_left_vowel sort
+
+abbrev pub is_regular : List ℕ → Bool
+is_regular [] = true
+is_regular (first ∷ sorts) = not (is_coeng_or_left_vowel first) && list_all (λ p. not (is_coeng p.0 && is_coeng_or_left_vowel p.1)) (zip (first ∷ sorts) sorts)
+
+-- A part of a syllable: Coeng with the glyph behind it, by its place and the category of that glyph; or another glyph
+-- alone, or a last Coeng, by its place and category.
+pub data Part : Type 0 where
+  Coeng : (place behind : ℕ) → Part
+  Alone : (place sort : ℕ) → Part
+
+-- the places of its glyphs
+abbrev pub places_of : Part → List ℕ
+places_of (Coeng place behind) = place ∷ ((place + 1) ∷ [])
+places_of (Alone place sort) = place ∷ []
+
+-- the parts of categories, numbered from a place on
+abbrev pub parts_from : ℕ → List ℕ → List Part
+parts_from place [] = []
+parts_from place (x ∷ []) = Alone place x ∷ []
+parts_from place (x ∷ (y ∷ sorts)) = if is_coeng x then Coeng place y ∷ parts_from (place + 2) sorts else Alone place x ∷ parts_from (place + 1) (y ∷ sorts)
+
+-- what stands behind the Coengs of parts
+abbrev pub behind_coengs : List Part → List ℕ
+behind_coengs [] = []
+behind_coengs (Coeng place behind ∷ parts) = behind ∷ behind_coengs parts
+behind_coengs (Alone place sort ∷ parts) = behind_coengs parts
+
+-- whether a Ro moves with its Coeng, by what stands behind the Coengs before it: fewer than three others, and then Ros alone
+abbrev pub moves_behind : List ℕ → Bool
+moves_behind before = let others = prefix_len (λ y. not (is_ro y)) before in nat_lt others 3 && list_all is_ro (drop others before)
+
+-- whether a part moves, by the parts before it
+abbrev pub is_mover : List Part × Part → Bool
+is_mover (before, Coeng place behind) = is_ro behind && moves_behind (behind_coengs before)
+is_mover (before, Alone place sort) = is_left_vowel sort
+
+-- the places of a syllable of these categories: of what moves, last first, and then of the others
+abbrev pub order_by_movers : List ℕ → List ℕ
+order_by_movers sorts =
+    let parts = each_after [] (parts_from 0 sorts) in
+    flat_map (λ e. places_of e.1) (reverse (filter is_mover parts) ++ filter (λ e. not (is_mover e)) parts)
+
+-- the order by cases of a regular syllable is that by its movers
+abbrev pub KhmerMoversLaw : Type 0
+KhmerMoversLaw = (gs : List hb_glyph_info_t) → is_regular (sorts_of gs) ≡ true → khmer_places gs ≡ order_by_movers (sorts_of gs)
