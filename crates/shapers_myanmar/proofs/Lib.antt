@@ -1,3 +1,4 @@
+mod Ascending
 mod Inside
 mod Listing
 mod Merging

@@ -1,7 +1,7 @@
 //! The positions of the glyphs of a syllable. (OpenType, Myanmar script development.)
 ghost use Rattle.std.specs.Prelude.{◌≡◌, ◌==◌, ◌≤◌, length, map, not, take, drop, position};
-ghost use Rattle.std.specs.List.{prefix_len};
-ghost use Rattle.shapers_myanmar.specs.Myanmar.{at_position, before_base, behind_reph, below_parts, carries_on_below, from_base, has_reph, in_below_part, in_parts, main_len, own_position, reph_len, with_own_positions, with_positions};
+ghost use Rattle.shapers_myanmar.specs.Myanmar.{at_position, before_base, behind_reph, from_base, has_reph, in_parts, own_position, reph_len, with_own_positions, with_positions};
+ghost use Rattle.shapers_myanmar.specs.MyanmarWalk.{in_part, part_of};
 ghost use Rattle.shapers_syllabic.specs.Consonants.{is_consonant};
 
 use shapers_base::buffer::hb_glyph_info_t;
@@ -77,84 +77,48 @@ fn set_from_base(glyphs: &mut [hb_glyph_info_t])
 {
     if let Some((base, later)) = glyphs.split_first_mut() {
         base.auxiliary = POS_BASE_C;
-        set_parts(later);
-        set_own_positions(later, POS_BASE_C);
+        set_later(later);
     }
 }
 
-// The positions behind the base by the parts: up to the first vowel below, and from it on.
-fn set_parts(glyphs: &mut [hb_glyph_info_t])
-    ensures { glyphs.new ≡ in_parts glyphs.old }
+// The positions behind the base, each by the part in which the glyph stands.
+fn set_later(glyphs: &mut [hb_glyph_info_t])
+    ensures { glyphs.new ≡ with_own_positions POS_BASE_C (in_parts glyphs.old) }
 {
-    let (main, rest) = glyphs.split_at_mut(main_len(glyphs));
-    set_position(main, POS_AFTER_MAIN);
-    set_below_parts(rest);
-}
-
-// How many glyphs stand before the first vowel below.
-fn main_len(glyphs: &[hb_glyph_info_t]) -> usize
-    ensures len { result ≡ main_len glyphs.now }
-    ensures within { result ≤ length glyphs.now }
-{
-    glyphs
-        .iter()
-        .take_while(|glyph| glyph.category != OT_VBlw)
-        .count()
-}
-
-// The positions from the first vowel below on: its run of vowels below and anusvaras, and the rest.
-fn set_below_parts(glyphs: &mut [hb_glyph_info_t])
-    ensures { glyphs.new ≡ below_parts glyphs.old }
-{
-    let (below, rest) = glyphs.split_at_mut(below_len(glyphs));
-    set_below(below);
-    set_position(rest, POS_AFTER_SUB);
-}
-
-// How long the run of vowels below and anusvaras is. What stands elsewhere by itself doesn't end it.
-fn below_len(glyphs: &[hb_glyph_info_t]) -> usize
-    ensures len { result ≡ prefix_len carries_on_below glyphs.now }
-    ensures within { result ≤ length glyphs.now }
-{
-    glyphs
-        .iter()
-        .take_while(|glyph| matches!(glyph.category, OT_VBlw | OT_A | OT_MR | OT_VPre | OT_VS))
-        .count()
-}
-
-// The positions of that run: an anusvara stands before the vowels below.
-fn set_below(glyphs: &mut [hb_glyph_info_t])
-    ensures { glyphs.new ≡ map in_below_part glyphs.old }
-{
+    let mut part = POS_AFTER_MAIN;
+    let mut before = POS_BASE_C;
     for glyph in glyphs.iter_mut() {
-        glyph.auxiliary = if glyph.category == OT_A {
-            POS_BEFORE_SUB
-        } else {
-            POS_BELOW_C
-        };
-    }
-}
-
-// The positions of what stands elsewhere by itself, behind a glyph of position `before`.
-fn set_own_positions(glyphs: &mut [hb_glyph_info_t], before: u8)
-    ensures { glyphs.new ≡ with_own_positions before glyphs.old }
-{
-    let mut before = before;
-    for glyph in glyphs.iter_mut() {
-        before = own_position(glyph, before);
+        part = part_of(glyph, part);
+        before = own_position(glyph, part, before);
         glyph.auxiliary = before;
     }
 }
 
+// The part of a glyph behind the base, by its position, behind a glyph of part `before`. The first
+// vowel below opens the run of vowels below and anusvaras, which what stands elsewhere by itself
+// doesn't end.
+fn part_of(glyph: &hb_glyph_info_t, before: u8) -> u8
+    ensures { result ≡ part_of before glyph.now }
+{
+    match (before, glyph.category) {
+        (POS_AFTER_MAIN, OT_VBlw) => POS_BELOW_C,
+        (POS_BELOW_C, OT_VBlw | OT_A | OT_MR | OT_VPre | OT_VS) => POS_BELOW_C,
+        (POS_BELOW_C, _) => POS_AFTER_SUB,
+        _ => before,
+    }
+}
+
 // The position of a glyph behind the base: the medial Ra and the vowels before the base stand in
-// front of it, a selector with the glyph before it, others in their part.
-fn own_position(glyph: &hb_glyph_info_t, before: u8) -> u8
-    ensures { result ≡ own_position before glyph.now }
+// front of it, a selector with the glyph before it, an anusvara before the vowels below, and others
+// in their part.
+fn own_position(glyph: &hb_glyph_info_t, part: u8, before: u8) -> u8
+    ensures { result ≡ own_position before (in_part part glyph.now) }
 {
     match glyph.category {
         OT_MR => POS_PRE_C,
         OT_VPre => POS_PRE_M,
         OT_VS => before,
-        _ => glyph.auxiliary,
+        OT_A if part == POS_BELOW_C => POS_BEFORE_SUB,
+        _ => part,
     }
 }

@@ -1,7 +1,0 @@
--- The glyphs that are done, and what becomes of the rest.
-use Rattle.std.proofs.Common.{◌≡◌, ◌++◌, map, take, drop}
-use Rattle.shapers_myanmar.specs.Myanmar.{in_below_part}
-use Rattle.shapers_myanmar.proofs.ot_shaper_myanmar.positions.set_below.Given as goal
-
-abbrev pub invariant-loop-glyph : goal.invariant-loop-glyph
-invariant-loop-glyph l = take l.glyph-index l.glyphs ++ map in_below_part (drop l.glyph-index l.glyphs) ≡ map in_below_part l.initial.glyphs

@@ -1,7 +1,0 @@
--- The glyphs that are done, and what becomes of the rest.
-use Rattle.std.proofs.Common.{◌≡◌, ◌++◌, take, drop}
-use Rattle.shapers_myanmar.specs.Myanmar.{with_own_positions}
-use Rattle.shapers_myanmar.proofs.ot_shaper_myanmar.positions.set_own_positions.Given as goal
-
-abbrev pub invariant-loop-glyph : goal.invariant-loop-glyph
-invariant-loop-glyph l = take l.glyph-index l.glyphs ++ with_own_positions l.before (drop l.glyph-index l.glyphs) ≡ with_own_positions l.fn.before l.initial.glyphs
