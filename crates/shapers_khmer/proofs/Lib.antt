@@ -1,5 +1,6 @@
 mod ConstantRows
 pub mod KhmerListing
+pub mod KhmerMoverMasks
 pub mod KhmerMovers
 mod KhmerMoversRows
 mod KhmerRows
