@@ -3,7 +3,7 @@ use Rattle.std.specs.Prelude.{List, ◌≡◌, ℕ, false, true, [], ◌∷◌, 
 use Rattle.shapers_buffer.specs.Glyph.{default_glyph}
 use Rattle.shapers_buffer.specs.declared.buffer.glyph.hb_glyph_info_t.{hb_glyph_info_t}
 use Rattle.shapers_khmer.specs.declared.ot_shaper_khmer.reordering.KhmerOrder.{KhmerOrder}
-use Rattle.shapers_khmer.specs.KhmerMovers.{Alone, Coeng, behind_coengs, coeng_place, is_mover, is_regular, masked_at, masked_by_movers, moves_behind, moving_coengs, order_by_movers, parts_from, places_of, with_mask_if}
+use Rattle.shapers_khmer.specs.KhmerMovers.{Alone, Coeng, behind_coengs, coeng_place, is_mover, is_regular, masked_at, masked_by_movers, merged_over, merges_by_movers, moves_behind, moving_coengs, order_by_movers, parts_from, places_of, with_mask_if}
 
 -- the categories: a consonant, Coeng, Ro, a left vowel
 abbrev c : ℕ
@@ -113,3 +113,10 @@ masks_of_pairs = refl
 
 masks_of_none : masks_in (c ∷ h ∷ c ∷ h ∷ c ∷ h ∷ c ∷ h ∷ ra ∷ []) ≡ 0 ∷ 0xE0 ∷ 0xE0 ∷ 0xE0 ∷ 0xE0 ∷ 0xE0 ∷ 0xE0 ∷ 0xE0 ∷ 0xE0 ∷ []
 masks_of_none = refl
+
+-- MERGES. From the start to the end of each part that moves
+merged_parts : map merged_over (Coeng 4 ra ∷ Alone 6 pre ∷ []) ≡ (0, 6) ∷ (0, 7) ∷ []
+merged_parts = refl
+
+merged_in : map merges_by_movers ([] ∷ (c ∷ h ∷ c ∷ []) ∷ (c ∷ pre ∷ h ∷ ra ∷ pre ∷ h ∷ ra ∷ h ∷ c ∷ h ∷ ra ∷ []) ∷ []) ≡ [] ∷ [] ∷ ((0, 2) ∷ (0, 4) ∷ (0, 5) ∷ (0, 7) ∷ []) ∷ []
+merged_in = refl

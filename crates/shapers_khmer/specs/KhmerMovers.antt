@@ -1,9 +1,9 @@
--- Khmer: the order of a regular syllable, by what moves.
+-- Khmer: the order, the masks and the merges of a regular syllable, by what moves in it.
 use Rattle.std.specs.Prelude.{ℕ, ◌+◌, ◌≡◌, nat_lt, true, Bool, ◌&&◌, ◌||◌, ◌==◌, not, List, [], ◌∷◌, ◌++◌, drop, filter, flat_map, map, reverse, if◌then◌else◌}
 use Rattle.std.specs.List.{enumerate_from, list_all, list_any, prefix_len, zip}
 use Rattle.shapers_buffer.specs.Lists.{each_after}
 use Rattle.shapers_buffer.specs.declared.buffer.glyph.hb_glyph_info_t.{hb_glyph_info_t}
-use Rattle.shapers_khmer.specs.Khmer.{is_coeng, is_left_vowel, is_ro, khmer_masked, khmer_places, sorts_of, with_mask}
+use Rattle.shapers_khmer.specs.Khmer.{is_coeng, is_left_vowel, is_ro, khmer_masked, khmer_moves, khmer_places, merged_for, sorts_of, with_mask}
 use Rattle.shapers_khmer.specs.declared.ot_shaper_khmer.reordering.KhmerOrder.{KhmerOrder}
 
 -- whether a syllable of these categories is regular: its first is neither Coeng nor a left vowel, and each Coeng is last or
@@ -81,3 +81,15 @@ masked_by_movers r gs = map (λ e. masked_at r (moving_coengs (sorts_of gs)) e.0
 -- the masks by cases of a regular syllable are those by its movers
 abbrev pub KhmerMoversMasksLaw : Type 0
 KhmerMoversMasksLaw = (r : KhmerOrder) (gs : List hb_glyph_info_t) → is_regular (sorts_of gs) ≡ true → khmer_masked r gs ≡ masked_by_movers r gs
+
+-- MERGES. What merges for a part that moves: from the syllable's start to its end, this included
+abbrev pub merged_over : Part → ℕ × ℕ
+merged_over (Coeng place behind) = (0, place + 2)
+merged_over (Alone place sort) = (0, place + 1)
+
+abbrev pub merges_by_movers : List ℕ → List (ℕ × ℕ)
+merges_by_movers sorts = map (λ e. merged_over e.1) (filter is_mover (each_after [] (parts_from 0 sorts)))
+
+-- the merges by cases of a regular syllable are those for its movers, in order
+abbrev pub KhmerMoversMergesLaw : Type 0
+KhmerMoversMergesLaw = (gs : List hb_glyph_info_t) → is_regular (sorts_of gs) ≡ true → map merged_for (khmer_moves gs) ≡ merges_by_movers (sorts_of gs)
