@@ -14,11 +14,11 @@ use Rattle.shapers_khmer.specs.KhmerMasks.{length-sorts}
 use Rattle.shapers_khmer.specs.KhmerMovers.{Alone, Coeng, KhmerMoversLaw, Part, behind_coengs, is_coeng_or_left_vowel, is_mover, moves_behind, order_by_movers, parts_from, places_of}
 
 -- THE COUNT. How many Coengs are counted, by what stands behind them: with more than two counted no Ro moves
-abbrev counted : ℕ → List ℕ → ℕ
+abbrev pub counted : ℕ → List ℕ → ℕ
 counted c [] = c
 counted c (y ∷ ys) = if nat_le c 2 then (if is_ro y then counted 2 ys else counted (c + 1) ys) else counted c ys
 
-abbrev counted_on : ℕ → ℕ → ℕ
+abbrev pub counted_on : ℕ → ℕ → ℕ
 counted_on c y = if nat_le c 2 then (if is_ro y then 2 else c + 1) else c
 
 abbrev others_before : List ℕ → ℕ
@@ -54,7 +54,7 @@ behind_others c (y ∷ ys) h =
     ]
 
 -- a Ro moves with its Coeng exactly if at most two are counted
-moves_by_count : (ys : List ℕ) → moves_behind ys ≡ nat_le (counted 0 ys) 2
+pub moves_by_count : (ys : List ℕ) → moves_behind ys ≡ nat_le (counted 0 ys) 2
 moves_by_count ys =
     let n = others_before ys in
     let same : n ≡ 0 + n = omega arith in
@@ -105,22 +105,22 @@ result_moves front e es on =
     rw on (ap (λ xs. flat ms ++ xs) (append_assoc (places_of e.1) front ss) ∙ sym (append_assoc (flat ms) (places_of e.1) (front ++ ss)) ∙ ap (λ xs. xs ++ (front ++ ss)) (sym more))
 
 -- THE MOVES. Those of what is still to be looked at, with the front before it
-abbrev looked : List ℕ → List ℕ → ℕ → List Move
+abbrev pub looked : List ℕ → List ℕ → ℕ → List Move
 looked front [] c = []
 looked front (z ∷ rest) c = moves_by_cases front z rest c
 
-looked_other : (front : List ℕ) (z : ℕ) (rest : List ℕ) (c : ℕ) → is_coeng z ≡ false → is_left_vowel z ≡ false → moves_by_cases front z rest c ≡ looked (front ++ z ∷ []) rest c
+pub looked_other : (front : List ℕ) (z : ℕ) (rest : List ℕ) (c : ℕ) → is_coeng z ≡ false → is_left_vowel z ≡ false → moves_by_cases front z rest c ≡ looked (front ++ z ∷ []) rest c
 looked_other front z [] c no_coeng no_vowel = rw no_vowel refl
 looked_other front z (y ∷ rest) c no_coeng no_vowel = rw (no_coeng, no_vowel) refl
 
-looked_vowel : (front : List ℕ) (z : ℕ) (rest : List ℕ) (c : ℕ) → is_left_vowel z ≡ true → moves_by_cases front z rest c ≡ Vowel (length front) ∷ looked (z ∷ front) rest c
+pub looked_vowel : (front : List ℕ) (z : ℕ) (rest : List ℕ) (c : ℕ) → is_left_vowel z ≡ true → moves_by_cases front z rest c ≡ Vowel (length front) ∷ looked (z ∷ front) rest c
 looked_vowel front z [] c vowel = rw vowel refl
 looked_vowel front z (y ∷ rest) c vowel =
     let is = eqb-true z 22 vowel in
     let no_coeng : is_coeng z ≡ false = ne_eqb z 4 (λ e. absurd (omega arith)) in
     rw (no_coeng, vowel) refl
 
-looked_pair : (front : List ℕ) (x z y : ℕ) (rest : List ℕ) (c : ℕ) → is_coeng x ≡ false → is_left_vowel x ≡ false → is_coeng z ≡ true → nat_le c 2 ≡ true → is_ro y ≡ true → moves_by_cases (front ++ x ∷ []) z (y ∷ rest) c ≡ Pair (length (front ++ x ∷ [])) ∷ looked (z ∷ (y ∷ (front ++ x ∷ []))) rest 2
+pub looked_pair : (front : List ℕ) (x z y : ℕ) (rest : List ℕ) (c : ℕ) → is_coeng x ≡ false → is_left_vowel x ≡ false → is_coeng z ≡ true → nat_le c 2 ≡ true → is_ro y ≡ true → moves_by_cases (front ++ x ∷ []) z (y ∷ rest) c ≡ Pair (length (front ++ x ∷ [])) ∷ looked (z ∷ (y ∷ (front ++ x ∷ []))) rest 2
 looked_pair front x z y rest c no_coeng no_vowel is few ro =
     let all = front ++ x ∷ [] in
     let n : length all - 1 ≡ length front = omega (arith, length-append front (x ∷ [])) in
@@ -132,7 +132,7 @@ looked_pair front x z y rest c no_coeng no_vowel is few ro =
     ∙ looked_other (z ∷ (y ∷ front)) x rest 2 no_coeng no_vowel in
     rw (is, few, ro) (ap (λ ms. Pair (length all) ∷ ms) further)
 
-looked_coeng : (front : List ℕ) (z y : ℕ) (rest : List ℕ) (c : ℕ) → is_coeng y ≡ false → is_left_vowel y ≡ false → is_coeng z ≡ true → (is_ro y && nat_le c 2) ≡ false → moves_by_cases front z (y ∷ rest) c ≡ looked ((front ++ z ∷ []) ++ y ∷ []) rest (counted_on c y)
+pub looked_coeng : (front : List ℕ) (z y : ℕ) (rest : List ℕ) (c : ℕ) → is_coeng y ≡ false → is_left_vowel y ≡ false → is_coeng z ≡ true → (is_ro y && nat_le c 2) ≡ false → moves_by_cases front z (y ∷ rest) c ≡ looked ((front ++ z ∷ []) ++ y ∷ []) rest (counted_on c y)
 looked_coeng front z y rest c no_coeng no_vowel is stays =
     let here = eqb-true z 4 is in
     let no_left : is_left_vowel z ≡ false = ne_eqb z 22 (λ e. absurd (omega arith)) in
@@ -145,20 +145,20 @@ looked_coeng front z y rest c no_coeng no_vowel is stays =
     ]
 
 -- REGULAR SYLLABLES. What of them holds of their ends
-abbrev is_inner : List ℕ → Bool
+abbrev pub is_inner : List ℕ → Bool
 is_inner [] = true
 is_inner (z ∷ rest) = list_all (λ p. not (is_coeng p.0 && is_coeng_or_left_vowel p.1)) (zip (z ∷ rest) rest)
 
-inner_tail : (z : ℕ) (rest : List ℕ) → is_inner (z ∷ rest) ≡ true → is_inner rest ≡ true
+pub inner_tail : (z : ℕ) (rest : List ℕ) → is_inner (z ∷ rest) ≡ true → is_inner rest ≡ true
 inner_tail z [] inner = refl
 inner_tail z (y ∷ rest) inner = (and_parts (not (is_coeng z && is_coeng_or_left_vowel y)) (is_inner (y ∷ rest)) inner).1
 
-neither : (a b : Bool) → not (a || b) ≡ true → (a ≡ false) × (b ≡ false)
+pub neither : (a b : Bool) → not (a || b) ≡ true → (a ≡ false) × (b ≡ false)
 neither true b h = absurd (true≢false (sym h))
 neither false true h = absurd (true≢false (sym h))
 neither false false h = (refl, refl)
 
-inner_behind : (z y : ℕ) (rest : List ℕ) → is_inner (z ∷ (y ∷ rest)) ≡ true → is_coeng z ≡ true → (is_coeng y ≡ false) × (is_left_vowel y ≡ false)
+pub inner_behind : (z y : ℕ) (rest : List ℕ) → is_inner (z ∷ (y ∷ rest)) ≡ true → is_coeng z ≡ true → (is_coeng y ≡ false) × (is_left_vowel y ≡ false)
 inner_behind z y rest inner is =
     let first = (and_parts (not (is_coeng z && is_coeng_or_left_vowel y)) (is_inner (y ∷ rest)) inner).0 in
     neither (is_coeng y) (is_left_vowel y) (ap (λ b. not (b && is_coeng_or_left_vowel y)) (sym is) ∙ first)
@@ -189,7 +189,7 @@ alone_stays before p z rest c front places other parts passes further =
     ∙ ap (λ ps. result places (each_after before ps)) (sym parts)
 
 -- where the places behind a Coeng and its glyph begin
-range_behind : (p n : ℕ) → range_with_len (p + 1 + 1) n ≡ range_with_len (p + 2) n
+pub range_behind : (p n : ℕ) → range_with_len (p + 1 + 1) n ≡ range_with_len (p + 2) n
 range_behind p n = let same : p + 1 + 1 ≡ p + 2 = omega arith in ap (λ q. range_with_len q n) same
 
 pair_moves : (before : List Part) (p z y : ℕ) (rest : List ℕ) (c : ℕ) (front : List ℕ) (x : ℕ) (places : List ℕ) → length places ≡ length (front ++ x ∷ []) → is_coeng x ≡ false → is_left_vowel x ≡ false → is_coeng z ≡ true → nat_le c 2 ≡ true → is_ro y ≡ true → is_mover (before, Coeng p y) ≡ true → Sorts (before ++ Coeng p y ∷ []) (p + 2) rest 2 (z ∷ (y ∷ (front ++ x ∷ []))) (p ∷ ((p + 1) ∷ places)) → Sorts before p (z ∷ (y ∷ rest)) c (front ++ x ∷ []) places
@@ -223,13 +223,13 @@ coeng_stays before p z y rest c front places no_coeng no_vowel is stays no_mover
     ∙ ap (λ ps. result places (each_after before ps)) (sym parts)
 
 -- the count behind one part more
-count_alone : (before : List Part) (p z c : ℕ) → counted 0 (behind_coengs before) ≡ c → counted 0 (behind_coengs (before ++ Alone p z ∷ [])) ≡ c
+pub count_alone : (before : List Part) (p z c : ℕ) → counted 0 (behind_coengs before) ≡ c → counted 0 (behind_coengs (before ++ Alone p z ∷ [])) ≡ c
 count_alone before p z c is = ap (counted 0) (behind_alone before p z) ∙ is
 
-count_coeng : (before : List Part) (p y c : ℕ) → counted 0 (behind_coengs before) ≡ c → counted 0 (behind_coengs (before ++ Coeng p y ∷ [])) ≡ counted_on c y
+pub count_coeng : (before : List Part) (p y c : ℕ) → counted 0 (behind_coengs before) ≡ c → counted 0 (behind_coengs (before ++ Coeng p y ∷ [])) ≡ counted_on c y
 count_coeng before p y c is = ap (counted 0) (behind_coeng before p y) ∙ counted_more 0 (behind_coengs before) y ∙ ap (λ n. counted_on n y) is
 
-longer : (a b : List ℕ) (x y : ℕ) → length a ≡ length b → length (a ++ x ∷ []) ≡ length (b ++ y ∷ [])
+pub longer : (a b : List ℕ) (x y : ℕ) → length a ≡ length b → length (a ++ x ∷ []) ≡ length (b ++ y ∷ [])
 longer a b x y same = length-append a (x ∷ []) ∙ ap (λ n. n + 1) same ∙ sym (length-append b (y ∷ []))
 
 -- what is looked at, behind a front whose last is neither Coeng nor a left vowel
@@ -272,11 +272,11 @@ sorted before p (z ∷ (y ∷ rest)) c front x places len no_coeng no_vowel inne
     ]
 
 -- A SYLLABLE. Its first glyph is the front, and the others are looked at
-first_looked : (g : hb_glyph_info_t) (gs : List hb_glyph_info_t) → khmer_moves (g ∷ gs) ≡ looked (g.category ∷ []) (sorts_of gs) 0
+pub first_looked : (g : hb_glyph_info_t) (gs : List hb_glyph_info_t) → khmer_moves (g ∷ gs) ≡ looked (g.category ∷ []) (sorts_of gs) 0
 first_looked g [] = refl
 first_looked g (h ∷ gs) = refl
 
-first_part : (x : ℕ) (sorts : List ℕ) → is_coeng x ≡ false → parts_from 0 (x ∷ sorts) ≡ Alone 0 x ∷ parts_from 1 sorts
+pub first_part : (x : ℕ) (sorts : List ℕ) → is_coeng x ≡ false → parts_from 0 (x ∷ sorts) ≡ Alone 0 x ∷ parts_from 1 sorts
 first_part x [] off = refl
 first_part x (y ∷ sorts) off = rw off refl
 

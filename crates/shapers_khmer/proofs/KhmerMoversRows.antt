@@ -1,6 +1,9 @@
 -- Worked rows of the order by movers, computed: regular syllables, parts, movers, orders.
-use Rattle.std.specs.Prelude.{◌≡◌, ℕ, false, true, [], ◌∷◌, map, refl}
-use Rattle.shapers_khmer.specs.KhmerMovers.{Alone, Coeng, is_mover, is_regular, moves_behind, order_by_movers, parts_from, places_of, behind_coengs}
+use Rattle.std.specs.Prelude.{List, ◌≡◌, ℕ, false, true, [], ◌∷◌, map, refl}
+use Rattle.shapers_buffer.specs.Glyph.{default_glyph}
+use Rattle.shapers_buffer.specs.declared.buffer.glyph.hb_glyph_info_t.{hb_glyph_info_t}
+use Rattle.shapers_khmer.specs.declared.ot_shaper_khmer.reordering.KhmerOrder.{KhmerOrder}
+use Rattle.shapers_khmer.specs.KhmerMovers.{Alone, Coeng, behind_coengs, coeng_place, is_mover, is_regular, masked_at, masked_by_movers, merged_over, merges_by_movers, moves_behind, moving_coengs, order_by_movers, parts_from, places_of, with_mask_if}
 
 -- the categories: a consonant, Coeng, Ro, a left vowel
 abbrev c : ℕ
@@ -76,3 +79,44 @@ both = refl
 
 nothing : order_by_movers [] ≡ []
 nothing = refl
+
+-- MASKS. The places of the Coengs that move with their Ro
+coeng_places : map coeng_place (Coeng 4 c ∷ Alone 6 h ∷ Alone 7 pre ∷ []) ≡ (4 ∷ []) ∷ [] ∷ [] ∷ []
+coeng_places = refl
+
+coengs : map moving_coengs ([] ∷ (c ∷ h ∷ ra ∷ pre ∷ h ∷ ra ∷ h ∷ c ∷ h ∷ ra ∷ []) ∷ (c ∷ pre ∷ h ∷ c ∷ []) ∷ (c ∷ h ∷ c ∷ h ∷ c ∷ h ∷ c ∷ h ∷ ra ∷ []) ∷ []) ≡ [] ∷ (1 ∷ 4 ∷ []) ∷ [] ∷ [] ∷ []
+coengs = refl
+
+-- a glyph with all fields set: nothing but its mask changes, and only where that is wanted
+abbrev full : hb_glyph_info_t
+full = record default_glyph { glyph_id = 0x179A; cluster = 7; mask = 0x1003; syllable = 0x21; category = 4; auxiliary = 5; modified_combining_class = 9; lig_comp = 2 }
+
+wanted : with_mask_if true 0x25 full ≡ record full { mask = 0x1023 }
+wanted = refl
+
+unwanted : with_mask_if false 0x25 full ≡ full
+unwanted = refl
+
+-- with the masks of pref 10, of blwf, abvf and pstf E0, of cfar 100
+abbrev by_masks : KhmerOrder
+by_masks = record { others = 0xE0; pref = 0x10; cfar = 0x100 }
+
+at_places : map (λ place. masked_at by_masks (2 ∷ 5 ∷ []) place full) (0 ∷ 1 ∷ 2 ∷ 3 ∷ 4 ∷ 5 ∷ 6 ∷ 7 ∷ []) ≡ map (λ m. let g : hb_glyph_info_t = record full { mask = m } in g) (0x1003 ∷ 0x10E3 ∷ 0x10F3 ∷ 0x10F3 ∷ 0x11E3 ∷ 0x11F3 ∷ 0x11F3 ∷ 0x11E3 ∷ [])
+at_places = refl
+
+-- the masks of the glyphs of a syllable of these categories, in their old places
+abbrev masks_in : List ℕ → List ℕ
+masks_in sorts = map (λ g. g.mask) (masked_by_movers by_masks (map (λ sort. let g : hb_glyph_info_t = record default_glyph { category = sort } in g) sorts))
+
+masks_of_pairs : map masks_in ([] ∷ (c ∷ []) ∷ (c ∷ h ∷ ra ∷ h ∷ c ∷ []) ∷ (c ∷ h ∷ ra ∷ h ∷ ra ∷ []) ∷ (c ∷ pre ∷ h ∷ ra ∷ pre ∷ h ∷ []) ∷ []) ≡ [] ∷ (0 ∷ []) ∷ (0 ∷ 0xF0 ∷ 0xF0 ∷ 0x1E0 ∷ 0x1E0 ∷ []) ∷ (0 ∷ 0xF0 ∷ 0xF0 ∷ 0x1F0 ∷ 0x1F0 ∷ []) ∷ (0 ∷ 0xE0 ∷ 0xF0 ∷ 0xF0 ∷ 0x1E0 ∷ 0x1E0 ∷ []) ∷ []
+masks_of_pairs = refl
+
+masks_of_none : masks_in (c ∷ h ∷ c ∷ h ∷ c ∷ h ∷ c ∷ h ∷ ra ∷ []) ≡ 0 ∷ 0xE0 ∷ 0xE0 ∷ 0xE0 ∷ 0xE0 ∷ 0xE0 ∷ 0xE0 ∷ 0xE0 ∷ 0xE0 ∷ []
+masks_of_none = refl
+
+-- MERGES. From the start to the end of each part that moves
+merged_parts : map merged_over (Coeng 4 ra ∷ Alone 6 pre ∷ []) ≡ (0, 6) ∷ (0, 7) ∷ []
+merged_parts = refl
+
+merged_in : map merges_by_movers ([] ∷ (c ∷ h ∷ c ∷ []) ∷ (c ∷ pre ∷ h ∷ ra ∷ pre ∷ h ∷ ra ∷ h ∷ c ∷ h ∷ ra ∷ []) ∷ []) ≡ [] ∷ [] ∷ ((0, 2) ∷ (0, 4) ∷ (0, 5) ∷ (0, 7) ∷ []) ∷ []
+merged_in = refl

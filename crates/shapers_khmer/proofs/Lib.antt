@@ -1,5 +1,7 @@
 mod ConstantRows
 pub mod KhmerListing
+pub mod KhmerMoverMasks
+pub mod KhmerMoverMerges
 pub mod KhmerMovers
 mod KhmerMoversRows
 mod KhmerRows

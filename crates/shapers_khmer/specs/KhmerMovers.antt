@@ -1,9 +1,10 @@
--- Khmer: the order of a regular syllable, by what moves.
-use Rattle.std.specs.Prelude.{ℕ, ◌+◌, ◌≡◌, nat_lt, true, Bool, ◌&&◌, ◌||◌, not, List, [], ◌∷◌, ◌++◌, drop, filter, flat_map, reverse, if◌then◌else◌}
-use Rattle.std.specs.List.{list_all, prefix_len, zip}
+-- Khmer: the order, the masks and the merges of a regular syllable, by what moves in it.
+use Rattle.std.specs.Prelude.{ℕ, ◌+◌, ◌≡◌, nat_lt, true, Bool, ◌&&◌, ◌||◌, ◌==◌, not, List, [], ◌∷◌, ◌++◌, drop, filter, flat_map, map, reverse, if◌then◌else◌}
+use Rattle.std.specs.List.{enumerate_from, list_all, list_any, prefix_len, zip}
 use Rattle.shapers_buffer.specs.Lists.{each_after}
 use Rattle.shapers_buffer.specs.declared.buffer.glyph.hb_glyph_info_t.{hb_glyph_info_t}
-use Rattle.shapers_khmer.specs.Khmer.{is_coeng, is_left_vowel, is_ro, khmer_places, sorts_of}
+use Rattle.shapers_khmer.specs.Khmer.{is_coeng, is_left_vowel, is_ro, khmer_masked, khmer_moves, khmer_places, merged_for, sorts_of, with_mask}
+use Rattle.shapers_khmer.specs.declared.ot_shaper_khmer.reordering.KhmerOrder.{KhmerOrder}
 
 -- whether a syllable of these categories is regular: its first is neither Coeng nor a left vowel, and each Coeng is last or
 -- directly followed by neither
@@ -55,3 +56,40 @@ order_by_movers sorts =
 -- the order by cases of a regular syllable is that by its movers
 abbrev pub KhmerMoversLaw : Type 0
 KhmerMoversLaw = (gs : List hb_glyph_info_t) → is_regular (sorts_of gs) ≡ true → khmer_places gs ≡ order_by_movers (sorts_of gs)
+
+-- MASKS. The places of the Coengs that move with their Ro
+abbrev pub coeng_place : Part → List ℕ
+coeng_place (Coeng place behind) = place ∷ []
+coeng_place (Alone place sort) = []
+
+abbrev pub moving_coengs : List ℕ → List ℕ
+moving_coengs sorts = flat_map (λ e. coeng_place e.1) (filter is_mover (each_after [] (parts_from 0 sorts)))
+
+-- the glyph with a mask besides its own, if it is wanted
+abbrev pub with_mask_if : Bool → ℕ → hb_glyph_info_t → hb_glyph_info_t
+with_mask_if wanted m g = if wanted then with_mask m g else g
+
+-- the glyph at a place with its masks: blwf, abvf and pstf on all but the first, pref on each pair that moves, cfar behind one
+abbrev pub masked_at : KhmerOrder → List ℕ → ℕ → hb_glyph_info_t → hb_glyph_info_t
+masked_at r coengs place g =
+    with_mask_if (list_any (λ p. nat_lt (p + 1) place) coengs) r.cfar
+    (with_mask_if (list_any (λ p. place == p || place == p + 1) coengs) r.pref (with_mask_if (nat_lt 0 place) r.others g))
+
+abbrev pub masked_by_movers : KhmerOrder → List hb_glyph_info_t → List hb_glyph_info_t
+masked_by_movers r gs = map (λ e. masked_at r (moving_coengs (sorts_of gs)) e.0 e.1) (enumerate_from 0 gs)
+
+-- the masks by cases of a regular syllable are those by its movers
+abbrev pub KhmerMoversMasksLaw : Type 0
+KhmerMoversMasksLaw = (r : KhmerOrder) (gs : List hb_glyph_info_t) → is_regular (sorts_of gs) ≡ true → khmer_masked r gs ≡ masked_by_movers r gs
+
+-- MERGES. What merges for a part that moves: from the syllable's start to its end, this included
+abbrev pub merged_over : Part → ℕ × ℕ
+merged_over (Coeng place behind) = (0, place + 2)
+merged_over (Alone place sort) = (0, place + 1)
+
+abbrev pub merges_by_movers : List ℕ → List (ℕ × ℕ)
+merges_by_movers sorts = map (λ e. merged_over e.1) (filter is_mover (each_after [] (parts_from 0 sorts)))
+
+-- the merges by cases of a regular syllable are those for its movers, in order
+abbrev pub KhmerMoversMergesLaw : Type 0
+KhmerMoversMergesLaw = (gs : List hb_glyph_info_t) → is_regular (sorts_of gs) ≡ true → map merged_for (khmer_moves gs) ≡ merges_by_movers (sorts_of gs)

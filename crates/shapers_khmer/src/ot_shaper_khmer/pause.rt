@@ -5,7 +5,7 @@ ghost use Rattle.shapers_buffer.specs.Refusals.{Refuses};
 ghost use Rattle.shapers_buffer.specs.Syllables.{unknown_refusal};
 ghost use Rattle.shapers_clusters.specs.Laws.{ReorderedHold};
 ghost use Rattle.shapers_khmer.specs.Khmer.{KhmerReadsNoSerials, khmer_circles, khmer_order, khmer_steps, order_in, with_khmer_circles};
-ghost use Rattle.shapers_khmer.specs.KhmerMovers.{KhmerMoversLaw};
+ghost use Rattle.shapers_khmer.specs.KhmerMovers.{KhmerMoversLaw, KhmerMoversMasksLaw, KhmerMoversMergesLaw};
 ghost use Rattle.shapers_khmer.specs.Plan.{is_khmer_data};
 ghost use Rattle.shapers_syllabic.specs.Reordering.{PauseReordered, carried, circles_of_sort, text_steps};
 ghost use Rattle.shapers_syllabic.specs.ReorderingLaws.{PauseCutsAtBorders};
@@ -84,9 +84,13 @@ pub fn khmer_reads_no_serials()
     ensures { KhmerReadsNoSerials }
 {}
 
-/// The order by cases is, in a regular syllable, the order by movers: first what moves, the last first,
-/// and then the rest in order. What moves are the left vowels, and each Coeng with its Ro up to the first
-/// Coeng with another behind it, if the first Coeng with Ro is among the first three.
+/// What the cases make of a regular syllable, by its movers. They are the left vowels, and, if the
+/// first Coeng with Ro is among the first three, each Coeng with its Ro from that one to the first
+/// without. First stand the movers, the last first, and then the rest in order. Pref goes to the
+/// moving pairs, cfar to all behind the first of them, the other masks to all but the first glyph.
+/// For each mover merges the stretch from the syllable's start to its end.
 pub fn khmer_orders_by_movers()
-    ensures { KhmerMoversLaw }
+    ensures order { KhmerMoversLaw }
+    ensures masks { KhmerMoversMasksLaw }
+    ensures merges { KhmerMoversMergesLaw }
 {}
