@@ -13,7 +13,7 @@ use std::alloc::{AllocError, Global};
 use std::{fs, io};
 
 /// The files of rows.
-const FILES: [&str; 11] = [
+const FILES: [&str; 12] = [
     "arabic.rows",
     "hangul.rows",
     "hebrew.rows",
@@ -21,6 +21,7 @@ const FILES: [&str; 11] = [
     "indic.rows",
     "khmer.rows",
     "lines.rows",
+    "long.rows",
     "myanmar.rows",
     "stretch.rows",
     "thai.rows",
