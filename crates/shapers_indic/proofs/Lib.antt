@@ -1,12 +1,5 @@
 mod CharacterRows
 mod ConstantRows
-mod InitialBaseRows
-mod InitialFontRows
-mod InitialMaskRows
-mod InitialOrderRows
-mod InitialPauseRows
-mod InitialPositionRows
-mod InitialRows
-mod InitialWords
 mod PlanRows
 mod RequestRows
+pub mod RowWords

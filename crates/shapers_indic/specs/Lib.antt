@@ -1,11 +1,4 @@
 pub mod Characters
-pub mod InitialBase
-pub mod InitialFont
-pub mod InitialMasks
-pub mod InitialOrder
-pub mod InitialPause
-pub mod InitialPositions
-pub mod InitialReordering
-pub mod InitialRules
+pub mod Glyphs
 pub mod Plan
 pub mod Requests

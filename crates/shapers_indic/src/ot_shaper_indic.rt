@@ -14,9 +14,8 @@ use shapers_base::plan::{Pause, Request, ShaperError, hb_ot_shape_planner_t};
 use shapers_syllabic::ot_shaper_syllabic;
 
 mod data;
-mod font_positions;
+pub mod glyphs;
 pub mod indic_feature;
-mod reph;
 
 pub use data::create_data;
 

@@ -1,13 +1,13 @@
 //! Positions by the font: consonants that it has below-base or post-base forms of.
 ghost use Rattle.std.specs.Prelude.{◌≡◌};
-ghost use Rattle.shapers_indic.specs.InitialFont.{consonant_position, joins_virama, positions_by_font, virama_glyph};
-ghost use Rattle.shapers_indic.specs.InitialRules.{number};
+ghost use Rattle.shapers_indic_initial.specs.InitialFont.{consonant_position, joins_virama, positions_by_font, virama_glyph};
 
 use shapers_base::buffer::{GlyphChange, hb_buffer_t, hb_glyph_info_t};
 use shapers_base::font::{GlyphId, hb_font_t};
 use shapers_base::map::hb_ot_map_t;
 use shapers_base::plan::ot_position_t::{POS_BASE_C, POS_BELOW_C, POS_POST_C};
 use shapers_base::plan::{IndicWouldSubstituteFeature, Position, indic_shape_plan_t};
+use shapers_indic::ot_shaper_indic::glyphs::number;
 
 /// Gives consonants of position BASE_C for which the font has a below-base or a post-base form that
 /// form's position, where it has a glyph for the script's virama. It takes no memory.
@@ -40,13 +40,6 @@ fn virama_glyph<F: hb_font_t>(plan: &indic_shape_plan_t, face: &F) -> Option<Gly
         return None;
     }
     face.get_nominal_glyph(plan.config.virama)
-}
-
-// A glyph as fonts are asked about it.
-pub(crate) fn number(glyph: &hb_glyph_info_t) -> GlyphId
-    ensures { result ≡ number glyph.now }
-{
-    GlyphId((glyph.glyph_id % 65536) as u16)
 }
 
 // Positions by the forms that consonants have with a virama.
@@ -86,7 +79,7 @@ impl<'a, F: hb_font_t> ByVirama<'a, F> {
 }
 
 impl<'a, F: hb_font_t> GlyphChange for ByVirama<'a, F> {
-    ghost use Rattle.shapers_indic.specs.InitialFont.{by_virama};
+    ghost use Rattle.shapers_indic_initial.specs.InitialFont.{by_virama};
 
     ghost changed = { λ change glyph.
         by_virama (F.font change.face.now) change.map.now change.plan.now change.virama glyph };

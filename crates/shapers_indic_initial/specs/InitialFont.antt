@@ -8,7 +8,7 @@ use Rattle.shapers_base.specs.declared.plan.ot_position_t.TheConstants.{POS_BASE
 use Rattle.shapers_base.specs.Font.{Font}
 use Rattle.shapers_base.specs.Map.{Map}
 use Rattle.shapers_base.specs.Questions.{would_by}
-use Rattle.shapers_indic.specs.InitialRules.{at_position, has_position, number}
+use Rattle.shapers_indic.specs.Glyphs.{at_position, has_position, number}
 
 -- whether a feature would substitute the virama's glyph v and c, in either order
 abbrev pub joins_virama : Font → Map → IndicWouldSubstituteFeature → GlyphId → GlyphId → Bool

@@ -3,8 +3,9 @@ use Rattle.std.specs.Prelude.{◌≡◌, ℕ, zero, suc, true, false, List, [], 
 use Rattle.std.specs.List.{range_with_len}
 use Rattle.shapers_buffer.specs.declared.buffer.category.hb_unicode_general_category_t.TheVariants.{Mn}
 use Rattle.shapers_buffer.specs.declared.buffer.glyph.hb_glyph_info_t.{hb_glyph_info_t}
-use Rattle.shapers_indic.proofs.InitialWords.{C, H, ZWNJ, ZWJ, M, Ra, glyphs_from, of, plainly, script, rules, no_masks, each_mask, with_reph_of, numbers_of, positions_of, masks_of, clusters_after, reordered}
-use Rattle.shapers_indic.specs.InitialReordering.{initial_order, initial_steps, is_reordered}
+use Rattle.shapers_indic.proofs.RowWords.{C, H, ZWNJ, ZWJ, M, Ra, glyphs_from, of, plainly, script, numbers_of, positions_of, masks_of}
+use Rattle.shapers_indic_initial.proofs.InitialWords.{rules, no_masks, each_mask, with_reph_of, clusters_after, reordered}
+use Rattle.shapers_indic_initial.specs.InitialReordering.{initial_order, initial_steps, is_reordered}
 
 abbrev half_alone : List ℕ
 half_alone = 0 ∷ 0 ∷ 0 ∷ 0 ∷ 0 ∷ 0 ∷ 0 ∷ 16 ∷ 0 ∷ 0 ∷ 0 ∷ 0 ∷ 0 ∷ 0 ∷ 0 ∷ 0 ∷ 0 ∷ []

@@ -10,7 +10,8 @@ use Rattle.shapers_base.specs.declared.plan.indic.RephMode.TheVariants.{Implicit
 use Rattle.shapers_base.specs.declared.plan.ot_category_t.TheConstants.{OT_C, OT_CS, OT_DOTTEDCIRCLE, OT_H, OT_PLACEHOLDER, OT_Ra, OT_Repha, OT_V, OT_ZWJ}
 use Rattle.shapers_base.specs.declared.plan.ot_position_t.TheConstants.{POS_BELOW_C, POS_POST_C}
 use Rattle.shapers_indic.specs.declared.ot_shaper_indic.indic_feature.TheConstants.{RPHF}
-use Rattle.shapers_indic.specs.InitialRules.{Rules, greatest_place, has_category, has_position, is_joiner, is_one_of, least_place, mask_at, numbers, passes, some_place}
+use Rattle.shapers_indic.specs.Glyphs.{greatest_place, has_category, has_position, is_joiner, is_one_of, least_place, numbers, passes, some_place}
+use Rattle.shapers_indic_initial.specs.InitialRules.{Rules, mask_at}
 use Rattle.shapers_indic.specs.Plan.{is_script}
 
 -- whether a syllable opens with Ra, H, ZWJ

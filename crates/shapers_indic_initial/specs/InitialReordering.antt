@@ -6,11 +6,11 @@ use Rattle.shapers_buffer.specs.declared.buffer.tag.Script.{Script}
 use Rattle.shapers_buffer.specs.Places.{pick}
 use Rattle.shapers_buffer.specs.Syllables.{kind_of}
 use Rattle.shapers_clusters.specs.Steps.{Step, still_step, swap_step}
-use Rattle.shapers_indic.specs.InitialBase.{base_place, has_reph, joiner_comes_first}
-use Rattle.shapers_indic.specs.InitialMasks.{with_initial_masks}
-use Rattle.shapers_indic.specs.InitialOrder.{ordered_base, ordered_places, ordered_stretches}
-use Rattle.shapers_indic.specs.InitialPositions.{by_base, halant_places, with_marks_attached, with_owners_after}
-use Rattle.shapers_indic.specs.InitialRules.{Rules}
+use Rattle.shapers_indic_initial.specs.InitialBase.{base_place, has_reph, joiner_comes_first}
+use Rattle.shapers_indic_initial.specs.InitialMasks.{with_initial_masks}
+use Rattle.shapers_indic_initial.specs.InitialOrder.{ordered_base, ordered_places, ordered_stretches}
+use Rattle.shapers_indic_initial.specs.InitialPositions.{by_base, halant_places, with_marks_attached, with_owners_after}
+use Rattle.shapers_indic_initial.specs.InitialRules.{Rules}
 use Rattle.shapers_syllabic.specs.declared.ot_shaper_syllabic.kinds.indic_syllable.TheConstants.{BROKEN_CLUSTER, CONSONANT_SYLLABLE, STANDALONE_CLUSTER, VOWEL_SYLLABLE}
 
 -- whether a syllable is reordered: one of a consonant or a vowel, a standalone one, or a broken one

@@ -10,7 +10,8 @@ use Rattle.shapers_base.specs.declared.plan.indic.BlwfMode.TheVariants.{PreAndPo
 use Rattle.shapers_base.specs.declared.plan.ot_category_t.TheConstants.{OT_H, OT_Ra, OT_ZWJ, OT_ZWNJ}
 use Rattle.shapers_base.specs.declared.plan.ot_position_t.TheConstants.{POS_RA_TO_BECOME_REPH}
 use Rattle.shapers_indic.specs.declared.ot_shaper_indic.indic_feature.TheConstants.{ABVF, BLWF, HALF, PREF, PSTF, RPHF}
-use Rattle.shapers_indic.specs.InitialRules.{Rules, has_category, has_position, is_one_of, least_place, mask_at, numbers, passes}
+use Rattle.shapers_indic.specs.Glyphs.{has_category, has_position, is_one_of, least_place, numbers, passes}
+use Rattle.shapers_indic_initial.specs.InitialRules.{Rules, mask_at}
 use Rattle.shapers_indic.specs.Plan.{is_script}
 use Rattle.shapers_syllabic.specs.Consonants.{is_consonant}
 

@@ -8,10 +8,10 @@ use Rattle.shapers_buffer.specs.Glyph.{default_glyph}
 use Rattle.shapers_base.specs.declared.font.GlyphId.{GlyphId}
 use Rattle.shapers_base.specs.Font.{Font}
 use Rattle.shapers_base.specs.Map.{Map}
-use Rattle.shapers_indic.proofs.InitialWords.{C, M, Repha, script, numbers_of, positions_of}
-use Rattle.shapers_indic.specs.InitialPause.{initial_refusal, with_positions_and_circles}
-use Rattle.shapers_indic.specs.InitialReordering.{initial_order}
-use Rattle.shapers_indic.specs.InitialRules.{rules_of}
+use Rattle.shapers_indic.proofs.RowWords.{C, M, Repha, script, numbers_of, positions_of}
+use Rattle.shapers_indic_initial.specs.InitialPause.{initial_refusal, with_positions_and_circles}
+use Rattle.shapers_indic_initial.specs.InitialReordering.{initial_order}
+use Rattle.shapers_indic_initial.specs.InitialRules.{rules_of}
 use Rattle.shapers_indic.specs.Plan.{indic_plan}
 use Rattle.shapers_syllabic.specs.Reordering.{text_order}
 

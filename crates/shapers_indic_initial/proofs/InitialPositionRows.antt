@@ -2,8 +2,9 @@
 use Rattle.std.specs.Prelude.{◌≡◌, ℕ, true, false, List, [], ◌∷◌, ◌++◌, map, replicate, refl}
 use Rattle.shapers_buffer.specs.Glyph.{default_glyph}
 use Rattle.shapers_buffer.specs.declared.buffer.glyph.hb_glyph_info_t.{hb_glyph_info_t}
-use Rattle.shapers_indic.proofs.InitialWords.{C, V, N, H, ZWNJ, ZWJ, M, SM, MPst, CM, of, plainly, marked, script, rules, no_masks, positions_of}
-use Rattle.shapers_indic.specs.InitialPositions.{by_base, halant_places, with_attached, with_signs, with_halants, with_marks_attached, with_owners, with_owners_after}
+use Rattle.shapers_indic.proofs.RowWords.{C, V, N, H, ZWNJ, ZWJ, M, SM, MPst, CM, of, plainly, marked, script, positions_of}
+use Rattle.shapers_indic_initial.proofs.InitialWords.{rules, no_masks}
+use Rattle.shapers_indic_initial.specs.InitialPositions.{by_base, halant_places, with_attached, with_signs, with_halants, with_marks_attached, with_owners, with_owners_after}
 
 -- glyphs of positions
 abbrev at : List ℕ → List hb_glyph_info_t

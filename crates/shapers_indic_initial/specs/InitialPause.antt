@@ -9,9 +9,9 @@ use Rattle.shapers_base.specs.declared.plan.ot_category_t.TheConstants.{OT_DOTTE
 use Rattle.shapers_base.specs.declared.plan.ot_position_t.TheConstants.{POS_END}
 use Rattle.shapers_base.specs.Font.{Font}
 use Rattle.shapers_base.specs.Map.{Map}
-use Rattle.shapers_indic.specs.InitialFont.{positions_by_font}
-use Rattle.shapers_indic.specs.InitialReordering.{initial_order, initial_steps}
-use Rattle.shapers_indic.specs.InitialRules.{rules_of}
+use Rattle.shapers_indic_initial.specs.InitialFont.{positions_by_font}
+use Rattle.shapers_indic_initial.specs.InitialReordering.{initial_order, initial_steps}
+use Rattle.shapers_indic_initial.specs.InitialRules.{rules_of}
 use Rattle.shapers_syllabic.specs.declared.ot_shaper_syllabic.kinds.indic_syllable.TheConstants.{BROKEN_CLUSTER, NON_INDIC_CLUSTER}
 use Rattle.shapers_syllabic.specs.Circles.{circled, circles_for}
 use Rattle.shapers_syllabic.specs.Reordering.{SyllablesReordered}

@@ -9,10 +9,10 @@ use Rattle.shapers_base.specs.declared.font.GlyphId.{GlyphId}
 use Rattle.shapers_base.specs.declared.map.feature_map_t.{feature_map_t}
 use Rattle.shapers_base.specs.Font.{Font}
 use Rattle.shapers_base.specs.Map.{Map}
-use Rattle.shapers_indic.proofs.InitialWords.{positions_of, script}
+use Rattle.shapers_indic.proofs.RowWords.{positions_of, script}
 use Rattle.shapers_buffer.specs.Glyph.{default_glyph}
-use Rattle.shapers_indic.specs.InitialFont.{positions_by_font}
-use Rattle.shapers_indic.specs.InitialRules.{number}
+use Rattle.shapers_indic_initial.specs.InitialFont.{positions_by_font}
+use Rattle.shapers_indic.specs.Glyphs.{number}
 use Rattle.shapers_indic.specs.Plan.{indic_plan}
 
 abbrev feature : String → ℕ → feature_map_t

@@ -3,9 +3,10 @@ use Rattle.std.specs.Prelude.{◌≡◌, ℕ, ◌==◌, true, false, List, [], �
 use Rattle.shapers_buffer.specs.Glyph.{default_glyph}
 use Rattle.shapers_buffer.specs.GlyphFlags.{with_bits}
 use Rattle.shapers_buffer.specs.declared.buffer.glyph.hb_glyph_info_t.{hb_glyph_info_t}
-use Rattle.shapers_indic.proofs.InitialWords.{C, N, H, ZWNJ, ZWJ, Ra, of, plainly, marked, script, rules, no_masks, each_mask, with_pref_of, masks_of}
-use Rattle.shapers_indic.specs.InitialMasks.{with_eyelash_mask, with_initial_masks, with_masks_around, with_pref_mask, with_reph_mask, without_half}
-use Rattle.shapers_indic.specs.InitialRules.{Rules}
+use Rattle.shapers_indic.proofs.RowWords.{C, N, H, ZWNJ, ZWJ, Ra, of, plainly, marked, script, masks_of}
+use Rattle.shapers_indic_initial.proofs.InitialWords.{rules, no_masks, each_mask, with_pref_of}
+use Rattle.shapers_indic_initial.specs.InitialMasks.{with_eyelash_mask, with_initial_masks, with_masks_around, with_pref_mask, with_reph_mask, without_half}
+use Rattle.shapers_indic_initial.specs.InitialRules.{Rules}
 
 abbrev new : Rules
 new = rules "Deva" false each_mask

@@ -2,23 +2,17 @@
 //! Indic scripts.)
 ghost use Rattle.std.specs.Prelude.{◌≡◌, ◌≤◌, length};
 ghost use Rattle.std.specs.List.{prefix_len};
-ghost use Rattle.shapers_indic.specs.InitialBase.{font_decides_reph, limit_behind, opens_with_repha, reph_is_formed, reph_len, third_lets_reph};
-ghost use Rattle.shapers_indic.specs.InitialRules.{is_joiner, rules_of};
+ghost use Rattle.shapers_indic_initial.specs.InitialBase.{font_decides_reph, limit_behind, opens_with_repha, reph_is_formed, reph_len, third_lets_reph};
+ghost use Rattle.shapers_indic.specs.Glyphs.{is_joiner};
+ghost use Rattle.shapers_indic_initial.specs.InitialRules.{rules_of};
 
-use super::font_positions::number;
-use super::indic_feature::RPHF;
 use shapers_base::buffer::hb_glyph_info_t;
 use shapers_base::font::hb_font_t;
 use shapers_base::map::hb_ot_map_t;
-use shapers_base::plan::ot_category_t::{OT_Repha, OT_ZWJ, OT_ZWNJ};
+use shapers_base::plan::ot_category_t::{OT_Repha, OT_ZWJ};
 use shapers_base::plan::{RephMode, indic_shape_plan_t};
-
-/// Whether a glyph is a joiner, and no lookup put it in for several.
-pub(crate) fn is_joiner(glyph: &hb_glyph_info_t) -> bool
-    ensures { result ≡ is_joiner glyph.now }
-{
-    !glyph.marks.is_ligated() && matches!(glyph.category, OT_ZWJ | OT_ZWNJ)
-}
+use shapers_indic::ot_shaper_indic::glyphs::{is_joiner, number};
+use shapers_indic::ot_shaper_indic::indic_feature::RPHF;
 
 /// How many glyphs the reph that opens a syllable has, without joiners behind it; 0 if there is none.
 pub(crate) fn reph_len<F: hb_font_t>(

@@ -1,9 +1,10 @@
 -- The reph, the limit, where the search ends, and the base, computed case by case.
 use Rattle.std.specs.Prelude.{◌≡◌, ℕ, zero, suc, true, false, List, [], ◌∷◌, map, None, refl}
 use Rattle.shapers_buffer.specs.declared.buffer.glyph.hb_glyph_info_t.{hb_glyph_info_t}
-use Rattle.shapers_indic.proofs.InitialWords.{C, H, ZWNJ, ZWJ, M, Repha, Ra, of, plainly, marked, script, rules, no_masks, each_mask, with_reph_of}
-use Rattle.shapers_indic.specs.InitialBase.{base_place, has_reph, joiner_comes_first, limit, reph_len, search_from, search_start}
-use Rattle.shapers_indic.specs.InitialRules.{Rules}
+use Rattle.shapers_indic.proofs.RowWords.{C, H, ZWNJ, ZWJ, M, Repha, Ra, of, plainly, marked, script}
+use Rattle.shapers_indic_initial.proofs.InitialWords.{rules, no_masks, each_mask, with_reph_of}
+use Rattle.shapers_indic_initial.specs.InitialBase.{base_place, has_reph, joiner_comes_first, limit, reph_len, search_from, search_start}
+use Rattle.shapers_indic_initial.specs.InitialRules.{Rules}
 
 -- the glyph at a place put in by a lookup for several
 abbrev ligated_at : ℕ → List hb_glyph_info_t → List hb_glyph_info_t

@@ -1,32 +1,11 @@
--- What the initial reordering of a syllable reads of the plan and the font, and the words on glyphs and places that its definitions use.
-use Rattle.std.specs.Prelude.{ℕ, ◌-◌, ◌%◌, ◌==◌, Bool, ◌&&◌, false, not, List, [], ◌∷◌, map, find, reverse, slice_index, Option}
+-- The words on glyphs and places that both reorderings use.
+use Rattle.std.specs.Prelude.{ℕ, ◌-◌, ◌%◌, ◌==◌, Bool, ◌&&◌, false, not, List, [], ◌∷◌, map, find, reverse, Option}
 use Rattle.std.specs.List.{list_any, range_with_len, slice_get}
 use Rattle.std.specs.Option.{option_map_or}
 use Rattle.shapers_buffer.specs.declared.buffer.glyph.hb_glyph_info_t.{hb_glyph_info_t}
 use Rattle.shapers_buffer.specs.Marks.{is_ligated}
 use Rattle.shapers_base.specs.declared.font.GlyphId.{GlyphId}
-use Rattle.shapers_base.specs.declared.plan.indic.IndicConfig.{IndicConfig}
-use Rattle.shapers_base.specs.declared.plan.indic.indic_shape_plan_t.{indic_shape_plan_t}
 use Rattle.shapers_base.specs.declared.plan.ot_category_t.TheConstants.{OT_M, OT_MPst, OT_ZWJ, OT_ZWNJ}
-use Rattle.shapers_base.specs.Font.{Font}
-use Rattle.shapers_base.specs.Map.{Map}
-use Rattle.shapers_base.specs.Questions.{would_by}
-
--- what the script asks for, whether the older specification holds, the masks by feature, and of which glyphs the font forms a reph or a consonant that is reordered before the base
-pub record Rules : Type 0 where
-  pub config : IndicConfig
-  pub old : Bool
-  pub masks : List ℕ
-  pub forms_reph : List GlyphId → Bool
-  pub forms_pref : List GlyphId → Bool
-
--- so by a plan and a font
-abbrev pub rules_of : Font → Map → indic_shape_plan_t → Rules
-rules_of font m p = record { config = p.config; old = p.is_old_spec; masks = p.mask_array; forms_reph = would_by font.applies m p.rphf; forms_pref = would_by font.applies m p.pref }
-
--- the mask of a feature
-abbrev pub mask_at : Rules → ℕ → ℕ
-mask_at r feature = slice_index r.masks feature
 
 -- glyphs by their numbers, as fonts are asked about them: those of fonts have 16 bits
 abbrev pub number : hb_glyph_info_t → GlyphId

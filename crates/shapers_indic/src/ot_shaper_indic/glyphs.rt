@@ -1,0 +1,28 @@
+//! What both reorderings ask of a glyph.
+ghost use Rattle.std.specs.Prelude.{◌≡◌};
+ghost use Rattle.shapers_indic.specs.Glyphs.{is_joiner, is_matra, number};
+
+use shapers_base::buffer::hb_glyph_info_t;
+use shapers_base::font::GlyphId;
+use shapers_base::plan::ot_category_t::{OT_M, OT_MPst, OT_ZWJ, OT_ZWNJ};
+
+/// A glyph as fonts are asked about it.
+pub fn number(glyph: &hb_glyph_info_t) -> GlyphId
+    ensures { result ≡ number glyph.now }
+{
+    GlyphId((glyph.glyph_id % 65536) as u16)
+}
+
+/// Whether a glyph is a joiner, and no lookup put it in for several.
+pub fn is_joiner(glyph: &hb_glyph_info_t) -> bool
+    ensures { result ≡ is_joiner glyph.now }
+{
+    !glyph.marks.is_ligated() && matches!(glyph.category, OT_ZWJ | OT_ZWNJ)
+}
+
+/// Whether a glyph is a vowel sign.
+pub fn is_matra(glyph: &hb_glyph_info_t) -> bool
+    ensures { result ≡ is_matra glyph.now }
+{
+    matches!(glyph.category, OT_M | OT_MPst)
+}

@@ -1,0 +1,8 @@
+mod InitialBaseRows
+mod InitialFontRows
+mod InitialMaskRows
+mod InitialOrderRows
+mod InitialPauseRows
+mod InitialPositionRows
+mod InitialRows
+mod InitialWords
