@@ -164,7 +164,7 @@ merge_either n false x y z h = refl
 pub merge_is : (level : BufferClusterLevel) (s e : ℕ) (gs : List hb_glyph_info_t) → merge level s e gs ≡ flood_merge level s e gs
 merge_is level s e gs = merge_either (e - s) (merges level) (merged s e gs) (flood_merged s e gs) gs (λ h. merged_is s e gs (omega arith))
 
-first-read : (gs : List hb_glyph_info_t) → (get_or gs 0 default_glyph).cluster ≡ first_cluster gs
+pub first-read : (gs : List hb_glyph_info_t) → (get_or gs 0 default_glyph).cluster ≡ first_cluster gs
 first-read [] = refl
 first-read (g ∷ gs) = refl
 

@@ -1,6 +1,7 @@
 mod BufferRows
 mod CategoryRows
 pub mod ClusterLemmas
+pub mod FurtherMerges
 mod ConstantRows
 mod GlyphFlagRows
 pub mod ListLaws

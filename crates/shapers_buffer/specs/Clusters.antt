@@ -1,6 +1,6 @@
 -- The merge rule on the list of glyphs.
 use Rattle.std.specs.Prelude.{ℕ, ◌-◌, ◌+◌, ◌==◌, min, nat_lt, Bool, true, false, not, ◌&&◌, List, [], ◌∷◌, ◌++◌, map, reverse, take, drop, fold, if◌then◌else◌}
-use Rattle.std.specs.List.{prefix_len, suffix_len}
+use Rattle.std.specs.List.{list_all, prefix_len, suffix_len}
 use Rattle.shapers_buffer.specs.declared.buffer.glyph.hb_glyph_info_t.{hb_glyph_info_t}
 use Rattle.shapers_buffer.specs.declared.buffer.level.BufferClusterLevel.{BufferClusterLevel}
 use Rattle.shapers_buffer.specs.declared.buffer.level.BufferClusterLevel.TheVariants.{MonotoneGraphemes, MonotoneCharacters, Characters}
@@ -60,7 +60,15 @@ abbrev pub merge_all : BufferClusterLevel → List (ℕ × ℕ) → List hb_glyp
 merge_all level [] gs = gs
 merge_all level (st ∷ sts) gs = merge_all level sts (merge level st.0 st.1 gs)
 
+-- whether all these glyphs are in one cluster
+abbrev pub in_one_cluster : List hb_glyph_info_t → Bool
+in_one_cluster gs = list_all (has_cluster (first_cluster gs)) gs
+
 -- in the code: the glyphs of cluster c that open the list, in cluster m
 abbrev pub flooded : ℕ → ℕ → List hb_glyph_info_t → List hb_glyph_info_t
 flooded c m [] = []
 flooded c m (g ∷ gs) = if g.cluster == c then in_cluster m g ∷ flooded c m gs else g ∷ gs
+
+-- in the code: the glyphs from s to e in cluster m, and with them those behind that share the cluster of the last
+abbrev pub taken_in : ℕ → ℕ → ℕ → List hb_glyph_info_t → List hb_glyph_info_t
+taken_in m s e gs = take s gs ++ (map (in_cluster m) (stretch_of s e gs) ++ flooded (last_cluster (stretch_of s e gs)) m (drop e gs))

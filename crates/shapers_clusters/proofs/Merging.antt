@@ -9,6 +9,7 @@ use Rattle.shapers_buffer.specs.Glyph.{plain, without_flags, order_view}
 use Rattle.shapers_buffer.proofs.MappedLists.{map-reverse}
 use Rattle.shapers_buffer.specs.Clusters.{in_cluster, flooded, merge, merge_all, merges, stretch_of}
 use Rattle.shapers_buffer.proofs.ClusterLemmas.{flood_merged, merge_is, three_parts}
+use Rattle.shapers_buffer.proofs.FurtherMerges.{length-flooded}
 
 -- a stretch of at least two places merges, or nothing changes
 two_cases : (n : ℕ) (a : Bool) {X : Type 0} (P : X → Type 0) (x y : X) → P y → (1 < n → P x) → P (if a && not (nat_lt n 2) then x else y)
@@ -17,10 +18,6 @@ two_cases n false P x y here there = here
 
 pub merge_cases : (P : List hb_glyph_info_t → Type 0) (level : BufferClusterLevel) (s e : ℕ) (gs : List hb_glyph_info_t) → P gs → (1 < e - s → P (flood_merged s e gs)) → P (merge level s e gs)
 merge_cases P level s e gs here there = subst P (sym (merge_is level s e gs)) (two_cases (e - s) (merges level) P (flood_merged s e gs) gs here there)
-
-pub length-flooded : (c m : ℕ) (gs : List hb_glyph_info_t) → length (flooded c m gs) ≡ length gs
-length-flooded c m [] = refl
-length-flooded c m (g ∷ gs) = grind (arith, nat_tests, length-flooded c m gs)
 
 length-merged : (s e : ℕ) (gs : List hb_glyph_info_t) → s ≤ e → e ≤ length gs → length (flood_merged s e gs) ≡ length gs
 length-merged s e gs h l = simp (length-append, length-reverse, length-map, length-flooded, length-take, length-drop) (omega arith)
