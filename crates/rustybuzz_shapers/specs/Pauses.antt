@@ -16,6 +16,7 @@ use Rattle.shapers_syllabic.specs.ReorderingLaws.{PauseCutsAtBorders}
 use Rattle.shapers_syllabic.specs.declared.ot_shaper_syllabic.circles.DottedCircles.{DottedCircles}
 use Rattle.shapers_universal.specs.PlanData.{is_universal, rphf_of}
 use Rattle.shapers_universal.specs.Universal.{universal_order, universal_steps}
+use Rattle.shapers_universal.specs.UniversalCuts.{UniversalSetUpCutsAtSpans}
 use Rattle.shapers_universal.specs.UniversalSyllables.{syllables_set_up, with_pref_recorded, with_rphf_recorded}
 use Rattle.shapers_universal.specs.UniversalText.{universal_circles}
 use Rattle.shapers_buffer.specs.Buffer.{Buffer}
@@ -111,7 +112,7 @@ abbrev pub PauseKeeps : Pause → hb_ot_shape_plan_t → Font → List Span → 
 PauseKeeps SetupSyllablesIndic plan font spans old new = SetUpCutsAtSpans spans 4 old new
 PauseKeeps SetupSyllablesKhmer plan font spans old new = SetUpCutsAtSpans spans 1 old new
 PauseKeeps SetupSyllablesMyanmar plan font spans old new = SetUpCutsAtSpans spans 2 old new
-PauseKeeps SetupSyllablesUse plan font spans old new = Unit {0}
+PauseKeeps SetupSyllablesUse plan font spans old new = UniversalSetUpCutsAtSpans plan.plan_data plan.ot_map spans old new
 PauseKeeps InitialReordering plan font spans old new = Unbuilt
 PauseKeeps ReorderKhmer plan font spans old new = ReorderingKeeps (circles_of ReorderKhmer font old) (khmer_order (order_in plan.plan_data)) khmer_steps old new
 PauseKeeps ReorderMyanmar plan font spans old new = ReorderingKeeps (circles_of ReorderMyanmar font old) myanmar_order myanmar_steps old new

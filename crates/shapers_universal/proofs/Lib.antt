@@ -3,6 +3,7 @@ mod MaskLemmas
 mod RequestRows
 mod SyllableRows
 mod SyllableWalks
+mod UniversalCuts
 pub mod UniversalLists
 mod UniversalRows
 pub mod UniversalSteps

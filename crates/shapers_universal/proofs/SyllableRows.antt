@@ -18,6 +18,7 @@ use Rattle.shapers_arabic.specs.PlanData.{arabic_plan}
 use Rattle.shapers_universal.specs.declared.ot_shaper_use.forms.FormMasks.{FormMasks}
 use Rattle.shapers_universal.specs.PlanData.{joins_letters, universal_plan}
 use Rattle.shapers_universal.specs.UniversalMasks.{categorized}
+use Rattle.shapers_universal.specs.UniversalCuts.{formless_for}
 use Rattle.shapers_universal.specs.UniversalSyllables.{all_forms, form_masks, mask_between, rphf_recorded, syllables_set_up, with_forms, with_instead, with_pref_recorded, with_rphf, with_rphf_recorded}
 
 -- a glyph whose fields are all set
@@ -165,3 +166,7 @@ mongolian before cs = forms_of (script "Mong") (text_of joins (λ c. Lo) (record
 
 selectors : mongolian [] (0x1820 ∷ 0x180B ∷ 0x1820 ∷ []) ∷ mongolian (0x1820 ∷ []) (0x180B ∷ 0x1820 ∷ []) ∷ [] ≡ (6 ∷ 6 ∷ 1 ∷ []) ∷ (7 ∷ 1 ∷ []) ∷ []
 selectors = refl
+
+-- a glyph without the masks of forms; with a plan of Arabic it stays
+formless : (formless_for None (map_of 0x40 (feature "fina" 0x80 ∷ feature "isol" 0x10 ∷ feature "medi" 0x40 ∷ [])) (record full { mask = 0xFFFFFFFF })).mask ≡ 0xFFFFFF6F
+formless = refl

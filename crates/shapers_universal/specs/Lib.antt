@@ -1,6 +1,7 @@
 pub mod PlanData
 pub mod Requests
 pub mod Universal
+pub mod UniversalCuts
 pub mod UniversalMasks
 pub mod UniversalSyllables
 pub mod UniversalText

@@ -5,6 +5,7 @@ ghost use Rattle.shapers_buffer.specs.GlyphFlags.{with_bits};
 ghost use Rattle.shapers_buffer.specs.Refusals.{RefusesInput};
 ghost use Rattle.shapers_buffer.specs.Syllables.{spans_refusal, syllables};
 ghost use Rattle.shapers_universal.specs.PlanData.{is_universal, rphf_of};
+ghost use Rattle.shapers_universal.specs.UniversalCuts.{UniversalSetUpCutsAtSpans};
 ghost use Rattle.shapers_universal.specs.UniversalSyllables.{reph_len, syllables_set_up, with_rphf, with_syllable_masks};
 
 use super::category;
@@ -30,6 +31,9 @@ pub fn setup_syllables_use(
     ensures refusal { RefusesInput (spans_refusal spans.now buffer.old) result }
     ensures ok { let kept = plan.now.plan_data in
         OnOk result (buffer.new ≡ syllables_set_up kept plan.now.ot_map spans.now buffer.old) }
+    ensures cut { let kept = plan.now.plan_data in
+        OnOk result
+        (UniversalSetUpCutsAtSpans kept plan.now.ot_map spans.now buffer.old buffer.new) }
     ensures err { OnErr result (buffer.new ≡ buffer.old) }
 {
     set_up_syllables(spans, BROKEN_CLUSTER, buffer)?;

@@ -1,0 +1,177 @@
+-- The set-up of syllables in the universal shaper cuts between two spans, masks of forms apart.
+use Rattle.std.proofs.Common.{ℕ, suc, if◌then◌else◌, ◌+◌, ◌-◌, ◌<◌, ◌≤◌, ◌≡◌, ◌==◌, ◌^◌, min, bit_and, bit_or, Bool, true, false, inl, inr, List, [], ◌∷◌, ◌++◌, map, length, take, drop, Option, None, Some, refl, sym, ◌∙◌, ap, subst, arith, length-append}
+use Rattle.std.specs.Prelude.{All}
+use Rattle.std.specs.Int.{bit_at}
+use Rattle.std.specs.List.{flat_map}
+use mir.Syntax.{w32}
+use Rattle.std.proofs.lemmas.Bool.{cases_lt}
+use Rattle.std.proofs.lemmas.List.{length-map, map-append, take-map, drop-map, take-append-drop}
+use Rattle.std.proofs.lemmas.List.Concat.{flat_map-append}
+use Rattle.std.proofs.lemmas.List.Elements.{All-append, All-drop, All-map, All-take}
+use Rattle.std.proofs.lemmas.Nat.{and_or_apart, and_le_r}
+use Rattle.std.proofs.lemmas.Nat.Bits.{bit_at-lt, bit_at-zero, bit_at_above, bit_at_and, bit_at_not, bit_at_or, same_from_bits}
+use Rattle.shapers_buffer.specs.declared.buffer.glyph.hb_glyph_info_t.{hb_glyph_info_t}
+use Rattle.shapers_buffer.specs.declared.buffer.syllables.Span.{Span}
+use Rattle.shapers_buffer.specs.Buffer.{Buffer}
+use Rattle.shapers_buffer.specs.GlyphFlags.{with_bits}
+use Rattle.shapers_buffer.specs.Syllables.{syllables}
+use Rattle.shapers_syllabic.specs.declared.ot_shaper_syllabic.kinds.use_syllable.TheConstants.{BROKEN_CLUSTER}
+use Rattle.shapers_universal.specs.declared.ot_shaper_use.category.TheConstants.{R}
+use Rattle.shapers_base.specs.Map.{Map}
+use Rattle.shapers_base.specs.declared.plan.PlanData.{PlanData}
+use Rattle.shapers_base.specs.declared.plan.arabic.arabic_shape_plan_t.{arabic_shape_plan_t}
+use Rattle.shapers_syllabic.specs.Borders.{MeetAtBorder, spans_set_up, unnumbered}
+use Rattle.shapers_syllabic.proofs.CircleLaws.{joined-syllables}
+use Rattle.shapers_syllabic.proofs.Borders.{OfByte, SameEnds, border_by, ends-kept, syllables-append, syllables-mapped, syllables_cut}
+use Rattle.shapers_syllabic.proofs.Serials.{KeepsSame, pieces_same}
+use Rattle.shapers_syllabic.proofs.SpanCuts.{spans_cut}
+use Rattle.shapers_universal.specs.PlanData.{arabic_of, rphf_of}
+use Rattle.shapers_universal.specs.UniversalCuts.{UniversalSetUpCutsAtSpans, formless_for}
+use Rattle.shapers_universal.specs.UniversalSyllables.{all_forms, first_joins, form_masks, formed, in_forms, joins_runs, mask_between, reph_len, syllables_set_up, with_forms_for, with_instead, with_rphf}
+use Rattle.shapers_universal.specs.declared.ot_shaper_use.forms.FormMasks.{FormMasks}
+
+-- bits among those that are hidden don't show
+bit_hidden : (y bits i : ℕ) → bit_at y i ≤ bit_at bits i → bits < 2 ^ 32 → bit_at (bit_and y (0xFFFFFFFF - bits)) i ≡ bit_at 0 i
+bit_hidden y bits i among fits = elim (cases_lt i 32) [
+  | inl low ↦
+      let off : bit_at (0xFFFFFFFF - bits) i ≡ 1 - bit_at bits i = bit_at_not w32 bits i fits low in
+      let two = bit_at-lt bits i in
+      bit_at_and y (0xFFFFFFFF - bits) i ∙ ap (min (bit_at y i)) off ∙ omega arith ∙ sym (bit_at-zero i)
+  | inr high ↦
+      let none : bit_at (0xFFFFFFFF - bits) i ≡ 0 = bit_at_above (0xFFFFFFFF - bits) 32 i (omega arith) high in
+      bit_at_and y (0xFFFFFFFF - bits) i ∙ ap (min (bit_at y i)) none ∙ omega arith ∙ sym (bit_at-zero i)
+]
+
+hidden : (y bits : ℕ) → ((i : ℕ) → bit_at y i ≤ bit_at bits i) → bit_and y (0xFFFFFFFF - bits) ≡ 0
+hidden y bits among = elim (cases_lt bits (2 ^ 32)) [
+  | inl fits ↦ same_from_bits (bit_and y (0xFFFFFFFF - bits)) 0 (λ i. bit_hidden y bits i (among i) fits)
+  | inr over ↦
+      let none : 0xFFFFFFFF - bits ≡ 0 = omega arith in
+      ap (bit_and y) none ∙ omega (arith, and_le_r y 0)
+]
+
+-- so for the mask of a form
+form_among : (masks : FormMasks) (before behind : Bool) (i : ℕ) → bit_at (mask_between masks before behind) i ≤ bit_at (all_forms masks) i
+form_among masks before behind i =
+    let front = bit_at_or masks.isol masks.init i in
+    let back = bit_at_or masks.medi masks.fina i in
+    let both = bit_at_or (bit_or masks.isol masks.init) (bit_or masks.medi masks.fina) i in
+    elim before as (λ a. bit_at (mask_between masks a behind) i ≤ bit_at (all_forms masks) i) [
+      | true ↦ elim behind as (λ b. bit_at (mask_between masks true b) i ≤ bit_at (all_forms masks) i) [ true ↦ omega arith | false ↦ omega arith ]
+      | false ↦ elim behind as (λ b. bit_at (mask_between masks false b) i ≤ bit_at (all_forms masks) i) [ true ↦ omega arith | false ↦ omega arith ]
+    ]
+
+bits_left : (bits mask n : ℕ) → bit_and mask (0xFFFFFFFF - bits) ≡ 0 → bit_and (bit_or (bit_and n (0xFFFFFFFF - bits)) mask) (0xFFFFFFFF - bits) ≡ bit_and n (0xFFFFFFFF - bits)
+bits_left bits mask n apart =
+    let k = 0xFFFFFFFF - bits in
+    and_or_apart k (bit_and n k) mask apart
+    ∙ same_from_bits (bit_and (bit_and n k) k) (bit_and n k) (λ i. bit_at_and (bit_and n k) k i ∙ ap (λ b. min b (bit_at k i)) (bit_at_and n k i) ∙ omega arith ∙ sym (bit_at_and n k i))
+
+-- glyphs in their form don't show it
+formed_hidden : (m : Map) (before behind : Bool) (gs : List hb_glyph_info_t) → map (formless_for None m) (map (with_instead (all_forms (form_masks m)) (mask_between (form_masks m) before behind)) gs) ≡ map (formless_for None m) gs
+formed_hidden m before behind [] = refl
+formed_hidden m before behind (g ∷ gs) =
+    let bits = all_forms (form_masks m) in
+    let mask = mask_between (form_masks m) before behind in
+    ap (λ (k : ℕ). record g { mask = k } ∷ map (formless_for None m) (map (with_instead bits mask) gs)) (bits_left bits mask g.mask (hidden mask bits (form_among (form_masks m) before behind)))
+    ∙ ap (λ l. formless_for None m g ∷ l) (formed_hidden m before behind gs)
+
+syllable_hidden : (m : Map) (before behind : Bool) (gs : List hb_glyph_info_t) → map (formless_for None m) (formed (form_masks m) before behind gs) ≡ map (formless_for None m) gs
+syllable_hidden m before behind gs = elim (joins_runs gs) as (λ b. map (formless_for None m) (if b then map (with_instead (all_forms (form_masks m)) (mask_between (form_masks m) before behind)) gs else gs) ≡ map (formless_for None m) gs) [ true ↦ formed_hidden m before behind gs | false ↦ refl ]
+
+forms_hidden : (m : Map) (before : Bool) (syls : List (List hb_glyph_info_t)) → map (formless_for None m) (in_forms (form_masks m) before syls) ≡ map (formless_for None m) (flat_map (λ p. p) syls)
+forms_hidden m before [] = refl
+forms_hidden m before (syl ∷ syls) =
+    let hide = formless_for None m in
+    let behind = first_joins syls in
+    let rest = joins_runs syl in
+    map-append hide (formed (form_masks m) before behind syl) (in_forms (form_masks m) rest syls)
+    ∙ ap (λ l. l ++ map hide (in_forms (form_masks m) rest syls)) (syllable_hidden m before behind syl)
+    ∙ ap (λ l. map hide syl ++ l) (forms_hidden m rest syls)
+    ∙ sym (map-append hide syl (flat_map (λ p. p) syls))
+
+masks_hidden : (arabic : Option arabic_shape_plan_t) (m : Map) (gs : List hb_glyph_info_t) → map (formless_for arabic m) (with_forms_for arabic m gs) ≡ map (formless_for arabic m) gs
+masks_hidden (Some p) m gs = refl
+masks_hidden None m gs =
+    let hide = formless_for None m in
+    let all = forms_hidden m false (syllables gs) ∙ ap (map hide) (joined-syllables gs) in
+    elim (all_forms (form_masks m) == 0) as (λ b. map hide (if b then gs else in_forms (form_masks m) false (syllables gs)) ≡ map hide gs) [ true ↦ refl | false ↦ all ]
+
+-- what is set on a syllable, masks of forms apart
+set_on : Option arabic_shape_plan_t → Map → ℕ → List hb_glyph_info_t → List hb_glyph_info_t
+set_on arabic m rphf gs = map (formless_for arabic m) (with_rphf rphf gs)
+
+map-flat : (f : hb_glyph_info_t → hb_glyph_info_t) (h : List hb_glyph_info_t → List hb_glyph_info_t) (pieces : List (List hb_glyph_info_t)) → map f (flat_map h pieces) ≡ flat_map (λ p. map f (h p)) pieces
+map-flat f h [] = refl
+map-flat f h (p ∷ pieces) = map-append f (h p) (flat_map h pieces) ∙ ap (λ l. map f (h p) ++ l) (map-flat f h pieces)
+
+set_on_each : (arabic : Option arabic_shape_plan_t) (m : Map) (rphf : ℕ) (gs : List hb_glyph_info_t) → map (formless_for arabic m) (with_forms_for arabic m (flat_map (with_rphf rphf) (syllables gs))) ≡ flat_map (set_on arabic m rphf) (syllables gs)
+unfolding set_on
+set_on_each arabic m rphf gs = masks_hidden arabic m (flat_map (with_rphf rphf) (syllables gs)) ∙ map-flat (formless_for arabic m) (with_rphf rphf) (syllables gs)
+
+-- it keeps the bytes of syllables, and doesn't read serials
+formless_keeps : (arabic : Option arabic_shape_plan_t) (m : Map) (byte : ℕ) (gs : List hb_glyph_info_t) → All (λ g. g.syllable ≡ byte) gs → All (λ g. g.syllable ≡ byte) (map (formless_for arabic m) gs)
+formless_keeps (Some p) m byte gs h = All-map (λ g. g.syllable ≡ byte) (formless_for (Some p) m) gs h
+formless_keeps None m byte gs h = All-map (λ g. g.syllable ≡ byte) (formless_for None m) gs h
+
+rphf_keeps : (rphf byte : ℕ) (gs : List hb_glyph_info_t) → All (λ g. g.syllable ≡ byte) gs → All (λ g. g.syllable ≡ byte) (with_rphf rphf gs)
+rphf_keeps rphf byte gs h =
+    let P : hb_glyph_info_t → Type 0 = λ g. g.syllable ≡ byte in
+    let n = reph_len gs in
+    All-append P (map (with_bits rphf) (take n gs)) (drop n gs) (All-map P (with_bits rphf) (take n gs) (All-take P n gs h)) (All-drop P n gs h)
+
+length-rphf : (rphf : ℕ) (gs : List hb_glyph_info_t) → length (with_rphf rphf gs) ≡ length gs
+length-rphf rphf gs =
+    let n = reph_len gs in
+    length-append (map (with_bits rphf) (take n gs)) (drop n gs) ∙ ap (λ k. k + length (drop n gs)) (length-map (take n gs) (with_bits rphf)) ∙ sym (length-append (take n gs) (drop n gs)) ∙ ap length (take-append-drop n gs)
+
+set_on_keeps : (arabic : Option arabic_shape_plan_t) (m : Map) (rphf byte : ℕ) (gs : List hb_glyph_info_t) → OfByte byte gs → OfByte byte (set_on arabic m rphf gs)
+unfolding set_on
+set_on_keeps arabic m rphf byte gs h = record {
+  some = let n = length-map (with_rphf rphf gs) (formless_for arabic m) ∙ length-rphf rphf gs in subst (λ k. 0 < k) (sym n) h.some;
+  all = formless_keeps arabic m byte (with_rphf rphf gs) (rphf_keeps rphf byte gs h.all);
+}
+
+formless_same : (arabic : Option arabic_shape_plan_t) (m : Map) (gs : List hb_glyph_info_t) → map unnumbered (map (formless_for arabic m) gs) ≡ map (formless_for arabic m) (map unnumbered gs)
+formless_same arabic m [] = refl
+formless_same (Some p) m (g ∷ gs) = ap (λ l. unnumbered g ∷ l) (formless_same (Some p) m gs)
+formless_same None m (g ∷ gs) = ap (λ l. unnumbered (formless_for None m g) ∷ l) (formless_same None m gs)
+
+bits_same : (rphf : ℕ) (gs : List hb_glyph_info_t) → map unnumbered (map (with_bits rphf) gs) ≡ map (with_bits rphf) (map unnumbered gs)
+bits_same rphf [] = refl
+bits_same rphf (g ∷ gs) = ap (λ l. unnumbered (with_bits rphf g) ∷ l) (bits_same rphf gs)
+
+len_same : (gs : List hb_glyph_info_t) → reph_len (map unnumbered gs) ≡ reph_len gs
+len_same [] = refl
+len_same (g ∷ gs) = ap (λ n. if g.category == R then 1 else min 3 (suc n)) (length-map gs unnumbered)
+
+rphf_same : (rphf : ℕ) (gs : List hb_glyph_info_t) → map unnumbered (with_rphf rphf gs) ≡ with_rphf rphf (map unnumbered gs)
+rphf_same rphf gs =
+    let n = reph_len gs in
+    map-append unnumbered (map (with_bits rphf) (take n gs)) (drop n gs)
+    ∙ ap (λ l. l ++ map unnumbered (drop n gs)) (bits_same rphf (take n gs) ∙ ap (map (with_bits rphf)) (sym (take-map unnumbered n gs)))
+    ∙ ap (λ l. map (with_bits rphf) (take n (map unnumbered gs)) ++ l) (sym (drop-map unnumbered n gs))
+    ∙ ap (λ k. map (with_bits rphf) (take k (map unnumbered gs)) ++ drop k (map unnumbered gs)) (sym (len_same gs))
+
+set_on_same : (arabic : Option arabic_shape_plan_t) (m : Map) (rphf : ℕ) → KeepsSame (set_on arabic m rphf)
+unfolding set_on
+set_on_same arabic m rphf gs hs same =
+    let told : (xs : List hb_glyph_info_t) → map unnumbered (map (formless_for arabic m) (with_rphf rphf xs)) ≡ map (formless_for arabic m) (with_rphf rphf (map unnumbered xs)) = λ xs. formless_same arabic m (with_rphf rphf xs) ∙ ap (map (formless_for arabic m)) (rphf_same rphf xs) in
+    told gs ∙ ap (λ xs. map (formless_for arabic m) (with_rphf rphf xs)) same ∙ sym (told hs)
+
+pub universal_set_up_cuts : (kept : PlanData) (m : Map) (spans : List Span) (old : Buffer) → All (λ span. span.kind ≤ 15) spans → UniversalSetUpCutsAtSpans kept m spans old (syllables_set_up kept m spans old)
+universal_set_up_cuts kept m spans old kinds ss ts gs hs whole text first second =
+    let plain = spans_cut spans BROKEN_CLUSTER old kinds ss ts gs hs whole text first second in
+    let f = set_on (arabic_of kept) m (rphf_of kept) in
+    let told = set_on_each (arabic_of kept) m (rphf_of kept) in
+    let front = (spans_set_up ss BROKEN_CLUSTER (record old { glyphs = gs })).glyphs in
+    let back = (spans_set_up ts BROKEN_CLUSTER (record old { glyphs = hs })).glyphs in
+    let keeps = set_on_keeps (arabic_of kept) m (rphf_of kept) in
+    let ends : (xs : List hb_glyph_info_t) → SameEnds (flat_map f (syllables xs)) xs = λ xs. subst (SameEnds (flat_map f (syllables xs))) (joined-syllables xs) (ends-kept f keeps (syllables xs) (syllables_cut xs)) in
+    record {
+      behind = flat_map f (syllables plain.behind);
+      parts = told (spans_set_up spans BROKEN_CLUSTER old).glyphs ∙ ap (λ xs. flat_map f (syllables xs)) plain.parts ∙ ap (flat_map f) (syllables-append front plain.behind plain.border) ∙ flat_map-append f (syllables front) (syllables plain.behind) ∙ ap (λ l. l ++ flat_map f (syllables plain.behind)) (sym (told front));
+      renumbered = ap (map (map unnumbered)) (syllables-mapped f keeps plain.behind) ∙ pieces_same f (set_on_same (arabic_of kept) m (rphf_of kept)) (syllables plain.behind) (syllables back) plain.renumbered ∙ ap (map (map unnumbered)) (sym (ap syllables (told back) ∙ syllables-mapped f keeps back));
+      border = subst (λ l. MeetAtBorder l (flat_map f (syllables plain.behind))) (sym (told front)) (border_by (flat_map f (syllables front)) (flat_map f (syllables plain.behind)) front plain.behind (ends front) (ends plain.behind) plain.border);
+      broken = plain.broken;
+    }

@@ -1,0 +1,16 @@
+use Rattle.std.proofs.Common.{subst, sym, ◌∙◌, ap}
+use Rattle.shapers_buffer.specs.Buffer.{Buffer}
+use Rattle.shapers_universal.specs.UniversalCuts.{UniversalSetUpCutsAtSpans}
+use Rattle.shapers_universal.specs.UniversalSyllables.{with_syllable_masks}
+use Rattle.shapers_universal.proofs.UniversalCuts.{universal_set_up_cuts}
+use Rattle.shapers_universal.proofs.ot_shaper_use.set_up.setup_syllables_use.Goals as goal
+
+-- what the law says of the buffer that the definition names
+pub returns-clause-cut : goal.returns-clause-cut
+returns-clause-cut c =
+    let kept = c.args.plan.now.plan_data in
+    let m = c.args.plan.now.ot_map in
+    let spans = c.args.spans.now in
+    let old = c.args.buffer.now in
+    let masked : Buffer → Buffer = λ b. record b { glyphs = with_syllable_masks kept m b.glyphs } in
+    subst (UniversalSetUpCutsAtSpans kept m spans old) (sym (c.set_masks.ensures ∙ ap masked c.in_ok-set_up_syllables.ensures.ok)) (universal_set_up_cuts kept m spans old c.requires.kinds)
