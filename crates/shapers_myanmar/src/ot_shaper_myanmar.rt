@@ -100,7 +100,8 @@ pub fn reorder_myanmar<F: hb_font_t>(
         Refuses (unknown_refusal 3 buffer.old.glyphs)
         buffer.old.max_len (length (circled circles buffer.old.glyphs)) result }
     ensures err { OnErr result (buffer.new ≡ buffer.old) }
-    ensures without_memory { let circles = circles_of_sort myanmar_circles (F.font face.now) buffer.old in
+    ensures without_memory { let font = F.font face.now in
+        let circles = circles_of_sort myanmar_circles font buffer.old in
         unknown_refusal 3 buffer.old.glyphs ≡ None →
         circled circles buffer.old.glyphs ≡ buffer.old.glyphs → IsOk result }
 {
