@@ -12,3 +12,4 @@ pub mod Serials
 pub mod SpanCuts
 pub mod SyllabicLemmas
 mod SyllabicRows
+pub mod SyllableThen
