@@ -6,5 +6,6 @@ mod InitialOrderRows
 mod InitialPauseRows
 mod InitialPositionRows
 mod InitialRows
+pub mod InitialViews
 mod InitialWords
 pub mod OrderedPlaces
