@@ -1,8 +1,13 @@
+pub mod Groups
 mod InitialBaseRows
 mod InitialFontRows
+pub mod InitialLaws
 mod InitialMaskRows
 mod InitialOrderRows
 mod InitialPauseRows
 mod InitialPositionRows
 mod InitialRows
+pub mod InitialSteps
+pub mod InitialViews
 mod InitialWords
+pub mod OrderedPlaces
