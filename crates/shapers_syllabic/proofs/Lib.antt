@@ -2,6 +2,8 @@ pub mod Borders
 pub mod CircleLaws
 mod CircleRows
 mod ConsonantRows
+mod LastBroken
+mod OpenedCircles
 pub mod LawsThen
 pub mod PauseCuts
 pub mod ReorderingCuts

@@ -1,19 +1,18 @@
 //! Dotted circles: what a broken syllable stands on.
-ghost use Rattle.std.specs.Prelude.{◌≡◌, ◌==◌, ◌<◌, ◌≤◌, [], ◌++◌, IfErr, IfOk, IsOk, MatchOption, OnErr, OnOk, is_some, length};
-ghost use Rattle.std.specs.List.{prefix_len};
+ghost use Rattle.std.specs.Prelude.{◌≡◌, ◌==◌, ◌<◌, ◌≤◌, ◌+◌, ◌-◌, [], ◌++◌, IfOk, IsOk, MatchOption, OnErr, OnOk, is_some, length, take, drop};
+ghost use Rattle.std.specs.List.{prefix_len, suffix_len};
+ghost use Rattle.shapers_buffer.specs.Clusters.{stretch_of};
 ghost use Rattle.shapers_syllabic.specs.CircleLaws.{CirclesCanBeErased, CirclesKeepClusters};
 ghost use Rattle.shapers_syllabic.specs.Circles.{circle_in, circled, circles_for, count_of_kind, rephas_len, with_circle, with_circles};
-ghost use Rattle.shapers_syllabic.specs.FirstBroken.{IsFirstBroken, is_of_other_kind};
+ghost use Rattle.shapers_syllabic.specs.FirstBroken.{IsFirstBroken, IsLastBroken, IsOpened, is_of_other_kind};
 ghost use Rattle.shapers_buffer.specs.Refusals.{RefusesLength};
 ghost use Rattle.shapers_buffer.specs.Syllables.{first_syllable_len, has_byte};
-ghost use Rattle.shapers_buffer.specs.declared.buffer.refusal.ShaperError.TheVariants.{Memory};
 
 use bitflags::Flags;
 use shapers_base::buffer::{
-    BufferFlags, ShaperError, hb_buffer_t, hb_glyph_info_t, syllable_run_len,
+    BufferFlags, GlyphWalk, ShaperError, hb_buffer_t, hb_glyph_info_t, syllable_run_len,
 };
 use shapers_base::font::hb_font_t;
-use std::alloc::Global;
 
 // The character of the dotted circle.
 const DOTTED_CIRCLE: u32 = 0x25CC;
@@ -145,17 +144,17 @@ impl DottedCircles {
         ensures err { OnErr result (buffer.new ≡ buffer.old) }
         ensures free { with_circles self.now buffer.old.glyphs ≡ buffer.old.glyphs → IsOk result }
     {
+        let len = buffer.len();
         let count = self.count(buffer.glyphs());
-        let room = buffer.max_len() - buffer.len();
         if count == 0 {
             return Ok(());
         }
-        if room < count {
-            return Err(ShaperError::TooLong);
-        }
-        let len = buffer.len() + count;
-        let glyphs = self.with_circles(buffer.alloc(), buffer.glyphs(), len)?;
-        buffer.replace_glyphs(glyphs)
+        buffer.grow(count)?;
+        buffer.walk(&mut CircleWalk {
+            circles: *self,
+            len,
+        });
+        Ok(())
     }
 
     // How many circles the text gets.
@@ -171,25 +170,64 @@ impl DottedCircles {
         count
     }
 
-    // The text with its circles, `len` glyphs in all.
-    fn with_circles(
-        &self,
-        alloc: Global,
-        text: &[hb_glyph_info_t],
-        len: usize,
-    ) -> Result<Vec<hb_glyph_info_t>, ShaperError>
-        ensures ok { IfOk result (λ glyphs. glyphs.items ≡ with_circles self.now text.now) }
-        ensures err { IfErr result (λ e. e ≡ Memory) }
+    // Opens each broken syllable of the text, of `len` glyphs, behind which stands room for as many
+    // circles. The text is written from behind, so that nothing is written over before it is read.
+    fn open_all(&self, glyphs: &mut [hb_glyph_info_t], len: usize)
+        requires within { len ≤ length glyphs.old }
+        requires room { let count = count_of_kind self.now.broken_kind (take len glyphs.old) in
+            length glyphs.old ≡ len + count }
+        ensures { glyphs.new ≡ with_circles self.now (take len glyphs.old) }
     {
-        let mut glyphs = Vec::with_capacity(alloc, len)?;
-        let mut rest = text;
-        while let Some(broken) = self.first_broken(rest) {
-            glyphs.extend_from_slice(&rest[..broken.start])?;
-            self.push_with_circle(&mut glyphs, &rest[broken.start..broken.end])?;
-            rest = &rest[broken.end..];
+        let mut read = len;
+        let mut left = glyphs.len() - len;
+        while left > 0 {
+            read = self.open_last(glyphs, read, left);
+            left -= 1;
         }
-        glyphs.extend_from_slice(rest)?;
-        Ok(glyphs)
+    }
+
+    // Opens the last broken syllable of the first `read` glyphs, which move up, from it on, by as many
+    // places as they have broken syllables. Answers where it starts.
+    fn open_last(&self, glyphs: &mut [hb_glyph_info_t], read: usize, left: usize) -> usize
+        requires some { 0 < left }
+        requires in_range { read + left ≤ length glyphs.old }
+        requires room { left ≡ count_of_kind self.now.broken_kind (take read glyphs.old) }
+        ensures { IsOpened self.now read left result glyphs.old glyphs.new }
+    {
+        let broken = self.last_broken(&glyphs[..read]);
+        move_up(glyphs, broken.end, read, left);
+        self.open(glyphs, broken, left);
+        broken.start
+    }
+
+    // Where the last broken syllable of a text stands.
+    fn last_broken(&self, text: &[hb_glyph_info_t]) -> Places
+        requires { 0 < count_of_kind self.now.broken_kind text.now }
+        ensures { IsLastBroken self.now text.now result.start result.end }
+    {
+        let end = text.len() - unbroken_end(text, self.broken_kind);
+        let byte = text[end - 1].syllable;
+        let start = end - syllable_end(&text[..end], byte);
+        Places { start, end }
+    }
+
+    // Moves a syllable up by `left` places, and puts its circle into it, which takes one of them.
+    fn open(&self, glyphs: &mut [hb_glyph_info_t], broken: Places, left: usize)
+        requires some { 0 < left }
+        requires in_order { broken.start < broken.end }
+        requires in_range { broken.end + left ≤ length glyphs.old }
+        ensures front { take broken.start glyphs.new ≡ take broken.start glyphs.old }
+        ensures behind { let syllable = stretch_of broken.start broken.end glyphs.old in
+            drop (broken.start + left - 1) glyphs.new
+            ≡ with_circle self.now syllable ++ drop (broken.end + left) glyphs.old }
+        ensures same_length { length glyphs.new ≡ length glyphs.old }
+    {
+        let syllable = &glyphs[broken.start..broken.end];
+        let circle = circle_in(syllable, self.circle);
+        let place = broken.start + self.rephas_len(syllable);
+        move_up(glyphs, place, broken.end, left);
+        glyphs[place + left - 1] = circle;
+        move_up(glyphs, broken.start, place, left - 1);
     }
 
     // Where the first broken syllable of a text stands.
@@ -205,26 +243,6 @@ impl DottedCircles {
         Some(Places { start, end })
     }
 
-    // Adds a syllable with its circle.
-    fn push_with_circle(
-        &self,
-        glyphs: &mut Vec<hb_glyph_info_t>,
-        syllable: &[hb_glyph_info_t],
-    ) -> Result<(), ShaperError>
-        requires { 0 < length syllable.now }
-        ensures ok { let added = with_circle self.now syllable.now in
-            OnOk result (glyphs.new.items ≡ glyphs.old.items ++ added) }
-        ensures err { IfErr result (λ e. e ≡ Memory) }
-    {
-        let (rephas, others) = syllable.split_at(self.rephas_len(syllable));
-        glyphs.extend_from_slice(rephas)?;
-        glyphs
-            .push(circle_in(syllable, self.circle))
-            .map_err(|_| ShaperError::Memory)?;
-        glyphs.extend_from_slice(others)?;
-        Ok(())
-    }
-
     // How many glyphs of a syllable stand in front of its circle.
     fn rephas_len(&self, syllable: &[hb_glyph_info_t]) -> usize
         ensures len { result ≡ rephas_len self.now.repha syllable.now }
@@ -235,6 +253,63 @@ impl DottedCircles {
             Some(repha) => category_len(syllable, repha),
         }
     }
+}
+
+// The walk that opens the broken syllables of a text of `len` glyphs.
+#[derive(Drop)]
+struct CircleWalk {
+    circles: DottedCircles,
+    len: usize,
+}
+
+impl GlyphWalk for CircleWalk {
+    ghost use Rattle.std.specs.Prelude.{◌≡◌, ◌+◌, ◌≤◌, length, take};
+    ghost use Rattle.shapers_syllabic.specs.Circles.{count_of_kind, with_circles};
+
+    ghost can_walk = { λ w gs. (w.len ≤ length gs)
+        × (length gs ≡ w.len + count_of_kind w.circles.broken_kind (take w.len gs)) };
+
+    ghost walks = { λ v w gs hs. hs ≡ with_circles v.circles (take v.len gs) };
+
+    fn walk(&mut self, glyphs: &mut [hb_glyph_info_t]) {
+        self.circles.open_all(glyphs, self.len);
+    }
+}
+
+// Copies the glyphs from `from` to `to` to as many places `by` further up.
+fn move_up(glyphs: &mut [hb_glyph_info_t], from: usize, to: usize, by: usize)
+    requires in_order { from ≤ to }
+    requires in_range { to + by ≤ length glyphs.old }
+    ensures front { take (from + by) glyphs.new ≡ take (from + by) glyphs.old }
+    ensures behind { let moved = stretch_of from to glyphs.old in
+        drop (from + by) glyphs.new ≡ moved ++ drop (to + by) glyphs.old }
+    ensures same_length { length glyphs.new ≡ length glyphs.old }
+{
+    glyphs.copy_within(from..to, from + by);
+}
+
+// How many glyphs at the end are in a syllable of another kind.
+fn unbroken_end(glyphs: &[hb_glyph_info_t], kind: u8) -> usize
+    ensures len { result ≡ suffix_len (is_of_other_kind kind) glyphs.now }
+    ensures within { result ≤ length glyphs.now }
+{
+    glyphs
+        .iter()
+        .rev()
+        .take_while(|glyph| glyph.syllable % 16 != kind)
+        .count()
+}
+
+// How many glyphs at the end have this byte of a syllable.
+fn syllable_end(glyphs: &[hb_glyph_info_t], byte: u8) -> usize
+    ensures len { result ≡ suffix_len (has_byte byte) glyphs.now }
+    ensures within { result ≤ length glyphs.now }
+{
+    glyphs
+        .iter()
+        .rev()
+        .take_while(|glyph| glyph.syllable == byte)
+        .count()
 }
 
 // How many glyphs at the front have this category.

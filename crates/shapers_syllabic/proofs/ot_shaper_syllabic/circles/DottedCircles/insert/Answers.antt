@@ -1,4 +1,4 @@
-use Rattle.std.proofs.Common.{◌≤◌, ◌∙◌, ap, sym, arith, length, rules}
+use Rattle.std.proofs.Common.{◌≡◌, ◌+◌, ◌∙◌, ap, sym, arith, length, rules}
 use Rattle.shapers_syllabic.specs.Circles.{count_of_kind, with_circles}
 use Rattle.shapers_syllabic.proofs.CircleLaws.{with_circles-none, length-with_circles, no_circles, with_glyphs}
 use Rattle.shapers_syllabic.proofs.ot_shaper_syllabic.circles.DottedCircles.insert.Goals as goal
@@ -13,28 +13,13 @@ returns-then-count-eq0-clause-length c =
     let counted = c.count-count.ensures ∙ ap (count_of_kind c.args.self.now.broken_kind) c.glyphs.ensures in
     omega (arith, length-with_circles c.args.self.now c.args.buffer.now.glyphs)
 
-pub returns-then-room-count-clause-length : goal.returns-then-room-count-clause-length
-returns-then-room-count-clause-length c =
+pub returns-in_err-grow-clause-length : goal.returns-in_err-grow-clause-length
+returns-in_err-grow-clause-length c =
     let counted = c.count-count.ensures ∙ ap (count_of_kind c.args.self.now.broken_kind) c.glyphs.ensures in
-    omega (arith, length-with_circles c.args.self.now c.args.buffer.now.glyphs)
+    let size : length (with_circles c.args.self.now c.args.buffer.now.glyphs) ≡ length c.args.buffer.now.glyphs + c.count-count.result = omega (arith, length-with_circles c.args.self.now c.args.buffer.now.glyphs) in
+    rw size (search rules)
 
-pub returns-then-room-count-clause-free : goal.returns-then-room-count-clause-free
-returns-then-room-count-clause-free c same =
-    let counted = c.count-count.ensures ∙ ap (count_of_kind c.args.self.now.broken_kind) c.glyphs.ensures in
-    absurd (omega (arith, no_circles c.args.self.now c.args.buffer.now.glyphs same))
-
-pub returns-in_err-glyphs-clause-length : goal.returns-in_err-glyphs-clause-length
-returns-in_err-glyphs-clause-length c =
-    let counted = c.count-count.ensures ∙ ap (count_of_kind c.args.self.now.broken_kind) c.glyphs.ensures in
-    let fits : length (with_circles c.args.self.now c.args.buffer.now.glyphs) ≤ c.args.buffer.now.max_len = omega (arith, length-with_circles c.args.self.now c.args.buffer.now.glyphs) in
-    search rules
-
-pub returns-in_err-glyphs-clause-free : goal.returns-in_err-glyphs-clause-free
-returns-in_err-glyphs-clause-free c same =
-    let counted = c.count-count.ensures ∙ ap (count_of_kind c.args.self.now.broken_kind) c.glyphs.ensures in
-    absurd (omega (arith, no_circles c.args.self.now c.args.buffer.now.glyphs same))
-
-pub returns-clause-free : goal.returns-clause-free
-returns-clause-free c same =
+pub returns-in_err-grow-clause-free : goal.returns-in_err-grow-clause-free
+returns-in_err-grow-clause-free c same =
     let counted = c.count-count.ensures ∙ ap (count_of_kind c.args.self.now.broken_kind) c.glyphs.ensures in
     absurd (omega (arith, no_circles c.args.self.now c.args.buffer.now.glyphs same))
