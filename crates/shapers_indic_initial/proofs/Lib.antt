@@ -7,6 +7,7 @@ mod InitialOrderRows
 mod InitialPauseRows
 mod InitialPositionRows
 mod InitialRows
+pub mod InitialSerials
 pub mod InitialSteps
 pub mod InitialViews
 mod InitialWords
