@@ -8,6 +8,7 @@ mod InitialPauseRows
 mod InitialPositionRows
 mod InitialRows
 pub mod InitialSerials
+pub mod InitialSerialsStay
 pub mod InitialSteps
 pub mod InitialViews
 mod InitialWords
