@@ -1,3 +1,4 @@
+pub mod GatheredCuts
 pub mod Groups
 mod InitialBaseRows
 mod InitialFontRows
