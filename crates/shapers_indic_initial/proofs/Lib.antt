@@ -1,3 +1,6 @@
+pub mod CycleMerges
+pub mod CycleSteps
+pub mod Cycles
 mod InitialBaseRows
 mod InitialFontRows
 mod InitialMaskRows
