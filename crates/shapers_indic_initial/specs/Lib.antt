@@ -1,6 +1,7 @@
 pub mod CycleWalk
 pub mod InitialBase
 pub mod InitialFont
+pub mod InitialLaws
 pub mod InitialMasks
 pub mod InitialOrder
 pub mod InitialPause
