@@ -1,3 +1,6 @@
+pub mod CycleMerges
+pub mod CycleSteps
+pub mod Cycles
 pub mod GatheredCuts
 pub mod Groups
 mod InitialBaseRows

@@ -1,3 +1,4 @@
+pub mod CycleWalk
 pub mod InitialBase
 pub mod InitialFont
 pub mod InitialLaws
