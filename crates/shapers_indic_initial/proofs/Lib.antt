@@ -1,5 +1,6 @@
 pub mod CycleMerges
 pub mod CycleSteps
+pub mod CycleWays
 pub mod Cycles
 pub mod GatheredCuts
 pub mod Groups
@@ -16,4 +17,5 @@ pub mod InitialSerialsStay
 pub mod InitialSteps
 pub mod InitialViews
 mod InitialWords
+pub mod OrderClusters
 pub mod OrderedPlaces
