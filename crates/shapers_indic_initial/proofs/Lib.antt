@@ -1,3 +1,8 @@
+pub mod CycleMerges
+pub mod CycleSteps
+pub mod CycleWays
+pub mod Cycles
+pub mod GatheredCuts
 pub mod Groups
 mod InitialBaseRows
 mod InitialFontRows
@@ -7,7 +12,10 @@ mod InitialOrderRows
 mod InitialPauseRows
 mod InitialPositionRows
 mod InitialRows
+pub mod InitialSerials
+pub mod InitialSerialsStay
 pub mod InitialSteps
 pub mod InitialViews
 mod InitialWords
+pub mod OrderClusters
 pub mod OrderedPlaces

@@ -1,5 +1,8 @@
+pub mod CycleWalk
 pub mod InitialBase
+pub mod InitialClusters
 pub mod InitialFont
+pub mod InitialLaws
 pub mod InitialMasks
 pub mod InitialOrder
 pub mod InitialPause
