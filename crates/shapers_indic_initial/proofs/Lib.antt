@@ -1,3 +1,4 @@
+mod Bases
 mod InitialBaseRows
 mod InitialFontRows
 mod InitialMaskRows
@@ -6,3 +7,4 @@ mod InitialPauseRows
 mod InitialPositionRows
 mod InitialRows
 mod InitialWords
+pub mod PlaceSearch
