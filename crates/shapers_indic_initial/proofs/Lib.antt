@@ -1,4 +1,6 @@
 mod Bases
+mod Positions
+mod Walks
 mod InitialBaseRows
 mod InitialFontRows
 mod InitialMaskRows

@@ -2,4 +2,6 @@
 //! syllable by itself. (OpenType, development of Indic scripts: "Reorder characters".)
 mod base;
 mod font_positions;
+mod halant;
+mod positions;
 mod reph;

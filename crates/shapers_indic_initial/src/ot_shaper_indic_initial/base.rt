@@ -79,8 +79,8 @@ fn last_base(lo: usize, glyphs: &[hb_glyph_info_t]) -> Option<usize>
     None
 }
 
-// Whether the search may end with a glyph: a consonant without a below-base or post-base form, if one
-// with a below-base form follows without a below-base one.
+// Whether the search may end with a glyph: a consonant that has no below-base form, nor a post-base
+// one unless a consonant with a below-base form follows.
 fn is_base(glyph: &hb_glyph_info_t, below: bool) -> bool
     ensures { let g = glyph.now in
         let below_base = is_base_candidate g && has_position POS_BELOW_C g in
