@@ -1,12 +1,18 @@
 mod Bases
-mod Positions
-mod Walks
+pub mod Groups
 mod InitialBaseRows
 mod InitialFontRows
+pub mod InitialLaws
 mod InitialMaskRows
 mod InitialOrderRows
 mod InitialPauseRows
 mod InitialPositionRows
+mod InitialReads
 mod InitialRows
+pub mod InitialSteps
+pub mod InitialViews
 mod InitialWords
+pub mod OrderedPlaces
 pub mod PlaceSearch
+mod Positions
+mod Walks

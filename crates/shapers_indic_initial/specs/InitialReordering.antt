@@ -1,5 +1,5 @@
 -- The initial reordering of a syllable: what it becomes, and the merges and moves that lead there. (OpenType, development of Indic scripts.)
-use Rattle.std.specs.Prelude.{ℕ, ◌==◌, Bool, false, List, [], ◌∷◌, length, Option, if◌then◌else◌}
+use Rattle.std.specs.Prelude.{ℕ, ◌==◌, Bool, false, List, [], ◌∷◌, ◌++◌, length, Option, if◌then◌else◌}
 use Rattle.std.specs.List.{list_any}
 use Rattle.shapers_buffer.specs.declared.buffer.glyph.hb_glyph_info_t.{hb_glyph_info_t}
 use Rattle.shapers_buffer.specs.declared.buffer.tag.Script.{Script}
@@ -41,6 +41,10 @@ with_all_positions r script base gs = with_owners_after base (with_marks_attache
 abbrev pub positioned : Rules → Option Script → List hb_glyph_info_t → List hb_glyph_info_t
 positioned r script gs = let opened = with_joiner_first script gs in with_all_positions r script (base_place r opened) (with_base r opened)
 
+-- the steps on the way there
+abbrev pub opening_steps : Rules → Option Script → List hb_glyph_info_t → List Step
+opening_steps r script gs = let opened = with_joiner_first script gs in joiner_step script gs ∷ halant_step r script (base_place r opened) (with_base r opened) ∷ []
+
 -- a syllable with positions in the order that they give
 abbrev pub in_order : List hb_glyph_info_t → List hb_glyph_info_t
 in_order gs = pick (ordered_places gs) gs
@@ -57,11 +61,9 @@ masked_in_order r script gs = with_initial_masks r script (ordered_base gs) gs
 abbrev pub initial_order : Rules → Option Script → List hb_glyph_info_t → List hb_glyph_info_t
 initial_order r script gs = if is_reordered gs then masked_in_order r script (in_order (positioned r script gs)) else gs
 
--- the steps that lead there
+-- the steps that lead there: those of the positions, and then that of the order
 abbrev pub steps_of_reordered : Rules → Option Script → List hb_glyph_info_t → List Step
-steps_of_reordered r script gs =
-    let opened = with_joiner_first script gs in
-    joiner_step script gs ∷ halant_step r script (base_place r opened) (with_base r opened) ∷ order_step r (positioned r script gs) ∷ []
+steps_of_reordered r script gs = opening_steps r script gs ++ order_step r (positioned r script gs) ∷ []
 
 abbrev pub initial_steps : Rules → Option Script → List hb_glyph_info_t → List Step
 initial_steps r script gs = if is_reordered gs then steps_of_reordered r script gs else []

@@ -2,6 +2,7 @@ pub mod Borders
 pub mod CircleLaws
 mod CircleRows
 mod ConsonantRows
+pub mod LawsThen
 pub mod PauseCuts
 pub mod ReorderingCuts
 pub mod ReorderingLaws

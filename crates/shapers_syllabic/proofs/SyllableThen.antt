@@ -27,8 +27,8 @@ changed_parts s e front middle back new h a b is =
     }
 
 -- one body, and then another: what the syllable becomes, and the steps of both
-pub syllable_then : (first then : List hb_glyph_info_t → List hb_glyph_info_t) (steps steps_then : List hb_glyph_info_t → List Step) (s e : ℕ) (old mid new : Buffer) → s ≤ e → e ≤ length old.glyphs → length (first (stretch_of s e (order_view old.glyphs))) ≡ e - s → SyllableReordered first steps s e old mid → SyllableReordered then steps_then s e mid new → SyllableReordered (λ gs. then (first gs)) (λ gs. steps gs ++ steps_then (first gs)) s e old new
-syllable_then first then steps steps_then s e old mid new h l k one two =
+pub syllable_then : (first next : List hb_glyph_info_t → List hb_glyph_info_t) (steps steps_then : List hb_glyph_info_t → List Step) (s e : ℕ) (old mid new : Buffer) → s ≤ e → e ≤ length old.glyphs → length (first (stretch_of s e (order_view old.glyphs))) ≡ e - s → SyllableReordered first steps s e old mid → SyllableReordered next steps_then s e mid new → SyllableReordered (λ gs. next (first gs)) (λ gs. steps gs ++ steps_then (first gs)) s e old new
+syllable_then first next steps steps_then s e old mid new h l k one two =
     let n = length old.glyphs in
     let xs = order_view old.glyphs in
     let xn : length xs ≡ length old.glyphs = length-map old.glyphs plain in
@@ -46,9 +46,9 @@ syllable_then first then steps steps_then s e old mid new h l k one two =
       others = two.others ∙ ap (λ (b : Buffer). record b { glyphs = new.glyphs }) one.others;
       order =
           two.order
-          ∙ ap (λ ys. ys ++ (then (stretch_of s e (order_view mid.glyphs)) ++ drop e (order_view mid.glyphs))) parts.before
-          ∙ ap (λ ys. front ++ (then ys ++ drop e (order_view mid.glyphs))) parts.stretch
-          ∙ ap (λ ys. front ++ (then (first syl) ++ ys)) parts.behind;
+          ∙ ap (λ ys. ys ++ (next (stretch_of s e (order_view mid.glyphs)) ++ drop e (order_view mid.glyphs))) parts.before
+          ∙ ap (λ ys. front ++ (next ys ++ drop e (order_view mid.glyphs))) parts.stretch
+          ∙ ap (λ ys. front ++ (next (first syl) ++ ys)) parts.behind;
       moved =
           two.moved
           ∙ ap (λ m. map carried (run_steps mid.level (map (widened s e m) (steps_then (stretch_of s e (order_view mid.glyphs)))) mid.glyphs)) same
