@@ -1,13 +1,12 @@
 -- What the initial reordering reads of glyphs, and what it writes: a view that keeps number, category, position and marks shows the same.
 use mathlib.Core.Path.{fun_ext}
-use Rattle.std.proofs.Common.{ℕ, zero, suc, ◌+◌, ◌-◌, ◌%◌, ◌≡◌, ◌==◌, ◌&&◌, ◌||◌, ◌++◌, min, not, Bool, true, false, cond, if◌then◌else◌, List, [], ◌∷◌, map, length, take, drop, reverse, find, Option, None, Some, refl, sym, ◌∙◌, ap}
+use Rattle.std.proofs.Common.{ℕ, zero, suc, ◌+◌, ◌-◌, ◌%◌, ◌≡◌, ◌==◌, ◌&&◌, ◌||◌, min, not, Bool, cond, if◌then◌else◌, List, [], ◌∷◌, map, length, take, drop, Option, Some, refl, ◌∙◌, ap}
 use Rattle.std.specs.Prelude.{nat_le, nat_lt, unwrap_or}
-use Rattle.std.specs.List.{enumerate_from, list_any, prefix_len}
+use Rattle.std.specs.List.{list_any, prefix_len}
 use Rattle.std.specs.Option.{option_map_or}
-use Rattle.std.proofs.lemmas.List.{drop-map, length-map, map-append, take-map}
+use Rattle.std.proofs.lemmas.List.{drop-map, length-map, take-map}
 use Rattle.shapers_buffer.specs.declared.buffer.glyph.hb_glyph_info_t.{hb_glyph_info_t}
 use Rattle.shapers_buffer.specs.declared.buffer.tag.Script.{Script}
-use Rattle.shapers_buffer.specs.Lists.{each_after}
 use Rattle.shapers_buffer.specs.Marks.{is_ligated}
 use Rattle.shapers_base.specs.declared.font.GlyphId.{GlyphId}
 use Rattle.shapers_base.specs.declared.plan.indic.RephMode.{RephMode}
@@ -15,18 +14,18 @@ use Rattle.shapers_base.specs.declared.plan.indic.RephMode.TheVariants.{Explicit
 use Rattle.shapers_base.specs.declared.plan.ot_category_t.TheConstants.{OT_H, OT_Ra, OT_Repha, OT_ZWJ, OT_ZWNJ}
 use Rattle.shapers_base.specs.declared.plan.ot_position_t.TheConstants.{POS_BELOW_C, POS_POST_C}
 use Rattle.shapers_indic.specs.declared.ot_shaper_indic.indic_feature.TheConstants.{RPHF}
-use Rattle.shapers_indic.specs.Glyphs.{at_position, greatest_place, has_category, has_position, is_joiner, is_one_of, least_place, number, numbers, passes, some_place}
+use Rattle.shapers_indic.specs.Glyphs.{at_position, greatest_place, has_category, has_position, is_joiner, is_one_of, least_place, numbers, passes, some_place}
 use Rattle.shapers_indic.specs.Plan.{is_script}
-use Rattle.shapers_indic_initial.specs.InitialBase.{base_from, base_place, font_decides_reph, has_reph, is_base, is_base_candidate, is_below, joiner_comes_first, lets_reph, limit, limit_behind, may_be_base, opens_with_repha, reph_is_formed, reph_len, search_from, search_start, stops_search, third_lets_reph}
+use Rattle.shapers_indic_initial.specs.InitialBase.{base_from, base_place, font_decides_reph, has_reph, is_base, is_base_candidate, is_below, joiner_comes_first, limit, limit_behind, may_be_base, opens_with_repha, reph_is_formed, reph_len, search_from, search_start, stops_search, third_lets_reph}
 use Rattle.shapers_indic_initial.specs.InitialPositions.{is_passed_by_halant}
 use Rattle.shapers_indic_initial.specs.InitialRules.{Rules, mask_at}
 use Rattle.shapers_syllabic.specs.Consonants.{consonants, is_consonant}
 
 -- functions at several equal arguments
-same_two : {A B C : Type 0} (f : A → B → C) {a b : A} {c d : B} → a ≡ b → c ≡ d → f a c ≡ f b d
+pub same_two : {A B C : Type 0} (f : A → B → C) {a b : A} {c d : B} → a ≡ b → c ≡ d → f a c ≡ f b d
 same_two f {a} {b} {c} {d} p q = ap (λ x. f x c) p ∙ ap (f b) q
 
-same_three : {A B C D : Type 0} (f : A → B → C → D) {a b : A} {c d : B} {e g : C} → a ≡ b → c ≡ d → e ≡ g → f a c e ≡ f b d g
+pub same_three : {A B C D : Type 0} (f : A → B → C → D) {a b : A} {c d : B} {e g : C} → a ≡ b → c ≡ d → e ≡ g → f a c e ≡ f b d g
 same_three f {a} {b} {c} {d} {e} {g} p q r = ap (λ x. f x c e) p ∙ same_two (f b) q r
 
 same_four : {A B C D E : Type 0} (f : A → B → C → D → E) {a b : A} {c d : B} {e g : C} {h k : D} → a ≡ b → c ≡ d → e ≡ g → h ≡ k → f a c e h ≡ f b d g k

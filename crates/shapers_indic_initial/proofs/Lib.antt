@@ -7,7 +7,10 @@ mod InitialMaskRows
 mod InitialOrderRows
 mod InitialPauseRows
 mod InitialPositionRows
-mod InitialReads
+pub mod InitialReads
+pub mod InitialWrites
+pub mod Moves
+mod Opening
 mod InitialRows
 pub mod InitialSteps
 pub mod InitialViews

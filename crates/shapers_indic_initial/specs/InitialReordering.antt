@@ -22,6 +22,9 @@ is_reordered (g ∷ gs) = list_any (λ kind. kind == kind_of g.syllable) (CONSON
 abbrev pub joiner_step : Option Script → List hb_glyph_info_t → Step
 joiner_step script gs = if joiner_comes_first script gs then swap_step (length gs) 1 else still_step (length gs)
 
+abbrev pub joiner_steps : Option Script → List hb_glyph_info_t → List Step
+joiner_steps script gs = joiner_step script gs ∷ []
+
 -- the syllable after it
 abbrev pub with_joiner_first : Option Script → List hb_glyph_info_t → List hb_glyph_info_t
 with_joiner_first script gs = pick (joiner_step script gs).places gs
@@ -34,9 +37,20 @@ with_base r gs = by_base (base_place r gs) (has_reph r gs) gs
 abbrev pub halant_step : Rules → Option Script → ℕ → List hb_glyph_info_t → Step
 halant_step r script base gs = record { merged_first = []; places = halant_places r script base gs; merged_then = [] }
 
+abbrev pub halant_steps : Rules → Option Script → ℕ → List hb_glyph_info_t → List Step
+halant_steps r script base gs = halant_step r script base gs ∷ []
+
+-- the syllable in which it has moved
+abbrev pub with_halant_moved : Rules → Option Script → ℕ → List hb_glyph_info_t → List hb_glyph_info_t
+with_halant_moved r script base gs = pick (halant_places r script base gs) gs
+
+-- the positions of marks and of what consonants own
+abbrev pub with_marks_and_owners : ℕ → List hb_glyph_info_t → List hb_glyph_info_t
+with_marks_and_owners base gs = with_owners_after base (with_marks_attached gs)
+
 -- the syllable after that, all its positions set
 abbrev pub with_all_positions : Rules → Option Script → ℕ → List hb_glyph_info_t → List hb_glyph_info_t
-with_all_positions r script base gs = with_owners_after base (with_marks_attached (pick (halant_step r script base gs).places gs))
+with_all_positions r script base gs = with_marks_and_owners base (with_halant_moved r script base gs)
 
 abbrev pub positioned : Rules → Option Script → List hb_glyph_info_t → List hb_glyph_info_t
 positioned r script gs = let opened = with_joiner_first script gs in with_all_positions r script (base_place r opened) (with_base r opened)

@@ -3,5 +3,6 @@
 mod base;
 mod font_positions;
 mod halant;
+mod opening;
 mod positions;
 mod reph;
