@@ -1,3 +1,4 @@
+mod Bases
 pub mod CycleMerges
 pub mod CycleSteps
 pub mod CycleWays
@@ -11,11 +12,18 @@ mod InitialMaskRows
 mod InitialOrderRows
 mod InitialPauseRows
 mod InitialPositionRows
+pub mod InitialReads
 mod InitialRows
 pub mod InitialSerials
 pub mod InitialSerialsStay
 pub mod InitialSteps
 pub mod InitialViews
 mod InitialWords
+pub mod InitialWrites
+pub mod Moves
+mod Opening
 pub mod OrderClusters
 pub mod OrderedPlaces
+pub mod PlaceSearch
+mod Positions
+mod Walks
