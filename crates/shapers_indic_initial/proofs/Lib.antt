@@ -6,3 +6,4 @@ mod InitialPauseRows
 mod InitialPositionRows
 mod InitialRows
 mod InitialWords
+mod OrderedBase

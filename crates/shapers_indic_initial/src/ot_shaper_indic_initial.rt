@@ -1,4 +1,5 @@
 //! The initial reordering of Indic syllables: positions by the font, dotted circles, and then each
 //! syllable by itself. (OpenType, development of Indic scripts: "Reorder characters".)
 mod font_positions;
+mod ordered_base;
 mod reph;
