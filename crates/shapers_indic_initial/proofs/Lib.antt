@@ -6,4 +6,5 @@ mod InitialPauseRows
 mod InitialPositionRows
 mod InitialRows
 mod InitialWords
+mod MaskWalks
 mod OrderedBase
