@@ -2,6 +2,7 @@ pub mod Borders
 pub mod CircleLaws
 mod CircleRows
 mod ConsonantRows
+pub mod LawsThen
 pub mod PauseCuts
 pub mod ReorderingCuts
 pub mod ReorderingLaws
@@ -12,3 +13,4 @@ pub mod Serials
 pub mod SpanCuts
 pub mod SyllabicLemmas
 mod SyllabicRows
+pub mod SyllableThen
