@@ -124,11 +124,17 @@ impl hb_ot_shaper_t {
         face: &F,
         planner: &mut hb_ot_shape_planner_t,
     ) -> Result<Option<()>, ShaperError>
-        ensures answer { IfOk result (λ answer. answer ≡ if_there (collected self planner.old.script ((F.font face.now).offers rclt))) }
-        ensures ok { OnOk result (planner.new ≡ asked (collected self planner.old.script ((F.font face.now).offers rclt)) planner.old) }
+        ensures answer { let has_rclt = (F.font face.now).offers rclt in
+            let list = collected self planner.old.script has_rclt in
+            IfOk result (λ answer. answer ≡ if_there list) }
+        ensures ok { let has_rclt = (F.font face.now).offers rclt in
+            let list = collected self planner.old.script has_rclt in
+            OnOk result (planner.new ≡ asked list planner.old) }
         ensures refusal { IsOkUnless result Memory }
         ensures err { OnErr result (planner.new ≡ planner.old) }
-        ensures absent { IsNone (collected self planner.old.script ((F.font face.now).offers rclt)) → IsOk result }
+        ensures absent { let has_rclt = (F.font face.now).offers rclt in
+            let list = collected self planner.old.script has_rclt in
+            IsNone list → IsOk result }
     {
         match self {
             Self::Arabic => Ok(Some(ot_shaper_arabic::collect_features(face, planner)?)),
@@ -190,8 +196,10 @@ impl hb_ot_shaper_t {
         requires without_positions { buffer.old.positions ≡ [] }
         requires settled { CanAsk self Hook.PreprocessText }
         ensures answer { IfOk result (λ answer. answer ≡ preprocess_answer self) }
-        ensures ok { OnOk result (Preprocessed self plan.now (F.font face.now) buffer.old buffer.new) }
-        ensures laws { OnOk result (PreprocessKeeps self plan.now (F.font face.now) buffer.old buffer.new) }
+        ensures ok { let font = F.font face.now in
+            OnOk result (Preprocessed self plan.now font buffer.old buffer.new) }
+        ensures laws { let font = F.font face.now in
+            OnOk result (PreprocessKeeps self plan.now font buffer.old buffer.new) }
         ensures refusal { RefusesPreprocess self (F.font face.now) buffer.old result }
         ensures err { OnErr result (buffer.new ≡ buffer.old) }
     {
@@ -220,8 +228,10 @@ impl hb_ot_shaper_t {
     ) -> Result<Option<()>, ShaperError>
         requires with_positions { length buffer.old.positions ≡ length buffer.old.glyphs }
         requires settled { CanAsk self Hook.PostprocessGlyphs }
-        ensures answer { IfOk result (λ answer. is_some answer ≡ is_there (standing self Hook.PostprocessGlyphs)) }
-        ensures ok { OnOk result (Postprocessed self plan.now (F.font face.now) buffer.old buffer.new) }
+        ensures answer { let standing = standing self Hook.PostprocessGlyphs in
+            IfOk result (λ answer. is_some answer ≡ is_there standing) }
+        ensures ok { let font = F.font face.now in
+            OnOk result (Postprocessed self plan.now font buffer.old buffer.new) }
         ensures refusal { RefusesPostprocess self buffer.old result }
         ensures err { OnErr result (buffer.new ≡ buffer.old) }
     {

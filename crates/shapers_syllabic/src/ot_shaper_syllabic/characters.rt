@@ -29,7 +29,8 @@ pub fn set_categories<T: Tables>(tables: &T, buffer: &mut hb_buffer_t)
 /// Gives each glyph the category and, as its auxiliary byte, the position that the table of the
 /// Indic, Khmer and Myanmar shapers has for its character. It takes no memory.
 pub fn set_categories_and_positions<T: Tables>(tables: &T, buffer: &mut hb_buffer_t)
-    ensures { let changed = map (with_category_and_position (T.tables tables.now)) buffer.old.glyphs in
+    ensures { let with_both = with_category_and_position (T.tables tables.now) in
+        let changed = map with_both buffer.old.glyphs in
         buffer.new ≡ record buffer.old { glyphs = changed } }
 {
     let len = buffer.len();
@@ -61,7 +62,8 @@ struct PlacedByTable<'a, T: Tables> {
 impl<'a, T: Tables> GlyphChange for PlacedByTable<'a, T> {
     ghost use Rattle.shapers_syllabic.specs.Characters.{with_category_and_position};
 
-    ghost changed = { λ change glyph. with_category_and_position (T.tables change.tables.now) glyph };
+    ghost changed = { λ change glyph.
+        with_category_and_position (T.tables change.tables.now) glyph };
 
     fn change(&self, glyph: &mut hb_glyph_info_t) {
         let (category, position) = self.tables.indic_categories(glyph.glyph_id);
