@@ -1,3 +1,4 @@
+mod FontPositions
 pub mod Groups
 mod InitialBaseRows
 mod InitialFontRows

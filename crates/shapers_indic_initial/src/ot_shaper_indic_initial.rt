@@ -3,4 +3,5 @@
 mod font_positions;
 mod masks;
 mod ordered_base;
+mod reordering;
 mod reph;

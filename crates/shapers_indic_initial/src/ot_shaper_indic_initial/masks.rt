@@ -1,6 +1,6 @@
 //! The masks of a syllable in its new order. (OpenType, development of Indic scripts: which features
 //! apply where.)
-ghost use Rattle.std.specs.Prelude.{◌≡◌, ◌+◌, ◌<◌, ◌≤◌, ◌&&◌, ◌||◌, ◌∷◌, [], if◌then◌else◌, length, map, MatchOption, not, slice_index};
+ghost use Rattle.std.specs.Prelude.{◌≡◌, ◌+◌, ◌<◌, ◌≤◌, ◌^◌, ◌&&◌, ◌||◌, ◌∷◌, [], if◌then◌else◌, length, map, MatchOption, not, slice_index};
 ghost use Rattle.std.specs.List.{enumerate_from, prefix_len};
 ghost use Rattle.shapers_buffer.specs.Clusters.{with_stretch};
 ghost use Rattle.shapers_buffer.specs.Glyph.{without_flags};
@@ -8,9 +8,10 @@ ghost use Rattle.shapers_buffer.specs.GlyphFlags.{with_bits};
 ghost use Rattle.shapers_base.specs.Font.{Font};
 ghost use Rattle.shapers_base.specs.Map.{Map};
 ghost use Rattle.shapers_base.specs.declared.plan.ot_category_t.TheConstants.{OT_ZWNJ};
+ghost use Rattle.shapers_indic.specs.declared.ot_shaper_indic.indic_feature.TheConstants.{HALF};
 ghost use Rattle.shapers_indic.specs.Glyphs.{has_category, has_position, is_one_of, passes};
 ghost use Rattle.shapers_syllabic.specs.Consonants.{is_consonant};
-ghost use Rattle.shapers_indic_initial.specs.InitialMasks.{applies_before_base, has_eyelash, is_in_eyelash, mask_after_base, mask_before_base, opens_eyelash, pref_pair, with_eyelash_mask, with_initial_masks, with_pref_mask, without_half};
+ghost use Rattle.shapers_indic_initial.specs.InitialMasks.{applies_before_base, bits_of, has_eyelash, is_in_eyelash, mask_after_base, mask_before_base, opens_eyelash, pref_pair, with_eyelash_mask, with_initial_masks, with_pref_mask, without_half};
 ghost use Rattle.shapers_indic_initial.specs.InitialRules.{rules_of};
 
 use shapers_base::buffer::{Script, hb_glyph_info_t};
@@ -36,8 +37,9 @@ pub(super) fn set_masks<F: hb_font_t>(
     glyphs: &mut [hb_glyph_info_t],
 )
     requires { base ≤ length glyphs.old }
-    ensures { let rules = rules_of (F.font face.now) map.now plan.now in
+    ensures masks { let rules = rules_of (F.font face.now) map.now plan.now in
         glyphs.new ≡ with_initial_masks rules script base glyphs.old }
+    ensures fits { bits_of (rules_of (F.font face.now) map.now plan.now) HALF < 2 ^ 32 }
 {
     set_reph_bits(bits_of(plan, RPHF), glyphs);
     set_bits_around(bits_before_base(plan), bits_after_base(plan), base, glyphs);
