@@ -13,12 +13,15 @@ use Rattle.shapers_indic_initial.specs.InitialMasks.{bits_of}
 use Rattle.shapers_indic_initial.specs.InitialOrder.{ordered_base, ordered_places}
 use Rattle.shapers_indic_initial.specs.InitialReordering.{halant_step, in_order, initial_order, initial_steps, is_reordered, joiner_step, masked_in_order, order_step, steps_of_reordered, with_all_positions, with_base, with_joiner_first}
 use Rattle.shapers_indic_initial.specs.InitialPositions.{with_marks_attached}
-use Rattle.shapers_indic_initial.specs.InitialRules.{Rules}
+use Rattle.shapers_indic_initial.specs.InitialRules.{Rules, rules_of}
+use Rattle.shapers_indic_initial.specs.InitialLaws.{InitialReorderLaws, InitialTextReordered}
+use Rattle.shapers_indic_initial.specs.InitialPause.{with_positions_and_circles}
 use Rattle.shapers_indic_initial.proofs.InitialSteps.{halant_fits, halant_permutes, joiner_fits, joiner_permutes, order_fits}
 use Rattle.shapers_indic_initial.proofs.InitialViews.{carried_hides_positions, hidden-by_base, hidden-with_initial_masks, hidden-with_marks_attached, hidden-with_owners_after, seen_hides_masks, seen_hides_positions}
 use Rattle.shapers_indic_initial.proofs.OrderedPlaces.{ordered_permutes}
 use Rattle.shapers_syllabic.specs.Reordering.{carried}
 use Rattle.shapers_syllabic.specs.ReorderingLaws.{ReorderLaws}
+use Rattle.shapers_syllabic.proofs.ReorderingLaws.{text_reordered}
 use Rattle.shapers_syllabic.proofs.LawsThen.{laws_by_step, laws_then, laws_where}
 
 -- the step of Kannada
@@ -69,5 +72,11 @@ three_laws r script =
     (joiner_laws script)
     (laws_then (halant_order r script) (masked_order r script) (λ gs. halant_step_of r script gs ∷ []) (λ gs. order_step r gs ∷ []) (halant_laws r script) (order_laws r script))
 
-pub initial_laws : (r : Rules) (script : Option Script) → ReorderLaws (initial_order r script) (initial_steps r script)
+pub initial_laws : InitialReorderLaws
 initial_laws r script = laws_where is_reordered (all_three r script) (steps_of_reordered r script) (three_laws r script)
+
+-- the whole text after the pause
+pub initial_text_reordered : InitialTextReordered
+initial_text_reordered font m p old new done =
+    let r = rules_of font m p in
+    text_reordered (initial_order r old.script) (initial_steps r old.script) (with_positions_and_circles font m p old) new (initial_laws r old.script) done

@@ -1,4 +1,5 @@
 mod FontPositions
+pub mod GatheredCuts
 pub mod Groups
 mod InitialBaseRows
 mod InitialFontRows
@@ -8,7 +9,10 @@ mod InitialOrderRows
 mod InitialPauseRows
 mod InitialPositionRows
 mod InitialRows
+pub mod InitialSerials
+pub mod InitialSerialsStay
 pub mod InitialSteps
+mod InitialSyllable
 pub mod InitialViews
 mod InitialWords
 mod MaskViews

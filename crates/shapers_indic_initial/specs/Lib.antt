@@ -1,5 +1,6 @@
 pub mod InitialBase
 pub mod InitialFont
+pub mod InitialLaws
 pub mod InitialMasks
 pub mod InitialOrder
 pub mod InitialPause
