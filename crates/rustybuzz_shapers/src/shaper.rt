@@ -1,5 +1,5 @@
-//! The shapers behind one enum, a method a hook. Where a shaper lacks a hook, its method answers None
-//! and changes nothing.
+//! The shapers behind one enum, a method a hook. Where a shaper lacks a hook, its method answers
+//! None and changes nothing.
 ghost use Rattle.std.specs.Prelude.{◌≡◌, ◌≤◌, [], length, IfOk, IsOk, IsNone, is_some, IsOkUnless, OnOk, OnErr};
 ghost use Rattle.shapers_buffer.specs.declared.buffer.refusal.ShaperError.TheVariants.{Memory};
 ghost use Rattle.shapers_arabic.specs.Requests.{rclt};
@@ -147,8 +147,8 @@ impl hb_ot_shaper_t {
         }
     }
 
-    /// Asks for what stands after the features of all shapers: all of it, or nothing where memory is
-    /// refused.
+    /// Asks for what stands after the features of all shapers: all of it, or nothing where memory
+    /// is refused.
     pub fn override_features(
         self,
         planner: &mut hb_ot_shape_planner_t,
@@ -182,11 +182,11 @@ impl hb_ot_shaper_t {
         }
     }
 
-    /// Rewrites a text before its characters become glyphs. Thai puts each SARA AM in two, and then,
-    /// where GSUB doesn't have the script Thai, gives marks and bases their private use forms. Hangul
-    /// composes jamo, or takes syllables apart, as the font has them, and puts tones before their
-    /// syllables. Both refuse as a growth does. For Indic and the universal shaper the caller runs the
-    /// vowel constraints.
+    /// Rewrites a text before its characters become glyphs. Thai puts each SARA AM in two, and
+    /// then, where GSUB doesn't have the script Thai, gives marks and bases their private use
+    /// forms. Hangul composes jamo, or takes syllables apart, as the font has them, and puts tones
+    /// before their syllables. Both refuse as a growth does. For Indic and the universal shaper the
+    /// caller runs the vowel constraints.
     pub fn preprocess_text<F: hb_font_t>(
         self,
         plan: &hb_ot_shape_plan_t,
@@ -295,9 +295,9 @@ impl hb_ot_shaper_t {
     }
 
     /// Sets the masks of the glyphs: for Arabic, the form that each letter takes between its
-    /// neighbours, and the form's mask; for Hangul those of marked jamo; for Indic, Khmer and Myanmar
-    /// categories alone, for the universal shaper these and, where letters join, Arabic's forms. It
-    /// can't refuse and takes no memory.
+    /// neighbours, and the form's mask; for Hangul those of marked jamo; for Indic, Khmer and
+    /// Myanmar categories alone, for the universal shaper these and, where letters join, Arabic's
+    /// forms. It can't refuse and takes no memory.
     pub fn setup_masks<F: hb_font_t, T: Tables>(
         self,
         plan: &hb_ot_shape_plan_t,
@@ -324,8 +324,8 @@ impl hb_ot_shaper_t {
     }
 
     /// Reorders the marks from `start` to `end`: for Hebrew, at the first three neighbours of its
-    /// classes, the last two merge and change places; for Arabic, over at most 32 places, marks that
-    /// modify a letter come to the front. It can't refuse and takes no memory.
+    /// classes, the last two merge and change places; for Arabic, over at most 32 places, marks
+    /// that modify a letter come to the front. It can't refuse and takes no memory.
     pub fn reorder_marks(
         self,
         plan: &hb_ot_shape_plan_t,

@@ -5,8 +5,8 @@ ghost use Rattle.shapers_syllabic.specs.Characters.{composed_behind, with_catego
 use shapers_base::buffer::{GlyphChange, hb_buffer_t, hb_glyph_info_t};
 use shapers_base::font::Tables;
 
-/// The composition of two characters by the table. A mark composes with nothing behind it, so that a
-/// split vowel isn't put together again.
+/// The composition of two characters by the table. A mark composes with nothing behind it, so that
+/// a split vowel isn't put together again.
 pub fn compose<T: Tables>(tables: &T, a: char, b: char) -> Option<char>
     ensures { result ≡ composed_behind (T.tables tables.now) a b }
 {

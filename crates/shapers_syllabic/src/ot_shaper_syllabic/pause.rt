@@ -85,8 +85,8 @@ fn first_unknown(buffer: &hb_buffer_t, last_kind: Option<u8>) -> Option<usize>
     }
 }
 
-/// A set-up by spans and a reordering pause directly after it give what they give on the halves, cut
-/// between any two spans, but for serials.
+/// A set-up by spans and a reordering pause directly after it give what they give on the halves,
+/// cut between any two spans, but for serials.
 pub fn pauses_cut_law()
     ensures { PausesCutAtSpans }
 {}

@@ -9,8 +9,8 @@ ghost use Rattle.shapers_syllabic.specs.ReorderingLaws.{ReorderLaws, ReorderingC
 
 use shapers_base::buffer::{ShaperError, hb_buffer_t};
 
-/// How one syllable is reordered. What a syllable becomes, and the merges and moves that lead there,
-/// are functions of that syllable and the buffer's script alone.
+/// How one syllable is reordered. What a syllable becomes, and the merges and moves that lead
+/// there, are functions of that syllable and the buffer's script alone.
 pub trait Reorder {
     ghost use Rattle.std.specs.Prelude.{ℕ, ◌≡◌, List, Option, length};
     ghost use Rattle.shapers_buffer.specs.declared.buffer.glyph.hb_glyph_info_t.{hb_glyph_info_t};

@@ -21,10 +21,10 @@ const CIRCLES: CircleSort = CircleSort {
     position: None,
 };
 
-/// Gives each broken syllable a dotted circle, behind its leading rephas, and then each syllable its
-/// order; answers whether circles are wanted. Refuses with `TooLong` where the text would be longer
-/// than `max_len`, and with `Memory`; where no circle opens it takes none. (OpenType, the Universal
-/// Shaping Engine.)
+/// Gives each broken syllable a dotted circle, behind its leading rephas, and then each syllable
+/// its order; answers whether circles are wanted. Refuses with `TooLong` where the text would be
+/// longer than `max_len`, and with `Memory`; where no circle opens it takes none. (OpenType, the
+/// Universal Shaping Engine.)
 pub fn reorder_use<F: hb_font_t>(face: &F, buffer: &mut hb_buffer_t) -> Result<bool, ShaperError>
     requires { buffer.old.positions ≡ [] }
     ensures answer { let circles = circles_of_sort universal_circles (F.font face.now) buffer.old in
