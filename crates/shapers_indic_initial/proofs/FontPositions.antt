@@ -13,7 +13,15 @@ use Rattle.shapers_base.specs.Font.{Font}
 use Rattle.shapers_base.specs.Map.{Map}
 use Rattle.shapers_indic.specs.Glyphs.{at_position, has_position, number}
 use Rattle.shapers_indic_initial.specs.InitialFont.{all_by_virama, by_virama, consonant_position}
+use Rattle.shapers_buffer.specs.declared.buffer.tag.Script.{Script}
+use Rattle.shapers_clusters.specs.Flags.{seen}
+use Rattle.shapers_clusters.proofs.Picks.{pick-all}
+use Rattle.shapers_indic_initial.specs.InitialReordering.{initial_order, initial_steps}
+use Rattle.shapers_indic_initial.specs.InitialRules.{rules_of}
+use Rattle.shapers_indic_initial.proofs.InitialLaws.{initial_laws}
 use Rattle.shapers_syllabic.specs.Reordering.{SyllableReordered, carried}
+use Rattle.shapers_syllabic.specs.ReorderingLaws.{ReorderLaws}
+use Rattle.shapers_syllabic.proofs.LawsThen.{laws_then}
 use Rattle.shapers_syllabic.proofs.SyllableThen.{syllable_changed}
 
 -- no virama, no change
@@ -60,3 +68,18 @@ syllable_by_font font m p v s e old new h is =
     glyphs
     (font_positions-carried font m p v (stretch_of s e old.glyphs))
     (font_positions-viewed font m p v (stretch_of s e old.glyphs))
+
+-- the laws of an order behind positions by the font
+font_positions-seen : (font : Font) (m : Map) (p : indic_shape_plan_t) (v : Option GlyphId) (gs : List hb_glyph_info_t) → seen carried (all_by_virama font m p v gs) ≡ seen carried gs
+font_positions-seen font m p None gs = refl
+font_positions-seen font m p (Some v) gs = map-same (λ g. plain (carried g)) (by_virama font m p v) (λ g. ap plain (by_virama-carried font m p v g)) gs
+
+font_laws : (font : Font) (m : Map) (p : indic_shape_plan_t) (v : Option GlyphId) → ReorderLaws (all_by_virama font m p v) (λ _. [])
+font_laws font m p v = record {
+  fits = λ gs. tt;
+  permutes = λ gs. tt;
+  agrees = λ gs. font_positions-seen font m p v gs ∙ sym (pick-all (length gs) (seen carried gs) (length-map gs (λ g. plain (carried g))));
+}
+
+pub laws_by_font : (font : Font) (m : Map) (p : indic_shape_plan_t) (v : Option GlyphId) (script : Option Script) → ReorderLaws (λ gs. initial_order (rules_of font m p) script (all_by_virama font m p v gs)) (λ gs. initial_steps (rules_of font m p) script (all_by_virama font m p v gs))
+laws_by_font font m p v script = laws_then (all_by_virama font m p v) (initial_order (rules_of font m p) script) (λ _. []) (initial_steps (rules_of font m p) script) (font_laws font m p v) (initial_laws (rules_of font m p) script)

@@ -1,3 +1,4 @@
+mod FontCircles
 mod FontPositions
 pub mod GatheredCuts
 pub mod Groups
