@@ -1,3 +1,4 @@
+mod Bases
 mod FontCircles
 mod FontPositions
 pub mod GatheredCuts
@@ -9,6 +10,7 @@ mod InitialMaskRows
 mod InitialOrderRows
 mod InitialPauseRows
 mod InitialPositionRows
+pub mod InitialReads
 mod InitialRows
 pub mod InitialSerials
 pub mod InitialSerialsStay
@@ -16,7 +18,13 @@ pub mod InitialSteps
 mod InitialSyllable
 pub mod InitialViews
 mod InitialWords
+pub mod InitialWrites
 mod MaskViews
 mod MaskWalks
+pub mod Moves
+mod Opening
 mod OrderedBase
 pub mod OrderedPlaces
+pub mod PlaceSearch
+mod Positions
+mod Walks

@@ -1,7 +1,11 @@
 //! The initial reordering of Indic syllables: positions by the font, dotted circles, and then each
 //! syllable by itself. (OpenType, development of Indic scripts: "Reorder characters".)
+mod base;
 mod font_positions;
+mod halant;
 mod masks;
+mod opening;
 mod ordered_base;
+mod positions;
 mod reordering;
 mod reph;
