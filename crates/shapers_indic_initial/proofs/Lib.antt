@@ -15,4 +15,6 @@ pub mod InitialSerialsStay
 pub mod InitialSteps
 pub mod InitialViews
 mod InitialWords
+pub mod OrderListing
+pub mod OrderShifted
 pub mod OrderedPlaces

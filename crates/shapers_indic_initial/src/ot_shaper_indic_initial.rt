@@ -2,4 +2,5 @@
 //! syllable by itself. (OpenType, development of Indic scripts: "Reorder characters".)
 mod cycles;
 mod font_positions;
+mod order;
 mod reph;
