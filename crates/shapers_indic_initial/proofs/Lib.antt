@@ -1,4 +1,7 @@
 mod Bases
+pub mod CycleMerges
+pub mod CycleSteps
+pub mod Cycles
 mod FontCircles
 mod FontPositions
 pub mod GatheredCuts
@@ -23,6 +26,8 @@ mod MaskViews
 mod MaskWalks
 pub mod Moves
 mod Opening
+pub mod OrderListing
+pub mod OrderShifted
 mod OrderedBase
 pub mod OrderedPlaces
 pub mod PlaceSearch

@@ -1,3 +1,4 @@
+pub mod CycleWalk
 pub mod InitialBase
 pub mod InitialFont
 pub mod InitialLaws
@@ -7,3 +8,4 @@ pub mod InitialPause
 pub mod InitialPositions
 pub mod InitialReordering
 pub mod InitialRules
+pub mod OrderWalk
