@@ -3,6 +3,8 @@ pub mod CycleMerges
 pub mod CycleSteps
 pub mod CycleWays
 pub mod Cycles
+mod FontCircles
+mod FontPositions
 pub mod GatheredCuts
 pub mod Groups
 mod InitialBaseRows
@@ -17,12 +19,18 @@ mod InitialRows
 pub mod InitialSerials
 pub mod InitialSerialsStay
 pub mod InitialSteps
+mod InitialSyllable
 pub mod InitialViews
 mod InitialWords
 pub mod InitialWrites
+mod MaskViews
+mod MaskWalks
 pub mod Moves
 mod Opening
 pub mod OrderClusters
+pub mod OrderListing
+pub mod OrderShifted
+mod OrderedBase
 pub mod OrderedPlaces
 pub mod PlaceSearch
 mod Positions
