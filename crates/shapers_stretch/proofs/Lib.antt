@@ -5,6 +5,7 @@ pub mod Moves
 pub mod Numbers
 pub mod Parts
 pub mod Pen
+pub mod LastParts
 pub mod Lengths
 pub mod Steps
 pub mod Sums
