@@ -1,13 +1,14 @@
 -- A text from its end: its last part, with the word and the tiles in it, and what stands before that part.
 use Rattle.std.proofs.Common.{◌≡◌, ◌⊎◌, inl, inr, ℕ, suc, ◌+◌, ◌-◌, ◌<◌, ◌≤◌, Bool, true, false, cond, not, ◌&&◌, ◌||◌, List, [], ◌∷◌, ◌++◌, length, take, drop, refl, sym, ap, subst, ◌∙◌, arith, length-append}
-use Rattle.std.specs.List.{suffix_len, list_all, onto_first}
-use Rattle.std.proofs.lemmas.List.{append_assoc, append-nil, length_push}
+use Rattle.std.specs.List.{suffix_len, list_all, onto_first, take-map}
+use Rattle.std.proofs.lemmas.List.{append_assoc, append-nil, length_push, length-map}
 use Rattle.std.proofs.lemmas.List.Folds.{list_all-append}
 use Rattle.std.proofs.Math.Seq.{take-append_seam, drop-append_seam}
 use borrow.Author.Tests.{clash}
 use Rattle.shapers_buffer.specs.Lists.{last_run, before_last_run}
 use Rattle.shapers_buffer.proofs.ListLaws.{suffix_len_yes, suffix_len_no, suffix_len_stop, from_end, last_of}
-use Rattle.shapers_stretch.specs.Cells.{Cell, before_tiles, before_word, cut_between, cut_here, in_word, is_tile, parts, run_ends, tiles_of, word_of}
+use Rattle.shapers_buffer.proofs.MappedLists.{suffix_len-map}
+use Rattle.shapers_stretch.specs.Cells.{Cell, glyphs_of, before_tiles, before_word, cut_between, cut_here, in_word, is_tile, parts, run_ends, tiles_of, word_of}
 use Rattle.shapers_stretch.proofs.Numbers.{and_both}
 use Rattle.shapers_stretch.proofs.Parts.{parts-append}
 
@@ -244,4 +245,53 @@ last_part_of cs some =
       before_tiles_is = is_tiles.1;
       word_is = ap (last_run wordly) is_tiles.1 ∙ is_word.0;
       before_is = ap (before_last_run wordly) is_tiles.1 ∙ is_word.1;
+    }
+
+pub cut_at : {X : Type 0} (xs a b : List X) (n : ℕ) → xs ≡ a ++ b → n ≡ length a → (take n xs ≡ a) × (drop n xs ≡ b)
+cut_at xs a b n e f =
+    (ap (λ n. take n xs) f ∙ ap (take (length a)) e ∙ take-append_seam a b, ap (λ n. drop n xs) f ∙ ap (drop (length a)) e ∙ drop-append_seam a b)
+
+-- the same by places: where the last part begins, and in it the word and the tiles
+pub record LastPartAt (cs : List Cell) (s w t : ℕ) : Type 0 where
+  pub less : s < length cs
+  pub before_fits : s ≤ w
+  pub word_fits : w ≤ t
+  pub tiles_fit : t ≤ length cs
+  pub parted : parts cs ≡ parts (take s cs) ++ drop s cs ∷ []
+  pub tiles_is : tiles_of (drop s cs) ≡ drop t cs
+  pub word_is : word_of (drop s cs) ≡ drop w (take t cs)
+  pub before_is : before_word (drop s cs) ≡ drop s (take w cs)
+
+pub last_part_at : (cs : List Cell) (s w t : ℕ) → 0 < length cs → t + suffix_len is_tile (glyphs_of cs) ≡ length (glyphs_of cs) → w + suffix_len in_word (take t (glyphs_of cs)) ≡ t → s + suffix_len (λ g. not (is_tile g)) (take w (glyphs_of cs)) ≡ w → LastPartAt cs s w t
+last_part_at cs s w t some ends word start =
+    let p = last_part_of cs some in
+    let part = (p.before ++ p.word) ++ p.tiles in
+    let upto_t : cs ≡ (p.front ++ (p.before ++ p.word)) ++ p.tiles = p.whole ∙ sym (append_assoc p.front (p.before ++ p.word) p.tiles) in
+    let upto_w : cs ≡ (p.front ++ p.before) ++ (p.word ++ p.tiles) = upto_t ∙ ap (λ f. f ++ p.tiles) (sym (append_assoc p.front p.before p.word)) ∙ append_assoc (p.front ++ p.before) p.word p.tiles in
+    let many : length (glyphs_of cs) ≡ length cs = length-map cs (λ c. c.0) in
+    let all_t : length cs ≡ length (p.front ++ (p.before ++ p.word)) + length p.tiles = ap length upto_t ∙ length-append (p.front ++ (p.before ++ p.word)) p.tiles in
+    let tiles_count : suffix_len is_tile (glyphs_of cs) ≡ length p.tiles = suffix_len-map is_tile (λ c. c.0) cs ∙ p.count_tiles in
+    let at_t : t ≡ length (p.front ++ (p.before ++ p.word)) = omega arith in
+    let cut_t = cut_at cs (p.front ++ (p.before ++ p.word)) p.tiles t upto_t at_t in
+    let word_count : suffix_len in_word (take t (glyphs_of cs)) ≡ length p.word = ap (suffix_len in_word) (take-map (λ c. c.0) t cs) ∙ suffix_len-map in_word (λ c. c.0) (take t cs) ∙ ap (suffix_len wordly) cut_t.0 ∙ p.count_word in
+    let pre : p.front ++ (p.before ++ p.word) ≡ (p.front ++ p.before) ++ p.word = sym (append_assoc p.front p.before p.word) in
+    let all_w : length (p.front ++ (p.before ++ p.word)) ≡ length (p.front ++ p.before) + length p.word = ap length pre ∙ length-append (p.front ++ p.before) p.word in
+    let at_w : w ≡ length (p.front ++ p.before) = omega arith in
+    let cut_w = cut_at cs (p.front ++ p.before) (p.word ++ p.tiles) w upto_w at_w in
+    let start_count : suffix_len (λ g. not (is_tile g)) (take w (glyphs_of cs)) ≡ length p.before = ap (suffix_len (λ g. not (is_tile g))) (take-map (λ c. c.0) w cs) ∙ suffix_len-map (λ g. not (is_tile g)) (λ c. c.0) (take w cs) ∙ ap (suffix_len other) cut_w.0 ∙ p.count_before in
+    let all_s : length (p.front ++ p.before) ≡ length p.front + length p.before = length-append p.front p.before in
+    let at_s : s ≡ length p.front = omega arith in
+    let cut_s = cut_at cs p.front part s p.whole at_s in
+    let in_t = cut_at (take t cs) (p.front ++ p.before) p.word w (cut_t.0 ∙ pre) at_w in
+    let in_w = cut_at (take w cs) p.front p.before s cut_w.0 at_s in
+    let all : length cs ≡ length p.front + length part = ap length p.whole ∙ length-append p.front part in
+    record {
+      less = omega (arith, p.some);
+      before_fits = omega arith;
+      word_fits = omega arith;
+      tiles_fit = omega arith;
+      parted = p.parted ∙ ap (λ f. parts f ++ part ∷ []) (sym cut_s.0) ∙ ap (λ q. parts (take s cs) ++ q ∷ []) (sym cut_s.1);
+      tiles_is = ap tiles_of cut_s.1 ∙ p.tiles_is ∙ sym cut_t.1;
+      word_is = ap word_of cut_s.1 ∙ p.word_is ∙ sym in_t.1;
+      before_is = ap before_word cut_s.1 ∙ p.before_is ∙ sym in_w.1;
     }
