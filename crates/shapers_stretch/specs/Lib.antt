@@ -1,4 +1,5 @@
 pub mod Cells
+pub mod CountingWalk
 pub mod Lays
 pub mod Measure
 pub mod Recorded

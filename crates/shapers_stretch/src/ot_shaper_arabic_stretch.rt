@@ -2,6 +2,7 @@
 //! `stch`.)
 ghost use Rattle.shapers_stretch.specs.StretchLaws.{WidthsHold};
 
+mod counting;
 mod measuring;
 mod parts;
 mod recording;
