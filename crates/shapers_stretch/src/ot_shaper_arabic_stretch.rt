@@ -3,6 +3,7 @@
 ghost use Rattle.shapers_stretch.specs.StretchLaws.{WidthsHold};
 
 mod counting;
+mod laying;
 mod measuring;
 mod parts;
 mod recording;
