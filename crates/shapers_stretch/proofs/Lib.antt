@@ -3,9 +3,19 @@ mod RecordedRows
 mod StretchRows
 pub mod Moves
 pub mod Numbers
+pub mod PartCounts
 pub mod Parts
+pub mod PartLaying
 pub mod Pen
+pub mod Counts
+pub mod Flagging
+pub mod LastParts
+pub mod LayBounds
+pub mod Laying
 pub mod Lengths
+pub mod RunLaying
 pub mod Steps
 pub mod Sums
+pub mod TileWalk
 pub mod Widths
+pub mod Zips

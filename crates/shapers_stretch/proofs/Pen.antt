@@ -1,25 +1,11 @@
 -- A laid list as a walk of a pen, which each copy moves.
-use Rattle.std.proofs.Common.{◌≡◌, ℤ, ◌+ℤ◌, ◌-ℤ◌, Bool, true, false, List, [], ◌∷◌, ◌++◌, map, refl, sym, ◌∙◌, ap, arith}
+use Rattle.std.proofs.Common.{◌≡◌, ℤ, ◌+ℤ◌, Bool, true, false, List, [], ◌∷◌, ◌++◌, map, refl, sym, ◌∙◌, ap, arith}
 use Rattle.std.proofs.lemmas.Int.{ints}
 use Rattle.shapers_buffer.specs.Lists.{each_after}
-use Rattle.shapers_stretch.specs.Cells.{Cell}
 use Rattle.shapers_stretch.specs.Stretch.{Copy, laid, laid_at, moves, offset}
+pub use Rattle.shapers_stretch.specs.LayingWalk.{stands, moved, laid_on}
 use Rattle.shapers_stretch.proofs.Moves.{moves-append}
 use Rattle.shapers_stretch.proofs.Sums.{total_cons}
-
--- where a copy stands when the pen is here, and where the pen is behind it
-abbrev pub stands : Bool → ℤ → ℤ → ℤ
-stands true pen move = pen -ℤ move
-stands false pen move = pen
-
-abbrev pub moved : Bool → ℤ → ℤ → ℤ
-moved true pen move = pen -ℤ move
-moved false pen move = pen +ℤ move
-
--- copies laid from a pen on
-abbrev pub laid_on : Bool → ℤ → List Copy → List Cell
-laid_on right_to_left pen [] = []
-laid_on right_to_left pen (c ∷ cs) = laid_at (stands right_to_left pen c.move) c.tile ∷ laid_on right_to_left (moved right_to_left pen c.move) cs
 
 -- one more copy
 moves-push : (before : List Copy) (c : Copy) → moves (before ++ c ∷ []) ≡ moves before +ℤ c.move
@@ -40,7 +26,7 @@ laid_after right_to_left from before (c ∷ cs) =
     let first = laid_at (stands right_to_left (moved right_to_left from (moves before)) c.move) c.tile in
     ap (λ x. laid_at x c.tile ∷ rest) (offset_is right_to_left from before c) ∙ ap (λ ys. first ∷ ys) (laid_after right_to_left from (before ++ c ∷ []) cs ∙ ap (λ pen. laid_on right_to_left pen cs) (pen_next right_to_left from before c))
 
-no_move : (right_to_left : Bool) (from : ℤ) → moved right_to_left from (moves []) ≡ from
+pub no_move : (right_to_left : Bool) (from : ℤ) → moved right_to_left from (moves []) ≡ from
 no_move true from = omega (arith, ints)
 no_move false from = omega (arith, ints)
 

@@ -1,13 +1,12 @@
 -- Equal steps: what stands between two ends stays between them.
-use Rattle.std.proofs.Common.{◌≡◌, ℕ, zero, suc, ◌+◌, ℤ, pos, ◌+ℤ◌, ◌*ℤ◌, ◌≤ℤ◌, ◌-ℤ◌, ◌^◌, negsuc, neg_ℤ, Bool, true, false, ◌&&◌, List, [], ◌∷◌, map, replicate, refl, sym, ◌∙◌, arith, ap}
+use Rattle.std.proofs.Common.{◌≡◌, ℕ, zero, suc, ◌+◌, ℤ, pos, ◌+ℤ◌, ◌*ℤ◌, ◌≤ℤ◌, ◌-ℤ◌, ◌^◌, negsuc, neg_ℤ, Bool, true, false, ◌&&◌, List, [], ◌∷◌, replicate, refl, sym, ◌∙◌, arith, ap}
 use Rattle.std.specs.List.{list_all}
 use borrow.Author.Tests.{lt-true}
 use Rattle.std.proofs.lemmas.Int.{ints, by_lt_z}
-use Rattle.shapers_stretch.specs.Cells.{Cell}
 use Rattle.shapers_stretch.specs.Measure.{fits_i32}
 use Rattle.shapers_stretch.specs.Stretch.{Copy}
 use Rattle.shapers_stretch.proofs.Numbers.{fits_from}
-use Rattle.shapers_stretch.proofs.Pen.{laid_on}
+pub use Rattle.shapers_stretch.specs.LayingWalk.{laid_on, offsets}
 use Rattle.shapers_stretch.proofs.Sums.{times_add, times_suc, times_zero}
 
 times_up : (n : ℕ) (d : ℤ) → pos 0 ≤ℤ d → pos 0 ≤ℤ (pos n *ℤ d)
@@ -68,9 +67,6 @@ stepping_fits a d (suc n) =
     ap (λ b. fits_i32 a && b) (stepping_fits (a +ℤ d) d n ∙ ap (λ x. fits_i32 (a +ℤ d) && fits_i32 x) last) ∙ middle (fits_i32 a) (fits_i32 (a +ℤ d)) (fits_i32 (a +ℤ pos (suc n) *ℤ d)) between
 
 -- the offsets of equal copies
-abbrev pub offsets : List Cell → List ℤ
-offsets cs = map (λ c. c.1.x_offset) cs
-
 pub leftward_offsets : (pen : ℤ) (copy : Copy) (n : ℕ) → pen ∷ offsets (laid_on true pen (replicate n copy)) ≡ stepping pen (neg_ℤ copy.move) n
 leftward_offsets pen copy zero = refl
 leftward_offsets pen copy (suc n) = ap (λ xs. pen ∷ xs) (leftward_offsets (pen -ℤ copy.move) copy n)

@@ -2,6 +2,8 @@
 //! `stch`.)
 ghost use Rattle.shapers_stretch.specs.StretchLaws.{WidthsHold};
 
+mod counting;
+mod laying;
 mod measuring;
 mod parts;
 mod recording;

@@ -1,0 +1,102 @@
+-- How far the second pass has come, which lays the runs of a text from its end back.
+use Rattle.std.specs.Prelude.{◌≡◌, ◌≤◌, ◌≤ℤ◌, ◌^◌, pos, negsuc, ◌+◌, ◌++◌, ℕ, ℤ, ◌+ℤ◌, ◌-ℤ◌, Bool, true, false, List, [], ◌∷◌, length, map, reverse, take, drop}
+use Rattle.std.specs.List.{AllByRecursion, list_all, zip}
+use Rattle.shapers_buffer.specs.declared.buffer.glyph.GlyphPosition.{GlyphPosition}
+use Rattle.shapers_buffer.specs.declared.buffer.glyph.hb_glyph_info_t.{hb_glyph_info_t}
+use Rattle.shapers_base.specs.declared.plan.arabic.StretchStart.{StretchStart}
+use Rattle.shapers_base.specs.Font.{Font}
+use Rattle.shapers_stretch.specs.Cells.{Cell, glyphs_of, positions_of}
+use Rattle.shapers_stretch.specs.Measure.{added, fits_i32, numbers, overlap}
+use Rattle.shapers_stretch.specs.Stretch.{Copy, Laying, copies, laid_at, laid_run, measured, moves, overflows, stretched}
+use Rattle.shapers_stretch.specs.declared.ot_shaper_arabic_stretch.laying.Pen.{Pen}
+use Rattle.shapers_stretch.specs.declared.ot_shaper_arabic_stretch.measuring.Lay.{Lay}
+use Rattle.shapers_stretch.specs.declared.ot_shaper_arabic_stretch.measuring.Run.{Run}
+
+-- where a copy stands when the pen is here, and where the pen is behind it
+abbrev pub stands : Bool → ℤ → ℤ → ℤ
+stands true pen move = pen -ℤ move
+stands false pen move = pen
+
+abbrev pub moved : Bool → ℤ → ℤ → ℤ
+moved true pen move = pen -ℤ move
+moved false pen move = pen +ℤ move
+
+-- copies laid from a pen on
+abbrev pub laid_on : Bool → ℤ → List Copy → List Cell
+laid_on right_to_left pen [] = []
+laid_on right_to_left pen (c ∷ cs) = laid_at (stands right_to_left pen c.move) c.tile ∷ laid_on right_to_left (moved right_to_left pen c.move) cs
+
+-- the offsets of cells
+abbrev pub offsets : List Cell → List ℤ
+offsets cs = map (λ c. c.1.x_offset) cs
+
+-- These copies can be laid before the pen's place: there is room for them, and their offsets fit.
+pub record CanLay (right_to_left : Bool) (copies : List Copy) (pen : Pen) (gs : List hb_glyph_info_t) (ps : List GlyphPosition) : Type 0 where
+  pub fits : list_all fits_i32 (offsets (laid_on right_to_left pen.at copies)) ≡ true
+  pub room : length copies ≤ pen.place
+  pub within : pen.place ≤ length gs
+  pub both : length gs ≡ length ps
+
+-- Copies were laid from `before` to `after`: the first of them stands last, and what stands before them is as it was.
+pub record Lays (right_to_left : Bool) (copies : List Copy) (before after : Pen) (old now : List Cell) : Type 0 where
+  pub pen : after.at ≡ moved right_to_left before.at (moves copies)
+  pub place : after.place + length copies ≡ before.place
+  pub kept : take after.place now ≡ take after.place old
+  pub behind : drop after.place now ≡ reverse (laid_on right_to_left before.at copies) ++ drop before.place old
+
+-- how tiles are laid, from its parts
+abbrev pub laying_by : Font → StretchStart → Bool → Laying
+laying_by font choice right_to_left = record { font = font; choice = choice; right_to_left = right_to_left }
+
+-- the text in the first cells of slices
+abbrev pub text_of : ℕ → List hb_glyph_info_t → List GlyphPosition → List Cell
+text_of end gs ps = take end (zip gs ps)
+
+-- The text before `end` is unlaid: stretched it fills the places before `place`, and reading is ahead.
+pub record IsUnlaid (how : Laying) (gs : List hb_glyph_info_t) (ps : List GlyphPosition) (end place : ℕ) : Type 0 where
+  pub both : length gs ≡ length ps
+  pub room : length (stretched how (text_of end gs ps)) ≡ place
+  pub ahead : end ≤ place
+  pub within : place ≤ length gs
+  pub glyph_numbers : AllByRecursion (λ g. g.glyph_id ≤ 65535) (take end gs)
+  pub fits : overflows how (text_of end gs ps) ≡ false
+
+-- what the unlaid text becomes, and what stands behind it
+abbrev pub whole_of : Laying → List hb_glyph_info_t → List GlyphPosition → ℕ → ℕ → List Cell
+whole_of how gs ps end place = stretched how (text_of end gs ps) ++ drop place (zip gs ps)
+
+-- in the middle of laying the whole: the writer never overtakes the reader
+pub record IsLaidFrom (how : Laying) (whole : List Cell) (gs : List hb_glyph_info_t) (ps : List GlyphPosition) (end place : ℕ) : Type 0 where
+  pub left : IsUnlaid how gs ps end place
+  pub joined : whole_of how gs ps end place ≡ whole
+
+-- The first cells of these slices are a text that stretched fills them: glyph numbers are in range, and no number of it overflows.
+pub record HasRoom (how : Laying) (gs : List hb_glyph_info_t) (ps : List GlyphPosition) (len : ℕ) : Type 0 where
+  pub both : length gs ≡ length ps
+  pub in_range : len ≤ length gs
+  pub room : length (stretched how (text_of len gs ps)) ≡ length gs
+  pub glyph_numbers : AllByRecursion (λ g. g.glyph_id ≤ 65535) (take len gs)
+  pub fits : overflows how (text_of len gs ps) ≡ false
+
+-- a number far from the ends of its 128 bits
+pub record IsNear (x : ℤ) : Type 0 where
+  pub low : negsuc (2 ^ 70) ≤ℤ x
+  pub high : x ≤ℤ pos (2 ^ 70)
+
+-- the numbers by which the copies of a run are laid
+pub record IsLayOf (z : Run) (lay : Lay) : Type 0 where
+  pub added : lay.added ≡ added z
+  pub overlap : lay.overlap ≡ overlap z
+  pub low : pos 0 ≤ℤ lay.overlap
+  pub high : lay.overlap ≤ℤ pos (2 ^ 66)
+
+-- What stands before `tiles` and what stands from there to `end` in slices: a word and its run, where no number overflows and where there
+-- is room for the run's copies before `place`.
+pub record CanLayRun (how : Laying) (word tiles : List Cell) (first end place : ℕ) (gs : List hb_glyph_info_t) (ps : List GlyphPosition) : Type 0 where
+  pub order : first ≤ end
+  pub ahead : end ≤ place
+  pub within : place ≤ length gs
+  pub both : length gs ≡ length ps
+  pub glyph_numbers : AllByRecursion (λ g. g.glyph_id ≤ 65535) (take end gs)
+  pub fits : let z = measured how.font (positions_of word) (glyphs_of tiles) in list_all fits_i32 (numbers how.choice z ++ offsets (laid_run how z tiles)) ≡ true
+  pub room : first + length (copies how.font (measured how.font (positions_of word) (glyphs_of tiles)) tiles) ≤ place

@@ -1,0 +1,382 @@
+//! The second pass over a text whose marks stretch: from behind, in place, each run is laid over
+//! its word. The writer never overtakes the reader.
+ghost use Rattle.std.specs.Prelude.{◌≡◌, ◌≤◌, ◌<◌, ◌^◌, ◌+◌, ◌-◌, ◌<ℤ◌, ◌≤ℤ◌, ◌++◌, [], ◌∷◌, pos, negsuc, true, length, replicate, reverse, take, drop};
+ghost use Rattle.std.specs.List.{AllByRecursion, zip};
+ghost use Rattle.shapers_buffer.specs.Clusters.{stretch_of};
+ghost use Rattle.shapers_stretch.specs.Cells.{Cell, glyphs_of, positions_of};
+ghost use Rattle.shapers_stretch.specs.LayingWalk.{CanLay, CanLayRun, HasRoom, IsLaidFrom, IsLayOf, IsNear, IsUnlaid, Lays, laying_by, moved, stands, text_of, whole_of};
+ghost use Rattle.shapers_stretch.specs.Lays.{lay_of};
+ghost use Rattle.shapers_stretch.specs.Measure.{added, fits_i32, overlap};
+ghost use Rattle.shapers_stretch.specs.Stretch.{Copy, copies, copies_of, laid_run, measured, stretched, unbroken};
+
+use super::measuring::{Lay, Run, advance_of, lay_of, measure};
+use super::parts::{LastPart, last_part, repeats};
+use shapers_base::buffer::{GlyphPosition, PositionedWalk, hb_glyph_info_t, unsafe_to_break_in};
+use shapers_base::font::hb_font_t;
+use shapers_base::plan::StretchStart;
+
+/// How the tiles of a text are laid, over slices whose first `len` cells are the text in working
+/// order, and which are just as long as the stretched text.
+#[derive(Clone, Copy)]
+pub(super) struct TileLaying<'a, F> {
+    pub(super) face: &'a F,
+    pub(super) choice: StretchStart,
+    pub(super) right_to_left: bool,
+    pub(super) len: usize,
+}
+
+impl<'a, F: hb_font_t> PositionedWalk for TileLaying<'a, F> {
+    ghost use Rattle.std.specs.Prelude.{◌≡◌};
+    ghost use Rattle.shapers_stretch.specs.Cells.{glyphs_of, positions_of};
+    ghost use Rattle.shapers_stretch.specs.LayingWalk.{HasRoom, laying_by, text_of};
+    ghost use Rattle.shapers_stretch.specs.Stretch.{stretched};
+
+    ghost can_walk = { λ w gs ps.
+        HasRoom (laying_by (F.font w.face.now) w.choice w.right_to_left) gs ps w.len };
+
+    ghost walks = { λ w gs ps hs qs.
+        let how = laying_by (F.font w.face.now) w.choice w.right_to_left in
+        let cs = stretched how (text_of w.len gs ps) in
+        (hs ≡ glyphs_of cs) × (qs ≡ positions_of cs) };
+
+    fn walk(&self, glyphs: &mut [hb_glyph_info_t], positions: &mut [GlyphPosition]) {
+        lay_all(
+            self.face,
+            self.choice,
+            self.right_to_left,
+            glyphs,
+            positions,
+            self.len,
+        );
+    }
+}
+
+/// Stretches the text of the first `len` cells over the whole slices.
+pub(super) fn lay_all<F: hb_font_t>(
+    face: &F,
+    choice: StretchStart,
+    right_to_left: bool,
+    glyphs: &mut [hb_glyph_info_t],
+    positions: &mut [GlyphPosition],
+    len: usize,
+)
+    requires { HasRoom (laying_by (F.font face.now) choice right_to_left) glyphs.old positions.old len }
+    ensures glyphs { let how = laying_by (F.font face.now) choice right_to_left in
+        glyphs.new ≡ glyphs_of (stretched how (text_of len glyphs.old positions.old)) }
+    ensures positions { let how = laying_by (F.font face.now) choice right_to_left in
+        positions.new ≡ positions_of (stretched how (text_of len glyphs.old positions.old)) }
+{
+    let mut unlaid = Unlaid {
+        end: len,
+        place: glyphs.len(),
+    };
+    while 0 < unlaid.end {
+        unlaid = lay_last(face, choice, right_to_left, glyphs, positions, unlaid);
+    }
+}
+
+// What is still to be laid: what the text before `end` becomes, over the places before `place`.
+#[derive(Clone, Copy)]
+struct Unlaid {
+    end: usize,
+    place: usize,
+}
+
+// Lays the last part of the unlaid text: its run first, then what stands before it moves up.
+fn lay_last<F: hb_font_t>(
+    face: &F,
+    choice: StretchStart,
+    right_to_left: bool,
+    glyphs: &mut [hb_glyph_info_t],
+    positions: &mut [GlyphPosition],
+    unlaid: Unlaid,
+) -> Unlaid
+    requires some { 0 < unlaid.end }
+    requires unlaid { IsUnlaid (laying_by (F.font face.now) choice right_to_left) glyphs.old positions.old unlaid.end unlaid.place }
+    ensures laid { let how = laying_by (F.font face.now) choice right_to_left in
+        let whole = whole_of how glyphs.old positions.old unlaid.end unlaid.place in
+        IsLaidFrom how whole glyphs.new positions.new result.end result.place }
+    ensures shorter { result.end < unlaid.end }
+{
+    let part = last_part(&glyphs[..unlaid.end]);
+    if part.tiles == unlaid.end {
+        move_up(glyphs, positions, part.start, part.tiles, unlaid.place);
+        return Unlaid {
+            end: part.start,
+            place: unlaid.place - (part.tiles - part.start),
+        };
+    }
+    let place = lay_run(face, choice, right_to_left, glyphs, positions, part, unlaid);
+    move_up(glyphs, positions, part.start, part.tiles, place);
+    Unlaid {
+        end: part.start,
+        place: place - (part.tiles - part.start),
+    }
+}
+
+// Moves the cells from `start` to `end` up, so that they end at `place`.
+fn move_up(
+    glyphs: &mut [hb_glyph_info_t],
+    positions: &mut [GlyphPosition],
+    start: usize,
+    end: usize,
+    place: usize,
+)
+    requires in_order { start ≤ end }
+    requires ahead { end ≤ place }
+    requires within { place ≤ length glyphs.old }
+    requires both { length glyphs.old ≡ length positions.old }
+    ensures both { length glyphs.new ≡ length positions.new }
+    ensures same_length { length glyphs.new ≡ length glyphs.old }
+    ensures kept { let to = place - (end - start) in
+        take to (zip glyphs.new positions.new) ≡ take to (zip glyphs.old positions.old) }
+    ensures up { let to = place - (end - start) in
+        let old = zip glyphs.old positions.old in
+        drop to (zip glyphs.new positions.new) ≡ stretch_of start end old ++ drop place old }
+{
+    if end < place {
+        let to = place - (end - start);
+        glyphs.copy_within(start..end, to);
+        positions.copy_within(start..end, to);
+    }
+}
+
+// Lays the run of the last part, and flags it and its word; where it then begins.
+fn lay_run<F: hb_font_t>(
+    face: &F,
+    choice: StretchStart,
+    right_to_left: bool,
+    glyphs: &mut [hb_glyph_info_t],
+    positions: &mut [GlyphPosition],
+    part: LastPart,
+    unlaid: Unlaid,
+) -> usize
+    requires word { part.word ≤ part.tiles }
+    requires run { let how = laying_by (F.font face.now) choice right_to_left in
+        let old = zip glyphs.old positions.old in
+        let word = stretch_of part.word part.tiles old in
+        let tiles = stretch_of part.tiles unlaid.end old in
+        CanLayRun how word tiles part.tiles unlaid.end unlaid.place glyphs.old positions.old }
+    ensures both { length glyphs.new ≡ length positions.new }
+    ensures same_length { length glyphs.new ≡ length glyphs.old }
+    ensures flagged { let old = zip glyphs.old positions.old in
+        let word = stretch_of part.word part.tiles old in
+        let whole = unbroken (word ++ stretch_of part.tiles unlaid.end old) in
+        take part.tiles (zip glyphs.new positions.new) ≡ take part.word old ++ take (length word) whole }
+    ensures laid { let how = laying_by (F.font face.now) choice right_to_left in
+        let old = zip glyphs.old positions.old in
+        let word = stretch_of part.word part.tiles old in
+        let tiles = stretch_of part.tiles unlaid.end old in
+        let z = measured how.font (positions_of word) (glyphs_of tiles) in
+        let run = drop (length word) (unbroken (word ++ tiles)) in
+        drop result (zip glyphs.new positions.new) ≡ reverse (laid_run how z run) ++ drop unlaid.place old }
+    ensures place { let old = zip glyphs.old positions.old in
+        let word = stretch_of part.word part.tiles old in
+        let tiles = stretch_of part.tiles unlaid.end old in
+        let z = measured (F.font face.now) (positions_of word) (glyphs_of tiles) in
+        result + length (copies (F.font face.now) z tiles) ≡ unlaid.place }
+{
+    let run = measure(
+        face,
+        &positions[part.word..part.tiles],
+        &glyphs[part.tiles..unlaid.end],
+    );
+    unsafe_to_break_in(glyphs, part.word, unlaid.end);
+    match lay_of(choice, right_to_left, run) {
+        Some(lay) => {
+            let pen = Pen {
+                at: lay.start,
+                place: unlaid.place,
+            };
+            let tiles = part.tiles;
+            let end = unlaid.end;
+            lay_tiles(
+                face,
+                right_to_left,
+                run,
+                lay,
+                glyphs,
+                positions,
+                tiles,
+                end,
+                pen,
+            )
+            .place
+        }
+        None => unreachable!(),
+    }
+}
+
+// Where the pen is, and the place before which the next copy is laid.
+#[derive(Clone, Copy)]
+struct Pen {
+    at: i128,
+    place: usize,
+}
+
+// A tile with its position.
+#[derive(Clone, Copy)]
+struct Tile {
+    glyph: hb_glyph_info_t,
+    position: GlyphPosition,
+}
+
+// Lays the tiles from `tiles` to `end`, the last one first.
+fn lay_tiles<F: hb_font_t>(
+    face: &F,
+    right_to_left: bool,
+    run: Run,
+    lay: Lay,
+    glyphs: &mut [hb_glyph_info_t],
+    positions: &mut [GlyphPosition],
+    tiles: usize,
+    end: usize,
+    pen: Pen,
+) -> Pen
+    requires lay { IsLayOf run lay }
+    requires near { IsNear pen.at }
+    requires in_order { tiles ≤ end }
+    requires ahead { end ≤ pen.place }
+    requires numbers { AllByRecursion (λ g. g.glyph_id ≤ 65535) (take end glyphs.old) }
+    requires can { let cs = stretch_of tiles end (zip glyphs.old positions.old) in
+        CanLay right_to_left (copies (F.font face.now) run cs) pen glyphs.old positions.old }
+    requires room { let cs = stretch_of tiles end (zip glyphs.old positions.old) in
+        tiles + length (copies (F.font face.now) run cs) ≤ pen.place }
+    ensures both { length glyphs.new ≡ length positions.new }
+    ensures same_length { length glyphs.new ≡ length glyphs.old }
+    ensures lays { let old = zip glyphs.old positions.old in
+        let laid = copies (F.font face.now) run (stretch_of tiles end old) in
+        Lays right_to_left laid pen result old (zip glyphs.new positions.new) }
+{
+    let mut pen = pen;
+    for i in (tiles..end).rev() {
+        let tile = Tile {
+            glyph: glyphs[i],
+            position: positions[i],
+        };
+        pen = lay_tile(face, right_to_left, run, lay, glyphs, positions, tile, pen);
+    }
+    pen
+}
+
+// Lays a tile, and where it repeats the added copies of it.
+fn lay_tile<F: hb_font_t>(
+    face: &F,
+    right_to_left: bool,
+    run: Run,
+    lay: Lay,
+    glyphs: &mut [hb_glyph_info_t],
+    positions: &mut [GlyphPosition],
+    tile: Tile,
+    pen: Pen,
+) -> Pen
+    requires lay { IsLayOf run lay }
+    requires near { IsNear pen.at }
+    requires number { tile.glyph.glyph_id ≤ 65535 }
+    requires can { let cell : Cell = (tile.glyph, tile.position) in
+        CanLay right_to_left (copies_of (F.font face.now) run cell) pen glyphs.old positions.old }
+    ensures both { length glyphs.new ≡ length positions.new }
+    ensures same_length { length glyphs.new ≡ length glyphs.old }
+    ensures near { IsNear result.at }
+    ensures lays { let cell : Cell = (tile.glyph, tile.position) in
+        let laid = copies_of (F.font face.now) run cell in
+        Lays right_to_left laid pen result (zip glyphs.old positions.old) (zip glyphs.new positions.new) }
+{
+    let width = i128::from(advance_of(face, &tile.glyph));
+    let pen = lay_copies(right_to_left, width, 1, glyphs, positions, tile, pen);
+    if !repeats(&tile.glyph) {
+        return pen;
+    }
+    let step = width - lay.overlap;
+    let added = lay.added;
+    lay_copies(right_to_left, step, added, glyphs, positions, tile, pen)
+}
+
+// Lays so many copies of a tile that each move the pen so far.
+fn lay_copies(
+    right_to_left: bool,
+    step: i128,
+    count: usize,
+    glyphs: &mut [hb_glyph_info_t],
+    positions: &mut [GlyphPosition],
+    tile: Tile,
+    pen: Pen,
+) -> Pen
+    requires step_low { negsuc (2 ^ 67) ≤ℤ step }
+    requires step_high { step ≤ℤ pos (2 ^ 67) }
+    requires near { IsNear pen.at }
+    requires can { let cell : Cell = (tile.glyph, tile.position) in
+        let copy : Copy = record { tile = cell; move = step } in
+        CanLay right_to_left (replicate count copy) pen glyphs.old positions.old }
+    ensures both { length glyphs.new ≡ length positions.new }
+    ensures same_length { length glyphs.new ≡ length glyphs.old }
+    ensures near { IsNear result.at }
+    ensures lays { let cell : Cell = (tile.glyph, tile.position) in
+        let copy : Copy = record { tile = cell; move = step } in
+        Lays right_to_left (replicate count copy) pen result (zip glyphs.old positions.old) (zip glyphs.new positions.new) }
+{
+    let mut pen = pen;
+    for _ in 0..count {
+        pen = lay_copy(right_to_left, step, glyphs, positions, tile, pen);
+    }
+    pen
+}
+
+// Lays one copy of a tile.
+fn lay_copy(
+    right_to_left: bool,
+    step: i128,
+    glyphs: &mut [hb_glyph_info_t],
+    positions: &mut [GlyphPosition],
+    tile: Tile,
+    pen: Pen,
+) -> Pen
+    requires step_low { negsuc (2 ^ 67) ≤ℤ step }
+    requires step_high { step ≤ℤ pos (2 ^ 67) }
+    requires near { IsNear pen.at }
+    requires can { let cell : Cell = (tile.glyph, tile.position) in
+        let copy : Copy = record { tile = cell; move = step } in
+        CanLay right_to_left (copy ∷ []) pen glyphs.old positions.old }
+    ensures both { length glyphs.new ≡ length positions.new }
+    ensures same_length { length glyphs.new ≡ length glyphs.old }
+    ensures near { IsNear result.at }
+    ensures lays { let cell : Cell = (tile.glyph, tile.position) in
+        let copy : Copy = record { tile = cell; move = step } in
+        Lays right_to_left (copy ∷ []) pen result (zip glyphs.old positions.old) (zip glyphs.new positions.new) }
+{
+    let place = pen.place - 1;
+    glyphs[place] = tile.glyph;
+    let mut position = tile.position;
+    position.x_advance = 0;
+    position.x_offset = offset_of(right_to_left, pen.at, step);
+    positions[place] = position;
+    Pen {
+        at: moved(right_to_left, pen.at, step),
+        place,
+    }
+}
+
+// Where a copy stands.
+fn offset_of(right_to_left: bool, at: i128, step: i128) -> i32
+    requires step_low { negsuc (2 ^ 67) ≤ℤ step }
+    requires step_high { step ≤ℤ pos (2 ^ 67) }
+    requires near { IsNear at }
+    requires fits { fits_i32 (stands right_to_left at step) ≡ true }
+    ensures { result ≡ stands right_to_left at step }
+{
+    if right_to_left {
+        (at - step) as i32
+    } else {
+        at as i32
+    }
+}
+
+// Where the pen is behind a copy.
+fn moved(right_to_left: bool, at: i128, step: i128) -> i128
+    requires step_low { negsuc (2 ^ 67) ≤ℤ step }
+    requires step_high { step ≤ℤ pos (2 ^ 67) }
+    requires near { IsNear at }
+    ensures { result ≡ moved right_to_left at step }
+{
+    if right_to_left { at - step } else { at + step }
+}
