@@ -6,7 +6,7 @@ use Rattle.shapers_indic.proofs.RowWords.{C, H, N, ZWNJ, ZWJ, M, Ra, CM, of, pla
 use Rattle.shapers_indic_final.proofs.FinalWords.{formed_at, marks_at, mask_given, rules, unformed_at}
 use Rattle.shapers_indic_final.specs.FinalBase.{first_base, links_from, settled_base, with_base}
 use Rattle.shapers_indic_final.specs.FinalGlyphs.{is_formed, recovered}
-use Rattle.shapers_indic_final.specs.FinalRules.{Rules}
+use Rattle.shapers_indic_final.specs.declared.ot_shaper_indic_final.rules.Rules.{Rules}
 
 -- a virama: by number, ligated and multiplied; by its marks it keeps the others
 abbrev of_marks : ℕ → ℕ → hb_glyph_info_t

@@ -8,7 +8,7 @@ use Rattle.shapers_clusters.specs.Steps.{run_steps}
 use Rattle.shapers_indic.specs.Plan.{config_of}
 use Rattle.shapers_indic.proofs.RowWords.{numbers_of, positions_of, script}
 use Rattle.shapers_indic_final.specs.FinalReordering.{final_order, final_steps}
-use Rattle.shapers_indic_final.specs.FinalRules.{Rules}
+use Rattle.shapers_indic_final.specs.declared.ot_shaper_indic_final.rules.Rules.{Rules}
 
 -- the glyph at a place changed; given marks by their bits (1 substituted, 2 ligated, 4 multiplied); given a mask
 abbrev pub changed_at : ℕ → (hb_glyph_info_t → hb_glyph_info_t) → List hb_glyph_info_t → List hb_glyph_info_t

@@ -1,6 +1,7 @@
 mod FinalBaseRows
 mod FinalMatraRows
 mod FinalOpeningRows
+pub mod FinalPlaces
 mod FinalPrefRows
 mod FinalReorderingRows
 mod FinalRephRows

@@ -9,7 +9,8 @@ use Rattle.shapers_base.specs.declared.plan.ot_category_t.TheConstants.{OT_H, OT
 use Rattle.shapers_base.specs.declared.plan.ot_position_t.TheConstants.{POS_BASE_C, POS_BELOW_C}
 use Rattle.shapers_indic.specs.Glyphs.{at_position, greatest_place, has_position, is_joiner, is_one_of, least_place, passes}
 use Rattle.shapers_indic_final.specs.FinalGlyphs.{has_mask, is_formed, is_halant, recovered}
-use Rattle.shapers_indic_final.specs.FinalRules.{Rules, is_malayalam}
+use Rattle.shapers_indic_final.specs.declared.ot_shaper_indic_final.rules.Rules.{Rules}
+use Rattle.shapers_indic_final.specs.FinalRules.{is_malayalam}
 use Rattle.shapers_syllabic.specs.Consonants.{is_consonant}
 
 -- the first glyph whose position is the base's or one after it, else the end

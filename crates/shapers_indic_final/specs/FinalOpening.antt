@@ -12,7 +12,7 @@ use Rattle.shapers_buffer.specs.Syllables.{syllables}
 use Rattle.shapers_clusters.specs.Steps.{run_steps, widened}
 use Rattle.shapers_indic_final.specs.FinalMatras.{is_left}
 use Rattle.shapers_indic_final.specs.FinalReordering.{final_order, final_steps}
-use Rattle.shapers_indic_final.specs.FinalRules.{Rules}
+use Rattle.shapers_indic_final.specs.declared.ot_shaper_indic_final.rules.Rules.{Rules}
 use Rattle.shapers_syllabic.specs.Reordering.{carried}
 
 -- the categories that a word goes on behind: formats, letters, marks, and what has none

@@ -7,7 +7,7 @@ use Rattle.shapers_indic_final.specs.FinalBase.{Based, with_base, with_viramas}
 use Rattle.shapers_indic_final.specs.FinalMatras.{matra_steps, with_matras}
 use Rattle.shapers_indic_final.specs.FinalPref.{pref_steps, with_pref}
 use Rattle.shapers_indic_final.specs.FinalReph.{base_after_reph, reph_steps, with_reph}
-use Rattle.shapers_indic_final.specs.FinalRules.{Rules}
+use Rattle.shapers_indic_final.specs.declared.ot_shaper_indic_final.rules.Rules.{Rules}
 
 -- the syllable with its base, its left matras at their place; and its reph at its own, which may carry the base along
 abbrev pub after_matras : Rules → Option Script → Based → Based

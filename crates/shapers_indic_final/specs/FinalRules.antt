@@ -3,18 +3,11 @@ use Rattle.std.specs.Prelude.{ℕ, ◌==◌, Bool, ◌||◌, Option, None, Some,
 use Rattle.shapers_buffer.specs.declared.buffer.tag.Script.{Script}
 use Rattle.shapers_buffer.specs.Glyph.{without_flags}
 use Rattle.shapers_base.specs.declared.font.GlyphId.{GlyphId}
-use Rattle.shapers_base.specs.declared.plan.indic.RephPosition.{RephPosition}
 use Rattle.shapers_base.specs.declared.plan.indic.indic_shape_plan_t.{indic_shape_plan_t}
 use Rattle.shapers_base.specs.Font.{Font}
+use Rattle.shapers_indic_final.specs.declared.ot_shaper_indic_final.rules.Rules.{Rules}
 use Rattle.shapers_indic.specs.declared.ot_shaper_indic.indic_feature.TheConstants.{INIT, PREF}
 use Rattle.shapers_indic.specs.Plan.{is_script}
-
--- where the script wants its reph, the glyph of its virama if it has one and the font knows it, and the masks of pref and init, without glyph flags, which no mask has
-pub record Rules : Type 0 where
-  pub reph_pos : RephPosition
-  pub virama : Option GlyphId
-  pub pref : ℕ
-  pub init : ℕ
 
 -- the mask of a feature
 abbrev pub mask_at : indic_shape_plan_t → ℕ → ℕ

@@ -1,1 +1,9 @@
-//! The final reordering.
+//! The final reordering of Indic syllables: after substitutions each finds its base again, and its left
+//! matras, its reph and a formed pref glyph go to their places. (OpenType, development of Indic
+//! scripts: "Final reordering".)
+mod glyphs;
+mod matras;
+mod opening;
+mod pref;
+mod reph;
+pub mod rules;
