@@ -1,4 +1,5 @@
 mod FinalBaseRows
+pub mod FinalLinks
 mod FinalMatraRows
 mod FinalOpeningRows
 pub mod FinalPlaces
