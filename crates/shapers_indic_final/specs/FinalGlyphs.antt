@@ -1,0 +1,38 @@
+-- What the final reordering asks of a glyph, and the two moves of a list.
+use Rattle.std.specs.Prelude.{ℕ, ◌==◌, Bool, ◌&&◌, false, not, List, [], ◌∷◌, ◌++◌, bit_and, reverse, Option, None, Some, if◌then◌else◌}
+use Rattle.shapers_buffer.specs.declared.buffer.glyph.hb_glyph_info_t.{hb_glyph_info_t}
+use Rattle.shapers_buffer.specs.Marks.{LIGATED, MULTIPLIED, is_ligated, is_multiplied, without_mark}
+use Rattle.shapers_base.specs.declared.font.GlyphId.{GlyphId}
+use Rattle.shapers_base.specs.declared.plan.ot_category_t.TheConstants.{OT_H, OT_M, OT_MPst}
+use Rattle.shapers_indic.specs.Glyphs.{is_one_of}
+
+abbrev pub is_halant : hb_glyph_info_t → Bool
+is_halant = is_one_of (OT_H ∷ [])
+
+-- a vowel sign or halant that no lookup put in for several glyphs
+abbrev pub is_matra_or_halant : hb_glyph_info_t → Bool
+is_matra_or_halant = is_one_of (OT_M ∷ OT_MPst ∷ OT_H ∷ [])
+
+-- whether lookups formed one glyph of several, and did not take it apart again
+abbrev pub is_formed : hb_glyph_info_t → Bool
+is_formed g = is_ligated g.marks && not (is_multiplied g.marks)
+
+-- whether the glyph has some bit of a mask
+abbrev pub has_mask : ℕ → hb_glyph_info_t → Bool
+has_mask bits g = not (bit_and g.mask bits == 0)
+
+-- a halant that lookups put in for several glyphs and then took apart: it has the virama's glyph. It becomes a halant again, without these marks
+abbrev pub is_lost_virama : Option GlyphId → hb_glyph_info_t → Bool
+is_lost_virama None g = false
+is_lost_virama (Some virama) g = g.glyph_id == virama.0 && is_ligated g.marks && is_multiplied g.marks
+
+abbrev pub recovered : Option GlyphId → hb_glyph_info_t → hb_glyph_info_t
+recovered virama g = if is_lost_virama virama g then record g { category = OT_H; marks = without_mark MULTIPLIED (without_mark LIGATED g.marks) } else g
+
+-- a list with its first element as the last, and with its last one as the first
+abbrev pub first_goes_last : {X : Type 0} → List X → List X
+first_goes_last [] = []
+first_goes_last (x ∷ xs) = xs ++ x ∷ []
+
+abbrev pub last_goes_first : {X : Type 0} → List X → List X
+last_goes_first xs = reverse (first_goes_last (reverse xs))

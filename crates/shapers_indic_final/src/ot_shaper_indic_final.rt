@@ -1,0 +1,10 @@
+//! The final reordering of Indic syllables: after substitutions each finds its base again, and its left
+//! matras, its reph and a formed pref glyph go to their places. (OpenType, development of Indic
+//! scripts: "Final reordering".)
+mod base;
+mod glyphs;
+mod matras;
+mod opening;
+mod pref;
+mod reph;
+pub mod rules;

@@ -1,0 +1,292 @@
+//! The base of a syllable after substitutions. (OpenType, development of Indic scripts: "Final
+//! reordering".)
+ghost use Rattle.std.specs.Prelude.{if◌then◌else◌, ◌≡◌, ◌<◌, ◌≤◌, ◌+◌, ◌∷◌, [], length, map, unwrap_or};
+ghost use Rattle.std.specs.List.{prefix_len};
+ghost use Rattle.std.specs.Option.{IfSome};
+ghost use Rattle.shapers_indic.specs.Glyphs.{at_position, greatest_place, is_one_of, passes};
+ghost use Rattle.shapers_indic_final.specs.FinalBase.{as_linked, base_by_links, base_by_pref, before_halants, before_joiner, behind_halants, first_base, is_behind_base, is_from_base_on, is_unformed, is_unformed_below, last_link, links_written, may_be_settled, settled_base, stepped_back, unformed_pref, with_base, with_base_at, with_links, with_pref_base};
+ghost use Rattle.shapers_indic_final.specs.FinalGlyphs.{is_halant};
+
+use super::glyphs::{is_formed, is_halant};
+use super::pref::pref_place;
+use super::rules::{Rules, is_malayalam};
+use shapers_base::buffer::{Script, hb_glyph_info_t};
+use shapers_base::plan::ot_category_t::{OT_H, OT_N, OT_ZWJ};
+use shapers_base::plan::ot_position_t::{POS_BASE_C, POS_BELOW_C};
+use shapers_indic::ot_shaper_indic::glyphs::is_joiner;
+use shapers_syllabic::ot_shaper_syllabic::is_consonant;
+
+/// Where the base of a syllable stands, or the syllable's length, and whether a formed `pref` glyph
+/// may go before it.
+#[derive(Clone, Copy)]
+pub(super) struct Based {
+    pub(super) base: usize,
+    pub(super) tries_pref: bool,
+}
+
+/// Finds the base of a syllable, and gives the glyphs that become it the base's position.
+pub(super) fn find_base(
+    rules: &Rules,
+    script: Option<Script>,
+    glyphs: &mut [hb_glyph_info_t],
+) -> Based
+    ensures glyphs { glyphs.new ≡ (with_base rules.now script glyphs.old).glyphs }
+    ensures base { result.base ≡ (with_base rules.now script glyphs.old).base }
+    ensures tries { result.tries_pref ≡ (with_base rules.now script glyphs.old).tries_pref }
+    ensures same_length { length glyphs.new ≡ length glyphs.old }
+    ensures within { result.base ≤ length glyphs.old }
+{
+    let first = first_base(glyphs);
+    let unformed = unformed_pref(rules.pref, first, glyphs);
+    let by_pref = set_pref_base(rules.pref, first, glyphs);
+    let by_links = set_links(script, by_pref, glyphs);
+    Based {
+        base: settled_base(stepped_back(by_links, glyphs), glyphs),
+        tries_pref: rules.pref != 0 && unformed.is_none(),
+    }
+}
+
+// The first glyph whose position is the base's or one after it, else the end.
+fn first_base(glyphs: &[hb_glyph_info_t]) -> usize
+    ensures place { result ≡ first_base glyphs.now }
+    ensures within { result ≤ length glyphs.now }
+{
+    for i in 0..glyphs.len() {
+        if is_from_base_on(&glyphs[i]) {
+            return i;
+        }
+    }
+    glyphs.len()
+}
+
+// Whether a glyph has the base's position or one after it.
+fn is_from_base_on(glyph: &hb_glyph_info_t) -> bool
+    ensures { result ≡ is_from_base_on glyph.now }
+{
+    glyph.auxiliary >= POS_BASE_C
+}
+
+// The first glyph after the base with the mask of `pref`, if it is not substituted and formed.
+fn unformed_pref(pref: u32, base: usize, glyphs: &[hb_glyph_info_t]) -> Option<usize>
+    requires in_range { base ≤ length glyphs.now }
+    ensures place { result ≡ unformed_pref pref base glyphs.now }
+    ensures within { IfSome result (λ i. i < length glyphs.now) }
+{
+    match pref_place(pref, base, glyphs) {
+        Some(i) => {
+            if is_unformed(&glyphs[i]) {
+                Some(i)
+            } else {
+                None
+            }
+        }
+        None => None,
+    }
+}
+
+// Whether a glyph is not both substituted and formed.
+fn is_unformed(glyph: &hb_glyph_info_t) -> bool
+    ensures { result ≡ is_unformed glyph.now }
+{
+    !(glyph.marks.is_substituted() && is_formed(glyph))
+}
+
+// The base by `pref`, which gets the base's position.
+fn set_pref_base(pref: u32, base: usize, glyphs: &mut [hb_glyph_info_t]) -> usize
+    requires in_range { base ≤ length glyphs.old }
+    ensures glyphs { glyphs.new ≡ with_pref_base pref base glyphs.old }
+    ensures base { result ≡ base_by_pref pref base glyphs.old }
+    ensures same_length { length glyphs.new ≡ length glyphs.old }
+    ensures within { result ≤ length glyphs.old }
+{
+    match unformed_pref(pref, base, glyphs) {
+        Some(i) => {
+            let by_pref = behind_halants(glyphs, i);
+            set_base_at(by_pref, glyphs);
+            by_pref
+        }
+        None => base,
+    }
+}
+
+// The first glyph from a place on that is no halant, else the end.
+fn behind_halants(glyphs: &[hb_glyph_info_t], i: usize) -> usize
+    requires { i ≤ length glyphs.now }
+    ensures place { result ≡ behind_halants glyphs.now i }
+    ensures within { result ≤ length glyphs.now }
+{
+    i + halants_len(&glyphs[i..])
+}
+
+// How many halants stand in front.
+fn halants_len(glyphs: &[hb_glyph_info_t]) -> usize
+    ensures len { result ≡ prefix_len is_halant glyphs.now }
+    ensures within { result ≤ length glyphs.now }
+{
+    glyphs.iter().take_while(|glyph| is_halant(glyph)).count()
+}
+
+// Gives the glyph of a place, if there is one, the base's position.
+fn set_base_at(i: usize, glyphs: &mut [hb_glyph_info_t])
+    ensures glyphs { glyphs.new ≡ with_base_at i glyphs.old }
+    ensures same_length { length glyphs.new ≡ length glyphs.old }
+{
+    if i < glyphs.len() {
+        set_base(&mut glyphs[i..i + 1]);
+    }
+}
+
+// Gives these glyphs the base's position.
+fn set_base(glyphs: &mut [hb_glyph_info_t])
+    ensures { glyphs.new ≡ map (at_position POS_BASE_C) glyphs.old }
+{
+    for glyph in glyphs.iter_mut() {
+        glyph.auxiliary = POS_BASE_C;
+    }
+}
+
+// What stands before the base, where the base's position is one after the base's.
+fn stepped_back(base: usize, glyphs: &[hb_glyph_info_t]) -> usize
+    ensures place { result ≡ stepped_back base glyphs.now }
+    ensures within { result ≤ base }
+{
+    if base < glyphs.len() && is_behind_base(&glyphs[base]) {
+        base.saturating_sub(1)
+    } else {
+        base
+    }
+}
+
+// Whether a glyph has a position after the base's.
+fn is_behind_base(glyph: &hb_glyph_info_t) -> bool
+    ensures { result ≡ is_behind_base glyph.now }
+{
+    glyph.auxiliary > POS_BASE_C
+}
+
+// Where the base settles: before a joiner at the end, and before nuktas and halants.
+fn settled_base(base: usize, glyphs: &[hb_glyph_info_t]) -> usize
+    requires in_range { base ≤ length glyphs.now }
+    ensures place { result ≡ settled_base base glyphs.now }
+    ensures within { result ≤ length glyphs.now }
+{
+    before_halants(before_joiner(base, glyphs), glyphs)
+}
+
+// From the end back over a ZWJ there.
+fn before_joiner(base: usize, glyphs: &[hb_glyph_info_t]) -> usize
+    requires in_range { base ≤ length glyphs.now }
+    ensures place { result ≡ before_joiner base glyphs.now }
+    ensures within { result ≤ length glyphs.now }
+{
+    if base == glyphs.len() && base > 0 && is_zwj(&glyphs[base - 1]) {
+        base - 1
+    } else {
+        base
+    }
+}
+
+// Whether a glyph is a ZWJ, and no lookup put it in for several.
+fn is_zwj(glyph: &hb_glyph_info_t) -> bool
+    ensures { result ≡ is_one_of (OT_ZWJ ∷ []) glyph.now }
+{
+    !glyph.marks.is_ligated() && glyph.category == OT_ZWJ
+}
+
+// Back to the nearest glyph that is neither a nukta nor a halant, else to the start.
+fn before_halants(base: usize, glyphs: &[hb_glyph_info_t]) -> usize
+    requires in_range { base ≤ length glyphs.now }
+    ensures place { result ≡ before_halants base glyphs.now }
+    ensures within { result ≤ length glyphs.now }
+{
+    if base == glyphs.len() {
+        base
+    } else {
+        nearest_settled(base, glyphs)
+    }
+}
+
+// The nearest glyph from the base leftwards that is neither a nukta nor a halant, else the start.
+fn nearest_settled(base: usize, glyphs: &[hb_glyph_info_t]) -> usize
+    requires in_range { base < length glyphs.now }
+    ensures place { let gs = glyphs.now in
+        result ≡ unwrap_or (greatest_place (passes may_be_settled gs) 1 (base + 1)) 0 }
+    ensures within { result ≤ base }
+{
+    for i in (1..base + 1).rev() {
+        if may_be_settled(&glyphs[i]) {
+            return i;
+        }
+    }
+    0
+}
+
+// Whether a glyph is neither a nukta nor a halant.
+fn may_be_settled(glyph: &hb_glyph_info_t) -> bool
+    ensures { result ≡ may_be_settled glyph.now }
+{
+    glyph.marks.is_ligated() || !matches!(glyph.category, OT_N | OT_H)
+}
+
+// The base by links, in Malayalam; the last glyphs of links that become it get the base's position.
+fn set_links(script: Option<Script>, base: usize, glyphs: &mut [hb_glyph_info_t]) -> usize
+    requires in_range { base ≤ length glyphs.old }
+    ensures glyphs { glyphs.new ≡ with_links script base glyphs.old }
+    ensures base { result ≡ base_by_links script base glyphs.old }
+    ensures same_length { length glyphs.new ≡ length glyphs.old }
+    ensures within { result ≤ length glyphs.old }
+{
+    if is_malayalam(script) {
+        set_along_links(base, glyphs)
+    } else {
+        base
+    }
+}
+
+// The same in Malayalam.
+fn set_along_links(base: usize, glyphs: &mut [hb_glyph_info_t]) -> usize
+    requires in_range { base ≤ length glyphs.old }
+    ensures glyphs { glyphs.new ≡ links_written base glyphs.old }
+    ensures base { result ≡ last_link base glyphs.old }
+    ensures same_length { length glyphs.new ≡ length glyphs.old }
+    ensures within { result ≤ length glyphs.old }
+{
+    let mut last = base;
+    let mut halant = false;
+    for i in base + 1..glyphs.len() {
+        if is_joiner(&glyphs[i]) {
+            continue;
+        }
+        if halant {
+            last = set_link(&mut glyphs[i], i, last);
+            halant = false;
+            continue;
+        }
+        if !is_halant(&glyphs[i]) {
+            return last;
+        }
+        halant = true;
+    }
+    last
+}
+
+// Gives the last glyph of a link, of place `i`, the base's position, if its below-base form was not
+// made. Answers the base then, which was `last` before.
+fn set_link(glyph: &mut hb_glyph_info_t, i: usize, last: usize) -> usize
+    ensures glyph { glyph.new ≡ as_linked glyph.old }
+    ensures base { result ≡ (if is_unformed_below glyph.old then i else last) }
+{
+    if is_unformed_below(glyph) {
+        glyph.auxiliary = POS_BASE_C;
+        i
+    } else {
+        last
+    }
+}
+
+// Whether a glyph is a consonant whose below-base form was not made.
+fn is_unformed_below(glyph: &hb_glyph_info_t) -> bool
+    ensures { result ≡ is_unformed_below glyph.now }
+{
+    is_consonant(glyph) && glyph.auxiliary == POS_BELOW_C
+}

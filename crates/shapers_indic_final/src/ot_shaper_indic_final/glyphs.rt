@@ -1,0 +1,34 @@
+//! What the final reordering asks of a glyph.
+ghost use Rattle.std.specs.Prelude.{◌≡◌};
+ghost use Rattle.shapers_indic_final.specs.FinalGlyphs.{has_mask, is_formed, is_halant, is_matra_or_halant};
+
+use shapers_base::buffer::hb_glyph_info_t;
+use shapers_base::plan::ot_category_t::{OT_H, OT_M, OT_MPst};
+
+// Whether a glyph is a halant.
+pub(super) fn is_halant(glyph: &hb_glyph_info_t) -> bool
+    ensures { result ≡ is_halant glyph.now }
+{
+    !glyph.marks.is_ligated() && glyph.category == OT_H
+}
+
+// Whether a glyph is a vowel sign or a halant, and no lookup put it in for several.
+pub(super) fn is_matra_or_halant(glyph: &hb_glyph_info_t) -> bool
+    ensures { result ≡ is_matra_or_halant glyph.now }
+{
+    !glyph.marks.is_ligated() && matches!(glyph.category, OT_M | OT_MPst | OT_H)
+}
+
+// Whether lookups formed one glyph of several, and did not take it apart again.
+pub(super) fn is_formed(glyph: &hb_glyph_info_t) -> bool
+    ensures { result ≡ is_formed glyph.now }
+{
+    glyph.marks.is_ligated() && !glyph.marks.is_multiplied()
+}
+
+// Whether a glyph has some bit of a mask.
+pub(super) fn has_mask(bits: u32, glyph: &hb_glyph_info_t) -> bool
+    ensures { result ≡ has_mask bits glyph.now }
+{
+    glyph.mask & bits != 0
+}

@@ -1,0 +1,87 @@
+//! Where the left matras of a syllable go. (OpenType, development of Indic scripts: "Reorder matras".)
+ghost use Rattle.std.specs.Prelude.{◌≡◌, ◌<◌, ◌≤◌, ◌+◌, ◌-◌, length, true, unwrap_or};
+ghost use Rattle.shapers_indic.specs.Glyphs.{greatest_place};
+ghost use Rattle.shapers_indic_final.specs.FinalMatras.{ends_search, is_free_halant, is_left, matra_target, matras_go, nearest_halant, place_before};
+
+use super::glyphs::{is_halant, is_matra_or_halant};
+use super::rules::has_no_half_forms;
+use shapers_base::buffer::{Script, hb_glyph_info_t};
+use shapers_base::plan::ot_category_t::OT_ZWJ;
+use shapers_base::plan::ot_position_t::POS_PRE_M;
+
+// Whether a glyph is a left matra.
+pub(super) fn is_left(glyph: &hb_glyph_info_t) -> bool
+    ensures { result ≡ is_left glyph.now }
+{
+    glyph.auxiliary == POS_PRE_M
+}
+
+// Whether left matras go to a place: one past the start, where none stands.
+pub(super) fn matras_go(p: usize, glyphs: &[hb_glyph_info_t]) -> bool
+    requires { p < length glyphs.now }
+    ensures { result ≡ matras_go p glyphs.now }
+{
+    p > 0 && !is_left(&glyphs[p])
+}
+
+// The place that left matras go to, the start if they stay.
+pub(super) fn matra_target(script: Option<Script>, base: usize, glyphs: &[hb_glyph_info_t]) -> usize
+    requires two { 1 < length glyphs.now }
+    requires some { 0 < base }
+    requires in_range { base ≤ length glyphs.now }
+    ensures target { result ≡ matra_target script base glyphs.now }
+    ensures within { result < base }
+    ensures inside { result + 1 < length glyphs.now }
+{
+    let before = if base == glyphs.len() {
+        base - 2
+    } else {
+        base - 1
+    };
+    if has_no_half_forms(script) {
+        before
+    } else {
+        nearest_halant(before, glyphs)
+    }
+}
+
+// The halant that left matras go behind: the nearest from a place leftwards, if nothing ends the
+// search before it; else the start.
+fn nearest_halant(p: usize, glyphs: &[hb_glyph_info_t]) -> usize
+    requires in_range { p + 1 < length glyphs.now }
+    ensures target { result ≡ nearest_halant p glyphs.now }
+    ensures within { result ≤ p }
+{
+    let end = search_end(p, glyphs);
+    if is_free_halant(&glyphs[end]) { end } else { 0 }
+}
+
+// Where the search for a halant ends, else the start.
+fn search_end(p: usize, glyphs: &[hb_glyph_info_t]) -> usize
+    requires in_range { p + 1 < length glyphs.now }
+    ensures end { result ≡ unwrap_or (greatest_place (ends_search glyphs.now) 0 (p + 1)) 0 }
+    ensures within { result ≤ p }
+{
+    for i in (0..p + 1).rev() {
+        if ends_search(glyphs, i) {
+            return i;
+        }
+    }
+    0
+}
+
+// Whether the glyph at place `i` ends the search for a halant.
+fn ends_search(glyphs: &[hb_glyph_info_t], i: usize) -> bool
+    requires { i + 1 < length glyphs.now }
+    ensures { result ≡ ends_search glyphs.now i }
+{
+    is_matra_or_halant(&glyphs[i])
+        && !(is_free_halant(&glyphs[i]) && glyphs[i + 1].category == OT_ZWJ)
+}
+
+// Whether a glyph is a halant that belongs to no left matra.
+fn is_free_halant(glyph: &hb_glyph_info_t) -> bool
+    ensures { result ≡ is_free_halant glyph.now }
+{
+    is_halant(glyph) && !is_left(glyph)
+}

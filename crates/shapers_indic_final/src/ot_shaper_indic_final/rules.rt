@@ -1,0 +1,61 @@
+//! What the final reordering reads of the plan and the font.
+ghost use Rattle.std.specs.Prelude.{◌≡◌};
+ghost use Rattle.shapers_buffer.specs.Glyph.{without_flags};
+ghost use Rattle.shapers_indic_final.specs.FinalRules.{has_no_half_forms, is_malayalam, rules_of, virama_glyph};
+
+use shapers_base::buffer::Script;
+use shapers_base::font::{GlyphId, hb_font_t};
+use shapers_base::plan::{RephPosition, indic_shape_plan_t};
+use shapers_indic::ot_shaper_indic::indic_feature::{INIT, PREF};
+
+const MALAYALAM: Script = Script(*b"Mlym");
+
+const TAMIL: Script = Script(*b"Taml");
+
+/// Where the script wants its reph, the glyph of its virama if it has one and the font knows it, and
+/// the masks of `pref` and `init`.
+#[derive(Clone, Copy, Debug, PartialEq, Eq)]
+pub struct Rules {
+    pub reph_pos: RephPosition,
+    pub virama: Option<GlyphId>,
+    pub pref: u32,
+    pub init: u32,
+}
+
+impl Rules {
+    /// The rules by a plan and a font.
+    pub fn new<F: hb_font_t>(plan: &indic_shape_plan_t, face: &F) -> Self
+        ensures { result ≡ rules_of (F.font face.now) plan.now }
+    {
+        Rules {
+            reph_pos: plan.config.reph_pos,
+            virama: virama_glyph(plan, face),
+            pref: plan.mask_array[PREF] & !7,
+            init: plan.mask_array[INIT] & !7,
+        }
+    }
+}
+
+// The font's glyph for the script's virama.
+fn virama_glyph<F: hb_font_t>(plan: &indic_shape_plan_t, face: &F) -> Option<GlyphId>
+    ensures { result ≡ virama_glyph (F.font face.now) plan.now }
+{
+    if plan.config.virama == 0 {
+        return None;
+    }
+    face.get_nominal_glyph(plan.config.virama)
+}
+
+// Whether a script is Malayalam.
+pub(super) fn is_malayalam(script: Option<Script>) -> bool
+    ensures { result ≡ is_malayalam script }
+{
+    script == Some(MALAYALAM)
+}
+
+// Whether a script has neither half forms nor explicit viramas: Malayalam and Tamil.
+pub(super) fn has_no_half_forms(script: Option<Script>) -> bool
+    ensures { result ≡ has_no_half_forms script }
+{
+    is_malayalam(script) || script == Some(TAMIL)
+}
