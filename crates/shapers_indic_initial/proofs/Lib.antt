@@ -5,6 +5,7 @@ pub mod Cycles
 pub mod GatheredCuts
 pub mod Groups
 mod InitialBaseRows
+mod InitialClusterRows
 mod InitialFontRows
 pub mod InitialLaws
 mod InitialMaskRows
@@ -17,5 +18,7 @@ pub mod InitialSerialsStay
 pub mod InitialSteps
 pub mod InitialViews
 mod InitialWords
+pub mod LaterSteps
 pub mod OrderClusters
 pub mod OrderedPlaces
+pub mod TextClusters
