@@ -8,6 +8,8 @@ use Rattle.shapers_clusters.specs.Steps.{FitsStep, Permutes, Step}
 use Rattle.shapers_clusters.proofs.Picks.{pick-map}
 use Rattle.shapers_clusters.proofs.Through.{length-same}
 use Rattle.shapers_indic_initial.specs.InitialBase.{base_place, has_reph}
+use Rattle.shapers_indic.specs.declared.ot_shaper_indic.indic_feature.TheConstants.{HALF}
+use Rattle.shapers_indic_initial.specs.InitialMasks.{bits_of}
 use Rattle.shapers_indic_initial.specs.InitialOrder.{ordered_base, ordered_places}
 use Rattle.shapers_indic_initial.specs.InitialReordering.{halant_step, in_order, initial_order, initial_steps, is_reordered, joiner_step, masked_in_order, order_step, steps_of_reordered, with_all_positions, with_base, with_joiner_first}
 use Rattle.shapers_indic_initial.specs.InitialPositions.{with_marks_attached}
@@ -57,7 +59,7 @@ masked_order r script gs = masked_in_order r script (in_order gs)
 pub order_laws : (r : Rules) (script : Option Script) → ReorderLaws (masked_order r script) (λ gs. order_step r gs ∷ [])
 order_laws r script = laws_by_step (masked_order r script) (order_step r) (order_fits r) ordered_permutes
     (λ gs.
-    hidden-with_initial_masks (λ g. plain (carried g)) seen_hides_masks r script (ordered_base (in_order gs)) (in_order gs)
+    hidden-with_initial_masks (λ g. plain (carried g)) r (seen_hides_masks (bits_of r HALF)) script (ordered_base (in_order gs)) (in_order gs)
     ∙ sym (pick-map (λ g. plain (carried g)) (ordered_places gs) gs))
 
 -- all steps, and where the syllable is reordered

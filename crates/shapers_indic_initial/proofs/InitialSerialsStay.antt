@@ -20,7 +20,7 @@ use Rattle.shapers_clusters.proofs.Picks.{pick-map}
 use Rattle.shapers_indic.specs.declared.ot_shaper_indic.indic_feature.TheConstants.{BLWF, HALF, PREF, RPHF}
 use Rattle.shapers_indic.specs.Glyphs.{at_position, greatest_place, has_category, has_position, is_matra, is_one_of, least_place, numbers, places}
 use Rattle.shapers_indic_initial.specs.InitialBase.{base_place, has_reph}
-use Rattle.shapers_indic_initial.specs.InitialMasks.{has_eyelash, is_in_eyelash, loses_half, mask_after_base, mask_before_base, opens_eyelash, pref_pair, with_bits_on_pair, with_eyelash_mask, with_initial_masks, with_masks_around, with_pref_mask, with_reph_mask, without_bits, without_half}
+use Rattle.shapers_indic_initial.specs.InitialMasks.{bits_of, has_eyelash, is_in_eyelash, loses_half, mask_after_base, mask_before_base, opens_eyelash, pref_pair, with_bits_on_pair, with_eyelash_mask, with_initial_masks, with_masks_around, with_pref_mask, with_reph_mask, without_bits, without_half}
 use Rattle.shapers_indic_initial.specs.InitialOrder.{group, group_in_order, last_unit_first, ordered_base, ordered_places, ordered_stretches}
 use Rattle.shapers_indic_initial.specs.InitialPositions.{attached_to, before_next, bounds, by_base, carries, draws_sign, halant_after, halant_behind, halant_from, halant_places, halant_to, is_attached, is_passed_by_halant, last_after_halant, moved_behind, owned_by, position_by_base, with_attached, with_halants, with_marks_attached, with_owner, with_owners, with_owners_after, with_signs}
 use Rattle.shapers_indic_initial.specs.InitialReordering.{halant_step, in_order, is_reordered, joiner_step, masked_in_order, order_step, steps_of_reordered, with_base, with_joiner_first}
@@ -204,8 +204,8 @@ bits_stay m (g ∷ gs) = ap (λ xs. unnumbered (with_bits m g) ∷ xs) (bits_sta
 
 reph_mask_stays : (r : Rules) (gs : List hb_glyph_info_t) → map unnumbered (with_reph_mask r gs) ≡ with_reph_mask r (map unnumbered gs)
 reph_mask_stays r gs =
-    stretch_stays (map (with_bits (mask_at r RPHF))) (bits_stay (mask_at r RPHF)) 0 (prefix_len (has_position POS_RA_TO_BECOME_REPH) gs) gs
-    ∙ ap (λ n. with_stretch 0 n (map (with_bits (mask_at r RPHF))) (map unnumbered gs)) (sym (prefix_stays (has_position POS_RA_TO_BECOME_REPH) (λ g. refl) gs))
+    stretch_stays (map (with_bits (bits_of r RPHF))) (bits_stay (bits_of r RPHF)) 0 (prefix_len (has_position POS_RA_TO_BECOME_REPH) gs) gs
+    ∙ ap (λ n. with_stretch 0 n (map (with_bits (bits_of r RPHF))) (map unnumbered gs)) (sym (prefix_stays (has_position POS_RA_TO_BECOME_REPH) (λ g. refl) gs))
 
 around_stays : (r : Rules) (base : ℕ) (gs : List hb_glyph_info_t) → map unnumbered (with_masks_around r base gs) ≡ with_masks_around r base (map unnumbered gs)
 around_stays r base gs =
@@ -226,8 +226,8 @@ if_bits false m g = refl
 
 eyelash_stays : (r : Rules) (script : Option Script) (base : ℕ) (gs : List hb_glyph_info_t) → map unnumbered (with_eyelash_mask r script base gs) ≡ with_eyelash_mask r script base (map unnumbered gs)
 eyelash_stays r script base gs =
-    numbered_stays (λ i g. if has_eyelash r script && is_in_eyelash base gs i then with_bits (mask_at r BLWF) g else g) (λ i g. if_bits (has_eyelash r script && is_in_eyelash base gs i) (mask_at r BLWF) g) 0 gs
-    ∙ ap (λ (a : ℕ → Bool). map (λ t. if has_eyelash r script && a t.0 then with_bits (mask_at r BLWF) t.1 else t.1) (enumerate_from 0 (map unnumbered gs))) (sym (in_eyelash_stays base gs))
+    numbered_stays (λ i g. if has_eyelash r script && is_in_eyelash base gs i then with_bits (bits_of r BLWF) g else g) (λ i g. if_bits (has_eyelash r script && is_in_eyelash base gs i) (bits_of r BLWF) g) 0 gs
+    ∙ ap (λ (a : ℕ → Bool). map (λ t. if has_eyelash r script && a t.0 then with_bits (bits_of r BLWF) t.1 else t.1) (enumerate_from 0 (map unnumbered gs))) (sym (in_eyelash_stays base gs))
 
 numbers_between : (s e : ℕ) (gs : List hb_glyph_info_t) → numbers (stretch_of s e (map unnumbered gs)) ≡ numbers (stretch_of s e gs)
 numbers_between s e gs = ap numbers (ap (take (e - s)) (drop-map unnumbered s gs) ∙ take-map unnumbered (e - s) (drop s gs)) ∙ numbers_stay (stretch_of s e gs)
@@ -242,7 +242,7 @@ on_pair_stays m (Some i) gs = stretch_stays (map (with_bits m)) (bits_stay m) i 
 
 pref_mask_stays : (r : Rules) (base : ℕ) (gs : List hb_glyph_info_t) → map unnumbered (with_pref_mask r base gs) ≡ with_pref_mask r base (map unnumbered gs)
 pref_mask_stays r base gs =
-    on_pair_stays (mask_at r PREF) (pref_pair r base gs) gs ∙ ap (λ o. with_bits_on_pair (mask_at r PREF) o (map unnumbered gs)) (sym (pref_pair_stays r base gs))
+    on_pair_stays (bits_of r PREF) (pref_pair r base gs) gs ∙ ap (λ o. with_bits_on_pair (bits_of r PREF) o (map unnumbered gs)) (sym (pref_pair_stays r base gs))
 
 loses_stays : (gs : List hb_glyph_info_t) → loses_half (map unnumbered gs) ≡ loses_half gs
 loses_stays gs =
@@ -264,8 +264,8 @@ masks_stay r script base gs =
     let one = with_reph_mask r gs in
     let two = with_masks_around r base one in
     let three = with_eyelash_mask r script base two in
-    without_half_stays (mask_at r HALF) (with_pref_mask r base three)
-    ∙ ap (without_half (mask_at r HALF)) (pref_mask_stays r base three
+    without_half_stays (bits_of r HALF) (with_pref_mask r base three)
+    ∙ ap (without_half (bits_of r HALF)) (pref_mask_stays r base three
     ∙ ap (with_pref_mask r base) (eyelash_stays r script base two
     ∙ ap (with_eyelash_mask r script base) (around_stays r base one
     ∙ ap (with_masks_around r base) (reph_mask_stays r gs))))

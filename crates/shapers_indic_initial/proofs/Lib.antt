@@ -1,7 +1,10 @@
+mod Bases
 pub mod CycleMerges
 pub mod CycleSteps
 pub mod CycleWays
 pub mod Cycles
+mod FontCircles
+mod FontPositions
 pub mod GatheredCuts
 pub mod Groups
 mod InitialBaseRows
@@ -12,13 +15,26 @@ mod InitialMaskRows
 mod InitialOrderRows
 mod InitialPauseRows
 mod InitialPositionRows
+pub mod InitialReads
 mod InitialRows
 pub mod InitialSerials
 pub mod InitialSerialsStay
 pub mod InitialSteps
+mod InitialSyllable
 pub mod InitialViews
 mod InitialWords
+pub mod InitialWrites
 pub mod LaterSteps
+mod MaskViews
+mod MaskWalks
+pub mod Moves
+mod Opening
 pub mod OrderClusters
+pub mod OrderListing
+pub mod OrderShifted
+mod OrderedBase
 pub mod OrderedPlaces
+pub mod PlaceSearch
+mod Positions
 pub mod TextClusters
+mod Walks

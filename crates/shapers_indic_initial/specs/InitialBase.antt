@@ -1,7 +1,7 @@
 -- The base consonant and the reph of a syllable. (OpenType, development of Indic scripts: "Find base consonant".)
 use Rattle.std.specs.Prelude.{ℕ, suc, ◌+◌, ◌-◌, ◌==◌, min, nat_le, nat_lt, Bool, ◌&&◌, ◌||◌, false, not, List, [], ◌∷◌, length, take, drop, unwrap_or, Option, Some, codes, if◌then◌else◌}
 use Rattle.std.specs.List.{prefix_len}
-use Rattle.std.specs.Option.{option_map_or}
+use Rattle.std.specs.Option.{option_map_or, option_or}
 use Rattle.shapers_buffer.specs.declared.buffer.glyph.hb_glyph_info_t.{hb_glyph_info_t}
 use Rattle.shapers_buffer.specs.declared.buffer.tag.Script.{Script}
 use Rattle.shapers_base.specs.declared.font.GlyphId.{GlyphId}
@@ -67,9 +67,12 @@ limit_behind n gs = if n == 0 then 0 else n + prefix_len is_joiner (drop n gs)
 abbrev pub limit : Rules → List hb_glyph_info_t → ℕ
 limit r gs = limit_behind (reph_len r gs) gs
 
--- whether the glyph at place i is a consonant that may be the base
+-- whether a glyph is a consonant that may be the base, and whether the one at place i is
+abbrev pub is_base_candidate : hb_glyph_info_t → Bool
+is_base_candidate = is_one_of (OT_C ∷ OT_CS ∷ OT_Ra ∷ OT_V ∷ OT_PLACEHOLDER ∷ OT_DOTTEDCIRCLE ∷ [])
+
 abbrev pub may_be_base : List hb_glyph_info_t → ℕ → Bool
-may_be_base gs i = passes (is_one_of (OT_C ∷ OT_CS ∷ OT_Ra ∷ OT_V ∷ OT_PLACEHOLDER ∷ OT_DOTTEDCIRCLE ∷ [])) gs i
+may_be_base gs i = passes is_base_candidate gs i
 
 -- whether it stops the search: a ZWJ behind an H asks for a half form of what stands before it
 abbrev pub stops_search : List hb_glyph_info_t → ℕ → Bool
@@ -90,7 +93,11 @@ is_below gs i = may_be_base gs i && passes (has_position POS_BELOW_C) gs i
 abbrev pub is_base : List hb_glyph_info_t → ℕ → Bool
 is_base gs i = may_be_base gs i && not (is_below gs i) && (not (passes (has_position POS_POST_C) gs i) || some_place (is_below gs) (i + 1) (length gs))
 
--- the base: the last such consonant, else the first one that may be the base, else the reph, else none
+-- the last such consonant, else the first one that may be the base
+abbrev pub last_or_first : ℕ → List hb_glyph_info_t → Option ℕ
+last_or_first start gs = option_or (greatest_place (is_base gs) start (length gs)) (least_place (may_be_base gs) start (length gs))
+
+-- the base: that one, else the reph, else none
 abbrev pub base_from : ℕ → ℕ → List hb_glyph_info_t → ℕ
 base_from start otherwise gs = unwrap_or (greatest_place (is_base gs) start (length gs)) (unwrap_or (least_place (may_be_base gs) start (length gs)) otherwise)
 

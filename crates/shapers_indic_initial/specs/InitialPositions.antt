@@ -34,6 +34,11 @@ last_after_halant script gs h = greatest_place (passes (is_passed_by_halant scri
 abbrev pub moved_behind : {X : Type 0} → ℕ → ℕ → List X → List X
 moved_behind h j xs = take h xs ++ (stretch_of (h + 1) (j + 1) xs ++ (stretch_of h (h + 1) xs ++ drop (j + 1) xs))
 
+-- the places of n glyphs, where the one at the first of these places has moved behind the one at the second
+abbrev pub moved_places : Option (ℕ × ℕ) → ℕ → List ℕ
+moved_places None n = places 0 n
+moved_places (Some move) n = moved_behind move.0 move.1 (places 0 n)
+
 -- for each place the old place of what stands there once that H has moved
 abbrev pub halant_to : List hb_glyph_info_t → ℕ → Option ℕ → List ℕ
 halant_to gs h None = places 0 (length gs)

@@ -1,5 +1,5 @@
 -- The initial reordering of a syllable: what it becomes, and the merges and moves that lead there. (OpenType, development of Indic scripts.)
-use Rattle.std.specs.Prelude.{ℕ, ◌==◌, Bool, false, List, [], ◌∷◌, length, Option, if◌then◌else◌}
+use Rattle.std.specs.Prelude.{ℕ, ◌==◌, Bool, false, List, [], ◌∷◌, ◌++◌, length, Option, if◌then◌else◌}
 use Rattle.std.specs.List.{list_any}
 use Rattle.shapers_buffer.specs.declared.buffer.glyph.hb_glyph_info_t.{hb_glyph_info_t}
 use Rattle.shapers_buffer.specs.declared.buffer.tag.Script.{Script}
@@ -22,6 +22,9 @@ is_reordered (g ∷ gs) = list_any (λ kind. kind == kind_of g.syllable) (CONSON
 abbrev pub joiner_step : Option Script → List hb_glyph_info_t → Step
 joiner_step script gs = if joiner_comes_first script gs then swap_step (length gs) 1 else still_step (length gs)
 
+abbrev pub joiner_steps : Option Script → List hb_glyph_info_t → List Step
+joiner_steps script gs = joiner_step script gs ∷ []
+
 -- the syllable after it
 abbrev pub with_joiner_first : Option Script → List hb_glyph_info_t → List hb_glyph_info_t
 with_joiner_first script gs = pick (joiner_step script gs).places gs
@@ -34,12 +37,27 @@ with_base r gs = by_base (base_place r gs) (has_reph r gs) gs
 abbrev pub halant_step : Rules → Option Script → ℕ → List hb_glyph_info_t → Step
 halant_step r script base gs = record { merged_first = []; places = halant_places r script base gs; merged_then = [] }
 
+abbrev pub halant_steps : Rules → Option Script → ℕ → List hb_glyph_info_t → List Step
+halant_steps r script base gs = halant_step r script base gs ∷ []
+
+-- the syllable in which it has moved
+abbrev pub with_halant_moved : Rules → Option Script → ℕ → List hb_glyph_info_t → List hb_glyph_info_t
+with_halant_moved r script base gs = pick (halant_places r script base gs) gs
+
+-- the positions of marks and of what consonants own
+abbrev pub with_marks_and_owners : ℕ → List hb_glyph_info_t → List hb_glyph_info_t
+with_marks_and_owners base gs = with_owners_after base (with_marks_attached gs)
+
 -- the syllable after that, all its positions set
 abbrev pub with_all_positions : Rules → Option Script → ℕ → List hb_glyph_info_t → List hb_glyph_info_t
-with_all_positions r script base gs = with_owners_after base (with_marks_attached (pick (halant_step r script base gs).places gs))
+with_all_positions r script base gs = with_marks_and_owners base (with_halant_moved r script base gs)
 
 abbrev pub positioned : Rules → Option Script → List hb_glyph_info_t → List hb_glyph_info_t
 positioned r script gs = let opened = with_joiner_first script gs in with_all_positions r script (base_place r opened) (with_base r opened)
+
+-- the steps on the way there
+abbrev pub opening_steps : Rules → Option Script → List hb_glyph_info_t → List Step
+opening_steps r script gs = let opened = with_joiner_first script gs in joiner_step script gs ∷ halant_step r script (base_place r opened) (with_base r opened) ∷ []
 
 -- a syllable with positions in the order that they give
 abbrev pub in_order : List hb_glyph_info_t → List hb_glyph_info_t
@@ -57,11 +75,9 @@ masked_in_order r script gs = with_initial_masks r script (ordered_base gs) gs
 abbrev pub initial_order : Rules → Option Script → List hb_glyph_info_t → List hb_glyph_info_t
 initial_order r script gs = if is_reordered gs then masked_in_order r script (in_order (positioned r script gs)) else gs
 
--- the steps that lead there
+-- the steps that lead there: those of the positions, and then that of the order
 abbrev pub steps_of_reordered : Rules → Option Script → List hb_glyph_info_t → List Step
-steps_of_reordered r script gs =
-    let opened = with_joiner_first script gs in
-    joiner_step script gs ∷ halant_step r script (base_place r opened) (with_base r opened) ∷ order_step r (positioned r script gs) ∷ []
+steps_of_reordered r script gs = opening_steps r script gs ++ order_step r (positioned r script gs) ∷ []
 
 abbrev pub initial_steps : Rules → Option Script → List hb_glyph_info_t → List Step
 initial_steps r script gs = if is_reordered gs then steps_of_reordered r script gs else []

@@ -9,3 +9,4 @@ pub mod InitialPause
 pub mod InitialPositions
 pub mod InitialReordering
 pub mod InitialRules
+pub mod OrderWalk

@@ -1,0 +1,147 @@
+//! The base consonant of a syllable, and whether it has a reph. (OpenType, development of Indic
+//! scripts: "Find base consonant".)
+ghost use Rattle.std.specs.Prelude.{◌≡◌, ◌<◌, ◌≤◌, ◌-◌, length, ◌&&◌, ◌||◌, not};
+ghost use Rattle.shapers_indic.specs.Glyphs.{greatest_place, has_position, least_place};
+ghost use Rattle.shapers_indic_initial.specs.InitialBase.{base_place, has_reph, is_base, is_base_candidate, last_or_first, may_be_base, search_from, stops_search};
+ghost use Rattle.shapers_indic_initial.specs.InitialRules.{rules_of};
+
+use super::reph::{limit, reph_len};
+use shapers_base::buffer::hb_glyph_info_t;
+use shapers_base::font::hb_font_t;
+use shapers_base::map::hb_ot_map_t;
+use shapers_base::plan::indic_shape_plan_t;
+use shapers_base::plan::ot_category_t::{
+    OT_C, OT_CS, OT_DOTTEDCIRCLE, OT_H, OT_PLACEHOLDER, OT_Ra, OT_V, OT_ZWJ,
+};
+use shapers_base::plan::ot_position_t::{POS_BELOW_C, POS_POST_C};
+
+/// Where the base of a syllable stands, the syllable's length if it has none, and whether there is a
+/// reph.
+#[derive(Clone, Copy)]
+pub(super) struct Base {
+    pub(super) place: usize,
+    pub(super) has_reph: bool,
+}
+
+/// Finds the base of a syllable and its reph.
+pub(super) fn find_base<F: hb_font_t>(
+    plan: &indic_shape_plan_t,
+    map: &hb_ot_map_t,
+    face: &F,
+    glyphs: &[hb_glyph_info_t],
+) -> Base
+    ensures place { let rules = rules_of (F.font face.now) map.now plan.now in
+        result.place ≡ base_place rules glyphs.now }
+    ensures reph { let rules = rules_of (F.font face.now) map.now plan.now in
+        result.has_reph ≡ has_reph rules glyphs.now }
+{
+    let reph = reph_len(plan, map, face, glyphs);
+    let limit = limit(reph, glyphs);
+    let otherwise = if reph == 0 { glyphs.len() } else { 0 };
+    let place = last_or_first(limit.min(glyphs.len().saturating_sub(1)), glyphs).unwrap_or(
+        otherwise,
+    );
+    Base {
+        place,
+        has_reph: reph != 0 && !(place == 0 && limit <= 2),
+    }
+}
+
+// The base from place `lo` on, or behind what stops the search: the last consonant without a
+// below-base or post-base form, else the first consonant.
+fn last_or_first(lo: usize, glyphs: &[hb_glyph_info_t]) -> Option<usize>
+    requires { lo ≤ length glyphs.now }
+    ensures { result ≡ last_or_first (search_from lo glyphs.now) glyphs.now }
+{
+    if let Some(base) = last_base(lo, glyphs) {
+        return Some(base);
+    }
+    first_candidate(search_from(lo, glyphs), glyphs)
+}
+
+// The last consonant without a below-base or post-base form from place `lo` on, or behind what stops
+// the search.
+fn last_base(lo: usize, glyphs: &[hb_glyph_info_t]) -> Option<usize>
+    requires { lo ≤ length glyphs.now }
+    ensures { let gs = glyphs.now in
+        result ≡ greatest_place (is_base gs) (search_from lo gs) (length gs) }
+{
+    let mut below = false;
+    for i in (lo..glyphs.len()).rev() {
+        if stops_search(glyphs, i) {
+            return None;
+        }
+        if is_base(&glyphs[i], below) {
+            return Some(i);
+        }
+        below = is_below(&glyphs[i]) || below;
+    }
+    None
+}
+
+// Whether the search may end with a glyph: a consonant that has no below-base form, nor a post-base
+// one unless a consonant with a below-base form follows.
+fn is_base(glyph: &hb_glyph_info_t, below: bool) -> bool
+    ensures { let g = glyph.now in
+        let below_base = is_base_candidate g && has_position POS_BELOW_C g in
+        result ≡
+        is_base_candidate g && not below_base && (not (has_position POS_POST_C g) || below) }
+{
+    is_base_candidate(glyph)
+        && glyph.auxiliary != POS_BELOW_C
+        && (glyph.auxiliary != POS_POST_C || below)
+}
+
+// Whether a glyph is a consonant with a below-base form.
+fn is_below(glyph: &hb_glyph_info_t) -> bool
+    ensures { let g = glyph.now in
+        result ≡ is_base_candidate g && has_position POS_BELOW_C g }
+{
+    is_base_candidate(glyph) && glyph.auxiliary == POS_BELOW_C
+}
+
+// Where the search ends: behind the last glyph that stops it, or at place `lo`.
+fn search_from(lo: usize, glyphs: &[hb_glyph_info_t]) -> usize
+    requires { lo ≤ length glyphs.now }
+    ensures from { result ≡ search_from lo glyphs.now }
+    ensures within { result ≤ length glyphs.now }
+{
+    for i in (lo..glyphs.len()).rev() {
+        if stops_search(glyphs, i) {
+            return i + 1;
+        }
+    }
+    lo
+}
+
+// The first consonant that may be the base from place `start` on.
+fn first_candidate(start: usize, glyphs: &[hb_glyph_info_t]) -> Option<usize>
+    requires { start ≤ length glyphs.now }
+    ensures { result ≡ least_place (may_be_base glyphs.now) start (length glyphs.now) }
+{
+    for i in start..glyphs.len() {
+        if is_base_candidate(&glyphs[i]) {
+            return Some(i);
+        }
+    }
+    None
+}
+
+// Whether the glyph at place `i` stops the search: a ZWJ behind an H.
+fn stops_search(glyphs: &[hb_glyph_info_t], i: usize) -> bool
+    requires { i < length glyphs.now }
+    ensures { result ≡ stops_search glyphs.now i }
+{
+    i > 0 && glyphs[i].category == OT_ZWJ && glyphs[i - 1].category == OT_H
+}
+
+// Whether a glyph is a consonant that may be the base.
+fn is_base_candidate(glyph: &hb_glyph_info_t) -> bool
+    ensures { result ≡ is_base_candidate glyph.now }
+{
+    !glyph.marks.is_ligated()
+        && matches!(
+            glyph.category,
+            OT_C | OT_CS | OT_Ra | OT_V | OT_PLACEHOLDER | OT_DOTTEDCIRCLE
+        )
+}

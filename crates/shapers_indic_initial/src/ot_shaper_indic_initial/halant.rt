@@ -1,0 +1,99 @@
+//! The H that the older specification puts behind the last consonant, and the joiner that Kannada
+//! puts before it. (OpenType, development of Indic scripts.)
+ghost use Rattle.std.specs.Prelude.{◌≡◌, ◌<◌, IfSome, List, [], ◌∷◌, length};
+ghost use Rattle.shapers_indic_initial.specs.InitialBase.{joiner_comes_first, opens_with_ra_h_zwj};
+ghost use Rattle.shapers_indic_initial.specs.InitialPositions.{halant_after, halant_from, is_passed_by_halant, last_after_halant, moved_places};
+ghost use Rattle.shapers_indic.specs.Glyphs.{is_one_of};
+ghost use Rattle.shapers_indic.specs.Plan.{is_script};
+
+use shapers_base::buffer::{Script, hb_glyph_info_t};
+use shapers_base::plan::ot_category_t::{OT_H, OT_Ra, OT_ZWJ};
+use shapers_syllabic::ot_shaper_syllabic::is_consonant;
+
+const KANNADA: Option<Script> = Some(Script(*b"Knda"));
+
+/// The place of the first H after the base and the place of the glyph behind which it goes: the last
+/// consonant after it, in Kannada not over another H. `None` if it stays.
+pub(super) fn halant_move(
+    script: Option<Script>,
+    base: usize,
+    glyphs: &[hb_glyph_info_t],
+) -> Option<(usize, usize)>
+    ensures places { let moved = moved_places result (length glyphs.now) in
+        halant_from script glyphs.now (halant_after base glyphs.now) ≡ moved }
+    ensures in_order { IfSome result (λ move. move.0 < move.1) }
+    ensures within { IfSome result (λ move. move.1 < length glyphs.now) }
+{
+    let halant = halant_after(base, glyphs)?;
+    let last = last_after_halant(script, halant, glyphs)?;
+    if glyphs[last].category == OT_H {
+        return None;
+    }
+    Some((halant, last))
+}
+
+// The place of the first H after the base.
+fn halant_after(base: usize, glyphs: &[hb_glyph_info_t]) -> Option<usize>
+    ensures place { result ≡ halant_after base glyphs.now }
+    ensures within { IfSome result (λ place. place < length glyphs.now) }
+{
+    if base >= glyphs.len() {
+        return None;
+    }
+    for i in base + 1..glyphs.len() {
+        if glyphs[i].category == OT_H {
+            return Some(i);
+        }
+    }
+    None
+}
+
+// The place of the last glyph after an H at this place over which the H goes.
+fn last_after_halant(
+    script: Option<Script>,
+    halant: usize,
+    glyphs: &[hb_glyph_info_t],
+) -> Option<usize>
+    requires { halant < length glyphs.now }
+    ensures place { result ≡ last_after_halant script glyphs.now halant }
+    ensures behind { IfSome result (λ place. halant < place) }
+    ensures within { IfSome result (λ place. place < length glyphs.now) }
+{
+    for i in (halant + 1..glyphs.len()).rev() {
+        if is_passed_by_halant(script, &glyphs[i]) {
+            return Some(i);
+        }
+    }
+    None
+}
+
+// Whether an H goes over a glyph, or stays before it.
+fn is_passed_by_halant(script: Option<Script>, glyph: &hb_glyph_info_t) -> bool
+    ensures { result ≡ is_passed_by_halant script glyph.now }
+{
+    is_consonant(glyph) || (glyph.category == OT_H && script == KANNADA)
+}
+
+/// Whether Kannada's opening Ra, H, ZWJ stands for Ra, ZWJ, H.
+pub(super) fn joiner_comes_first(script: Option<Script>, glyphs: &[hb_glyph_info_t]) -> bool
+    ensures { result ≡ joiner_comes_first script glyphs.now }
+{
+    script == KANNADA && opens_with_ra_h_zwj(glyphs)
+}
+
+// Whether a syllable opens with Ra, H, ZWJ.
+fn opens_with_ra_h_zwj(glyphs: &[hb_glyph_info_t]) -> bool
+    ensures { result ≡ opens_with_ra_h_zwj glyphs.now }
+{
+    match glyphs {
+        [a, b, c, ..] => is_plain(a, OT_Ra) && is_plain(b, OT_H) && is_plain(c, OT_ZWJ),
+        _ => false,
+    }
+}
+
+// Whether a glyph is of this category, and no lookup put it in for several.
+fn is_plain(glyph: &hb_glyph_info_t, category: u8) -> bool
+    ensures { result ≡ is_one_of (category ∷ []) glyph.now }
+{
+    glyph.category == category && !glyph.marks.is_ligated()
+}

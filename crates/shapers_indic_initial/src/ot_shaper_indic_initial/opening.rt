@@ -1,0 +1,152 @@
+//! What comes before the order of a syllable: its positions, and the glyphs that move by themselves.
+//! (OpenType, development of Indic scripts: "Reorder characters".)
+ghost use Rattle.std.specs.Prelude.{◌≡◌, ◌-◌, ◌<◌, ◌≤◌, length};
+ghost use Rattle.shapers_buffer.specs.Buffer.{but_places};
+ghost use Rattle.shapers_indic_initial.specs.InitialPositions.{moved_behind};
+ghost use Rattle.shapers_indic_initial.specs.InitialReordering.{halant_steps, joiner_steps, opening_steps, positioned, with_halant_moved, with_joiner_first, with_marks_and_owners};
+ghost use Rattle.shapers_indic_initial.specs.InitialRules.{Rules, rules_of};
+ghost use Rattle.shapers_syllabic.specs.Reordering.{SyllableReordered};
+
+use super::base::{Base, find_base};
+use super::halant::{halant_move, joiner_comes_first};
+use super::positions::{attach_marks, own, set_positions_by_base};
+use shapers_base::buffer::{GlyphWalk, Script, hb_buffer_t, hb_glyph_info_t};
+use shapers_base::font::hb_font_t;
+use shapers_base::map::hb_ot_map_t;
+use shapers_base::plan::indic_shape_plan_t;
+
+/// Gives the glyphs of the syllable from `start` to `end` their positions. Kannada's opening Ra, H,
+/// ZWJ becomes Ra, ZWJ, H, and by the older specification the H after the base goes behind the last
+/// consonant. It takes no memory.
+pub(super) fn set_positions<F: hb_font_t>(
+    plan: &indic_shape_plan_t,
+    map: &hb_ot_map_t,
+    face: &F,
+    buffer: &mut hb_buffer_t,
+    start: usize,
+    end: usize,
+)
+    requires in_order { start ≤ end }
+    requires in_range { end ≤ length buffer.old.glyphs }
+    ensures same_length { length buffer.new.glyphs ≡ length buffer.old.glyphs }
+    ensures reordered { let rules = rules_of (F.font face.now) map.now plan.now in
+        let meaning = positioned rules buffer.old.script in
+        let steps = opening_steps rules buffer.old.script in
+        SyllableReordered meaning steps start end buffer.old buffer.new }
+{
+    let script = buffer.script();
+    put_joiner_first(script, buffer, start, end);
+    let base = find_base(plan, map, face, &buffer.glyphs()[start..end]);
+    buffer.walk(&mut PositionsByBase { base, start, end });
+    move_halant(plan.is_old_spec, script, base.place, buffer, start, end);
+    let base = base.place;
+    buffer.walk(&mut PositionsOfMarks { base, start, end });
+}
+
+// Merges an H and the ZWJ behind it and lets them change places, where Kannada has it so.
+fn put_joiner_first(script: Option<Script>, buffer: &mut hb_buffer_t, start: usize, end: usize)
+    requires in_order { start ≤ end }
+    requires in_range { end ≤ length buffer.old.glyphs }
+    ensures same_length { length buffer.new.glyphs ≡ length buffer.old.glyphs }
+    ensures reordered { let meaning = with_joiner_first script in
+        SyllableReordered meaning (joiner_steps script) start end buffer.old buffer.new }
+{
+    if joiner_comes_first(script, &buffer.glyphs()[start..end]) {
+        buffer.merge_clusters(start + 1, start + 3);
+        move_to_end(buffer, start + 1, start + 3);
+    }
+}
+
+// Moves the H after the base, by the older specification.
+fn move_halant(
+    is_old_spec: bool,
+    script: Option<Script>,
+    base: usize,
+    buffer: &mut hb_buffer_t,
+    start: usize,
+    end: usize,
+)
+    requires in_order { start ≤ end }
+    requires in_range { end ≤ length buffer.old.glyphs }
+    ensures same_length { length buffer.new.glyphs ≡ length buffer.old.glyphs }
+    ensures reordered { (rules : Rules) → rules.old ≡ is_old_spec → (
+        let meaning = with_halant_moved rules script base in
+        let steps = halant_steps rules script base in
+        SyllableReordered meaning steps start end buffer.old buffer.new) }
+{
+    if !is_old_spec {
+        return;
+    }
+    if let Some((halant, last)) = halant_move(script, base, &buffer.glyphs()[start..end]) {
+        move_to_end(buffer, start + halant, start + last + 1);
+    }
+}
+
+// Moves the glyph at place `from` behind all others up to `end`.
+fn move_to_end(buffer: &mut hb_buffer_t, from: usize, end: usize)
+    requires in_order { from < end }
+    requires in_range { end ≤ length buffer.old.glyphs }
+    ensures others { but_places buffer.new ≡ record (but_places buffer.old) { glyphs = buffer.new.glyphs } }
+    ensures moved { buffer.new.glyphs ≡ moved_behind from (end - 1) buffer.old.glyphs }
+{
+    let last = end - 1;
+    for i in from..last {
+        buffer.set_place(i, i + 1);
+    }
+    buffer.set_place(last, from);
+    buffer.apply(from, end);
+}
+
+// Where a syllable stands whose glyphs get their positions by its base.
+#[derive(Drop)]
+struct PositionsByBase {
+    base: Base,
+    start: usize,
+    end: usize,
+}
+
+impl GlyphWalk for PositionsByBase {
+    ghost use Rattle.std.specs.Prelude.{◌≡◌, ◌≤◌, length};
+    ghost use Rattle.shapers_buffer.specs.Clusters.{with_stretch};
+    ghost use Rattle.shapers_indic_initial.specs.InitialPositions.{by_base};
+
+    ghost can_walk = { λ w gs. (w.start ≤ w.end) × (w.end ≤ length gs) };
+
+    ghost walks = { λ v w gs hs.
+        hs ≡ with_stretch v.start v.end (by_base v.base.place v.base.has_reph) gs };
+
+    fn walk(&mut self, glyphs: &mut [hb_glyph_info_t]) {
+        set_positions_by_base(self.base, &mut glyphs[self.start..self.end]);
+    }
+}
+
+// Where a syllable with a base stands whose other glyphs get their positions by what they go with.
+#[derive(Drop)]
+struct PositionsOfMarks {
+    base: usize,
+    start: usize,
+    end: usize,
+}
+
+impl GlyphWalk for PositionsOfMarks {
+    ghost use Rattle.std.specs.Prelude.{◌≡◌, ◌≤◌, length};
+    ghost use Rattle.shapers_buffer.specs.Clusters.{with_stretch};
+    ghost use Rattle.shapers_indic_initial.specs.InitialReordering.{with_marks_and_owners};
+
+    ghost can_walk = { λ w gs. (w.start ≤ w.end) × (w.end ≤ length gs) };
+
+    ghost walks = { λ v w gs hs.
+        hs ≡ with_stretch v.start v.end (with_marks_and_owners v.base) gs };
+
+    fn walk(&mut self, glyphs: &mut [hb_glyph_info_t]) {
+        set_positions_of_marks(self.base, &mut glyphs[self.start..self.end]);
+    }
+}
+
+// Sets the positions of a syllable with this base by what its glyphs go with.
+fn set_positions_of_marks(base: usize, syllable: &mut [hb_glyph_info_t])
+    ensures { syllable.new ≡ with_marks_and_owners base syllable.old }
+{
+    attach_marks(syllable);
+    own(base, syllable);
+}
