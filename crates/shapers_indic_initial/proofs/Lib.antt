@@ -8,6 +8,7 @@ mod FontPositions
 pub mod GatheredCuts
 pub mod Groups
 mod InitialBaseRows
+mod InitialClusterRows
 mod InitialFontRows
 pub mod InitialLaws
 mod InitialMaskRows
@@ -23,6 +24,7 @@ mod InitialSyllable
 pub mod InitialViews
 mod InitialWords
 pub mod InitialWrites
+pub mod LaterSteps
 mod MaskViews
 mod MaskWalks
 pub mod Moves
@@ -35,4 +37,5 @@ pub mod OrderedPlaces
 pub mod OrderedSyllable
 pub mod PlaceSearch
 mod Positions
+pub mod TextClusters
 mod Walks

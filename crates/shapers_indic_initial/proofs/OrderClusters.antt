@@ -31,40 +31,40 @@ pub once_permuted : (n : ℕ) (from : List ℕ) → IsPermutation (range_with_le
 once_permuted n from perm = IsPermutation-keeps (range_with_len 0 n) EachOnce (once_range n) (λ xs i j h k o. once-swap xs i j h k o) from perm
 
 -- the stretches that are kept together hold the neighbours that those hold that merge; they begin at the base or behind it and end within
-held_together : (r : Rules) (from : List ℕ) (base i : ℕ) → EachOnce from → held (ordered_stretches r from base) i ≡ held (kept_together r from base) i
+pub held_together : (r : Rules) (from : List ℕ) (base i : ℕ) → EachOnce from → held (ordered_stretches r from base) i ≡ held (kept_together r from base) i
 held_together r from base i o = elim (r.old || nat_lt 127 (length from)) as (λ b. held (if b then (base, length from) ∷ [] else cycle_stretches from base) i ≡ held (if b then (base, length from) ∷ [] else all_ways from base) i) [
   | true ↦ refl
   | false ↦ held_by_ways from base i o
 ]
 
-record Lies (base n : ℕ) (st : ℕ × ℕ) : Type 0 where
+pub record Lies (base n : ℕ) (st : ℕ × ℕ) : Type 0 where
   pub low : base ≤ st.0
   pub high : st.1 ≤ n
 
-together_lies : (r : Rules) (from : List ℕ) (base : ℕ) → EachOnce from → AllByRecursion (Lies base (length from)) (kept_together r from base)
+pub together_lies : (r : Rules) (from : List ℕ) (base : ℕ) → EachOnce from → AllByRecursion (Lies base (length from)) (kept_together r from base)
 together_lies r from base o = elim (r.old || nat_lt 127 (length from)) as (λ b. AllByRecursion (Lies base (length from)) (if b then (base, length from) ∷ [] else all_ways from base)) [
   | true ↦ (record { low = omega arith; high = omega arith }, tt)
   | false ↦ all-mapped (λ p. p < length from) (Lies base (length from)) (way_of from base) (places base (length from)) (λ p l. record { low = omega arith; high = omega (arith, o.within p l) })
       (all-range (λ p. p < length from) base (length from - base) (λ p low high. omega arith))
 ]
 
-or_true : (b : Bool) → (b || true) ≡ true
+pub or_true : (b : Bool) → (b || true) ≡ true
 or_true true = refl
 or_true false = refl
 
 -- what holds of all, by two things that do
-all_by_two : {X : Type 0} (P Q R : X → Type 0) → ((x : X) → P x → Q x → R x) → (xs : List X) → AllByRecursion P xs → AllByRecursion Q xs → AllByRecursion R xs
+pub all_by_two : {X : Type 0} (P Q R : X → Type 0) → ((x : X) → P x → Q x → R x) → (xs : List X) → AllByRecursion P xs → AllByRecursion Q xs → AllByRecursion R xs
 all_by_two P Q R each [] h i = tt
 all_by_two P Q R each (x ∷ xs) h i = (each x h.0 i.0, all_by_two P Q R each xs h.1 i.1)
 
-abbrev HeldIn : List (ℕ × ℕ) → ℕ × ℕ → Type 0
+abbrev pub HeldIn : List (ℕ × ℕ) → ℕ × ℕ → Type 0
 HeldIn sts st = (i : ℕ) → st.0 < i → i < st.1 → held sts i ≡ true
 
 more_held : (st : ℕ × ℕ) (sts xs : List (ℕ × ℕ)) → AllByRecursion (HeldIn sts) xs → AllByRecursion (HeldIn (st ∷ sts)) xs
 more_held st sts [] h = tt
 more_held st sts (x ∷ xs) h = (λ i a b. ap (λ c. nat_lt st.0 i && nat_lt i st.1 || c) (h.0 i a b) ∙ or_true (nat_lt st.0 i && nat_lt i st.1), more_held st sts xs h.1)
 
-all_held : (sts : List (ℕ × ℕ)) → AllByRecursion (HeldIn sts) sts
+pub all_held : (sts : List (ℕ × ℕ)) → AllByRecursion (HeldIn sts) sts
 all_held [] = tt
 all_held (st ∷ sts) = (λ i a b. (let t : (nat_lt st.0 i && nat_lt i st.1) ≡ true = grind (arith, nat_tests) in ap (λ c. c || held sts i) t), more_held st sts sts (all_held sts))
 
@@ -117,7 +117,7 @@ exact_by xs sts others js same f =
     }
 
 -- a stretch whose neighbours are all held is in one cluster
-one_cluster : (level : BufferClusterLevel) → merges level ≡ true → (sts : List (ℕ × ℕ)) (xs : List ℕ) → EndWithin (length xs) sts → (st : ℕ × ℕ) → st.1 ≤ length xs → HeldIn sts st → InOneCluster (joined_all level sts xs) st
+pub one_cluster : (level : BufferClusterLevel) → merges level ≡ true → (sts : List (ℕ × ℕ)) (xs : List ℕ) → EndWithin (length xs) sts → (st : ℕ × ℕ) → st.1 ≤ length xs → HeldIn sts st → InOneCluster (joined_all level sts xs) st
 one_cluster level m sts xs ends st within all p q pl ph ql qh =
     sym (share_all (joined_all level sts xs) p q (λ i a b. joined_all-linked level m sts xs ends i (omega arith) (omega arith)
     (ap (λ c. slice_index xs (i - 1) == slice_index xs i || c) (all i (omega arith) (omega arith)) ∙ or_true (slice_index xs (i - 1) == slice_index xs i))) q (omega arith) (omega arith))
