@@ -1,25 +1,23 @@
 -- What each pause does to the buffer.
-use Rattle.std.specs.Prelude.{◌≡◌, Bool, true, false, List, map, length, Option, None, Some, is_some, Result, IsOk}
+use Rattle.std.specs.Prelude.{◌≡◌, Bool, true, false, List, map, length, Option, None, is_some, Result, IsOk}
 use Rattle.shapers_arabic.specs.PlanData.{IsArabic}
-use Rattle.shapers_base.specs.declared.plan.ot_category_t.TheConstants.{OT_DOTTEDCIRCLE}
 use Rattle.shapers_buffer.specs.Glyph.{order_view}
 use Rattle.shapers_buffer.specs.declared.buffer.glyph.hb_glyph_info_t.{hb_glyph_info_t}
 use Rattle.shapers_clusters.specs.Laws.{ReorderedHold}
 use Rattle.shapers_clusters.specs.Steps.{Step}
 use Rattle.shapers_khmer.specs.Khmer.{khmer_circles, khmer_order, khmer_steps, order_in}
 use Rattle.shapers_khmer.specs.Plan.{is_khmer_data}
-use Rattle.shapers_myanmar.specs.Myanmar.{myanmar_order, myanmar_steps}
+use Rattle.shapers_myanmar.specs.Myanmar.{myanmar_circles, myanmar_order, myanmar_steps}
 use Rattle.shapers_stretch.specs.Recorded.{tiles_recorded}
 use Rattle.shapers_syllabic.specs.Borders.{SetUpCutsAtSpans, spans_set_up}
-use Rattle.shapers_syllabic.specs.Circles.{circled, circles_for}
+use Rattle.shapers_syllabic.specs.Circles.{circled}
 use Rattle.shapers_syllabic.specs.Reordering.{PauseReordered, carried, circles_of_sort, text_steps}
 use Rattle.shapers_syllabic.specs.ReorderingLaws.{PauseCutsAtBorders}
 use Rattle.shapers_syllabic.specs.declared.ot_shaper_syllabic.circles.DottedCircles.{DottedCircles}
-use Rattle.shapers_syllabic.specs.declared.ot_shaper_syllabic.kinds.use_syllable.TheConstants.{BROKEN_CLUSTER}
 use Rattle.shapers_universal.specs.PlanData.{is_universal, rphf_of}
 use Rattle.shapers_universal.specs.Universal.{universal_order, universal_steps}
 use Rattle.shapers_universal.specs.UniversalSyllables.{syllables_set_up, with_pref_recorded, with_rphf_recorded}
-use Rattle.shapers_universal.specs.declared.ot_shaper_use.category.TheConstants.{B, R}
+use Rattle.shapers_universal.specs.UniversalText.{universal_circles}
 use Rattle.shapers_buffer.specs.Buffer.{Buffer}
 use Rattle.shapers_base.specs.Font.{Font}
 use Rattle.shapers_buffer.specs.Refusals.{Refuses, RefusesInput}
@@ -78,8 +76,8 @@ PauseFits ArabicFallbackShape plan = Unit {0}
 -- the dotted circles that a reordering pause opens: of Khmer and the universal shaper behind rephas, of Myanmar in front
 abbrev pub circles_of : Pause → Font → Buffer → Option DottedCircles
 circles_of ReorderKhmer font b = circles_of_sort khmer_circles font b
-circles_of ReorderMyanmar font b = circles_for (font.nominal 0x25CC) 2 OT_DOTTEDCIRCLE None None b
-circles_of ReorderUse font b = circles_for (font.nominal 0x25CC) BROKEN_CLUSTER B (Some R) None b
+circles_of ReorderMyanmar font b = circles_of_sort myanmar_circles font b
+circles_of ReorderUse font b = circles_of_sort universal_circles font b
 circles_of _ font b = None
 
 -- the text after its circles

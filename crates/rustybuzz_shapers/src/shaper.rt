@@ -1,5 +1,5 @@
-//! The shapers behind one enum, a method a hook. Where a shaper lacks a hook, its method answers None
-//! and changes nothing.
+//! The shapers behind one enum, a method a hook. Where a shaper lacks a hook, its method answers
+//! None and changes nothing.
 ghost use Rattle.std.specs.Prelude.{◌≡◌, ◌≤◌, [], length, IfOk, IsOk, IsNone, is_some, IsOkUnless, OnOk, OnErr};
 ghost use Rattle.shapers_buffer.specs.declared.buffer.refusal.ShaperError.TheVariants.{Memory};
 ghost use Rattle.shapers_arabic.specs.Requests.{rclt};
@@ -124,11 +124,17 @@ impl hb_ot_shaper_t {
         face: &F,
         planner: &mut hb_ot_shape_planner_t,
     ) -> Result<Option<()>, ShaperError>
-        ensures answer { IfOk result (λ answer. answer ≡ if_there (collected self planner.old.script ((F.font face.now).offers rclt))) }
-        ensures ok { OnOk result (planner.new ≡ asked (collected self planner.old.script ((F.font face.now).offers rclt)) planner.old) }
+        ensures answer { let has_rclt = (F.font face.now).offers rclt in
+            let list = collected self planner.old.script has_rclt in
+            IfOk result (λ answer. answer ≡ if_there list) }
+        ensures ok { let has_rclt = (F.font face.now).offers rclt in
+            let list = collected self planner.old.script has_rclt in
+            OnOk result (planner.new ≡ asked list planner.old) }
         ensures refusal { IsOkUnless result Memory }
         ensures err { OnErr result (planner.new ≡ planner.old) }
-        ensures absent { IsNone (collected self planner.old.script ((F.font face.now).offers rclt)) → IsOk result }
+        ensures absent { let has_rclt = (F.font face.now).offers rclt in
+            let list = collected self planner.old.script has_rclt in
+            IsNone list → IsOk result }
     {
         match self {
             Self::Arabic => Ok(Some(ot_shaper_arabic::collect_features(face, planner)?)),
@@ -141,8 +147,8 @@ impl hb_ot_shaper_t {
         }
     }
 
-    /// Asks for what stands after the features of all shapers: all of it, or nothing where memory is
-    /// refused.
+    /// Asks for what stands after the features of all shapers: all of it, or nothing where memory
+    /// is refused.
     pub fn override_features(
         self,
         planner: &mut hb_ot_shape_planner_t,
@@ -176,11 +182,11 @@ impl hb_ot_shaper_t {
         }
     }
 
-    /// Rewrites a text before its characters become glyphs. Thai puts each SARA AM in two, and then,
-    /// where GSUB doesn't have the script Thai, gives marks and bases their private use forms. Hangul
-    /// composes jamo, or takes syllables apart, as the font has them, and puts tones before their
-    /// syllables. Both refuse as a growth does. For Indic and the universal shaper the caller runs the
-    /// vowel constraints.
+    /// Rewrites a text before its characters become glyphs. Thai puts each SARA AM in two, and
+    /// then, where GSUB doesn't have the script Thai, gives marks and bases their private use
+    /// forms. Hangul composes jamo, or takes syllables apart, as the font has them, and puts tones
+    /// before their syllables. Both refuse as a growth does. For Indic and the universal shaper the
+    /// caller runs the vowel constraints.
     pub fn preprocess_text<F: hb_font_t>(
         self,
         plan: &hb_ot_shape_plan_t,
@@ -190,8 +196,10 @@ impl hb_ot_shaper_t {
         requires without_positions { buffer.old.positions ≡ [] }
         requires settled { CanAsk self Hook.PreprocessText }
         ensures answer { IfOk result (λ answer. answer ≡ preprocess_answer self) }
-        ensures ok { OnOk result (Preprocessed self plan.now (F.font face.now) buffer.old buffer.new) }
-        ensures laws { OnOk result (PreprocessKeeps self plan.now (F.font face.now) buffer.old buffer.new) }
+        ensures ok { let font = F.font face.now in
+            OnOk result (Preprocessed self plan.now font buffer.old buffer.new) }
+        ensures laws { let font = F.font face.now in
+            OnOk result (PreprocessKeeps self plan.now font buffer.old buffer.new) }
         ensures refusal { RefusesPreprocess self (F.font face.now) buffer.old result }
         ensures err { OnErr result (buffer.new ≡ buffer.old) }
     {
@@ -220,8 +228,10 @@ impl hb_ot_shaper_t {
     ) -> Result<Option<()>, ShaperError>
         requires with_positions { length buffer.old.positions ≡ length buffer.old.glyphs }
         requires settled { CanAsk self Hook.PostprocessGlyphs }
-        ensures answer { IfOk result (λ answer. is_some answer ≡ is_there (standing self Hook.PostprocessGlyphs)) }
-        ensures ok { OnOk result (Postprocessed self plan.now (F.font face.now) buffer.old buffer.new) }
+        ensures answer { let standing = standing self Hook.PostprocessGlyphs in
+            IfOk result (λ answer. is_some answer ≡ is_there standing) }
+        ensures ok { let font = F.font face.now in
+            OnOk result (Postprocessed self plan.now font buffer.old buffer.new) }
         ensures refusal { RefusesPostprocess self buffer.old result }
         ensures err { OnErr result (buffer.new ≡ buffer.old) }
     {
@@ -285,9 +295,9 @@ impl hb_ot_shaper_t {
     }
 
     /// Sets the masks of the glyphs: for Arabic, the form that each letter takes between its
-    /// neighbours, and the form's mask; for Hangul those of marked jamo; for Indic, Khmer and Myanmar
-    /// categories alone, for the universal shaper these and, where letters join, Arabic's forms. It
-    /// can't refuse and takes no memory.
+    /// neighbours, and the form's mask; for Hangul those of marked jamo; for Indic, Khmer and
+    /// Myanmar categories alone, for the universal shaper these and, where letters join, Arabic's
+    /// forms. It can't refuse and takes no memory.
     pub fn setup_masks<F: hb_font_t, T: Tables>(
         self,
         plan: &hb_ot_shape_plan_t,
@@ -314,8 +324,8 @@ impl hb_ot_shaper_t {
     }
 
     /// Reorders the marks from `start` to `end`: for Hebrew, at the first three neighbours of its
-    /// classes, the last two merge and change places; for Arabic, over at most 32 places, marks that
-    /// modify a letter come to the front. It can't refuse and takes no memory.
+    /// classes, the last two merge and change places; for Arabic, over at most 32 places, marks
+    /// that modify a letter come to the front. It can't refuse and takes no memory.
     pub fn reorder_marks(
         self,
         plan: &hb_ot_shape_plan_t,

@@ -5,7 +5,6 @@ use Rattle.std.specs.Char.{IsScalar}
 use Rattle.std.specs.Int.Bits.{bit_or, or_zero_r}
 use Rattle.std.proofs.lemmas.Bool.{eq-eqb, ne_eqb}
 use Rattle.std.proofs.lemmas.Nat.{or_shr}
-use Rattle.std.proofs.lemmas.Nat.Bits.{bit_at_or, same_from_bits}
 use Rattle.shapers_buffer.specs.declared.buffer.glyph.hb_glyph_info_t.{hb_glyph_info_t}
 use Rattle.shapers_base.specs.declared.plan.joining.hb_arabic_joining_type_t.{hb_arabic_joining_type_t}
 use Rattle.std.proofs.lemmas.List.{get_or-map}
@@ -15,13 +14,11 @@ use Rattle.shapers_buffer.specs.Glyph.{clusters}
 use Rattle.shapers_buffer.specs.Clusters.{with_stretch}
 use Rattle.shapers_buffer.specs.GlyphFlags.{with_bits, with_bits_off, flagged, unsafe_to_concat_in, tatweel_inside}
 use Rattle.shapers_buffer.proofs.ClusterLemmas.{three_parts}
+use Rattle.shapers_buffer.proofs.MaskBits.{or_assoc}
 use Rattle.shapers_arabic.specs.declared.ot_shaper_arabic.arabic_action_t.TheConstants.{NONE}
 use Rattle.shapers_arabic.specs.Joining.{resolved}
 use Rattle.shapers_arabic.specs.JoinedText.{stored_types, AreCharacters}
 use Rattle.shapers_arabic.specs.JoiningWalk.{OnlyForm, OnlyFormed, IsWithin, given_last}
-
-or-assoc : (a b c : ℕ) → bit_or (bit_or a b) c ≡ bit_or a (bit_or b c)
-or-assoc a b c = same_from_bits (bit_or (bit_or a b) c) (bit_or a (bit_or b c)) (λ i. omega (arith, bit_at_or (bit_or a b) c i, bit_at_or a b i, bit_at_or a (bit_or b c) i, bit_at_or b c i))
 
 or-flags : (a b : ℕ) → a < 8 → b < 8 → bit_or a b < 8
 or-flags a b low small =
@@ -41,7 +38,7 @@ form-again g h k a b =
       are_flags = or-flags a.bits b.bits a.are_flags b.are_flags;
       same = b.same
           ∙ ap (λ (x : hb_glyph_info_t). let y : hb_glyph_info_t = record x { auxiliary = k.auxiliary; mask = bit_or x.mask b.bits } in y) whole
-          ∙ ap (λ m. let y : hb_glyph_info_t = record g { auxiliary = k.auxiliary; mask = m } in y) (or-assoc g.mask a.bits b.bits);
+          ∙ ap (λ m. let y : hb_glyph_info_t = record g { auxiliary = k.auxiliary; mask = m } in y) (or_assoc g.mask a.bits b.bits);
     }
 
 pub form-set : (g : hb_glyph_info_t) (form : ℕ) → OnlyForm g (record g { auxiliary = form })

@@ -60,7 +60,9 @@ pub fn collect_features<F: hb_font_t>(
     face: &F,
     planner: &mut hb_ot_shape_planner_t,
 ) -> Result<(), ShaperError>
-    ensures ok { OnOk result (planner.new ≡ with_requests (arabic_list (is_arabic planner.old.script) ((F.font face.now).offers rclt)) planner.old) }
+    ensures ok { let has_rclt = (F.font face.now).offers rclt in
+        let list = arabic_list (is_arabic planner.old.script) has_rclt in
+        OnOk result (planner.new ≡ with_requests list planner.old) }
     ensures refusal { IsOkUnless result Memory }
     ensures err { OnErr result (planner.new ≡ planner.old) }
 {
@@ -125,7 +127,8 @@ pub fn setup_masks_counted<T: Tables, L: Ledger>(
 )
     requires { AreCharacters buffer.old.glyphs }
     ensures joined { let table = T.tables tables.now in
-        IsJoined arabic_plan.now.mask_array script table.joining table.general buffer.old buffer.new }
+        let masks = arabic_plan.now.mask_array in
+        IsJoined masks script table.joining table.general buffer.old buffer.new }
     ensures counted { let table = T.tables tables.now in
         count.new ≡ count.old + look_ups (text_of table.joining table.general buffer.old) }
     ensures cut { let table = T.tables tables.now in
@@ -157,7 +160,8 @@ pub fn setup_masks_inner<T: Tables>(
 )
     requires { AreCharacters buffer.old.glyphs }
     ensures joined { let table = T.tables tables.now in
-        IsJoined arabic_plan.now.mask_array script table.joining table.general buffer.old buffer.new }
+        let masks = arabic_plan.now.mask_array in
+        IsJoined masks script table.joining table.general buffer.old buffer.new }
     ensures cut { let table = T.tables tables.now in
         CutsAsHalves script table.joining table.general buffer.old buffer.new }
 {
@@ -177,7 +181,8 @@ fn setup_masks_with<T: Tables, L: Ledger>(
     requires some { 0 < blank.parts }
     requires characters { AreCharacters buffer.old.glyphs }
     ensures joined { let table = T.tables tables.now in
-        IsJoined arabic_plan.now.mask_array script table.joining table.general buffer.old buffer.new }
+        let masks = arabic_plan.now.mask_array in
+        IsJoined masks script table.joining table.general buffer.old buffer.new }
     ensures cut { let table = T.tables tables.now in
         CutsAsHalves script table.joining table.general buffer.old buffer.new }
 {
@@ -185,8 +190,8 @@ fn setup_masks_with<T: Tables, L: Ledger>(
     setup_masks_counted(arabic_plan, script, buffer, tables, &mut count);
 }
 
-/// Gives each glyph its form and the form's mask, with the script and the data of the plan. It can't
-/// refuse and takes no memory.
+/// Gives each glyph its form and the form's mask, with the script and the data of the plan. It
+/// can't refuse and takes no memory.
 pub fn setup_masks<T: Tables>(plan: &hb_ot_shape_plan_t, tables: &T, buffer: &mut hb_buffer_t)
     requires data { IsArabic plan.now.plan_data }
     requires characters { AreCharacters buffer.old.glyphs }
@@ -204,8 +209,8 @@ pub fn setup_masks<T: Tables>(plan: &hb_ot_shape_plan_t, tables: &T, buffer: &mu
 }
 
 /// A law of joining: contexts that are copied from the text show the neighbours, where one of their
-/// at most five characters isn't transparent or the text ends there; so halves with such contexts act
-/// as the whole.
+/// at most five characters isn't transparent or the text ends there; so halves with such contexts
+/// act as the whole.
 pub fn copied_contexts_law()
     ensures shown { CopiedContextsShow }
     ensures halves { CopiedContextsCut }

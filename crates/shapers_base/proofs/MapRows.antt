@@ -3,7 +3,8 @@ use Rattle.std.specs.Prelude.{◌≡◌, ◌==◌, true, false, [], ◌∷◌, S
 use Rattle.shapers_buffer.specs.declared.buffer.tag.hb_tag_t.{hb_tag_t}
 use Rattle.shapers_base.specs.declared.map.TheConstants.{F_MANUAL_JOINERS}
 use Rattle.shapers_base.specs.declared.plan.planner.Request.TheVariants.{Feature}
-use Rattle.shapers_base.specs.Map.{Map, can_be_map, mask_of, stage_of, lookups_of, would}
+use Rattle.shapers_base.specs.Map.{Map, can_be_map, lookups_in, mask_of, range_for, stage_of}
+use Rattle.shapers_base.specs.Questions.{question_for, would_by}
 use Rattle.shapers_base.specs.Planner.{added, enabled, disabled, bare_pause, each_paused}
 
 abbrev blwf : hb_tag_t
@@ -40,13 +41,13 @@ first_stage : stage_of blwf small ≡ Some 1
 first_stage = refl
 
 -- with two lookups in the stage it is true where only the second applies
-second_lookup : would (λ lookup _ _. lookup == 7) small blwf [] false ≡ true
+second_lookup : would_by (λ lookup _ _. lookup == 7) small (question_for blwf false small) [] ≡ true
 second_lookup = refl
 
-other_stage : would (λ lookup _ _. lookup == 8) small blwf [] false ≡ false
+other_stage : would_by (λ lookup _ _. lookup == 8) small (question_for blwf false small) [] ≡ false
 other_stage = refl
 
-no_stage : lookups_of pstf small ≡ []
+no_stage : lookups_in (range_for pstf small) small ≡ []
 no_stage = refl
 
 joiner_flags : added (F_MANUAL_JOINERS) "blwf" ≡ Feature blwf 12 1

@@ -64,16 +64,10 @@ range_of stage m = unwrap_or (slice_get m.stages stage) no_range
 abbrev pub range_for : hb_tag_t → Map → Range ℕ
 range_for tag m = option_map_or (λ stage. range_of stage m) (stage_of tag m) no_range
 
--- the lookups of a range, and those of a tag's stage
+-- the lookups of a range
 abbrev pub lookups_in : Range ℕ → Map → List ℕ
 lookups_in r m = take (r.end - r.start) (drop r.start m.lookups)
 
-abbrev pub lookups_of : hb_tag_t → Map → List ℕ
-lookups_of tag m = lookups_in (range_for tag m) m
-
--- whether one of these lookups would apply to the glyphs; whether some lookup of the tag's stage would
+-- whether one of these lookups would apply to the glyphs
 abbrev pub would_one : (ℕ → List GlyphId → Bool → Bool) → List ℕ → List GlyphId → Bool → Bool
 would_one applies lookups glyphs zero = list_any (λ lookup. applies lookup glyphs zero) lookups
-
-abbrev pub would : (ℕ → List GlyphId → Bool → Bool) → Map → hb_tag_t → List GlyphId → Bool → Bool
-would applies m tag glyphs zero = would_one applies (lookups_of tag m) glyphs zero

@@ -62,7 +62,7 @@ pub trait Tables {
     fn compose(&self, a: char, b: char) -> Option<char>
         ensures { result ≡ (tables self.now).composed a b };
 
-    /// The two characters that a character decomposes to, as Unicode's canonical decomposition has it.
+    /// The two characters that a character decomposes to by Unicode's canonical decomposition.
     fn decompose(&self, ab: char) -> Option<(char, char)>
         ensures { result ≡ (tables self.now).decomposed ab };
 }

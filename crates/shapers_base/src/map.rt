@@ -58,9 +58,23 @@ impl Model for hb_ot_map_t {
 
     ghost Value = { Map };
 
-    ghost view = { λ m. record { features = m.features.items; stages = m.stages.items; lookups = m.lookups.items; global = m.global_mask; chosen = m.chosen_script; found = m.found_script } };
+    ghost view = { λ m. record {
+      features = m.features.items;
+      stages = m.stages.items;
+      lookups = m.lookups.items;
+      global = m.global_mask;
+      chosen = m.chosen_script;
+      found = m.found_script;
+    } };
 
-    ghost invariant = { λ m. IsTrue (can_be_map (record { features = m.features.items; stages = m.stages.items; lookups = m.lookups.items; global = m.global_mask; chosen = m.chosen_script; found = m.found_script })) };
+    ghost invariant = { λ m. IsTrue (can_be_map (record {
+      features = m.features.items;
+      stages = m.stages.items;
+      lookups = m.lookups.items;
+      global = m.global_mask;
+      chosen = m.chosen_script;
+      found = m.found_script;
+    })) };
 }
 
 impl hb_ot_map_t {
@@ -74,7 +88,15 @@ impl hb_ot_map_t {
         chosen_script: Option<hb_tag_t>,
         found_script: bool,
     ) -> Option<Self>
-        ensures { let map : Map = record { features = features.items; stages = stages.items; lookups = lookups.items; global = global_mask; chosen = chosen_script; found = found_script } in result ≡ (if can_be_map map then Some map else None) }
+        ensures { let map : Map = record {
+          features = features.items;
+          stages = stages.items;
+          lookups = lookups.items;
+          global = global_mask;
+          chosen = chosen_script;
+          found = found_script;
+        } in
+            result ≡ (if can_be_map map then Some map else None) }
     {
         if !are_ranges(stages.as_slice(), lookups.len()) || !are_off_flags(features.as_slice()) {
             return None;

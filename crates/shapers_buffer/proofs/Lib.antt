@@ -7,6 +7,7 @@ pub mod ListLaws
 pub mod MappedLists
 pub mod MarkLemmas
 mod MarkRows
+pub mod MaskBits
 pub mod PieceLaws
 pub mod PlaceLaws
 mod PlaceRows

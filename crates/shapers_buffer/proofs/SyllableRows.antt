@@ -6,7 +6,7 @@ use Rattle.shapers_buffer.specs.declared.buffer.refusal.ShaperError.TheVariants.
 use Rattle.shapers_buffer.specs.declared.buffer.syllables.Span.{Span}
 use Rattle.shapers_buffer.specs.Buffer.{Buffer, new_buffer}
 use Rattle.shapers_buffer.specs.Glyph.{default_glyph}
-use Rattle.shapers_buffer.specs.Syllables.{first_syllable_len, in_syllable, kind_of, span_byte, span_bytes, spans_cover, spans_refusal, syllable_places, syllables, unknown_refusal, unknown_syllable, with_bytes, with_spans}
+use Rattle.shapers_buffer.specs.Syllables.{first_syllable_len, in_syllable, kind_of, span_byte, span_bytes, spans_cover, spans_refusal, syllables, unknown_refusal, unknown_syllable, with_bytes, with_spans}
 
 -- glyphs of these syllable bytes, and of these bytes and clusters
 abbrev of_bytes : List ℕ → List hb_glyph_info_t
@@ -42,10 +42,7 @@ cut_none = refl
 cut_keeps : syllables (full ∷ full ∷ record full { syllable = 0x25 } ∷ []) ≡ (full ∷ full ∷ []) ∷ (record full { syllable = 0x25 } ∷ []) ∷ []
 cut_keeps = refl
 
--- their places, and the length of the first
-cut_places : syllable_places (of_bytes (0x10 ∷ 0x10 ∷ 0x24 ∷ 0x10 ∷ 0x14 ∷ 0x14 ∷ 0x14 ∷ [])) ≡ (0, 2) ∷ (2, 3) ∷ (3, 4) ∷ (4, 7) ∷ []
-cut_places = refl
-
+-- the length of the first
 first_len : map (λ bs. first_syllable_len (of_bytes bs)) ([] ∷ (5 ∷ []) ∷ (5 ∷ 5 ∷ 6 ∷ 5 ∷ []) ∷ (5 ∷ 6 ∷ []) ∷ []) ≡ 0 ∷ 1 ∷ 2 ∷ 1 ∷ []
 first_len = refl
 

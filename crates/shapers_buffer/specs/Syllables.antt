@@ -27,15 +27,6 @@ abbrev pub syllables : List hb_glyph_info_t → List (List hb_glyph_info_t)
 syllables [] = []
 syllables (g ∷ gs) = with_opening g (syllables gs)
 
--- the places of pieces that follow one another from place s on: start and end of each
-abbrev pub places_from : {X : Type 0} → ℕ → List (List X) → List (ℕ × ℕ)
-places_from s [] = []
-places_from s (piece ∷ pieces) = (s, s + length piece) ∷ places_from (s + length piece) pieces
-
--- the places of the syllables: start and end of each
-abbrev pub syllable_places : List hb_glyph_info_t → List (ℕ × ℕ)
-syllable_places gs = places_from 0 (syllables gs)
-
 -- the kind of a syllable byte: its low four bits
 abbrev pub kind_of : ℕ → ℕ
 kind_of byte = byte % 16

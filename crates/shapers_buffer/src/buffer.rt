@@ -37,7 +37,7 @@ pub use level::{BufferClusterLevel, Direction};
 pub use merging::{least_cluster, merge_clusters_in};
 pub use refusal::ShaperError;
 pub use syllables::{
-    Span, has_span_of_kind, set_syllable, spans_cover, syllable_run_len, syllables_are_runs,
+    Span, first_syllable_len, has_span_of_kind, set_syllable, spans_cover, syllables_are_runs,
 };
 pub use tag::{Script, hb_tag_t};
 pub use walking::{GlyphChange, GlyphWalk, PositionedWalk};
@@ -60,7 +60,8 @@ pub struct hb_buffer_t {
     has_broken_syllable: bool,
     has_stch: bool,
     max_len: usize,
-    // for each glyph at least one place, and room for one glyph, so that a reordering takes no memory
+    // for each glyph at least one place, and room for one glyph, so that a reordering takes no
+    // memory
     places: Vec<usize>,
     spare: Vec<hb_glyph_info_t>,
 }
@@ -72,9 +73,35 @@ impl Model for hb_buffer_t {
 
     ghost Value = { Buffer };
 
-    ghost view = { λ b. record { glyphs = b.info.items; positions = b.pos.items; direction = b.direction; script = b.script; level = b.cluster_level; flags = b.flags; before = b.pre_context.items; after = b.post_context.items; broken = b.has_broken_syllable; stch = b.has_stch; max_len = b.max_len; places = without_last_zeros b.places.items } };
+    ghost view = { λ b. record {
+      glyphs = b.info.items;
+      positions = b.pos.items;
+      direction = b.direction;
+      script = b.script;
+      level = b.cluster_level;
+      flags = b.flags;
+      before = b.pre_context.items;
+      after = b.post_context.items;
+      broken = b.has_broken_syllable;
+      stch = b.has_stch;
+      max_len = b.max_len;
+      places = without_last_zeros b.places.items;
+    } };
 
-    ghost invariant = { λ b. IsBuffer (record { glyphs = b.info.items; positions = b.pos.items; direction = b.direction; script = b.script; level = b.cluster_level; flags = b.flags; before = b.pre_context.items; after = b.post_context.items; broken = b.has_broken_syllable; stch = b.has_stch; max_len = b.max_len; places = without_last_zeros b.places.items }) (length b.places.items) (length b.spare.items) };
+    ghost invariant = { λ b. IsBuffer (record {
+      glyphs = b.info.items;
+      positions = b.pos.items;
+      direction = b.direction;
+      script = b.script;
+      level = b.cluster_level;
+      flags = b.flags;
+      before = b.pre_context.items;
+      after = b.post_context.items;
+      broken = b.has_broken_syllable;
+      stch = b.has_stch;
+      max_len = b.max_len;
+      places = without_last_zeros b.places.items;
+    }) (length b.places.items) (length b.spare.items) };
 }
 
 impl hb_buffer_t {
@@ -145,7 +172,8 @@ impl hb_buffer_t {
     /// Adds a glyph at the end of a buffer without positions.
     pub fn push(&mut self, glyph: hb_glyph_info_t) -> Result<(), ShaperError>
         requires { self.old.positions ≡ [] }
-        ensures ok { OnOk result (self.new ≡ record self.old { glyphs = self.old.glyphs ++ glyph ∷ [] }) }
+        ensures ok { OnOk result (self.new ≡
+            record self.old { glyphs = self.old.glyphs ++ glyph ∷ [] }) }
         ensures length { RefusesLength self.old.max_len (length self.old.glyphs + 1) result }
         ensures err { OnErr result (self.new ≡ self.old) }
     {
@@ -179,7 +207,10 @@ impl hb_buffer_t {
     /// Keeps the first `n` glyphs, with their positions.
     pub fn truncate(&mut self, n: usize)
         requires { n ≤ length self.old.glyphs }
-        ensures { self.new ≡ record self.old { glyphs = take n self.old.glyphs; positions = take n self.old.positions } }
+        ensures { self.new ≡ record self.old {
+          glyphs = take n self.old.glyphs;
+          positions = take n self.old.positions;
+        } }
     {
         self.info.truncate(n);
         self.pos.truncate(n);

@@ -8,15 +8,20 @@ use Rattle.shapers_clusters.specs.Steps.{FitsStep, Permutes, Step}
 use Rattle.shapers_clusters.proofs.Picks.{pick-map}
 use Rattle.shapers_clusters.proofs.Through.{length-same}
 use Rattle.shapers_indic_initial.specs.InitialBase.{base_place, has_reph}
+use Rattle.shapers_indic.specs.declared.ot_shaper_indic.indic_feature.TheConstants.{HALF}
+use Rattle.shapers_indic_initial.specs.InitialMasks.{bits_of}
 use Rattle.shapers_indic_initial.specs.InitialOrder.{ordered_base, ordered_places}
 use Rattle.shapers_indic_initial.specs.InitialReordering.{halant_step, in_order, initial_order, initial_steps, is_reordered, joiner_step, masked_in_order, order_step, steps_of_reordered, with_all_positions, with_base, with_joiner_first}
 use Rattle.shapers_indic_initial.specs.InitialPositions.{with_marks_attached}
-use Rattle.shapers_indic_initial.specs.InitialRules.{Rules}
+use Rattle.shapers_indic_initial.specs.InitialRules.{Rules, rules_of}
+use Rattle.shapers_indic_initial.specs.InitialLaws.{InitialReorderLaws, InitialTextReordered}
+use Rattle.shapers_indic_initial.specs.InitialPause.{with_positions_and_circles}
 use Rattle.shapers_indic_initial.proofs.InitialSteps.{halant_fits, halant_permutes, joiner_fits, joiner_permutes, order_fits}
 use Rattle.shapers_indic_initial.proofs.InitialViews.{carried_hides_positions, hidden-by_base, hidden-with_initial_masks, hidden-with_marks_attached, hidden-with_owners_after, seen_hides_masks, seen_hides_positions}
 use Rattle.shapers_indic_initial.proofs.OrderedPlaces.{ordered_permutes}
 use Rattle.shapers_syllabic.specs.Reordering.{carried}
 use Rattle.shapers_syllabic.specs.ReorderingLaws.{ReorderLaws}
+use Rattle.shapers_syllabic.proofs.ReorderingLaws.{text_reordered}
 use Rattle.shapers_syllabic.proofs.LawsThen.{laws_by_step, laws_then, laws_where}
 
 -- the step of Kannada
@@ -54,7 +59,7 @@ masked_order r script gs = masked_in_order r script (in_order gs)
 pub order_laws : (r : Rules) (script : Option Script) → ReorderLaws (masked_order r script) (λ gs. order_step r gs ∷ [])
 order_laws r script = laws_by_step (masked_order r script) (order_step r) (order_fits r) ordered_permutes
     (λ gs.
-    hidden-with_initial_masks (λ g. plain (carried g)) seen_hides_masks r script (ordered_base (in_order gs)) (in_order gs)
+    hidden-with_initial_masks (λ g. plain (carried g)) r (seen_hides_masks (bits_of r HALF)) script (ordered_base (in_order gs)) (in_order gs)
     ∙ sym (pick-map (λ g. plain (carried g)) (ordered_places gs) gs))
 
 -- all steps, and where the syllable is reordered
@@ -67,5 +72,11 @@ three_laws r script =
     (joiner_laws script)
     (laws_then (halant_order r script) (masked_order r script) (λ gs. halant_step_of r script gs ∷ []) (λ gs. order_step r gs ∷ []) (halant_laws r script) (order_laws r script))
 
-pub initial_laws : (r : Rules) (script : Option Script) → ReorderLaws (initial_order r script) (initial_steps r script)
+pub initial_laws : InitialReorderLaws
 initial_laws r script = laws_where is_reordered (all_three r script) (steps_of_reordered r script) (three_laws r script)
+
+-- the whole text after the pause
+pub initial_text_reordered : InitialTextReordered
+initial_text_reordered font m p old new done =
+    let r = rules_of font m p in
+    text_reordered (initial_order r old.script) (initial_steps r old.script) (with_positions_and_circles font m p old) new (initial_laws r old.script) done

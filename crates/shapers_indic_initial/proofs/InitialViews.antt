@@ -1,8 +1,9 @@
 -- What shows of a syllable through views that hide positions or masks.
-use Rattle.std.proofs.Common.{ℕ, ◌+◌, ◌-◌, ◌%◌, ◌≤◌, ◌<◌, ◌≡◌, ◌&&◌, ◌||◌, Bool, true, false, if◌then◌else◌, List, [], ◌∷◌, ◌++◌, map, length, take, drop, Option, None, Some, refl, sym, ◌∙◌, ap, arith, inl, inr}
-use Rattle.std.specs.Prelude.{find, nat_le}
+use Rattle.std.proofs.Common.{ℕ, ◌+◌, ◌-◌, ◌%◌, ◌≤◌, ◌<◌, ◌≡◌, ◌&&◌, ◌||◌, Bool, true, false, not, if◌then◌else◌, List, [], ◌∷◌, ◌++◌, map, length, take, drop, Option, None, Some, refl, sym, ◌∙◌, ap, arith, inl, inr}
+use Rattle.std.specs.Prelude.{find, nat_le, bit_and, bit_or}
 use Rattle.std.specs.List.{enumerate_from, prefix_len}
 use Rattle.std.proofs.lemmas.Bool.{cases_lt}
+use Rattle.std.proofs.lemmas.Nat.{or_mod}
 use Rattle.std.proofs.lemmas.List.{append-nil, drop_all, length-map, map-append, take-append-drop, take_all}
 use Rattle.shapers_buffer.specs.declared.buffer.glyph.hb_glyph_info_t.{hb_glyph_info_t}
 use Rattle.shapers_buffer.specs.declared.buffer.tag.Script.{Script}
@@ -13,19 +14,38 @@ use Rattle.shapers_buffer.specs.Lists.{each_after}
 use Rattle.shapers_buffer.specs.Marks.{no_marks}
 use Rattle.shapers_buffer.proofs.ClusterLemmas.{three_parts}
 use Rattle.shapers_base.specs.declared.plan.ot_position_t.TheConstants.{POS_RA_TO_BECOME_REPH, POS_SMVD}
-use Rattle.shapers_indic.specs.declared.ot_shaper_indic.indic_feature.TheConstants.{BLWF, HALF, PREF, RPHF}
+use Rattle.shapers_indic.specs.declared.ot_shaper_indic.indic_feature.TheConstants.{ABVF, BLWF, HALF, PREF, PSTF, RPHF}
 use Rattle.shapers_indic.specs.Glyphs.{at_position, has_position}
-use Rattle.shapers_indic_initial.specs.InitialMasks.{has_eyelash, is_in_eyelash, loses_half, mask_after_base, mask_before_base, pref_pair, with_bits_on_pair, with_eyelash_mask, with_initial_masks, with_masks_around, with_pref_mask, with_reph_mask, without_bits, without_half}
+use Rattle.shapers_indic_initial.specs.InitialMasks.{applies_before_base, bits_of, has_eyelash, is_in_eyelash, loses_half, mask_after_base, mask_before_base, pref_pair, with_bits_on_pair, with_eyelash_mask, with_initial_masks, with_masks_around, with_pref_mask, with_reph_mask, without_bits, without_half}
 use Rattle.shapers_indic_initial.specs.InitialPositions.{attached_to, before_next, bounds, by_base, halant_behind, owned_by, position_by_base, with_attached, with_halants, with_marks_attached, with_owners, with_owners_after, with_signs}
-use Rattle.shapers_indic_initial.specs.InitialRules.{Rules, mask_at}
+use Rattle.shapers_indic_initial.specs.InitialRules.{Rules}
 use Rattle.shapers_syllabic.specs.Reordering.{carried}
 
--- a view that hides positions, and one that hides masks
+-- a view that hides positions, and one
 pub record HidesPositions {X : Type 0} (f : hb_glyph_info_t → X) : Type 0 where
   pub hidden : (p : ℕ) (g : hb_glyph_info_t) → f (at_position p g) ≡ f g
 
-pub record HidesMasks {X : Type 0} (f : hb_glyph_info_t → X) : Type 0 where
-  pub hidden : (m : ℕ) (g : hb_glyph_info_t) → f (record g { mask = m }) ≡ f g
+-- that hides mask bits: those that are given, which touch no glyph flag, and those of half, which are taken away
+pub record HidesMasks {X : Type 0} (f : hb_glyph_info_t → X) (half : ℕ) : Type 0 where
+  pub given : (m : ℕ) (g : hb_glyph_info_t) → m % 8 ≡ 0 → f (with_bits m g) ≡ f g
+  pub taken : (g : hb_glyph_info_t) → f (without_bits half g) ≡ f g
+
+pub bits_off : (r : Rules) (feature : ℕ) → bits_of r feature % 8 ≡ 0
+bits_off r feature = omega arith
+
+or_off : (a b : ℕ) → a % 8 ≡ 0 → b % 8 ≡ 0 → bit_or a b % 8 ≡ 0
+or_off a b h k = or_mod a b 3 ∙ ap (λ n. bit_or n (b % 8)) h ∙ ap (bit_or 0) k
+
+pub before_off : (r : Rules) → mask_before_base r % 8 ≡ 0
+before_off r =
+    let b : Bool = not r.old && applies_before_base r.config.blwf_mode in
+    (elim b as (λ c. (if c then bit_or (bits_of r HALF) (bits_of r BLWF) else bits_of r HALF) % 8 ≡ 0) [
+      | true ↦ or_off (bits_of r HALF) (bits_of r BLWF) (bits_off r HALF) (bits_off r BLWF)
+      | false ↦ bits_off r HALF
+    ])
+
+pub after_off : (r : Rules) → mask_after_base r % 8 ≡ 0
+after_off r = or_off (bit_or (bits_of r BLWF) (bits_of r ABVF)) (bits_of r PSTF) (or_off (bits_of r BLWF) (bits_of r ABVF) (bits_off r BLWF) (bits_off r ABVF)) (bits_off r PSTF)
 
 -- a changed stretch that doesn't show
 pub hidden-stretch : {X : Type 0} (f : hb_glyph_info_t → X) (change : List hb_glyph_info_t → List hb_glyph_info_t) (s e : ℕ) (gs : List hb_glyph_info_t) → s ≤ e → map f (change (stretch_of s e gs)) ≡ map f (stretch_of s e gs) → map f (with_stretch s e change gs) ≡ map f gs
@@ -95,9 +115,9 @@ hidden-with_owners_after f h base gs =
     map-append f a (with_owners c) ∙ ap (λ ys. map f a ++ ys) (hidden-with_owners f h c) ∙ sym (map-append f a c) ∙ ap (map f) (take-append-drop (base + 1) gs)
 
 -- masks
-pub hidden-with_bits : {X : Type 0} (f : hb_glyph_info_t → X) → HidesMasks f → (m : ℕ) (gs : List hb_glyph_info_t) → map f (map (with_bits m) gs) ≡ map f gs
-hidden-with_bits f h m [] = refl
-hidden-with_bits f h m (g ∷ gs) = ap (λ x. x ∷ map f (map (with_bits m) gs)) (h.hidden _ g) ∙ ap (λ xs. f g ∷ xs) (hidden-with_bits f h m gs)
+pub hidden-with_bits : {X : Type 0} (f : hb_glyph_info_t → X) → {half : ℕ} → HidesMasks f half → (m : ℕ) → m % 8 ≡ 0 → (gs : List hb_glyph_info_t) → map f (map (with_bits m) gs) ≡ map f gs
+hidden-with_bits f h m off [] = refl
+hidden-with_bits f h m off (g ∷ gs) = ap (λ x. x ∷ map f (map (with_bits m) gs)) (h.given m g off) ∙ ap (λ xs. f g ∷ xs) (hidden-with_bits f h m off gs)
 
 -- a stretch up to the end that begins behind it
 past_end : (m s n : ℕ) (gs : List hb_glyph_info_t) → n ≡ length gs → n < s → with_stretch s n (map (with_bits m)) gs ≡ gs
@@ -108,66 +128,70 @@ past_end m s n gs long past =
     ∙ ap (λ c. gs ++ c) (drop_all n gs (omega arith))
     ∙ append-nil gs
 
-hidden-to_end : {X : Type 0} (f : hb_glyph_info_t → X) → HidesMasks f → (m s n : ℕ) (gs : List hb_glyph_info_t) → n ≡ length gs → map f (with_stretch s n (map (with_bits m)) gs) ≡ map f gs
-hidden-to_end f h m s n gs long = elim (cases_lt n s) [
+hidden-to_end : {X : Type 0} (f : hb_glyph_info_t → X) → {half : ℕ} → HidesMasks f half → (m s n : ℕ) → m % 8 ≡ 0 → (gs : List hb_glyph_info_t) → n ≡ length gs → map f (with_stretch s n (map (with_bits m)) gs) ≡ map f gs
+hidden-to_end f h m s n off gs long = elim (cases_lt n s) [
   | inl past ↦ ap (map f) (past_end m s n gs long past)
-  | inr within ↦ hidden-stretch f (map (with_bits m)) s n gs within (hidden-with_bits f h m (stretch_of s n gs))
+  | inr within ↦ hidden-stretch f (map (with_bits m)) s n gs within (hidden-with_bits f h m off (stretch_of s n gs))
 ]
 
-pub hidden-with_reph_mask : {X : Type 0} (f : hb_glyph_info_t → X) → HidesMasks f → (r : Rules) (gs : List hb_glyph_info_t) → map f (with_reph_mask r gs) ≡ map f gs
-hidden-with_reph_mask f h r gs = hidden-stretch f (map (with_bits (mask_at r RPHF))) 0 (prefix_len (has_position POS_RA_TO_BECOME_REPH) gs) gs (omega arith) (hidden-with_bits f h (mask_at r RPHF) _)
+pub hidden-with_reph_mask : {X : Type 0} (f : hb_glyph_info_t → X) → {half : ℕ} → HidesMasks f half → (r : Rules) (gs : List hb_glyph_info_t) → map f (with_reph_mask r gs) ≡ map f gs
+hidden-with_reph_mask f h r gs = hidden-stretch f (map (with_bits (bits_of r RPHF))) 0 (prefix_len (has_position POS_RA_TO_BECOME_REPH) gs) gs (omega arith) (hidden-with_bits f h (bits_of r RPHF) (bits_off r RPHF) _)
 
-pub hidden-with_masks_around : {X : Type 0} (f : hb_glyph_info_t → X) → HidesMasks f → (r : Rules) (base : ℕ) (gs : List hb_glyph_info_t) → map f (with_masks_around r base gs) ≡ map f gs
+pub hidden-with_masks_around : {X : Type 0} (f : hb_glyph_info_t → X) → {half : ℕ} → HidesMasks f half → (r : Rules) (base : ℕ) (gs : List hb_glyph_info_t) → map f (with_masks_around r base gs) ≡ map f gs
 hidden-with_masks_around f h r base gs =
     let before = with_stretch 0 base (map (with_bits (mask_before_base r))) gs in
-    let same : map f before ≡ map f gs = hidden-stretch f (map (with_bits (mask_before_base r))) 0 base gs (omega arith) (hidden-with_bits f h (mask_before_base r) _) in
+    let same : map f before ≡ map f gs = hidden-stretch f (map (with_bits (mask_before_base r))) 0 base gs (omega arith) (hidden-with_bits f h (mask_before_base r) (before_off r) _) in
     let long : length gs ≡ length before = sym (length-map gs f) ∙ ap length (sym same) ∙ length-map before f in
-    hidden-to_end f h (mask_after_base r) (base + 1) (length gs) before long ∙ same
+    hidden-to_end f h (mask_after_base r) (base + 1) (length gs) (after_off r) before long ∙ same
 
-hidden-if_bits : {X : Type 0} (f : hb_glyph_info_t → X) → HidesMasks f → (b : Bool) (m : ℕ) (g : hb_glyph_info_t) → f (if b then with_bits m g else g) ≡ f g
-hidden-if_bits f h true m g = h.hidden _ g
-hidden-if_bits f h false m g = refl
+hidden-if_bits : {X : Type 0} (f : hb_glyph_info_t → X) → {half : ℕ} → HidesMasks f half → (b : Bool) (m : ℕ) → m % 8 ≡ 0 → (g : hb_glyph_info_t) → f (if b then with_bits m g else g) ≡ f g
+hidden-if_bits f h true m off g = h.given m g off
+hidden-if_bits f h false m off g = refl
 
-pub hidden-with_eyelash_mask : {X : Type 0} (f : hb_glyph_info_t → X) → HidesMasks f → (r : Rules) (script : Option Script) (base : ℕ) (gs : List hb_glyph_info_t) → map f (with_eyelash_mask r script base gs) ≡ map f gs
+pub hidden-with_eyelash_mask : {X : Type 0} (f : hb_glyph_info_t → X) → {half : ℕ} → HidesMasks f half → (r : Rules) (script : Option Script) (base : ℕ) (gs : List hb_glyph_info_t) → map f (with_eyelash_mask r script base gs) ≡ map f gs
 hidden-with_eyelash_mask f h r script base gs =
-    hidden-numbered f (λ i g. if has_eyelash r script && is_in_eyelash base gs i then with_bits (mask_at r BLWF) g else g) (λ i g. hidden-if_bits f h (has_eyelash r script && is_in_eyelash base gs i) (mask_at r BLWF) g) 0 gs
+    hidden-numbered f (λ i g. if has_eyelash r script && is_in_eyelash base gs i then with_bits (bits_of r BLWF) g else g) (λ i g. hidden-if_bits f h (has_eyelash r script && is_in_eyelash base gs i) (bits_of r BLWF) (bits_off r BLWF) g) 0 gs
 
-hidden-on_pair : {X : Type 0} (f : hb_glyph_info_t → X) → HidesMasks f → (m : ℕ) (o : Option ℕ) (gs : List hb_glyph_info_t) → map f (with_bits_on_pair m o gs) ≡ map f gs
-hidden-on_pair f h m None gs = refl
-hidden-on_pair f h m (Some i) gs = hidden-stretch f (map (with_bits m)) i (i + 2) gs (omega arith) (hidden-with_bits f h m _)
+hidden-on_pair : {X : Type 0} (f : hb_glyph_info_t → X) → {half : ℕ} → HidesMasks f half → (m : ℕ) → m % 8 ≡ 0 → (o : Option ℕ) (gs : List hb_glyph_info_t) → map f (with_bits_on_pair m o gs) ≡ map f gs
+hidden-on_pair f h m off None gs = refl
+hidden-on_pair f h m off (Some i) gs = hidden-stretch f (map (with_bits m)) i (i + 2) gs (omega arith) (hidden-with_bits f h m off _)
 
-pub hidden-with_pref_mask : {X : Type 0} (f : hb_glyph_info_t → X) → HidesMasks f → (r : Rules) (base : ℕ) (gs : List hb_glyph_info_t) → map f (with_pref_mask r base gs) ≡ map f gs
-hidden-with_pref_mask f h r base gs = hidden-on_pair f h (mask_at r PREF) (pref_pair r base gs) gs
+pub hidden-with_pref_mask : {X : Type 0} (f : hb_glyph_info_t → X) → {half : ℕ} → HidesMasks f half → (r : Rules) (base : ℕ) (gs : List hb_glyph_info_t) → map f (with_pref_mask r base gs) ≡ map f gs
+hidden-with_pref_mask f h r base gs = hidden-on_pair f h (bits_of r PREF) (bits_off r PREF) (pref_pair r base gs) gs
 
-hidden-if_without : {X : Type 0} (f : hb_glyph_info_t → X) → HidesMasks f → (b : Bool) (m : ℕ) (g : hb_glyph_info_t) → f (if b then without_bits m g else g) ≡ f g
-hidden-if_without f h true m g = h.hidden _ g
-hidden-if_without f h false m g = refl
+hidden-if_without : {X : Type 0} (f : hb_glyph_info_t → X) → {half : ℕ} → HidesMasks f half → (b : Bool) (g : hb_glyph_info_t) → f (if b then without_bits half g else g) ≡ f g
+hidden-if_without f h true g = h.taken g
+hidden-if_without f h false g = refl
 
-pub hidden-without_half : {X : Type 0} (f : hb_glyph_info_t → X) → HidesMasks f → (m : ℕ) (gs : List hb_glyph_info_t) → map f (without_half m gs) ≡ map f gs
-hidden-without_half f h m [] = refl
-hidden-without_half f h m (g ∷ gs) = ap (λ x. x ∷ map f (without_half m gs)) (hidden-if_without f h (loses_half gs) m g) ∙ ap (λ xs. f g ∷ xs) (hidden-without_half f h m gs)
+pub hidden-without_half : {X : Type 0} (f : hb_glyph_info_t → X) → (half : ℕ) → HidesMasks f half → (gs : List hb_glyph_info_t) → map f (without_half half gs) ≡ map f gs
+hidden-without_half f half h [] = refl
+hidden-without_half f half h (g ∷ gs) = ap (λ x. x ∷ map f (without_half half gs)) (hidden-if_without f h (loses_half gs) g) ∙ ap (λ xs. f g ∷ xs) (hidden-without_half f half h gs)
 
-pub hidden-with_initial_masks : {X : Type 0} (f : hb_glyph_info_t → X) → HidesMasks f → (r : Rules) (script : Option Script) (base : ℕ) (gs : List hb_glyph_info_t) → map f (with_initial_masks r script base gs) ≡ map f gs
-hidden-with_initial_masks f h r script base gs =
+pub hidden-with_initial_masks : {X : Type 0} (f : hb_glyph_info_t → X) → (r : Rules) → HidesMasks f (bits_of r HALF) → (script : Option Script) (base : ℕ) (gs : List hb_glyph_info_t) → map f (with_initial_masks r script base gs) ≡ map f gs
+hidden-with_initial_masks f r h script base gs =
     let one = with_reph_mask r gs in
     let two = with_masks_around r base one in
     let three = with_eyelash_mask r script base two in
-    hidden-without_half f h (mask_at r HALF) (with_pref_mask r base three)
+    hidden-without_half f (bits_of r HALF) h (with_pref_mask r base three)
     ∙ hidden-with_pref_mask f h r base three
     ∙ hidden-with_eyelash_mask f h r script base two
     ∙ hidden-with_masks_around f h r base one
     ∙ hidden-with_reph_mask f h r gs
 
 -- the views of the laws
+seen_hides_mask : (m : ℕ) (g : hb_glyph_info_t) → plain (carried (record g { mask = m })) ≡ plain (carried g)
+seen_hides_mask m g =
+    let none : without_flags (m % 8) ≡ without_flags (g.mask % 8) = omega arith in
+    ap (λ (x : ℕ). record g { cluster = 0; mask = x; category = 0; auxiliary = 0; marks = no_marks }) none
+
 pub seen_hides_positions : HidesPositions (λ g. plain (carried g))
 seen_hides_positions = record { hidden = λ p g. refl }
 
 pub carried_hides_positions : HidesPositions carried
 carried_hides_positions = record { hidden = λ p g. refl }
 
-pub seen_hides_masks : HidesMasks (λ g. plain (carried g))
-seen_hides_masks = record {
-  hidden = λ m g.
-      let none : without_flags (m % 8) ≡ without_flags (g.mask % 8) = omega arith in
-      ap (λ (x : ℕ). record g { cluster = 0; mask = x; category = 0; auxiliary = 0; marks = no_marks }) none;
+pub seen_hides_masks : (half : ℕ) → HidesMasks (λ g. plain (carried g)) half
+seen_hides_masks half = record {
+  given = λ m g off. seen_hides_mask (bit_or g.mask m) g;
+  taken = λ g. seen_hides_mask (bit_and g.mask (0xFFFFFFFF - half)) g;
 }

@@ -1,4 +1,10 @@
 mod Bases
+pub mod CycleMerges
+pub mod CycleSteps
+pub mod Cycles
+mod FontCircles
+mod FontPositions
+pub mod GatheredCuts
 pub mod Groups
 mod InitialBaseRows
 mod InitialFontRows
@@ -8,13 +14,21 @@ mod InitialOrderRows
 mod InitialPauseRows
 mod InitialPositionRows
 pub mod InitialReads
-pub mod InitialWrites
-pub mod Moves
-mod Opening
 mod InitialRows
+pub mod InitialSerials
+pub mod InitialSerialsStay
 pub mod InitialSteps
+mod InitialSyllable
 pub mod InitialViews
 mod InitialWords
+pub mod InitialWrites
+mod MaskViews
+mod MaskWalks
+pub mod Moves
+mod Opening
+pub mod OrderListing
+pub mod OrderShifted
+mod OrderedBase
 pub mod OrderedPlaces
 pub mod PlaceSearch
 mod Positions

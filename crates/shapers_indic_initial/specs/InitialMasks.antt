@@ -4,6 +4,7 @@ use Rattle.std.specs.List.{enumerate_from, list_any, prefix_len}
 use Rattle.shapers_buffer.specs.declared.buffer.glyph.hb_glyph_info_t.{hb_glyph_info_t}
 use Rattle.shapers_buffer.specs.declared.buffer.tag.Script.{Script}
 use Rattle.shapers_buffer.specs.Clusters.{stretch_of, with_stretch}
+use Rattle.shapers_buffer.specs.Glyph.{without_flags}
 use Rattle.shapers_buffer.specs.GlyphFlags.{with_bits}
 use Rattle.shapers_base.specs.declared.plan.indic.BlwfMode.{BlwfMode}
 use Rattle.shapers_base.specs.declared.plan.indic.BlwfMode.TheVariants.{PreAndPost, PostOnly}
@@ -15,9 +16,13 @@ use Rattle.shapers_indic_initial.specs.InitialRules.{Rules, mask_at}
 use Rattle.shapers_indic.specs.Plan.{is_script}
 use Rattle.shapers_syllabic.specs.Consonants.{is_consonant}
 
+-- the bits that a feature gives: its mask, but for the glyph flags
+abbrev pub bits_of : Rules → ℕ → ℕ
+bits_of r feature = without_flags (mask_at r feature)
+
 -- the reph in front gets the mask of rphf
 abbrev pub with_reph_mask : Rules → List hb_glyph_info_t → List hb_glyph_info_t
-with_reph_mask r gs = with_stretch 0 (prefix_len (has_position POS_RA_TO_BECOME_REPH) gs) (map (with_bits (mask_at r RPHF))) gs
+with_reph_mask r gs = with_stretch 0 (prefix_len (has_position POS_RA_TO_BECOME_REPH) gs) (map (with_bits (bits_of r RPHF))) gs
 
 -- whether below-base forms stand before the base, too
 abbrev pub applies_before_base : BlwfMode → Bool
@@ -26,10 +31,10 @@ applies_before_base PostOnly = false
 
 -- the mask before the base, and the one after it; each glyph on its side of the base gets it, the base neither
 abbrev pub mask_before_base : Rules → ℕ
-mask_before_base r = if not r.old && applies_before_base r.config.blwf_mode then bit_or (mask_at r HALF) (mask_at r BLWF) else mask_at r HALF
+mask_before_base r = if not r.old && applies_before_base r.config.blwf_mode then bit_or (bits_of r HALF) (bits_of r BLWF) else bits_of r HALF
 
 abbrev pub mask_after_base : Rules → ℕ
-mask_after_base r = bit_or (bit_or (mask_at r BLWF) (mask_at r ABVF)) (mask_at r PSTF)
+mask_after_base r = bit_or (bit_or (bits_of r BLWF) (bits_of r ABVF)) (bits_of r PSTF)
 
 abbrev pub with_masks_around : Rules → ℕ → List hb_glyph_info_t → List hb_glyph_info_t
 with_masks_around r base gs = with_stretch (base + 1) (length gs) (map (with_bits (mask_after_base r))) (with_stretch 0 base (map (with_bits (mask_before_base r))) gs)
@@ -46,7 +51,7 @@ abbrev pub has_eyelash : Rules → Option Script → Bool
 has_eyelash r script = r.old && is_script script (Some (record { 0 = codes "Deva" }))
 
 abbrev pub with_eyelash_mask : Rules → Option Script → ℕ → List hb_glyph_info_t → List hb_glyph_info_t
-with_eyelash_mask r script base gs = map (λ t. if has_eyelash r script && is_in_eyelash base gs t.0 then with_bits (mask_at r BLWF) t.1 else t.1) (enumerate_from 0 gs)
+with_eyelash_mask r script base gs = map (λ t. if has_eyelash r script && is_in_eyelash base gs t.0 then with_bits (bits_of r BLWF) t.1 else t.1) (enumerate_from 0 gs)
 
 -- the first two neighbours after the base that pref would substitute, by the place of the first
 abbrev pub pref_pair : Rules → ℕ → List hb_glyph_info_t → Option ℕ
@@ -58,7 +63,7 @@ with_bits_on_pair bits None gs = gs
 with_bits_on_pair bits (Some i) gs = with_stretch i (i + 2) (map (with_bits bits)) gs
 
 abbrev pub with_pref_mask : Rules → ℕ → List hb_glyph_info_t → List hb_glyph_info_t
-with_pref_mask r base gs = with_bits_on_pair (mask_at r PREF) (pref_pair r base gs) gs
+with_pref_mask r base gs = with_bits_on_pair (bits_of r PREF) (pref_pair r base gs) gs
 
 -- whether a glyph before these has no half form: a ZWNJ stands among them before the next consonant
 abbrev pub loses_half : List hb_glyph_info_t → Bool
@@ -74,4 +79,4 @@ without_half bits (g ∷ gs) = (if loses_half gs then without_bits bits g else g
 
 -- all masks
 abbrev pub with_initial_masks : Rules → Option Script → ℕ → List hb_glyph_info_t → List hb_glyph_info_t
-with_initial_masks r script base gs = without_half (mask_at r HALF) (with_pref_mask r base (with_eyelash_mask r script base (with_masks_around r base (with_reph_mask r gs))))
+with_initial_masks r script base gs = without_half (bits_of r HALF) (with_pref_mask r base (with_eyelash_mask r script base (with_masks_around r base (with_reph_mask r gs))))

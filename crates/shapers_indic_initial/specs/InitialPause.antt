@@ -2,27 +2,34 @@
 use Rattle.std.specs.Prelude.{List, Option, Some}
 use Rattle.shapers_buffer.specs.declared.buffer.glyph.hb_glyph_info_t.{hb_glyph_info_t}
 use Rattle.shapers_buffer.specs.declared.buffer.refusal.ShaperError.{ShaperError}
+use Rattle.shapers_buffer.specs.declared.buffer.tag.Script.{Script}
 use Rattle.shapers_buffer.specs.Buffer.{Buffer}
 use Rattle.shapers_buffer.specs.Syllables.{unknown_refusal}
+use Rattle.shapers_base.specs.declared.plan.PlanData.{PlanData}
+use Rattle.shapers_base.specs.declared.plan.PlanData.TheVariants.{Indic}
+use Rattle.shapers_base.specs.declared.plan.hb_ot_shape_plan_t.{hb_ot_shape_plan_t}
 use Rattle.shapers_base.specs.declared.plan.indic.indic_shape_plan_t.{indic_shape_plan_t}
 use Rattle.shapers_base.specs.declared.plan.ot_category_t.TheConstants.{OT_DOTTEDCIRCLE, OT_Repha}
 use Rattle.shapers_base.specs.declared.plan.ot_position_t.TheConstants.{POS_END}
 use Rattle.shapers_base.specs.Font.{Font}
 use Rattle.shapers_base.specs.Map.{Map}
+use Rattle.shapers_clusters.specs.Steps.{Step}
+use Rattle.shapers_indic.specs.Plan.{indic_plan}
 use Rattle.shapers_indic_initial.specs.InitialFont.{positions_by_font}
 use Rattle.shapers_indic_initial.specs.InitialReordering.{initial_order, initial_steps}
 use Rattle.shapers_indic_initial.specs.InitialRules.{rules_of}
 use Rattle.shapers_syllabic.specs.declared.ot_shaper_syllabic.kinds.indic_syllable.TheConstants.{BROKEN_CLUSTER, NON_INDIC_CLUSTER}
 use Rattle.shapers_syllabic.specs.Circles.{circled, circles_for}
+use Rattle.shapers_syllabic.specs.declared.ot_shaper_syllabic.circles.DottedCircles.{DottedCircles}
 use Rattle.shapers_syllabic.specs.Reordering.{SyllablesReordered}
 
--- glyphs with the circles of a buffer: behind a repha that opens a broken syllable, and of the last position, which the base's replaces where a circle is the base
-abbrev pub with_circles_of : Font → Buffer → List hb_glyph_info_t → List hb_glyph_info_t
-with_circles_of font b gs = circled (circles_for (font.nominal 0x25CC) BROKEN_CLUSTER OT_DOTTEDCIRCLE (Some OT_Repha) (Some POS_END) b) gs
+-- the circles that a buffer gets: behind a repha that opens a broken syllable, and of the last position, which the base's replaces where a circle is the base
+abbrev pub initial_circles : Font → Buffer → Option DottedCircles
+initial_circles font b = circles_for (font.nominal 0x25CC) BROKEN_CLUSTER OT_DOTTEDCIRCLE (Some OT_Repha) (Some POS_END) b
 
 -- the text with positions by the font and with its circles
 abbrev pub with_positions_and_circles : Font → Map → indic_shape_plan_t → Buffer → Buffer
-with_positions_and_circles font m p b = record b { glyphs = with_circles_of font b (positions_by_font font m p b.glyphs) }
+with_positions_and_circles font m p b = record b { glyphs = circled (initial_circles font b) (positions_by_font font m p b.glyphs) }
 
 -- the buffer before and after the pause
 abbrev pub InitiallyReordered : Font → Map → indic_shape_plan_t → Buffer → Buffer → Type 0
@@ -31,3 +38,19 @@ InitiallyReordered font m p old new = SyllablesReordered (initial_order (rules_o
 -- the refusal of a text with a syllable of unknown kind
 abbrev pub initial_refusal : Buffer → Option ShaperError
 initial_refusal b = unknown_refusal NON_INDIC_CLUSTER b.glyphs
+
+-- Positions by the font go with each glyph, so that they may as well be given to each syllable for itself, before its order: what
+-- a syllable becomes then, and the steps that lead there.
+abbrev pub order_by_font : Font → Map → indic_shape_plan_t → Option Script → List hb_glyph_info_t → List hb_glyph_info_t
+order_by_font font m p script gs = initial_order (rules_of font m p) script (positions_by_font font m p gs)
+
+abbrev pub steps_by_font : Font → Map → indic_shape_plan_t → Option Script → List hb_glyph_info_t → List Step
+steps_by_font font m p script gs = initial_steps (rules_of font m p) script (positions_by_font font m p gs)
+
+-- what the plan keeps for Indic; where it keeps nothing, what it would
+abbrev pub indic_data : indic_shape_plan_t → PlanData → indic_shape_plan_t
+indic_data otherwise (Indic kept) = kept
+indic_data otherwise _ = otherwise
+
+abbrev pub indic_in : hb_ot_shape_plan_t → indic_shape_plan_t
+indic_in plan = indic_data (indic_plan plan.script plan.ot_map) plan.plan_data

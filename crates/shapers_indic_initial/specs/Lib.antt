@@ -1,8 +1,11 @@
+pub mod CycleWalk
 pub mod InitialBase
 pub mod InitialFont
+pub mod InitialLaws
 pub mod InitialMasks
 pub mod InitialOrder
 pub mod InitialPause
 pub mod InitialPositions
 pub mod InitialReordering
 pub mod InitialRules
+pub mod OrderWalk

@@ -1,8 +1,13 @@
 //! The initial reordering of Indic syllables: positions by the font, dotted circles, and then each
 //! syllable by itself. (OpenType, development of Indic scripts: "Reorder characters".)
 mod base;
+mod cycles;
 mod font_positions;
 mod halant;
+mod masks;
 mod opening;
+mod order;
+mod ordered_base;
 mod positions;
+mod reordering;
 mod reph;

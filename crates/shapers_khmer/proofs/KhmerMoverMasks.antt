@@ -1,11 +1,9 @@
 -- The masks by cases of a regular syllable are those by its movers.
 use Rattle.std.proofs.Common.{ℕ, suc, ◌+◌, ◌-◌, ◌<◌, ◌≤◌, ◌≡◌, ◌==◌, Bool, true, false, not, inl, inr, nat_le, nat_lt, ◌&&◌, ◌||◌, List, [], ◌∷◌, ◌++◌, map, length, take, drop, get_or, filter, flat_map, refl, sym, ◌∙◌, ap, subst, arith, append_assoc, length-append, length-take, length-drop}
-use Rattle.std.specs.Int.Bits.{bit_or}
 use Rattle.std.specs.List.{enumerate_from, list_any, range_with_len}
 use Rattle.std.proofs.Math.Seq.{get_or-append_seam}
 use Rattle.std.proofs.lemmas.Bool.{cases_Bool, cases_lt, eq-eqb, le-ltb, lt-ltb, ne_eqb}
 use Rattle.std.proofs.lemmas.List.{get_or-append_right, get_or_append_left, get_or-drop, get_or-map, get_or-take, length-map}
-use Rattle.std.proofs.lemmas.Nat.Bits.{bit_at_or, same_from_bits}
 use Rattle.shapers_buffer.specs.Clusters.{stretch_of}
 use Rattle.shapers_buffer.specs.Glyph.{without_flags}
 use Rattle.shapers_buffer.specs.declared.buffer.glyph.hb_glyph_info_t.{hb_glyph_info_t}
@@ -16,22 +14,17 @@ use Rattle.std.proofs.lemmas.List.FromFn.{get_or-enumerate_from, length-enumerat
 use Rattle.std.proofs.lemmas.Bool.{and_parts}
 use Rattle.shapers_buffer.specs.Glyph.{default_glyph}
 use Rattle.shapers_buffer.specs.Lists.{each_after}
+use Rattle.shapers_buffer.proofs.MaskBits.{or_swap, or_twice}
 use Rattle.shapers_khmer.specs.Khmer.{Pair, brought, is_coeng, is_left_vowel, is_ro, khmer_masked, khmer_moves, masked, masked_all, masked_for, merged_for, moves_by_cases, sorts_of, with_mask}
-use Rattle.shapers_khmer.specs.KhmerCases.{brought_parts}
-use Rattle.shapers_khmer.specs.KhmerMasks.{length-masked, length-sorts}
+use Rattle.shapers_khmer.proofs.KhmerCases.{brought_parts}
+use Rattle.shapers_khmer.proofs.KhmerMasks.{length-masked, length-sorts}
 use Rattle.shapers_khmer.specs.KhmerWalk.{paired}
-use Rattle.shapers_khmer.specs.KhmerLaws.{hidden-masked_all, khmer_ends}
+use Rattle.shapers_khmer.proofs.KhmerLaws.{hidden-masked_all, khmer_ends}
 use Rattle.shapers_clusters.specs.Cuts.{EndWithin}
 use Rattle.shapers_khmer.specs.KhmerMovers.{Alone, Coeng, KhmerMoversMasksLaw, Part, behind_coengs, coeng_place, is_coeng_or_left_vowel, is_mover, masked_at, moving_coengs, parts_from, with_mask_if}
 use Rattle.shapers_khmer.proofs.KhmerMovers.{count_alone, count_coeng, counted, counted_on, first_looked, first_part, inner_behind, inner_tail, is_inner, longer, looked, looked_coeng, looked_other, looked_pair, looked_vowel, moves_by_count, neither, range_behind}
 
 -- MASKS COMMUTE, and one added twice is added once
-or_swap : (x a b : ℕ) → bit_or (bit_or x b) a ≡ bit_or (bit_or x a) b
-or_swap x a b = same_from_bits (bit_or (bit_or x b) a) (bit_or (bit_or x a) b) (λ i. omega (arith, bit_at_or (bit_or x b) a i, bit_at_or x b i, bit_at_or (bit_or x a) b i, bit_at_or x a i))
-
-or_twice : (x a : ℕ) → bit_or (bit_or x a) a ≡ bit_or x a
-or_twice x a = same_from_bits (bit_or (bit_or x a) a) (bit_or x a) (λ i. omega (arith, bit_at_or (bit_or x a) a i, bit_at_or x a i))
-
 swap_if : (a b : Bool) (m k : ℕ) (g : hb_glyph_info_t) → with_mask_if a m (with_mask_if b k g) ≡ with_mask_if b k (with_mask_if a m g)
 swap_if true true m k g = ap (λ (x : ℕ). record g { mask = x }) (or_swap g.mask (without_flags m) (without_flags k))
 swap_if true false m k g = refl

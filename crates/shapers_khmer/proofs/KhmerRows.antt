@@ -9,7 +9,7 @@ use Rattle.shapers_base.specs.Font.{CharacterTables}
 use Rattle.shapers_base.specs.declared.plan.joining.hb_arabic_joining_type_t.TheVariants.{U}
 use Rattle.shapers_clusters.specs.Steps.{run_step}
 use Rattle.shapers_khmer.specs.declared.ot_shaper_khmer.reordering.KhmerOrder.{KhmerOrder}
-use Rattle.shapers_khmer.specs.Khmer.{decomposed_in_khmer, is_coeng, is_ro, is_left_vowel, is_reordered, khmer_order, khmer_step, order_in, with_mask}
+use Rattle.shapers_khmer.specs.Khmer.{decomposed_in_khmer, is_coeng, is_ro, is_left_vowel, is_reordered, khmer_circles, khmer_order, khmer_step, order_in, with_mask}
 use Rattle.shapers_base.specs.declared.plan.PlanData.TheVariants.{Khmer}
 use Rattle.shapers_buffer.specs.Syllables.{unknown_refusal}
 use Rattle.shapers_buffer.specs.declared.buffer.refusal.ShaperError.TheVariants.{UnknownSyllable}
@@ -157,3 +157,7 @@ unknown = refl
 -- the masks by the plan's data
 by_plan : order_in (Khmer (record { mask_array = 0x10 ∷ 0x20 ∷ 0x40 ∷ 0x80 ∷ 0x100 ∷ 0 ∷ 0 ∷ 0 ∷ 0 ∷ [] })) ≡ by_masks
 by_plan = refl
+
+-- dotted circles, of category 11, come into broken syllables, of kind 1, behind leading glyphs of category 14
+circles : khmer_circles ≡ record { broken_kind = 1; category = 11; repha = Some 14; position = None }
+circles = refl

@@ -1,9 +1,13 @@
 mod ConstantRows
+pub mod KhmerCases
+pub mod KhmerLaws
 pub mod KhmerListing
+pub mod KhmerMasks
 pub mod KhmerMoverMasks
 pub mod KhmerMoverMerges
 pub mod KhmerMovers
 mod KhmerMoversRows
+pub mod KhmerMoves
 mod KhmerRows
 pub mod KhmerSerials
 pub mod KhmerSteps

@@ -1,10 +1,5 @@
 pub mod Khmer
-pub mod KhmerCases
-pub mod KhmerLaws
-pub mod KhmerMasks
 pub mod KhmerMovers
-pub mod KhmerMoves
-pub mod KhmerPlaces
 pub mod KhmerWalk
 pub mod Plan
 pub mod Requests

@@ -91,8 +91,8 @@ pub fn create_data(plan: &hb_ot_shape_plan_t) -> PlanData
     })
 }
 
-/// The composition of two characters by the table; a mark composes with nothing behind it, so that a
-/// split vowel isn't put together again.
+/// The composition of two characters by the table; a mark composes with nothing behind it, so that
+/// a split vowel isn't put together again.
 pub fn compose<T: Tables>(tables: &T, a: char, b: char) -> Option<char>
     ensures { result ≡ composed_behind (T.tables tables.now) a b }
 {
@@ -110,7 +110,8 @@ pub fn decompose<T: Tables>(tables: &T, ab: char) -> Option<(char, char)>
     }
 }
 
-/// Gives each glyph its category by the table; the masks wait for the reordering. It takes no memory.
+/// Gives each glyph its category by the table; the masks wait for the reordering. It takes no
+/// memory.
 pub fn setup_masks<T: Tables>(tables: &T, buffer: &mut hb_buffer_t)
     ensures { buffer.new ≡
         record buffer.old { glyphs = map (with_category (T.tables tables.now)) buffer.old.glyphs } }

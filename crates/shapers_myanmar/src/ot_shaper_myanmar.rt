@@ -8,10 +8,10 @@ ghost use Rattle.shapers_clusters.specs.Laws.{ReorderedHold};
 ghost use Rattle.shapers_buffer.specs.Refusals.{Refuses};
 ghost use Rattle.shapers_buffer.specs.Syllables.{unknown_refusal};
 ghost use Rattle.shapers_syllabic.specs.Characters.{with_category};
-ghost use Rattle.shapers_syllabic.specs.Circles.{circled, circles_for};
-ghost use Rattle.shapers_syllabic.specs.Reordering.{PauseReordered, carried, text_steps};
+ghost use Rattle.shapers_syllabic.specs.Circles.{circled};
+ghost use Rattle.shapers_syllabic.specs.Reordering.{PauseReordered, carried, circles_of_sort, text_steps};
 ghost use Rattle.shapers_syllabic.specs.ReorderingLaws.{PauseCutsAtBorders};
-ghost use Rattle.shapers_myanmar.specs.Myanmar.{myanmar_order, myanmar_steps};
+ghost use Rattle.shapers_myanmar.specs.Myanmar.{myanmar_circles, myanmar_order, myanmar_steps};
 ghost use Rattle.shapers_myanmar.specs.Requests.{myanmar_list};
 
 mod positions;
@@ -86,27 +86,22 @@ pub fn reorder_myanmar<F: hb_font_t>(
     buffer: &mut hb_buffer_t,
 ) -> Result<bool, ShaperError>
     requires { buffer.old.positions ≡ [] }
-    ensures answer { let circles = circles_for ((F.font face.now).nominal 0x25CC)
-        2 OT_DOTTEDCIRCLE None None buffer.old in
+    ensures answer { let circles = circles_of_sort myanmar_circles (F.font face.now) buffer.old in
         IfOk result (λ answer. answer ≡ is_some circles) }
-    ensures order { let circles = circles_for ((F.font face.now).nominal 0x25CC)
-        2 OT_DOTTEDCIRCLE None None buffer.old in
+    ensures order { let circles = circles_of_sort myanmar_circles (F.font face.now) buffer.old in
         OnOk result (PauseReordered circles myanmar_order myanmar_steps buffer.old buffer.new) }
-    ensures cut { let circles = circles_for ((F.font face.now).nominal 0x25CC)
-        2 OT_DOTTEDCIRCLE None None buffer.old in
+    ensures cut { let circles = circles_of_sort myanmar_circles (F.font face.now) buffer.old in
         OnOk result (PauseCutsAtBorders circles myanmar_order myanmar_steps buffer.old buffer.new) }
-    ensures laws { let circles = circles_for ((F.font face.now).nominal 0x25CC)
-        2 OT_DOTTEDCIRCLE None None buffer.old in
+    ensures laws { let circles = circles_of_sort myanmar_circles (F.font face.now) buffer.old in
         let opened = record buffer.old { glyphs = circled circles buffer.old.glyphs } in
         let steps = text_steps myanmar_steps (order_view opened.glyphs) in
         OnOk result (ReorderedHold carried opened.level steps opened.glyphs buffer.new.glyphs) }
-    ensures refusal { let circles = circles_for ((F.font face.now).nominal 0x25CC)
-        2 OT_DOTTEDCIRCLE None None buffer.old in
+    ensures refusal { let circles = circles_of_sort myanmar_circles (F.font face.now) buffer.old in
         Refuses (unknown_refusal 3 buffer.old.glyphs)
         buffer.old.max_len (length (circled circles buffer.old.glyphs)) result }
     ensures err { OnErr result (buffer.new ≡ buffer.old) }
-    ensures without_memory { let circles = circles_for ((F.font face.now).nominal 0x25CC)
-        2 OT_DOTTEDCIRCLE None None buffer.old in
+    ensures without_memory { let font = F.font face.now in
+        let circles = circles_of_sort myanmar_circles font buffer.old in
         unknown_refusal 3 buffer.old.glyphs ≡ None →
         circled circles buffer.old.glyphs ≡ buffer.old.glyphs → IsOk result }
 {

@@ -141,9 +141,9 @@ can_next can gs start end some end_is h =
     subst (λ j. can (take j rest)) size (All-head can (take k rest) (syllables (drop k rest)) (subst (All can) cut h))
 
 -- the same where both hang on the buffer's script, which stays
-pub reordered_next_in : (meaning : Option Script → List hb_glyph_info_t → List hb_glyph_info_t) (steps : Option Script → List hb_glyph_info_t → List Step) (can : List hb_glyph_info_t → Type 0) (old now new : Buffer) (start end : ℕ) → ((script : Option Script) → ReorderLaws (meaning script) (steps script)) → ToReorder (meaning old.script) (steps old.script) can old now start → start < length now.glyphs → end ≡ start + first_syllable_len (drop start now.glyphs) → SyllableReordered (meaning now.script) (steps now.script) start end now new → ReorderedNext (meaning old.script) (steps old.script) can old now new end
+pub reordered_next_in : (meaning : Option Script → List hb_glyph_info_t → List hb_glyph_info_t) (steps : Option Script → List hb_glyph_info_t → List Step) (can : List hb_glyph_info_t → Type 0) (old now new : Buffer) (start end : ℕ) → ReorderLaws (meaning old.script) (steps old.script) → ToReorder (meaning old.script) (steps old.script) can old now start → start < length now.glyphs → end ≡ start + first_syllable_len (drop start now.glyphs) → SyllableReordered (meaning now.script) (steps now.script) start end now new → ReorderedNext (meaning old.script) (steps old.script) can old now new end
 reordered_next_in meaning steps can old now new start end laws to some end_is done =
-    reordered_next (meaning old.script) (steps old.script) can old now new start end (laws old.script) to some end_is
+    reordered_next (meaning old.script) (steps old.script) can old now new start end laws to some end_is
     (subst (λ script. SyllableReordered (meaning script) (steps script) start end now new) (ap (λ (b : Buffer). b.script) to.others) done)
 
 -- a buffer with its circles, and then reordered

@@ -1,4 +1,5 @@
-//! What the shapers of syllabic scripts share: syllables by spans, dotted circles, reordering, clearing.
+//! What the shapers of syllabic scripts share: syllables by spans, dotted circles, reordering,
+//! clearing.
 mod characters;
 mod circles;
 mod clearing;

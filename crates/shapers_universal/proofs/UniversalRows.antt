@@ -1,10 +1,11 @@
 -- The order of the universal shaper, computed on small syllables.
-use Rattle.std.specs.Prelude.{ℕ, suc, ◌≡◌, Bool, true, false, not, filter, List, [], ◌∷◌, map, refl}
+use Rattle.std.specs.Prelude.{ℕ, suc, ◌≡◌, None, Some, Bool, true, false, not, filter, List, [], ◌∷◌, map, refl}
 use Rattle.std.specs.List.{range_with_len}
 use Rattle.shapers_buffer.specs.declared.buffer.glyph.hb_glyph_info_t.{hb_glyph_info_t}
 use Rattle.shapers_buffer.specs.declared.buffer.level.BufferClusterLevel.TheVariants.{MonotoneGraphemes}
 use Rattle.shapers_buffer.specs.Glyph.{clusters, default_glyph}
 use Rattle.shapers_clusters.specs.Steps.{run_steps}
+use Rattle.shapers_universal.specs.UniversalText.{universal_circles}
 use Rattle.shapers_universal.specs.Universal.{goes_front, is_halant, is_passed, is_reordered, universal_order, universal_steps}
 
 -- glyphs of one syllable of kind 2 by their categories, numbered from 0 in clusters of their own
@@ -77,3 +78,7 @@ other_marks = refl
 
 components : map (λ comp. goes_front (record (of_category 22) { lig_comp = comp })) (0 ∷ 1 ∷ 15 ∷ []) ≡ true ∷ false ∷ false ∷ []
 components = refl
+
+-- dotted circles, of category 1, come into broken syllables, of kind 7, behind leading glyphs of category 18
+circles : universal_circles ≡ record { broken_kind = 7; category = 1; repha = Some 18; position = None }
+circles = refl

@@ -21,9 +21,9 @@ use Rattle.shapers_syllabic.proofs.ReorderingLemmas.{old_places_one}
 use Rattle.shapers_clusters.proofs.Widened.{order_view-widened, fits-widened, map-range, pick-widened, range-append}
 use Rattle.shapers_universal.specs.Universal.{first_behind, goes_front, goes_front_at, is_halant, is_reordered, piece_step, piece_steps, pieces, reph_moved, reph_run, reph_step, reversed_first, universal_order, universal_steps}
 use Rattle.shapers_universal.specs.UniversalWalk.{first_piece_len, last_first}
-use Rattle.shapers_universal.specs.UniversalLists.{permuted-reversed_first, pick-first_behind, pick-reversed_first, reversed_first-no, reversed_first-yes}
-use Rattle.shapers_universal.specs.UniversalSteps.{piece_fits, pieces_sum, reph_fits, reph_run-within, universal_fits}
-use Rattle.shapers_universal.specs.UniversalView.{goes_front_at-view, pieces_cut-view, piece_steps-view, picked_order, reph_picks, universal_order-view, universal_steps-view}
+use Rattle.shapers_universal.proofs.UniversalLists.{permuted-reversed_first, pick-first_behind, pick-reversed_first, reversed_first-no, reversed_first-yes}
+use Rattle.shapers_universal.proofs.UniversalSteps.{piece_fits, pieces_sum, reph_fits, reph_run-within, universal_fits}
+use Rattle.shapers_universal.proofs.UniversalView.{goes_front_at-view, pieces_cut-view, piece_steps-view, picked_order, reph_picks, universal_order-view, universal_steps-view}
 
 -- a stretch of a text, its length and its view
 pub length-stretch : {X : Type 0} (s e : ℕ) (xs : List X) → s ≤ e → e ≤ length xs → length (stretch_of s e xs) ≡ e - s

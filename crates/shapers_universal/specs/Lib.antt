@@ -1,10 +1,7 @@
 pub mod PlanData
 pub mod Requests
 pub mod Universal
-pub mod UniversalLists
 pub mod UniversalMasks
-pub mod UniversalSteps
 pub mod UniversalSyllables
 pub mod UniversalText
-pub mod UniversalView
 pub mod UniversalWalk

@@ -50,8 +50,8 @@ impl hb_ot_shaper_t {
         }
     }
 
-    /// Whether the glyphs are such as `setup_masks` asks for: for Arabic, and for the universal shaper
-    /// where letters join, characters.
+    /// Whether the glyphs are such as `setup_masks` asks for: for Arabic, and for the universal
+    /// shaper where letters join, characters.
     pub fn glyphs_fit(self, plan: &hb_ot_shape_plan_t, buffer: &hb_buffer_t) -> bool
         ensures { IsTrue result ↔ GlyphsFit self plan.now buffer.now.glyphs }
     {

@@ -54,8 +54,10 @@ pub fn run_pause<F: hb_font_t>(
     requires settled { CanPause pause }
     requires data { PauseFits pause plan.now }
     ensures answer { IfOk result (PauseAnswers pause (F.font face.now) buffer.old) }
-    ensures ok { OnOk result (Paused pause plan.now (F.font face.now) spans.now buffer.old buffer.new) }
-    ensures laws { OnOk result (PauseKeeps pause plan.now (F.font face.now) spans.now buffer.old buffer.new) }
+    ensures ok { let font = F.font face.now in
+        OnOk result (Paused pause plan.now font spans.now buffer.old buffer.new) }
+    ensures laws { let font = F.font face.now in
+        OnOk result (PauseKeeps pause plan.now font spans.now buffer.old buffer.new) }
     ensures refusal { RefusesPause pause (F.font face.now) spans.now buffer.old result }
     ensures err { OnErr result (buffer.new ≡ buffer.old) }
 {

@@ -83,50 +83,15 @@ impl hb_ot_shaper_t {
         ensures { result ≡ hooks_of self }
     {
         match self {
-            Self::Arabic => Hooks {
-                collect_features: Has,
-                create_data: Has,
-                postprocess_glyphs: WillHave,
-                setup_masks: Has,
-                reorder_marks: Has,
-                ..NO_HOOKS
-            },
-            Self::Hangul => Hooks {
-                collect_features: Has,
-                override_features: Has,
-                create_data: Has,
-                preprocess_text: Has,
-                setup_masks: Has,
-                ..NO_HOOKS
-            },
-            Self::Hebrew => Hooks {
-                compose: Has,
-                reorder_marks: Has,
-                ..NO_HOOKS
-            },
-            Self::Indic => Hooks {
-                preprocess_text: Has,
-                ..KHMER_HOOKS
-            },
+            Self::Arabic => ARABIC_HOOKS,
+            Self::Hangul => HANGUL_HOOKS,
+            Self::Hebrew => HEBREW_HOOKS,
+            Self::Indic => INDIC_HOOKS,
             Self::Khmer => KHMER_HOOKS,
-            Self::Myanmar => Hooks {
-                collect_features: Has,
-                setup_masks: Has,
-                ..NO_HOOKS
-            },
+            Self::Myanmar => MYANMAR_HOOKS,
             Self::MyanmarZawgyi => NO_HOOKS,
-            Self::Thai => Hooks {
-                preprocess_text: Has,
-                ..NO_HOOKS
-            },
-            Self::Universal => Hooks {
-                collect_features: Has,
-                create_data: Has,
-                preprocess_text: Has,
-                compose: Has,
-                setup_masks: Has,
-                ..NO_HOOKS
-            },
+            Self::Thai => THAI_HOOKS,
+            Self::Universal => UNIVERSAL_HOOKS,
         }
     }
 }
@@ -144,6 +109,30 @@ const NO_HOOKS: Hooks = Hooks {
     reorder_marks: Lacks,
 };
 
+const ARABIC_HOOKS: Hooks = Hooks {
+    collect_features: Has,
+    create_data: Has,
+    postprocess_glyphs: WillHave,
+    setup_masks: Has,
+    reorder_marks: Has,
+    ..NO_HOOKS
+};
+
+const HANGUL_HOOKS: Hooks = Hooks {
+    collect_features: Has,
+    override_features: Has,
+    create_data: Has,
+    preprocess_text: Has,
+    setup_masks: Has,
+    ..NO_HOOKS
+};
+
+const HEBREW_HOOKS: Hooks = Hooks {
+    compose: Has,
+    reorder_marks: Has,
+    ..NO_HOOKS
+};
+
 // The hooks of Khmer, which Indic has too.
 const KHMER_HOOKS: Hooks = Hooks {
     collect_features: Has,
@@ -151,6 +140,31 @@ const KHMER_HOOKS: Hooks = Hooks {
     create_data: Has,
     compose: Has,
     decompose: Has,
+    setup_masks: Has,
+    ..NO_HOOKS
+};
+
+const INDIC_HOOKS: Hooks = Hooks {
+    preprocess_text: Has,
+    ..KHMER_HOOKS
+};
+
+const MYANMAR_HOOKS: Hooks = Hooks {
+    collect_features: Has,
+    setup_masks: Has,
+    ..NO_HOOKS
+};
+
+const THAI_HOOKS: Hooks = Hooks {
+    preprocess_text: Has,
+    ..NO_HOOKS
+};
+
+const UNIVERSAL_HOOKS: Hooks = Hooks {
+    collect_features: Has,
+    create_data: Has,
+    preprocess_text: Has,
+    compose: Has,
     setup_masks: Has,
     ..NO_HOOKS
 };

@@ -6,8 +6,8 @@ ghost use Rattle.shapers_arabic.specs.PlanData.{arabic_plan, masks_of};
 use shapers_base::buffer::hb_tag_t;
 use shapers_base::plan::{PlanData, arabic_shape_plan_t, hb_ot_shape_plan_t};
 
-/// What the shaper keeps in the plan: the masks of the joining forms, which touch no glyph flag bit,
-/// whether marks stretch, and where these begin.
+/// What the shaper keeps in the plan: the masks of the joining forms, which touch no glyph flag
+/// bit, whether marks stretch, and where these begin.
 pub fn data_create_arabic(plan: &hb_ot_shape_plan_t) -> arabic_shape_plan_t
     ensures data { result ≡ arabic_plan plan.now.stretch_start plan.now.ot_map }
     ensures off_flags { AllByRecursion (λ mask. mask % 8 ≡ 0) result.mask_array }

@@ -23,8 +23,8 @@ const MODIFIERS: [u32; 14] = [
 const ABOVE: u8 = 230;
 
 /// Among the marks from `start` to `end`, brings those that modify a letter to the front, in
-/// classes of their own: first the ones below it, then the ones above it. What they pass merges with
-/// them. It can't refuse and takes no memory. (Unicode Technical Report 53.)
+/// classes of their own: first the ones below it, then the ones above it. What they pass merges
+/// with them. It can't refuse and takes no memory. (Unicode Technical Report 53.)
 pub fn reorder_marks(plan: &hb_ot_shape_plan_t, buffer: &mut hb_buffer_t, start: usize, end: usize)
     requires in_order { start ≤ end }
     requires in_range { end ≤ length buffer.old.glyphs }

@@ -31,7 +31,10 @@ impl<'a, T: Tables, L: Ledger> GlyphWalk for JoiningWalk<'a, T, L> {
 
     ghost can_walk = { λ w gs. AreCharacters gs × IsNearest w.before × IsNearest w.after };
 
-    ghost walks = { λ v w gs hs. JoinsAll v.masks.now v.script (T.tables v.tables.now).joining v.before v.after gs hs × (w.count.now ≡ v.count.now + length gs) × (w.count.ghost_name ≡ v.count.ghost_name) };
+    ghost walks = { λ v w gs hs.
+        JoinsAll v.masks.now v.script (T.tables v.tables.now).joining v.before v.after gs hs
+        × (w.count.now ≡ v.count.now + length gs)
+        × (w.count.ghost_name ≡ v.count.ghost_name) };
 
     fn walk(&mut self, glyphs: &mut [hb_glyph_info_t]) {
         join(
@@ -49,7 +52,9 @@ impl<'a, T: Tables, L: Ledger> GlyphWalk for JoiningWalk<'a, T, L> {
 // Gives the selectors their forms, with the script Mongolian alone, and all glyphs their masks.
 fn finish_forms(script: Option<Script>, masks: &[u32; 8], glyphs: &mut [hb_glyph_info_t])
     requires { HaveMasks glyphs.old }
-    ensures { glyphs.new ≡ map (with_mask masks.now) (if is_mongolian script then with_copied None glyphs.old else glyphs.old) }
+    ensures { let copied = with_copied None glyphs.old in
+        let formed = if is_mongolian script then copied else glyphs.old in
+        glyphs.new ≡ map (with_mask masks.now) formed }
 {
     if script == Some(Script(*b"Mong")) {
         copy_to_selectors(glyphs);

@@ -59,8 +59,8 @@ pub struct IndicWouldSubstituteFeature {
 }
 
 impl IndicWouldSubstituteFeature {
-    /// The question about the lookups of a feature's stage. With `zero_context` only those count that
-    /// ask for no context around the glyphs.
+    /// The question about the lookups of a feature's stage. With `zero_context` only those count
+    /// that ask for no context around the glyphs.
     pub fn new(map: &hb_ot_map_t, feature_tag: hb_tag_t, zero_context: bool) -> Self
         ensures { result ≡ question_for feature_tag zero_context map.now }
     {

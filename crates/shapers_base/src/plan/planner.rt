@@ -80,7 +80,8 @@ impl hb_ot_shape_planner_t {
 
     /// Asks for a feature. The only refusal is `Memory`.
     pub fn add_feature(&mut self, tag: hb_tag_t, flags: u32, value: u32) -> Result<(), ShaperError>
-        ensures ok { OnOk result (self.new ≡ with_requests (Request.Feature tag flags value ∷ []) self.old) }
+        ensures ok { let list = Request.Feature tag flags value ∷ [] in
+            OnOk result (self.new ≡ with_requests list self.old) }
         ensures refusal { IsOkUnless result Memory }
         ensures err { OnErr result (self.new ≡ self.old) }
     {
@@ -94,7 +95,8 @@ impl hb_ot_shape_planner_t {
         flags: u32,
         value: u32,
     ) -> Result<(), ShaperError>
-        ensures ok { OnOk result (self.new ≡ with_requests (Request.Feature tag (bit_or flags F_GLOBAL) value ∷ []) self.old) }
+        ensures ok { let list = Request.Feature tag (bit_or flags F_GLOBAL) value ∷ [] in
+            OnOk result (self.new ≡ with_requests list self.old) }
         ensures refusal { IsOkUnless result Memory }
         ensures err { OnErr result (self.new ≡ self.old) }
     {
@@ -103,7 +105,8 @@ impl hb_ot_shape_planner_t {
 
     /// Asks that a feature be off. The only refusal is `Memory`.
     pub fn disable_feature(&mut self, tag: hb_tag_t) -> Result<(), ShaperError>
-        ensures ok { OnOk result (self.new ≡ with_requests (Request.Feature tag F_GLOBAL 0 ∷ []) self.old) }
+        ensures ok { let list = Request.Feature tag F_GLOBAL 0 ∷ [] in
+            OnOk result (self.new ≡ with_requests list self.old) }
         ensures refusal { IsOkUnless result Memory }
         ensures err { OnErr result (self.new ≡ self.old) }
     {

@@ -18,7 +18,8 @@ impl hb_buffer_t {
     /// Sets where the glyph at place `i` is drawn; `i` is below the number of positions.
     pub fn set_position(&mut self, i: usize, position: GlyphPosition)
         requires { i < length self.old.positions }
-        ensures { self.new ≡ record self.old { positions = slice_set self.old.positions i position } }
+        ensures { self.new ≡
+            record self.old { positions = slice_set self.old.positions i position } }
     {
         self.pos[i] = position;
     }
@@ -42,7 +43,8 @@ impl hb_buffer_t {
     /// changes.
     pub fn set_positions(&mut self, positions: Vec<GlyphPosition>) -> bool
         ensures answer { result ≡ can_be_positions positions.items self.old }
-        ensures changed { self.new ≡ (if result then record self.old { positions = positions.items } else self.old) }
+        ensures changed { let taken = record self.old { positions = positions.items } in
+            self.new ≡ (if result then taken else self.old) }
     {
         let fits = positions.is_empty() || positions.len() == self.info.len();
         if fits {

@@ -19,7 +19,10 @@ impl Flags for BufferFlags {
 
     ghost exact = { ⊤ };
 
-    ghost table = { (codes "DO_NOT_INSERT_DOTTED_CIRCLE", 0x20) ∷ (codes "PRODUCE_UNSAFE_TO_CONCAT", 0x40) ∷ (codes "PRODUCE_SAFE_TO_INSERT_TATWEEL", 0x80) ∷ [] };
+    ghost table = { (codes "DO_NOT_INSERT_DOTTED_CIRCLE", 0x20)
+        ∷ (codes "PRODUCE_UNSAFE_TO_CONCAT", 0x40)
+        ∷ (codes "PRODUCE_SAFE_TO_INSERT_TATWEEL", 0x80)
+        ∷ [] };
 
     ghost set_of = { λ f. f.0 };
 

@@ -32,11 +32,13 @@ impl hb_buffer_t {
         unsafe_to_break_in(&mut self.info, s, e);
     }
 
-    /// Flags every place from `s` to `e` as unsafe to concatenate, where the buffer asks for that flag.
+    /// Flags every place from `s` to `e` as unsafe to concatenate, where the buffer asks for that
+    /// flag.
     pub fn unsafe_to_concat(&mut self, s: usize, e: usize)
         requires in_order { s ≤ e }
         requires in_range { e ≤ length self.old.glyphs }
-        ensures { self.new ≡ record self.old { glyphs = unsafe_to_concat_in (asks 0x40 self.old) s e self.old.glyphs } }
+        ensures { let flagged = unsafe_to_concat_in (asks 0x40 self.old) s e self.old.glyphs in
+            self.new ≡ record self.old { glyphs = flagged } }
     {
         unsafe_to_concat_in(self.flags, &mut self.info, s, e);
     }
@@ -46,7 +48,8 @@ impl hb_buffer_t {
     pub fn safe_to_insert_tatweel(&mut self, s: usize, e: usize)
         requires in_order { s ≤ e }
         requires in_range { e ≤ length self.old.glyphs }
-        ensures { self.new ≡ record self.old { glyphs = tatweel_inside (asks 0x80 self.old) s e self.old.glyphs } }
+        ensures { let flagged = tatweel_inside (asks 0x80 self.old) s e self.old.glyphs in
+            self.new ≡ record self.old { glyphs = flagged } }
     {
         safe_to_insert_tatweel_in(self.flags, &mut self.info, s, e);
     }

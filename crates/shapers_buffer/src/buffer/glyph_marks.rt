@@ -25,7 +25,8 @@ impl Flags for GlyphMarks {
 
     ghost exact = { ⊤ };
 
-    ghost table = { (codes "SUBSTITUTED", 1) ∷ (codes "LIGATED", 2) ∷ (codes "MULTIPLIED", 4) ∷ (codes "IGNORABLE", 8) ∷ (codes "CONTINUATION", 16) ∷ [] };
+    ghost table = { (codes "SUBSTITUTED", 1) ∷ (codes "LIGATED", 2) ∷ (codes "MULTIPLIED", 4)
+        ∷ (codes "IGNORABLE", 8) ∷ (codes "CONTINUATION", 16) ∷ [] };
 
     ghost set_of = { λ marks. marks.0 };
 

@@ -33,7 +33,8 @@ impl hb_buffer_t {
         requires in_order { start ≤ end }
         requires in_range { end ≤ length self.old.glyphs }
         requires permutes { ListsEachOnce start end self.old.places }
-        ensures { self.new ≡ record self.old { glyphs = placed start end self.old.places self.old.glyphs } }
+        ensures { let moved = placed start end self.old.places self.old.glyphs in
+            self.new ≡ record self.old { glyphs = moved } }
     {
         reorder(&mut self.info, &self.places, &mut self.spare, start, end);
     }

@@ -7,7 +7,10 @@ use super::hb_buffer_t;
 impl hb_buffer_t {
     /// Turns the glyphs round, with their positions.
     pub fn reverse(&mut self)
-        ensures { self.new ≡ record self.old { glyphs = reverse self.old.glyphs; positions = reverse self.old.positions } }
+        ensures { self.new ≡ record self.old {
+          glyphs = reverse self.old.glyphs;
+          positions = reverse self.old.positions;
+        } }
     {
         self.info.reverse();
         self.pos.reverse();
@@ -17,7 +20,10 @@ impl hb_buffer_t {
     pub fn reverse_range(&mut self, s: usize, e: usize)
         requires in_order { s ≤ e }
         requires in_range { e ≤ length self.old.glyphs }
-        ensures { self.new ≡ record self.old { glyphs = with_stretch s e reverse self.old.glyphs; positions = with_stretch s e reverse self.old.positions } }
+        ensures { self.new ≡ record self.old {
+          glyphs = with_stretch s e reverse self.old.glyphs;
+          positions = with_stretch s e reverse self.old.positions;
+        } }
     {
         self.info[s..e].reverse();
         if !self.pos.is_empty() {

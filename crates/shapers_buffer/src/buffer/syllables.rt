@@ -17,15 +17,15 @@ pub struct Span {
 }
 
 impl hb_buffer_t {
-    /// Where the syllable ends that place `s` stands in: behind the longest run of its byte from `s` on.
+    /// Where the syllable ends that place `s` stands in: behind the longest run of its byte from
+    /// `s` on.
     pub fn next_syllable(&self, s: usize) -> usize
         requires { s < length self.now.glyphs }
         ensures end { result ≡ s + first_syllable_len (drop s self.now.glyphs) }
         ensures within { result ≤ length self.now.glyphs }
         ensures further { s < result }
     {
-        let byte = self.info[s].syllable;
-        s + 1 + syllable_run_len(&self.info[s + 1..], byte)
+        s + first_syllable_len(&self.info[s..])
     }
 
     /// The first place of the first syllable whose kind is above `last_kind`: one of unknown kind.
@@ -55,8 +55,18 @@ impl hb_buffer_t {
     }
 }
 
-/// How many glyphs at the front have this syllable byte.
-pub fn syllable_run_len(glyphs: &[hb_glyph_info_t], byte: u8) -> usize
+/// How long the syllable is that opens the text: the longest run of its first byte.
+pub fn first_syllable_len(glyphs: &[hb_glyph_info_t]) -> usize
+    requires { 0 < length glyphs.now }
+    ensures len { result ≡ first_syllable_len glyphs.now }
+    ensures some { 0 < result }
+    ensures within { result ≤ length glyphs.now }
+{
+    1 + syllable_run_len(&glyphs[1..], glyphs[0].syllable)
+}
+
+// How many glyphs at the front have this syllable byte.
+fn syllable_run_len(glyphs: &[hb_glyph_info_t], byte: u8) -> usize
     ensures run { result ≡ prefix_len (has_byte byte) glyphs.now }
     ensures within { result ≤ length glyphs.now }
 {

@@ -37,7 +37,8 @@ pub trait PositionedWalk {
 
     ghost can_walk: { Self → List hb_glyph_info_t → List GlyphPosition → Type 0 };
 
-    ghost walks: { Self → List hb_glyph_info_t → List GlyphPosition → List hb_glyph_info_t → List GlyphPosition → Type 0 };
+    ghost walks: { Self → List hb_glyph_info_t → List GlyphPosition
+        → List hb_glyph_info_t → List GlyphPosition → Type 0 };
 
     /// Walks over the glyphs and their positions.
     fn walk(&self, glyphs: &mut [hb_glyph_info_t], positions: &mut [GlyphPosition])
@@ -50,7 +51,8 @@ impl hb_buffer_t {
     pub fn change_each<C: GlyphChange>(&mut self, s: usize, e: usize, change: &C)
         requires in_order { s ≤ e }
         requires in_range { e ≤ length self.old.glyphs }
-        ensures { self.new ≡ record self.old { glyphs = with_stretch s e (map (C.changed change.now)) self.old.glyphs } }
+        ensures { let changed = with_stretch s e (map (C.changed change.now)) self.old.glyphs in
+            self.new ≡ record self.old { glyphs = changed } }
     {
         change_all(&mut self.info[s..e], change);
     }
@@ -68,8 +70,12 @@ impl hb_buffer_t {
     /// Walks over all glyphs and their positions. It takes no memory.
     pub fn walk_positioned<W: PositionedWalk>(&mut self, walk: &W)
         requires { W.can_walk walk.now self.old.glyphs self.old.positions }
-        ensures walked { W.walks walk.now self.old.glyphs self.old.positions self.new.glyphs self.new.positions }
-        ensures others { self.new ≡ record self.old { glyphs = self.new.glyphs; positions = self.new.positions } }
+        ensures walked { W.walks walk.now
+            self.old.glyphs self.old.positions self.new.glyphs self.new.positions }
+        ensures others { self.new ≡ record self.old {
+          glyphs = self.new.glyphs;
+          positions = self.new.positions;
+        } }
     {
         walk.walk(&mut self.info, &mut self.pos);
     }

@@ -1,6 +1,7 @@
 //! Positions by the font: consonants that it has below-base or post-base forms of.
-ghost use Rattle.std.specs.Prelude.{◌≡◌};
-ghost use Rattle.shapers_indic_initial.specs.InitialFont.{consonant_position, joins_virama, positions_by_font, virama_glyph};
+ghost use Rattle.std.specs.Prelude.{◌≡◌, ◌≤◌, length};
+ghost use Rattle.shapers_buffer.specs.Clusters.{with_stretch};
+ghost use Rattle.shapers_indic_initial.specs.InitialFont.{all_by_virama, consonant_position, joins_virama, virama_glyph};
 
 use shapers_base::buffer::{GlyphChange, hb_buffer_t, hb_glyph_info_t};
 use shapers_base::font::{GlyphId, hb_font_t};
@@ -9,31 +10,39 @@ use shapers_base::plan::ot_position_t::{POS_BASE_C, POS_BELOW_C, POS_POST_C};
 use shapers_base::plan::{IndicWouldSubstituteFeature, Position, indic_shape_plan_t};
 use shapers_indic::ot_shaper_indic::glyphs::number;
 
-/// Gives consonants of position BASE_C for which the font has a below-base or a post-base form that
-/// form's position, where it has a glyph for the script's virama. It takes no memory.
-pub(crate) fn update_consonant_positions<F: hb_font_t>(
+/// Gives consonants of position BASE_C between two places for which the font has a below-base or a
+/// post-base form, by its glyph for the script's virama, that form's position. It takes no memory.
+pub(super) fn update_consonant_positions<F: hb_font_t>(
     plan: &indic_shape_plan_t,
     map: &hb_ot_map_t,
     face: &F,
+    virama: Option<GlyphId>,
     buffer: &mut hb_buffer_t,
+    start: usize,
+    end: usize,
 )
-    ensures { let changed = positions_by_font (F.font face.now) map.now plan.now buffer.old.glyphs in
+    requires in_order { start ≤ end }
+    requires in_range { end ≤ length buffer.old.glyphs }
+    ensures { let changed = with_stretch start end
+        (all_by_virama (F.font face.now) map.now plan.now virama) buffer.old.glyphs in
         buffer.new ≡ record buffer.old { glyphs = changed } }
 {
-    if let Some(virama) = virama_glyph(plan, face) {
-        let len = buffer.len();
-        let change = ByVirama {
-            plan,
-            map,
-            face,
-            virama,
-        };
-        buffer.change_each(0, len, &change);
+    match virama {
+        None => {}
+        Some(virama) => {
+            let change = ByVirama {
+                plan,
+                map,
+                face,
+                virama,
+            };
+            buffer.change_each(start, end, &change);
+        }
     }
 }
 
-// The font's glyph for the script's virama.
-fn virama_glyph<F: hb_font_t>(plan: &indic_shape_plan_t, face: &F) -> Option<GlyphId>
+/// The font's glyph for the script's virama.
+pub(super) fn virama_glyph<F: hb_font_t>(plan: &indic_shape_plan_t, face: &F) -> Option<GlyphId>
     ensures { result ≡ virama_glyph (F.font face.now) plan.now }
 {
     if plan.config.virama == 0 {

@@ -29,8 +29,9 @@ const CIRCLES: CircleSort = CircleSort {
 
 /// Gives broken syllables their dotted circles, and then brings Coeng Ro and the vowels that stand
 /// before their base to the front of each syllable, with the masks of the plan. Answers whether
-/// circles were wanted. Refuses with `UnknownSyllable`, before anything changes; with `TooLong`; and
-/// with `Memory`, but not where no circle opens. (OpenType, "Developing OpenType Fonts for Khmer".)
+/// circles were wanted. Refuses with `UnknownSyllable`, before anything changes; with `TooLong`;
+/// and with `Memory`, but not where no circle opens. (OpenType, "Developing OpenType Fonts for
+/// Khmer".)
 pub fn reorder_khmer<F: hb_font_t>(
     plan: &hb_ot_shape_plan_t,
     face: &F,
@@ -78,8 +79,8 @@ fn order_of(plan_data: &PlanData) -> KhmerOrder
     }
 }
 
-/// The order of a syllable doesn't read the serial of its byte, so that pauses can be cut between any
-/// two spans.
+/// The order of a syllable doesn't read the serial of its byte, so that pauses can be cut between
+/// any two spans.
 pub fn khmer_reads_no_serials()
     ensures { KhmerReadsNoSerials }
 {}

@@ -5,8 +5,8 @@ ghost use Rattle.shapers_syllabic.specs.Characters.{composed_behind, with_catego
 use shapers_base::buffer::{GlyphChange, hb_buffer_t, hb_glyph_info_t};
 use shapers_base::font::Tables;
 
-/// The composition of two characters by the table. A mark composes with nothing behind it, so that a
-/// split vowel isn't put together again.
+/// The composition of two characters by the table. A mark composes with nothing behind it, so that
+/// a split vowel isn't put together again.
 pub fn compose<T: Tables>(tables: &T, a: char, b: char) -> Option<char>
     ensures { result ≡ composed_behind (T.tables tables.now) a b }
 {
@@ -29,7 +29,8 @@ pub fn set_categories<T: Tables>(tables: &T, buffer: &mut hb_buffer_t)
 /// Gives each glyph the category and, as its auxiliary byte, the position that the table of the
 /// Indic, Khmer and Myanmar shapers has for its character. It takes no memory.
 pub fn set_categories_and_positions<T: Tables>(tables: &T, buffer: &mut hb_buffer_t)
-    ensures { let changed = map (with_category_and_position (T.tables tables.now)) buffer.old.glyphs in
+    ensures { let with_both = with_category_and_position (T.tables tables.now) in
+        let changed = map with_both buffer.old.glyphs in
         buffer.new ≡ record buffer.old { glyphs = changed } }
 {
     let len = buffer.len();
@@ -61,7 +62,8 @@ struct PlacedByTable<'a, T: Tables> {
 impl<'a, T: Tables> GlyphChange for PlacedByTable<'a, T> {
     ghost use Rattle.shapers_syllabic.specs.Characters.{with_category_and_position};
 
-    ghost changed = { λ change glyph. with_category_and_position (T.tables change.tables.now) glyph };
+    ghost changed = { λ change glyph.
+        with_category_and_position (T.tables change.tables.now) glyph };
 
     fn change(&self, glyph: &mut hb_glyph_info_t) {
         let (category, position) = self.tables.indic_categories(glyph.glyph_id);

@@ -10,7 +10,7 @@ ghost use Rattle.shapers_buffer.specs.declared.buffer.refusal.ShaperError.TheVar
 
 use bitflags::Flags;
 use shapers_base::buffer::{
-    BufferFlags, ShaperError, hb_buffer_t, hb_glyph_info_t, syllable_run_len,
+    BufferFlags, ShaperError, first_syllable_len, hb_buffer_t, hb_glyph_info_t,
 };
 use shapers_base::font::hb_font_t;
 use std::alloc::Global;
@@ -257,16 +257,6 @@ fn unbroken_len(glyphs: &[hb_glyph_info_t], kind: u8) -> usize
         .iter()
         .take_while(|glyph| glyph.syllable % 16 != kind)
         .count()
-}
-
-// How long the syllable is that opens the text.
-fn first_syllable_len(glyphs: &[hb_glyph_info_t]) -> usize
-    requires { 0 < length glyphs.now }
-    ensures len { result ≡ first_syllable_len glyphs.now }
-    ensures some { 0 < result }
-    ensures within { result ≤ length glyphs.now }
-{
-    1 + syllable_run_len(&glyphs[1..], glyphs[0].syllable)
 }
 
 // The circle of a syllable, which takes cluster, mask and syllable byte from the first glyph.

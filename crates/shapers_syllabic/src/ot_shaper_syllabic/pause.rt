@@ -5,7 +5,7 @@ ghost use Rattle.shapers_buffer.specs.Refusals.{Refuses};
 ghost use Rattle.shapers_buffer.specs.Syllables.{syllables};
 ghost use Rattle.shapers_syllabic.specs.Circles.{circled};
 ghost use Rattle.shapers_syllabic.specs.Reordering.{PauseReordered, circles_of_sort, first_unknown, kind_refusal};
-ghost use Rattle.shapers_syllabic.specs.ReorderingLaws.{PauseCutsAtBorders, PausesCutAtSpans, TextReordered};
+ghost use Rattle.shapers_syllabic.specs.ReorderingLaws.{PauseCutsAtBorders, PausesCutAtSpans, ReorderLaws, TextReordered};
 
 use super::circles::insert_dotted_circles;
 use super::reordering::{Reorder, reorder_syllables};
@@ -35,6 +35,8 @@ pub fn reorder_pause<F: hb_font_t, R: Reorder>(
 ) -> Result<bool, ShaperError>
     requires without_positions { buffer.old.positions ≡ [] }
     requires never { R.may_refuse order.now → ⊥ }
+    requires laws { ReorderLaws
+        (R.meaning order.now buffer.old.script) (R.steps order.now buffer.old.script) }
     requires can { let circles = circles_of_sort sort.now (F.font face.now) buffer.old in
         All (R.can_reorder order.now) (syllables (order_view (circled circles buffer.old.glyphs))) }
     ensures answer { let circles = circles_of_sort sort.now (F.font face.now) buffer.old in
@@ -83,8 +85,8 @@ fn first_unknown(buffer: &hb_buffer_t, last_kind: Option<u8>) -> Option<usize>
     }
 }
 
-/// A set-up by spans and a reordering pause directly after it give what they give on the halves, cut
-/// between any two spans, but for serials.
+/// A set-up by spans and a reordering pause directly after it give what they give on the halves,
+/// cut between any two spans, but for serials.
 pub fn pauses_cut_law()
     ensures { PausesCutAtSpans }
 {}

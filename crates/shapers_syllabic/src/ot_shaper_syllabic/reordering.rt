@@ -5,21 +5,17 @@ ghost use Rattle.shapers_buffer.specs.Glyph.{order_view};
 ghost use Rattle.shapers_buffer.specs.Refusals.{RefusesMemoryIf};
 ghost use Rattle.shapers_buffer.specs.Syllables.{syllables};
 ghost use Rattle.shapers_syllabic.specs.Reordering.{SyllableReordered, SyllablesReordered};
-ghost use Rattle.shapers_syllabic.specs.ReorderingLaws.{ReorderingCutsAtBorders, ReorderingLosesNothing, SerialsDontCount, TextReorderedLaw};
+ghost use Rattle.shapers_syllabic.specs.ReorderingLaws.{ReorderLaws, ReorderingCutsAtBorders, ReorderingLosesNothing, SerialsDontCount, TextReorderedLaw};
 
 use shapers_base::buffer::{ShaperError, hb_buffer_t};
 
-/// How one syllable is reordered. What a syllable becomes, and the merges and moves that lead there,
-/// are functions of that syllable and the buffer's script alone.
+/// How one syllable is reordered. What a syllable becomes, and the merges and moves that lead
+/// there, are functions of that syllable and the buffer's script alone.
 pub trait Reorder {
     ghost use Rattle.std.specs.Prelude.{ℕ, ◌≡◌, List, Option, length};
-    ghost use Rattle.std.specs.List.{AllByRecursion};
     ghost use Rattle.shapers_buffer.specs.declared.buffer.glyph.hb_glyph_info_t.{hb_glyph_info_t};
     ghost use Rattle.shapers_buffer.specs.declared.buffer.tag.Script.{Script};
-    ghost use Rattle.shapers_buffer.specs.Places.{pick};
-    ghost use Rattle.shapers_clusters.specs.Flags.{seen};
-    ghost use Rattle.shapers_clusters.specs.Steps.{FitSteps, Permutes, Step, old_places};
-    ghost use Rattle.shapers_syllabic.specs.Reordering.{carried};
+    ghost use Rattle.shapers_clusters.specs.Steps.{Step};
 
     ghost meaning: { Self → Option Script → List hb_glyph_info_t → List hb_glyph_info_t };
 
@@ -39,22 +35,16 @@ pub trait Reorder {
             (meaning self.now buffer.old.script) (steps self.now buffer.old.script)
             start end buffer.old buffer.new) }
         ensures refusal { RefusesMemoryIf (may_refuse self.now) result };
-
-    ghost fits: { (self : Self) (script : Option Script) (gs : List hb_glyph_info_t) →
-        FitSteps (length gs) (steps self script gs) };
-
-    ghost permutes: { (self : Self) (script : Option Script) (gs : List hb_glyph_info_t) →
-        AllByRecursion (Permutes (length gs)) (steps self script gs) };
-
-    ghost agrees: { (self : Self) (script : Option Script) (gs : List hb_glyph_info_t) →
-        seen carried (meaning self script gs)
-        ≡ pick (old_places (length gs) (steps self script gs)) (seen carried gs) };
 }
 
-/// Reorders each syllable of the text, from left to right. The only refusal is `Memory`.
+/// Reorders each syllable of the text, from left to right. It asks for the laws of the order: its
+/// steps fit a syllable, lose nothing and lead to what the syllable becomes. The only refusal is
+/// `Memory`.
 pub fn reorder_syllables<R: Reorder>(order: &R, buffer: &mut hb_buffer_t) -> Result<(), ShaperError>
     requires without_positions { buffer.old.positions ≡ [] }
     requires can { All (R.can_reorder order.now) (syllables (order_view buffer.old.glyphs)) }
+    requires laws { ReorderLaws
+        (R.meaning order.now buffer.old.script) (R.steps order.now buffer.old.script) }
     ensures ok { OnOk result (SyllablesReordered
         (R.meaning order.now buffer.old.script) (R.steps order.now buffer.old.script)
         buffer.old buffer.new) }

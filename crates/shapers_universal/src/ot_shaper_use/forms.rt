@@ -4,8 +4,7 @@ ghost use Rattle.shapers_buffer.specs.Clusters.{with_stretch, stretch_of};
 ghost use Rattle.shapers_buffer.specs.Syllables.{syllables};
 ghost use Rattle.shapers_universal.specs.UniversalSyllables.{all_forms, form_mask, form_masks, formed, in_forms, joins_runs, mask_between, with_forms, with_instead};
 
-use super::syllable_walk::first_syllable_len;
-use shapers_base::buffer::{GlyphWalk, hb_buffer_t, hb_glyph_info_t, hb_tag_t};
+use shapers_base::buffer::{GlyphWalk, first_syllable_len, hb_buffer_t, hb_glyph_info_t, hb_tag_t};
 use shapers_base::map::hb_ot_map_t;
 use shapers_syllabic::ot_shaper_syllabic::use_syllable::{HIEROGLYPH_CLUSTER, NON_CLUSTER};
 

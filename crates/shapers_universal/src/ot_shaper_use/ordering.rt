@@ -47,8 +47,6 @@ pub struct UniversalOrder;
 impl Reorder for UniversalOrder {
     ghost use Rattle.std.specs.Prelude.{⊤};
     ghost use Rattle.shapers_universal.specs.Universal.{universal_order, universal_steps};
-    ghost use Rattle.shapers_universal.specs.UniversalSteps.{universal_fits, universal_permutes};
-    ghost use Rattle.shapers_universal.specs.UniversalView.{universal_agrees};
 
     ghost meaning = { λ _ _ gs. universal_order gs };
 
@@ -68,12 +66,6 @@ impl Reorder for UniversalOrder {
         buffer.walk(&mut SyllableOrder { level, start, end });
         Ok(())
     }
-
-    ghost fits = { λ _ _ gs. universal_fits gs };
-
-    ghost permutes = { λ _ _ gs. universal_permutes gs };
-
-    ghost agrees = { λ _ _ gs. universal_agrees gs };
 }
 
 // Where the syllable stands, and whether clusters merge.

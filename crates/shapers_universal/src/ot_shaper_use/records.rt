@@ -26,8 +26,8 @@ pub fn record_rphf(plan: &hb_ot_shape_plan_t, buffer: &mut hb_buffer_t)
     }
 }
 
-/// In each syllable the first glyph that a lookup put in becomes one that stands before the base. It
-/// takes no memory.
+/// In each syllable the first glyph that a lookup put in becomes one that stands before the base.
+/// It takes no memory.
 pub fn record_pref(buffer: &mut hb_buffer_t)
     ensures { buffer.new ≡ with_pref_recorded buffer.old }
 {

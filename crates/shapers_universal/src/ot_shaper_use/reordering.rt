@@ -1,37 +1,39 @@
 //! The reordering of a text in the universal shaper.
-ghost use Rattle.std.specs.Prelude.{◌≡◌, [], IfOk, IsOk, None, OnErr, OnOk, Some, is_some, length};
+ghost use Rattle.std.specs.Prelude.{◌≡◌, [], IfOk, IsOk, OnErr, OnOk, is_some, length};
 ghost use Rattle.shapers_buffer.specs.Refusals.{RefusesLength};
-ghost use Rattle.shapers_syllabic.specs.Circles.{circles_for};
-ghost use Rattle.shapers_syllabic.specs.Reordering.{PauseReordered, SyllablesReordered};
+ghost use Rattle.shapers_syllabic.specs.Reordering.{PauseReordered, circles_of_sort};
 ghost use Rattle.shapers_syllabic.specs.ReorderingLaws.{PauseCutsAtBorders};
 ghost use Rattle.shapers_universal.specs.Universal.{universal_order, universal_steps};
-ghost use Rattle.shapers_universal.specs.UniversalText.{TextOrdered, circled_use};
-ghost use Rattle.shapers_syllabic.specs.declared.ot_shaper_syllabic.kinds.use_syllable.TheConstants.{BROKEN_CLUSTER};
-ghost use Rattle.shapers_universal.specs.declared.ot_shaper_use.category.TheConstants.{B, R};
+ghost use Rattle.shapers_universal.specs.UniversalText.{TextOrdered, circled_use, universal_circles};
 
 use super::category;
 use super::ordering::UniversalOrder;
 use shapers_base::buffer::{ShaperError, hb_buffer_t};
 use shapers_base::font::hb_font_t;
 use shapers_syllabic::ot_shaper_syllabic::use_syllable::BROKEN_CLUSTER;
-use shapers_syllabic::ot_shaper_syllabic::{insert_dotted_circles, reorder_syllables};
+use shapers_syllabic::ot_shaper_syllabic::{CircleSort, reorder_pause};
 
-/// Gives each broken syllable a dotted circle, behind its leading rephas, and then each syllable its
-/// order; answers whether circles are wanted. Refuses with `TooLong` where the text would be longer
-/// than `max_len`, and with `Memory`; where no circle opens it takes none. (OpenType, the Universal
-/// Shaping Engine.)
+// The dotted circles of broken syllables: bases, behind their leading rephas.
+const CIRCLES: CircleSort = CircleSort {
+    broken_kind: BROKEN_CLUSTER,
+    category: category::B,
+    repha: Some(category::R),
+    position: None,
+};
+
+/// Gives each broken syllable a dotted circle, behind its leading rephas, and then each syllable
+/// its order; answers whether circles are wanted. Refuses with `TooLong` where the text would be
+/// longer than `max_len`, and with `Memory`; where no circle opens it takes none. (OpenType, the
+/// Universal Shaping Engine.)
 pub fn reorder_use<F: hb_font_t>(face: &F, buffer: &mut hb_buffer_t) -> Result<bool, ShaperError>
     requires { buffer.old.positions ≡ [] }
-    ensures answer { let circles = circles_for ((F.font face.now).nominal 0x25CC) BROKEN_CLUSTER B
-        (Some R) None buffer.old in
+    ensures answer { let circles = circles_of_sort universal_circles (F.font face.now) buffer.old in
         IfOk result (λ answer. answer ≡ is_some circles) }
-    ensures ok { let circles = circles_for ((F.font face.now).nominal 0x25CC) BROKEN_CLUSTER B
-        (Some R) None buffer.old in
+    ensures ok { let circles = circles_of_sort universal_circles (F.font face.now) buffer.old in
         OnOk result (PauseReordered circles universal_order universal_steps buffer.old buffer.new) }
     ensures laws { let text = circled_use (F.font face.now) buffer.old in
         OnOk result (TextOrdered buffer.old.level text buffer.new.glyphs) }
-    ensures cut { let circles = circles_for ((F.font face.now).nominal 0x25CC) BROKEN_CLUSTER B
-        (Some R) None buffer.old in
+    ensures cut { let circles = circles_of_sort universal_circles (F.font face.now) buffer.old in
         OnOk result
         (PauseCutsAtBorders circles universal_order universal_steps buffer.old buffer.new) }
     ensures length { let text = circled_use (F.font face.now) buffer.old in
@@ -40,22 +42,5 @@ pub fn reorder_use<F: hb_font_t>(face: &F, buffer: &mut hb_buffer_t) -> Result<b
     ensures without_memory { let text = circled_use (F.font face.now) buffer.old in
         text ≡ buffer.old.glyphs → IsOk result }
 {
-    let with_circles = insert_dotted_circles(
-        face,
-        buffer,
-        BROKEN_CLUSTER,
-        category::B,
-        Some(category::R),
-        None,
-    )?;
-    reorder_text(buffer);
-    Ok(with_circles)
-}
-
-// Gives each syllable its order.
-fn reorder_text(buffer: &mut hb_buffer_t)
-    requires { buffer.old.positions ≡ [] }
-    ensures { SyllablesReordered universal_order universal_steps buffer.old buffer.new }
-{
-    reorder_syllables(&UniversalOrder, buffer).unwrap();
+    reorder_pause(face, &UniversalOrder, &CIRCLES, None, buffer)
 }

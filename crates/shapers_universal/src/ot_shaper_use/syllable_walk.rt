@@ -4,7 +4,7 @@ ghost use Rattle.std.specs.List.{flat_map};
 ghost use Rattle.shapers_buffer.specs.Clusters.{with_stretch};
 ghost use Rattle.shapers_buffer.specs.Syllables.{first_syllable_len, syllables};
 
-use shapers_base::buffer::{GlyphWalk, hb_glyph_info_t, syllable_run_len};
+use shapers_base::buffer::{GlyphWalk, first_syllable_len, hb_glyph_info_t};
 
 // A change of one syllable, which looks at nothing else.
 pub(super) trait SyllableChange {
@@ -57,14 +57,4 @@ fn change_stretch<C: SyllableChange>(change: &C, glyphs: &mut [hb_glyph_info_t],
     ensures { glyphs.new ≡ with_stretch s e (C.changed change.now) glyphs.old }
 {
     change.change(&mut glyphs[s..e]);
-}
-
-// How long the syllable is that opens the text.
-pub(super) fn first_syllable_len(glyphs: &[hb_glyph_info_t]) -> usize
-    requires { 0 < length glyphs.now }
-    ensures len { result ≡ first_syllable_len glyphs.now }
-    ensures some { 0 < result }
-    ensures within { result ≤ length glyphs.now }
-{
-    1 + syllable_run_len(&glyphs[1..], glyphs[0].syllable)
 }

@@ -2,10 +2,13 @@ use Rattle.std.proofs.Common.{OnOk, subst}
 use Rattle.std.proofs.lemmas.Result.{on_ok_weaker}
 use Rattle.shapers_khmer.specs.declared.ot_shaper_khmer.reordering.KhmerOrder.{KhmerOrder}
 use Rattle.shapers_khmer.specs.Khmer.{khmer_circles, khmer_order, khmer_steps}
-use Rattle.shapers_khmer.specs.KhmerLaws.{khmer_moves_merged}
+use Rattle.shapers_khmer.proofs.KhmerLaws.{khmer_laws, khmer_moves_merged}
 use Rattle.shapers_syllabic.specs.Reordering.{PauseReordered, circles_of_sort}
 use Rattle.shapers_syllabic.specs.ReorderingLaws.{PauseCutsAtBorders}
 use Rattle.shapers_khmer.proofs.ot_shaper_khmer.pause.reorder_khmer.Goals as goal
+
+pub reorder_pause-requires-clause-laws : goal.reorder_pause-requires-clause-laws
+reorder_pause-requires-clause-laws g c = khmer_laws c.order_of-order.result
 
 pub returns-clause-ok : goal.returns-clause-ok
 returns-clause-ok g c =

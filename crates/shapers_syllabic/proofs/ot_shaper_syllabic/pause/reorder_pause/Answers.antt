@@ -12,7 +12,7 @@ returns-clause-cut g c =
     let old = c.args.buffer.now in
     let new = c.reorder_syllables.new.buffer in
     let circles = circles_of_sort c.args.sort.now (g.F.hb_font_t.font c.args.face.now) old in
-    cuts_at_borders circles (g.R.Reorder.meaning order old.script) (g.R.Reorder.steps order old.script) old new (record { fits = g.met.R.Reorder.fits order old.script; permutes = g.met.R.Reorder.permutes order old.script; agrees = g.met.R.Reorder.agrees order old.script })
+    cuts_at_borders circles (g.R.Reorder.meaning order old.script) (g.R.Reorder.steps order old.script) old new c.requires.laws
     (pause_reordered circles (g.R.Reorder.meaning order) (g.R.Reorder.steps order) old c.insert_dotted_circles.new.buffer new c.in_ok-circles.ensures.ok c.in_ok-reorder_syllables.ensures.ok)
 
 pub returns-clause-laws : goal.returns-clause-laws
@@ -22,5 +22,5 @@ returns-clause-laws g c =
     let new = c.reorder_syllables.new.buffer in
     let circles = circles_of_sort c.args.sort.now (g.F.hb_font_t.font c.args.face.now) old in
     let opened : Buffer = record old { glyphs = circled circles old.glyphs } in
-    text_reordered (g.R.Reorder.meaning order old.script) (g.R.Reorder.steps order old.script) opened new (record { fits = g.met.R.Reorder.fits order old.script; permutes = g.met.R.Reorder.permutes order old.script; agrees = g.met.R.Reorder.agrees order old.script })
+    text_reordered (g.R.Reorder.meaning order old.script) (g.R.Reorder.steps order old.script) opened new c.requires.laws
     (pause_reordered circles (g.R.Reorder.meaning order) (g.R.Reorder.steps order) old c.insert_dotted_circles.new.buffer new c.in_ok-circles.ensures.ok c.in_ok-reorder_syllables.ensures.ok)

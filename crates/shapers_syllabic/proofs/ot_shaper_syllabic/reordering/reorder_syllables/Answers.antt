@@ -9,12 +9,12 @@ reorder-requires-clause-can g c =
 pub loop-start-smaller : goal.loop-start-smaller
 loop-start-smaller g c =
     let order = c.args.order.now in
-    let next = reordered_next_in (g.R.Reorder.meaning order) (g.R.Reorder.steps order) (g.R.Reorder.can_reorder order) c.args.buffer.now c.loop-start.buffer c.reorder.new.buffer c.loop-start.start c.next_syllable-end.result (λ script. record { fits = g.met.R.Reorder.fits order script; permutes = g.met.R.Reorder.permutes order script; agrees = g.met.R.Reorder.agrees order script }) c.loop-start.invariant (omega arith) c.next_syllable-end.ensures.end c.in_ok-reorder.ensures.ok in
+    let next = reordered_next_in (g.R.Reorder.meaning order) (g.R.Reorder.steps order) (g.R.Reorder.can_reorder order) c.args.buffer.now c.loop-start.buffer c.reorder.new.buffer c.loop-start.start c.next_syllable-end.result c.requires.laws c.loop-start.invariant (omega arith) c.next_syllable-end.ensures.end c.in_ok-reorder.ensures.ok in
     let same = next.same_length in
     omega arith
 
 pub loop-start-preserved : goal.loop-start-preserved
 loop-start-preserved g c =
     let order = c.args.order.now in
-    let next = reordered_next_in (g.R.Reorder.meaning order) (g.R.Reorder.steps order) (g.R.Reorder.can_reorder order) c.args.buffer.now c.loop-start.buffer c.reorder.new.buffer c.loop-start.start c.next_syllable-end.result (λ script. record { fits = g.met.R.Reorder.fits order script; permutes = g.met.R.Reorder.permutes order script; agrees = g.met.R.Reorder.agrees order script }) c.loop-start.invariant (omega arith) c.next_syllable-end.ensures.end c.in_ok-reorder.ensures.ok in
+    let next = reordered_next_in (g.R.Reorder.meaning order) (g.R.Reorder.steps order) (g.R.Reorder.can_reorder order) c.args.buffer.now c.loop-start.buffer c.reorder.new.buffer c.loop-start.start c.next_syllable-end.result c.requires.laws c.loop-start.invariant (omega arith) c.next_syllable-end.ensures.end c.in_ok-reorder.ensures.ok in
     next.to

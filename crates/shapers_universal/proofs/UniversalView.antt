@@ -16,10 +16,11 @@ use Rattle.shapers_clusters.proofs.Moves.{order_view-run_steps}
 use Rattle.shapers_clusters.proofs.Picks.{pick-all, pick-map}
 use Rattle.shapers_clusters.proofs.Widened.{order_view-along}
 use Rattle.shapers_syllabic.specs.Reordering.{carried}
+use Rattle.shapers_syllabic.specs.ReorderingLaws.{ReorderLaws}
 use Rattle.shapers_syllabic.proofs.ReorderingLemmas.{old_places_one}
 use Rattle.shapers_universal.specs.Universal.{first_behind, goes_front, goes_front_at, is_halant, is_passed, is_reordered, piece_step, piece_steps, pieces, places_of, reph_moved, reph_run, reph_step, reversed_first, universal_order, universal_steps}
-use Rattle.shapers_universal.specs.UniversalLists.{cut_after-concat, filter-same, first_behind-map, length-first_behind, mapped_twice, pick-first_behind, pick-reversed_first, prefix_len-map, reversed_first-map}
-use Rattle.shapers_universal.specs.UniversalSteps.{all_pieces, piece_fits, pieces_sum, reph_run-within}
+use Rattle.shapers_universal.proofs.UniversalLists.{cut_after-concat, filter-same, first_behind-map, length-first_behind, mapped_twice, pick-first_behind, pick-reversed_first, prefix_len-map, reversed_first-map}
+use Rattle.shapers_universal.proofs.UniversalSteps.{all_pieces, piece_fits, pieces_sum, reph_run-within, universal_fits, universal_permutes}
 
 -- what the step of the reph picks
 pub reph_picks : (h : hb_glyph_info_t → hb_glyph_info_t) (gs : List hb_glyph_info_t) → pick (reph_step gs).places (map h gs) ≡ map h (reph_moved gs)
@@ -82,6 +83,10 @@ universal_agrees gs =
     sym (mapped_twice plain carried (universal_order gs))
     ∙ sym (picked_order carried gs)
     ∙ ap (pick (old_places (length gs) (universal_steps gs))) (mapped_twice plain carried gs)
+
+-- what a pause asks of the order
+pub universal_laws : ReorderLaws universal_order universal_steps
+universal_laws = record { fits = universal_fits; permutes = universal_permutes; agrees = universal_agrees }
 
 -- clusters and glyph flags are not seen
 reph_run-view : (gs : List hb_glyph_info_t) → reph_run (order_view gs) ≡ reph_run gs

@@ -11,7 +11,7 @@ use Rattle.shapers_buffer.specs.Clusters.{stretch_of}
 use Rattle.shapers_clusters.specs.Cuts.{EndWithin}
 use Rattle.shapers_clusters.specs.Steps.{HeldBetween, MovesInside}
 use Rattle.shapers_clusters.proofs.Moves.{held-front, held-rest, held_by}
-use Rattle.shapers_khmer.specs.KhmerPlaces.{moves_from}
+use Rattle.shapers_khmer.specs.KhmerWalk.{moves_from}
 use Rattle.shapers_khmer.specs.Khmer.{Move, Pair, Vowel, brought, moved, moved_all, merged_for, is_coeng, is_ro, is_left_vowel}
 
 -- the front, what moves and the rest are all

@@ -18,11 +18,12 @@ use Rattle.shapers_clusters.proofs.Picks.{pick-all, pick-map}
 use Rattle.shapers_clusters.proofs.Swaps.{still_moves_merged}
 use Rattle.shapers_clusters.proofs.Views.{seen-same}
 use Rattle.shapers_khmer.specs.declared.ot_shaper_khmer.reordering.KhmerOrder.{KhmerOrder}
-use Rattle.shapers_khmer.specs.Khmer.{Move, Pair, Vowel, is_reordered, khmer_masked, khmer_moves, khmer_order, khmer_places, khmer_step, masked, masked_all, masked_for, merged_for, moved, moved_all, sorts_of, with_mask}
-use Rattle.shapers_khmer.specs.KhmerCases.{khmer_walk}
-use Rattle.shapers_khmer.specs.KhmerMasks.{carried-masked, carried-with_mask, hidden-masked, length-masked, length-sorts}
-use Rattle.shapers_khmer.specs.KhmerMoves.{inside_merged, length-moved_all, moves_end, permuted-moved_all}
+use Rattle.shapers_khmer.specs.Khmer.{Move, Pair, Vowel, is_reordered, khmer_masked, khmer_moves, khmer_order, khmer_places, khmer_step, khmer_steps, masked, masked_all, masked_for, merged_for, moved, moved_all, sorts_of, with_mask}
+use Rattle.shapers_khmer.proofs.KhmerCases.{khmer_walk}
+use Rattle.shapers_khmer.proofs.KhmerMasks.{carried-masked, carried-with_mask, hidden-masked, length-masked, length-sorts}
+use Rattle.shapers_khmer.proofs.KhmerMoves.{inside_merged, length-moved_all, moves_end, permuted-moved_all}
 use Rattle.shapers_syllabic.specs.Reordering.{carried}
+use Rattle.shapers_syllabic.specs.ReorderingLaws.{ReorderLaws}
 use Rattle.shapers_syllabic.proofs.ReorderingLemmas.{agrees_by_places}
 
 -- the order of a syllable takes its places
@@ -110,3 +111,7 @@ khmer_agrees r gs = agrees_by_places (khmer_step gs) gs (khmer_order r gs) (khme
       sym (pick-map (λ g. plain (carried g)) (khmer_places gs) (khmer_masked r gs)) ∙ ap (pick (khmer_places gs)) (seen-same carried (khmer_masked r gs) gs same))
   | inr off ↦ rw off (sym (pick-all (length gs) (seen carried gs) (length-map gs (λ g. plain (carried g)))))
 ])
+
+-- what a pause asks of the order
+pub khmer_laws : (r : KhmerOrder) → ReorderLaws (khmer_order r) khmer_steps
+khmer_laws r = record { fits = λ gs. (khmer_fits gs, tt); permutes = λ gs. (khmer_permutes gs, tt); agrees = khmer_agrees r }

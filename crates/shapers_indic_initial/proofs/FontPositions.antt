@@ -1,0 +1,85 @@
+-- Positions by the font: what shows of them, of a syllable and of a text.
+use Rattle.std.proofs.Common.{◌≡◌, ℕ, ◌+◌, ◌-◌, ◌≤◌, ◌==◌, Bool, true, false, if◌then◌else◌, List, [], ◌∷◌, ◌++◌, length, map, refl, sym, ap, ◌∙◌, arith, Option, Some, None}
+use Rattle.std.proofs.lemmas.List.{length-map}
+use Rattle.shapers_buffer.specs.declared.buffer.glyph.hb_glyph_info_t.{hb_glyph_info_t}
+use Rattle.shapers_buffer.specs.Buffer.{Buffer, but_places}
+use Rattle.shapers_buffer.specs.Clusters.{stretch_of, with_stretch}
+use Rattle.shapers_buffer.specs.Glyph.{order_view, plain}
+use Rattle.shapers_buffer.proofs.ClusterLemmas.{three_parts}
+use Rattle.shapers_base.specs.declared.font.GlyphId.{GlyphId}
+use Rattle.shapers_base.specs.declared.plan.indic.indic_shape_plan_t.{indic_shape_plan_t}
+use Rattle.shapers_base.specs.declared.plan.ot_position_t.TheConstants.{POS_BASE_C}
+use Rattle.shapers_base.specs.Font.{Font}
+use Rattle.shapers_base.specs.Map.{Map}
+use Rattle.shapers_indic.specs.Glyphs.{at_position, has_position, number}
+use Rattle.shapers_indic_initial.specs.InitialFont.{all_by_virama, by_virama, consonant_position}
+use Rattle.shapers_buffer.specs.declared.buffer.tag.Script.{Script}
+use Rattle.shapers_clusters.specs.Flags.{seen}
+use Rattle.shapers_clusters.proofs.Picks.{pick-all}
+use Rattle.shapers_indic_initial.specs.InitialReordering.{initial_order, initial_steps}
+use Rattle.shapers_indic_initial.specs.InitialRules.{rules_of}
+use Rattle.shapers_indic_initial.proofs.InitialLaws.{initial_laws}
+use Rattle.shapers_syllabic.specs.Reordering.{SyllableReordered, carried}
+use Rattle.shapers_syllabic.specs.ReorderingLaws.{ReorderLaws}
+use Rattle.shapers_syllabic.proofs.LawsThen.{laws_then}
+use Rattle.shapers_syllabic.proofs.SyllableThen.{syllable_changed}
+
+-- no virama, no change
+pub none_by_virama : (s e : ℕ) (font : Font) (m : Map) (p : indic_shape_plan_t) (gs : List hb_glyph_info_t) → s ≤ e → with_stretch s e (all_by_virama font m p None) gs ≡ gs
+none_by_virama s e font m p gs h = three_parts s e gs h
+
+-- a glyph, in the order view, and what is carried along
+by_virama-plain : (font : Font) (m : Map) (p : indic_shape_plan_t) (v : GlyphId) (g : hb_glyph_info_t) → plain (by_virama font m p v g) ≡ by_virama font m p v (plain g)
+by_virama-plain font m p v g = elim (has_position POS_BASE_C g) as (λ b. plain (if b then at_position (consonant_position font m p v (number g)) g else g) ≡ (if b then at_position (consonant_position font m p v (number g)) (plain g) else plain g)) [ true ↦ refl | false ↦ refl ]
+
+by_virama-carried : (font : Font) (m : Map) (p : indic_shape_plan_t) (v : GlyphId) (g : hb_glyph_info_t) → carried (by_virama font m p v g) ≡ carried g
+by_virama-carried font m p v g = elim (has_position POS_BASE_C g) as (λ b. carried (if b then at_position (consonant_position font m p v (number g)) g else g) ≡ carried g) [ true ↦ refl | false ↦ refl ]
+
+pub by_virama-syllable : (font : Font) (m : Map) (p : indic_shape_plan_t) (v : GlyphId) (g : hb_glyph_info_t) → (by_virama font m p v g).syllable ≡ g.syllable
+by_virama-syllable font m p v g = ap (λ x. x.syllable) (by_virama-carried font m p v g)
+
+map-same : (f h : hb_glyph_info_t → hb_glyph_info_t) → ((g : hb_glyph_info_t) → f (h g) ≡ f g) → (gs : List hb_glyph_info_t) → map f (map h gs) ≡ map f gs
+map-same f h same [] = refl
+map-same f h same (g ∷ gs) = ap (λ x. x ∷ map f (map h gs)) (same g) ∙ ap (λ xs. f g ∷ xs) (map-same f h same gs)
+
+map-past : (f h : hb_glyph_info_t → hb_glyph_info_t) → ((g : hb_glyph_info_t) → f (h g) ≡ h (f g)) → (gs : List hb_glyph_info_t) → map f (map h gs) ≡ map h (map f gs)
+map-past f h same [] = refl
+map-past f h same (g ∷ gs) = ap (λ x. x ∷ map f (map h gs)) (same g) ∙ ap (λ xs. h (f g) ∷ xs) (map-past f h same gs)
+
+-- of glyphs
+pub font_positions-viewed : (font : Font) (m : Map) (p : indic_shape_plan_t) (v : Option GlyphId) (gs : List hb_glyph_info_t) → order_view (all_by_virama font m p v gs) ≡ all_by_virama font m p v (order_view gs)
+font_positions-viewed font m p None gs = refl
+font_positions-viewed font m p (Some v) gs = map-past plain (by_virama font m p v) (by_virama-plain font m p v) gs
+
+pub font_positions-carried : (font : Font) (m : Map) (p : indic_shape_plan_t) (v : Option GlyphId) (gs : List hb_glyph_info_t) → map carried (all_by_virama font m p v gs) ≡ map carried gs
+font_positions-carried font m p None gs = refl
+font_positions-carried font m p (Some v) gs = map-same carried (by_virama font m p v) (by_virama-carried font m p v) gs
+
+pub length-font_positions : (font : Font) (m : Map) (p : indic_shape_plan_t) (v : Option GlyphId) (gs : List hb_glyph_info_t) → length (all_by_virama font m p v gs) ≡ length gs
+length-font_positions font m p None gs = refl
+length-font_positions font m p (Some v) gs = length-map gs (by_virama font m p v)
+
+-- of a syllable of the buffer
+pub syllable_by_font : (font : Font) (m : Map) (p : indic_shape_plan_t) (v : Option GlyphId) (s e : ℕ) (old new : Buffer) → s ≤ e → new ≡ (let r : Buffer = record old { glyphs = with_stretch s e (all_by_virama font m p v) old.glyphs } in r) → SyllableReordered (all_by_virama font m p v) (λ _. []) s e old new
+syllable_by_font font m p v s e old new h is =
+    let glyphs : new.glyphs ≡ with_stretch s e (all_by_virama font m p v) old.glyphs = ap (λ b. b.glyphs) is in
+    syllable_changed (all_by_virama font m p v) (all_by_virama font m p v) s e old new h
+    (ap but_places is ∙ sym (ap (λ gs. (let r : Buffer = record (but_places old) { glyphs = gs } in r)) glyphs))
+    glyphs
+    (font_positions-carried font m p v (stretch_of s e old.glyphs))
+    (font_positions-viewed font m p v (stretch_of s e old.glyphs))
+
+-- the laws of an order behind positions by the font
+font_positions-seen : (font : Font) (m : Map) (p : indic_shape_plan_t) (v : Option GlyphId) (gs : List hb_glyph_info_t) → seen carried (all_by_virama font m p v gs) ≡ seen carried gs
+font_positions-seen font m p None gs = refl
+font_positions-seen font m p (Some v) gs = map-same (λ g. plain (carried g)) (by_virama font m p v) (λ g. ap plain (by_virama-carried font m p v g)) gs
+
+font_laws : (font : Font) (m : Map) (p : indic_shape_plan_t) (v : Option GlyphId) → ReorderLaws (all_by_virama font m p v) (λ _. [])
+font_laws font m p v = record {
+  fits = λ gs. tt;
+  permutes = λ gs. tt;
+  agrees = λ gs. font_positions-seen font m p v gs ∙ sym (pick-all (length gs) (seen carried gs) (length-map gs (λ g. plain (carried g))));
+}
+
+pub laws_by_font : (font : Font) (m : Map) (p : indic_shape_plan_t) (v : Option GlyphId) (script : Option Script) → ReorderLaws (λ gs. initial_order (rules_of font m p) script (all_by_virama font m p v gs)) (λ gs. initial_steps (rules_of font m p) script (all_by_virama font m p v gs))
+laws_by_font font m p v script = laws_then (all_by_virama font m p v) (initial_order (rules_of font m p) script) (λ _. []) (initial_steps (rules_of font m p) script) (font_laws font m p v) (initial_laws (rules_of font m p) script)

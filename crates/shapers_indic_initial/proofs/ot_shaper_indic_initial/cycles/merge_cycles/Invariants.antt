@@ -1,0 +1,11 @@
+-- The places so far are spent, and what is left merges what all cycles merge.
+use Rattle.std.proofs.Common.{◌≡◌, ◌≤◌}
+use Rattle.shapers_indic_initial.proofs.CycleSteps.{Merging}
+use Rattle.shapers_indic_initial.proofs.ot_shaper_indic_initial.cycles.merge_cycles.Given as goal
+
+abbrev pub invariant-loop-p : goal.invariant-loop-p
+invariant-loop-p l = record {
+  from : l.base ≤ l.p;
+  others : l.buffer ≡ record l.fn.buffer { glyphs = l.buffer.glyphs; places = l.buffer.places };
+  merging : Merging l.start l.end l.base l.p l.fn.buffer l.buffer;
+}

@@ -1,0 +1,26 @@
+-- Laws of the initial reordering, as statements.
+use Rattle.std.specs.Prelude.{Option}
+use Rattle.shapers_buffer.specs.declared.buffer.tag.Script.{Script}
+use Rattle.shapers_buffer.specs.Buffer.{Buffer}
+use Rattle.shapers_base.specs.declared.plan.indic.indic_shape_plan_t.{indic_shape_plan_t}
+use Rattle.shapers_base.specs.Font.{Font}
+use Rattle.shapers_base.specs.Map.{Map}
+use Rattle.shapers_indic_initial.specs.InitialPause.{InitiallyReordered, with_positions_and_circles}
+use Rattle.shapers_indic_initial.specs.InitialReordering.{initial_order, initial_steps}
+use Rattle.shapers_indic_initial.specs.InitialRules.{Rules, rules_of}
+use Rattle.shapers_syllabic.specs.ReorderingLaws.{ReadsNoSerials, ReorderLaws, TextReordered}
+
+-- What a syllable becomes hangs on the kind in its bytes and not on their serials.
+abbrev pub InitialReadsNoSerials : Type 0
+InitialReadsNoSerials = (r : Rules) (script : Option Script) → ReadsNoSerials (initial_order r script) (initial_steps r script)
+
+-- The steps of a syllable take each of its places once and lead to its order.
+abbrev pub InitialReorderLaws : Type 0
+InitialReorderLaws = (r : Rules) (script : Option Script) → ReorderLaws (initial_order r script) (initial_steps r script)
+
+-- After the pause, of the text as the moves begin: no glyph is lost; no cluster rises, and glyph flags stay unless it fell; labels
+-- that glyphs of equal cluster share, and the glyphs of each stretch as it merges, are still shared by glyphs of one cluster.
+abbrev pub InitialTextReordered : Type 0
+InitialTextReordered = (font : Font) (m : Map) (p : indic_shape_plan_t) (old new : Buffer) →
+    InitiallyReordered font m p old new →
+    TextReordered (initial_steps (rules_of font m p) old.script) (with_positions_and_circles font m p old) new

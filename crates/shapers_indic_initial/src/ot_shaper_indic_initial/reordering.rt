@@ -1,0 +1,92 @@
+//! The initial reordering of one syllable.
+ghost use Rattle.std.specs.Prelude.{◌≡◌, ◌≤◌, [], length};
+ghost use Rattle.shapers_indic_initial.specs.InitialReordering.{is_reordered, masked_in_order};
+ghost use Rattle.shapers_indic_initial.specs.InitialRules.{rules_of};
+ghost use Rattle.shapers_syllabic.specs.Reordering.{SyllableReordered};
+
+use super::masks::set_masks;
+use super::ordered_base::ordered_base;
+use shapers_base::buffer::{GlyphWalk, Script, hb_buffer_t, hb_glyph_info_t};
+use shapers_base::font::{GlyphId, hb_font_t};
+use shapers_base::map::hb_ot_map_t;
+use shapers_base::plan::indic_shape_plan_t;
+use shapers_syllabic::ot_shaper_syllabic::indic_syllable::{
+    BROKEN_CLUSTER, CONSONANT_SYLLABLE, STANDALONE_CLUSTER, VOWEL_SYLLABLE,
+};
+
+/// The initial reordering of a syllable: positions by the font, its order, and its masks.
+#[derive(Drop)]
+pub(super) struct InitialOrder<'a, F: hb_font_t> {
+    pub(super) plan: &'a indic_shape_plan_t,
+    pub(super) map: &'a hb_ot_map_t,
+    pub(super) face: &'a F,
+    /// The font's glyph for the script's virama.
+    pub(super) virama: Option<GlyphId>,
+}
+
+impl<'a, F: hb_font_t> InitialOrder<'a, F> {
+    // Gives the glyphs of an ordered syllable their masks.
+    fn mask_syllable(&self, buffer: &mut hb_buffer_t, start: usize, end: usize)
+        requires in_order { start ≤ end }
+        requires in_range { end ≤ length buffer.old.glyphs }
+        ensures { let rules = rules_of (F.font self.now.face.now) self.now.map.now self.now.plan.now in
+            SyllableReordered (masked_in_order rules buffer.old.script) (λ _. [])
+            start end buffer.old buffer.new }
+    {
+        let mut masks = Masks {
+            plan: self.plan,
+            map: self.map,
+            face: self.face,
+            script: buffer.script(),
+            start,
+            end,
+        };
+        buffer.walk(&mut masks);
+    }
+}
+
+// Where a syllable stands whose glyphs get their masks.
+#[derive(Drop)]
+struct Masks<'a, F: hb_font_t> {
+    plan: &'a indic_shape_plan_t,
+    map: &'a hb_ot_map_t,
+    face: &'a F,
+    script: Option<Script>,
+    start: usize,
+    end: usize,
+}
+
+impl<'a, F: hb_font_t> GlyphWalk for Masks<'a, F> {
+    ghost use Rattle.std.specs.Prelude.{◌≡◌, ◌<◌, ◌≤◌, ◌^◌, length};
+    ghost use Rattle.shapers_buffer.specs.Clusters.{with_stretch};
+    ghost use Rattle.shapers_indic.specs.declared.ot_shaper_indic.indic_feature.TheConstants.{HALF};
+    ghost use Rattle.shapers_indic_initial.specs.InitialMasks.{bits_of};
+    ghost use Rattle.shapers_indic_initial.specs.InitialReordering.{masked_in_order};
+    ghost use Rattle.shapers_indic_initial.specs.InitialRules.{rules_of};
+
+    ghost can_walk = { λ w gs. (w.start ≤ w.end) × (w.end ≤ length gs) };
+
+    ghost walks = { λ v w gs hs.
+        let rules = rules_of (F.font v.face.now) v.map.now v.plan.now in
+        (hs ≡ with_stretch v.start v.end (masked_in_order rules v.script) gs)
+        × (bits_of rules HALF < 2 ^ 32) };
+
+    fn walk(&mut self, glyphs: &mut [hb_glyph_info_t]) {
+        let syllable = &mut glyphs[self.start..self.end];
+        let base = ordered_base(syllable);
+        set_masks(self.plan, self.map, self.face, self.script, base, syllable);
+    }
+}
+
+// Whether a syllable is reordered.
+fn is_reordered(syllable: &[hb_glyph_info_t]) -> bool
+    ensures { result ≡ is_reordered syllable.now }
+{
+    match syllable {
+        [] => false,
+        [first, ..] => matches!(
+            first.syllable % 16,
+            CONSONANT_SYLLABLE | VOWEL_SYLLABLE | STANDALONE_CLUSTER | BROKEN_CLUSTER
+        ),
+    }
+}
