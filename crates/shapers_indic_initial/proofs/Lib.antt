@@ -17,7 +17,6 @@ mod InitialPauseRows
 mod InitialPositionRows
 pub mod InitialReads
 mod InitialRows
-pub mod InitialSerials
 pub mod InitialSerialsStay
 pub mod InitialSteps
 mod InitialSyllable
