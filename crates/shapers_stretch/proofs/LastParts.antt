@@ -1,5 +1,5 @@
 -- A text from its end: its last part, with the word and the tiles in it, and what stands before that part.
-use Rattle.std.proofs.Common.{◌≡◌, ◌⊎◌, inl, inr, ℕ, suc, ◌+◌, ◌-◌, ◌<◌, ◌≤◌, Bool, true, false, cond, not, ◌&&◌, ◌||◌, List, [], ◌∷◌, ◌++◌, length, take, drop, refl, sym, ap, subst, ◌∙◌, arith, length-append}
+use Rattle.std.proofs.Common.{◌≡◌, inl, inr, ℕ, ◌+◌, ◌-◌, ◌<◌, ◌≤◌, Bool, true, false, cond, not, ◌&&◌, List, [], ◌∷◌, ◌++◌, length, take, drop, refl, sym, ap, subst, ◌∙◌, arith, length-append}
 use Rattle.std.specs.List.{suffix_len, list_all, onto_first, take-map}
 use Rattle.std.proofs.lemmas.List.{append_assoc, append-nil, length_push, length-map}
 use Rattle.std.proofs.lemmas.List.Folds.{list_all-append}
@@ -8,7 +8,7 @@ use borrow.Author.Tests.{clash}
 use Rattle.shapers_buffer.specs.Lists.{last_run, before_last_run}
 use Rattle.shapers_buffer.proofs.ListLaws.{suffix_len_yes, suffix_len_no, suffix_len_stop, from_end, last_of}
 use Rattle.shapers_buffer.proofs.MappedLists.{suffix_len-map}
-use Rattle.shapers_stretch.specs.Cells.{Cell, glyphs_of, before_tiles, before_word, cut_between, cut_here, in_word, is_tile, parts, run_ends, tiles_of, word_of}
+use Rattle.shapers_stretch.specs.Cells.{Cell, glyphs_of, before_tiles, before_word, cut_here, in_word, is_tile, parts, run_ends, tiles_of, word_of}
 use Rattle.shapers_stretch.proofs.Numbers.{and_both}
 use Rattle.shapers_stretch.proofs.Parts.{parts-append}
 

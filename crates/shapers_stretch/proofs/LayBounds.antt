@@ -1,10 +1,10 @@
 -- The numbers by which a run is laid are small where all that must fit 32 bits does.
-use Rattle.std.proofs.Common.{◌≡◌, ◌*◌, ◌^◌, ◌<◌, ◌≤◌, ◌/◌, ◌-◌, ℕ, zero, suc, ℤ, pos, negsuc, neg_ℤ, ◌+ℤ◌, ◌-ℤ◌, ◌*ℤ◌, ◌≤ℤ◌, ◌<ℤ◌, nat_abs, unsigned_abs, int_div, Bool, true, false, cond, ◌&&◌, FitsSigned, List, [], ◌∷◌, ◌++◌, Option, None, Some, refl, subst, sym, ◌∙◌, ap, arith, div-le_self}
+use Rattle.std.proofs.Common.{◌≡◌, ◌*◌, ◌^◌, ◌<◌, ◌≤◌, ℕ, suc, ℤ, pos, negsuc, neg_ℤ, ◌-ℤ◌, ◌≤ℤ◌, ◌<ℤ◌, unsigned_abs, int_div, Bool, true, false, cond, FitsSigned, [], ◌∷◌, Option, None, Some, refl, subst, sym, ◌∙◌, ap, arith, div-le_self}
 use Rattle.std.specs.List.{list_all}
 use Rattle.std.proofs.lemmas.Int.{ints, by_lt_z}
 use Rattle.std.proofs.lemmas.List.Folds.{list_all-append}
 use Rattle.std.proofs.lemmas.Option.{none-some}
-use borrow.Author.Tests.{ltb-true, clash}
+use borrow.Author.Tests.{ltb-true}
 use mir.Syntax.{w32}
 use Rattle.shapers_base.specs.declared.plan.arabic.StretchStart.{StretchStart}
 use Rattle.shapers_base.specs.declared.plan.arabic.StretchStart.TheVariants.{AsCode, Centred}
@@ -12,7 +12,7 @@ use Rattle.shapers_stretch.specs.CountingWalk.{IsLay, IsNumber}
 use Rattle.shapers_stretch.specs.declared.ot_shaper_arabic_stretch.measuring.Lay.{Lay}
 use Rattle.shapers_stretch.specs.declared.ot_shaper_arabic_stretch.measuring.Run.{Run}
 use Rattle.shapers_stretch.specs.Lays.{lay_if_fits, lay_of}
-use Rattle.shapers_stretch.specs.Measure.{added, copies_added, excess, falls_short, fit, fits_i32, fitting, half_gap, laid_width, left, numbers, overlap, reach, run_numbers, squeezes, start}
+use Rattle.shapers_stretch.specs.Measure.{added, copies_added, falls_short, fit, fits_i32, fitting, laid_width, left, numbers, overlap, reach, run_numbers, squeezes, start}
 use Rattle.shapers_stretch.proofs.Numbers.{and_both, fit_room, fit_width, fit_yes, fits_from, overlap_bounds, overlap_no, quotient_abs}
 
 -- what fits, of the numbers of a run

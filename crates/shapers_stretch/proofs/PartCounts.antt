@@ -1,7 +1,7 @@
 -- How much longer a stretched part is, and when a number of it doesn't fit.
-use Rattle.std.proofs.Common.{◌≡◌, ◌<◌, ◌≤◌, ◌+◌, ◌-◌, ◌*◌, ℕ, zero, suc, ℤ, ◌-ℤ◌, Bool, true, false, cond, not, nat_lt, ◌&&◌, ◌||◌, List, [], ◌∷◌, ◌++◌, length, map, filter, reverse, take, drop, flat_map, replicate, Option, None, Some, refl, subst, sym, ◌∙◌, ap, arith, length-append, length-drop, length-take-le}
+use Rattle.std.proofs.Common.{◌≡◌, ◌<◌, ◌≤◌, ◌+◌, ◌-◌, ◌*◌, ℕ, zero, suc, ℤ, ◌-ℤ◌, Bool, true, false, cond, not, nat_lt, ◌&&◌, ◌||◌, List, [], ◌∷◌, ◌++◌, length, map, reverse, take, drop, flat_map, replicate, Option, None, Some, refl, subst, sym, ◌∙◌, ap, arith, length-append, length-drop, length-take-le}
 use Rattle.std.specs.List.{AllByRecursion, list_all, list_any, suffix_len, zip, take-map}
-use Rattle.std.proofs.lemmas.List.{append_assoc, append-nil, length-map, map-append, drop-map, take-append-drop, take_all, drop-take, length-reverse}
+use Rattle.std.proofs.lemmas.List.{append-nil, length-map, map-append, drop-map, take-append-drop, take_all, drop-take, length-reverse}
 use Rattle.std.proofs.lemmas.List.Concat.{flat_map-append}
 use Rattle.std.proofs.lemmas.List.Folds.{list_all-append, list_any-append}
 use Rattle.std.proofs.Math.Seq.{drop-append_seam}
@@ -18,11 +18,10 @@ use Rattle.shapers_base.specs.declared.plan.arabic.StretchStart.{StretchStart}
 use Rattle.shapers_base.specs.Font.{Font}
 use Rattle.shapers_stretch.specs.Cells.{Cell, before_tiles, before_word, glyphs_of, in_word, is_tile, parts, positions_of, repeats, tiles_of, word_of}
 use Rattle.shapers_stretch.specs.CountingWalk.{CountsAdded, IsCounted, moves_of, offsets_fit, offsets_on, pen_behind, run_added, run_moves, stands_at}
-use Rattle.shapers_stretch.specs.declared.ot_shaper_arabic_stretch.measuring.Lay.{Lay}
 use Rattle.shapers_stretch.specs.declared.ot_shaper_arabic_stretch.measuring.Run.{Run}
 use Rattle.shapers_stretch.specs.Lays.{lay_of}
 use Rattle.shapers_stretch.specs.Measure.{added, copies_added, fits_i32, numbers, overlap, start}
-use Rattle.shapers_stretch.specs.Stretch.{Copy, Laying, copies, copies_of, has_run, laid, laid_run, measured, overflows, part_overflows, repeating, run_of, stretched, stretched_over, stretched_part, unbroken, width_of}
+use Rattle.shapers_stretch.specs.Stretch.{Copy, Laying, copies, copies_of, has_run, laid_run, measured, overflows, part_overflows, repeating, run_of, stretched, stretched_over, stretched_part, unbroken, width_of}
 use Rattle.shapers_stretch.proofs.LastParts.{LastPartAt, last_part_at}
 use Rattle.shapers_stretch.proofs.Lengths.{length-copies, length-laid}
 use Rattle.shapers_stretch.proofs.Pen.{laid_is, laid_on}

@@ -1,4 +1,4 @@
-use Rattle.std.proofs.Common.{◌≡◌, ◌<◌, ◌*ℤ◌, ◌&&◌, pos, true, false, Bool, subst, sym, ap, ◌∙◌, arith, FitsSigned, to_z, of_z, ℤ, Some, replicate}
+use Rattle.std.proofs.Common.{◌≡◌, ◌*ℤ◌, ◌&&◌, pos, Bool, subst, sym, ap, ◌∙◌, arith, FitsSigned, to_z, of_z, ℤ, Some, replicate}
 use Rattle.std.proofs.lemmas.Int.{to_z-of_z}
 use mir.Syntax.{w128}
 use Rattle.shapers_stretch.specs.CountingWalk.{WalksPen, last_at, pen_behind, stands_at}

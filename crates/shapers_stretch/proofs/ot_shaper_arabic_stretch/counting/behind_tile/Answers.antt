@@ -1,8 +1,7 @@
-use Rattle.std.proofs.Common.{◌≡◌, pos, true, false, subst, sym, ap, ◌∙◌, arith, rules, FitsSigned, to_z, of_z, ℤ, ◌-ℤ◌, Some, replicate, [], ◌∷◌}
+use Rattle.std.proofs.Common.{◌≡◌, subst, sym, ap, ◌∙◌, rules, FitsSigned, to_z, of_z, ◌-ℤ◌, Some, replicate, [], ◌∷◌}
 use Rattle.std.proofs.lemmas.Int.{to_z-of_z}
 use mir.Syntax.{w32, w128}
 use Rattle.shapers_stretch.specs.CountingWalk.{WalksPen}
-use Rattle.shapers_stretch.specs.Stretch.{width_of}
 use Rattle.shapers_stretch.proofs.Counts.{tile_walked}
 use Rattle.shapers_stretch.proofs.ot_shaper_arabic_stretch.counting.behind_tile.Goals as goal
 

@@ -1,4 +1,4 @@
-use Rattle.std.proofs.Common.{◌≡◌, ◌<◌, ◌≤◌, ◌+◌, true, None, Some, subst, sym, ap, ◌∙◌, arith, length-take-le}
+use Rattle.std.proofs.Common.{◌≡◌, ◌+◌, true, subst, sym, arith, length-take-le}
 use Rattle.std.specs.List.{zip}
 use Rattle.shapers_stretch.specs.CountingWalk.{CountsAdded, IsCounted}
 use Rattle.shapers_stretch.specs.Stretch.{Laying, overflows}

@@ -1,10 +1,9 @@
-use Rattle.std.proofs.Common.{◌≡◌, ◌<◌, ◌≤◌, ◌-◌, ◌==◌, ℕ, List, Bool, true, false, None, Some, length, take, drop, subst, sym, ap, ◌∙◌, arith, rules, length-drop, length-take-le}
+use Rattle.std.proofs.Common.{◌≡◌, ◌<◌, ◌-◌, ◌==◌, ℕ, Bool, true, false, length, take, drop, subst, sym, ◌∙◌, arith, length-drop, length-take-le}
 use Rattle.std.specs.List.{zip}
 use Rattle.std.specs.Option.{MatchOption}
 use Rattle.std.proofs.lemmas.Bool.Decides.{nat_tests}
-use Rattle.shapers_stretch.specs.CountingWalk.{IsCounted, run_added}
+use Rattle.shapers_stretch.specs.CountingWalk.{IsCounted}
 use Rattle.shapers_stretch.specs.Stretch.{Laying, overflows}
-use Rattle.shapers_stretch.proofs.LastParts.{LastPartAt}
 use Rattle.shapers_stretch.proofs.PartCounts.{counted_plain, counted_run, last_part_zipped, length_zip, run_sliced, uncounted_run}
 use Rattle.shapers_stretch.proofs.ot_shaper_arabic_stretch.counting.count_last.Goals as goal
 

@@ -1,4 +1,4 @@
-use Rattle.std.proofs.Common.{◌≡◌, sym, ◌∙◌, ap, arith}
+use Rattle.std.proofs.Common.{sym, ◌∙◌}
 use Rattle.shapers_stretch.proofs.LayBounds.{FoundLay, found_lay}
 use Rattle.shapers_stretch.proofs.ot_shaper_arabic_stretch.counting.count_run.Goals as goal
 
