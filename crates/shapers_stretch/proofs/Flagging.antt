@@ -11,7 +11,8 @@ use Rattle.shapers_buffer.specs.GlyphFlags.{flagged, unsafe_inside, with_bits, w
 use Rattle.shapers_base.specs.Font.{Font}
 use Rattle.shapers_stretch.specs.declared.ot_shaper_arabic_stretch.measuring.Run.{Run}
 use Rattle.shapers_stretch.specs.Cells.{Cell, glyphs_of, positions_of, repeats}
-use Rattle.shapers_stretch.specs.LayingWalk.{laid_on, moved, offsets, stands}
+use Rattle.shapers_stretch.specs.CountingWalk.{pen_behind, stands_at}
+use Rattle.shapers_stretch.specs.LayingWalk.{laid_on, offsets}
 use Rattle.shapers_stretch.specs.Measure.{added, overlap}
 use Rattle.shapers_stretch.specs.Stretch.{Copy, copies, copies_of, unbroken, width_of}
 use Rattle.shapers_stretch.proofs.Laying.{take_less}
@@ -157,7 +158,7 @@ flag_copies font z m (c ∷ cs) =
 
 pub flag_offsets : (right_to_left : Bool) (m : ℕ) (at : ℤ) (xs : List Copy) → offsets (laid_on right_to_left at (map (flag_copy m) xs)) ≡ offsets (laid_on right_to_left at xs)
 flag_offsets right_to_left m at [] = refl
-flag_offsets right_to_left m at (x ∷ xs) = ap (λ ys. stands right_to_left at x.move ∷ ys) (flag_offsets right_to_left m (moved right_to_left at x.move) xs)
+flag_offsets right_to_left m at (x ∷ xs) = ap (λ ys. stands_at right_to_left at x.move ∷ ys) (flag_offsets right_to_left m (pen_behind right_to_left at x.move) xs)
 
 -- the flagged tiles of a part
 pub tiles_are : (word tiles : List Cell) → drop (length word) (unbroken (word ++ tiles)) ≡ map (flag_cell (least (clusters (glyphs_of (word ++ tiles))))) tiles

@@ -11,7 +11,8 @@ use Rattle.shapers_stretch.specs.declared.ot_shaper_arabic_stretch.laying.Pen.{P
 use Rattle.shapers_base.specs.Font.{Font}
 use Rattle.shapers_stretch.specs.declared.ot_shaper_arabic_stretch.measuring.Run.{Run}
 use Rattle.shapers_stretch.specs.Cells.{Cell, repeats}
-use Rattle.shapers_stretch.specs.LayingWalk.{CanLay, IsNear, Lays, laid_on, moved, offsets, stands}
+use Rattle.shapers_stretch.specs.CountingWalk.{IsNumber, pen_behind, stands_at}
+use Rattle.shapers_stretch.specs.LayingWalk.{CanLay, Lays, laid_on, offsets}
 use Rattle.shapers_stretch.specs.Measure.{added, fits_i32, overlap}
 use Rattle.shapers_stretch.specs.Stretch.{Copy, copies_of, moves, width_of}
 use Rattle.shapers_stretch.proofs.Moves.{moves-append}
@@ -26,11 +27,11 @@ take_less (suc n) zero xs p = absurd (omega arith)
 take_less (suc n) (suc m) [] p = refl
 take_less (suc n) (suc m) (x ∷ xs) p = ap (λ ys. x ∷ ys) (take_less n m xs (omega arith))
 
-one_move : (right_to_left : Bool) (at : ℤ) (c : Copy) → moved right_to_left at (moves (c ∷ [])) ≡ moved right_to_left at c.move
-one_move right_to_left at c = ap (moved right_to_left at) (total_cons c.move [] ∙ omega (arith, ints))
+one_move : (right_to_left : Bool) (at : ℤ) (c : Copy) → pen_behind right_to_left at (moves (c ∷ [])) ≡ pen_behind right_to_left at c.move
+one_move right_to_left at c = ap (pen_behind right_to_left at) (total_cons c.move [] ∙ omega (arith, ints))
 
 -- one copy
-pub one_laid : (right_to_left : Bool) (copy : Copy) (pen : Pen) (gs : List hb_glyph_info_t) (ps : List GlyphPosition) (at x : ℤ) → CanLay right_to_left (copy ∷ []) pen gs ps → at ≡ moved right_to_left pen.at copy.move → x ≡ stands right_to_left pen.at copy.move →
+pub one_laid : (right_to_left : Bool) (copy : Copy) (pen : Pen) (gs : List hb_glyph_info_t) (ps : List GlyphPosition) (at x : ℤ) → CanLay right_to_left (copy ∷ []) pen gs ps → at ≡ pen_behind right_to_left pen.at copy.move → x ≡ stands_at right_to_left pen.at copy.move →
     let standing : GlyphPosition = record copy.tile.1 { x_advance = pos 0; x_offset = x } in
     Lays right_to_left (copy ∷ []) pen (record { at = at; place = pen.place - 1 }) (zip gs ps) (zip (set gs (pen.place - 1) copy.tile.0) (set ps (pen.place - 1) standing))
 one_laid right_to_left copy pen gs ps at x can is_at is_x =
@@ -48,7 +49,7 @@ one_laid right_to_left copy pen gs ps at x can is_at is_x =
       behind = ap (drop i) now ∙ drop-set cells i y within ∙ ap (λ n. y ∷ drop n cells) next ∙ ap (λ x. (copy.tile.0, standing x) ∷ drop pen.place cells) is_x;
     }
 
-moved_all : (right_to_left : Bool) (at : ℤ) (xs ys : List Copy) → moved right_to_left (moved right_to_left at (moves xs)) (moves ys) ≡ moved right_to_left at (moves (xs ++ ys))
+moved_all : (right_to_left : Bool) (at : ℤ) (xs ys : List Copy) → pen_behind right_to_left (pen_behind right_to_left at (moves xs)) (moves ys) ≡ pen_behind right_to_left at (moves (xs ++ ys))
 moved_all true at xs ys = omega (arith, ints, moves-append xs ys)
 moved_all false at xs ys = omega (arith, ints, moves-append xs ys)
 
@@ -60,7 +61,7 @@ lays_then right_to_left xs ys a b c old mid now l m =
     let second = laid_on right_to_left b.at ys in
     let both : laid_on right_to_left a.at (xs ++ ys) ≡ first ++ second = laid_on-append right_to_left a.at xs ys ∙ ap (λ at. first ++ laid_on right_to_left at ys) (sym l.pen) in
     record {
-      pen = m.pen ∙ ap (λ at. moved right_to_left at (moves ys)) l.pen ∙ moved_all right_to_left a.at xs ys;
+      pen = m.pen ∙ ap (λ at. pen_behind right_to_left at (moves ys)) l.pen ∙ moved_all right_to_left a.at xs ys;
       place = omega (arith, m.place, l.place, length-append xs ys);
       kept = m.kept ∙ sym (take_less c.place b.place mid before) ∙ ap (take c.place) l.kept ∙ take_less c.place b.place old before;
       behind = m.behind ∙ ap (λ z. reverse second ++ z) l.behind ∙ sym (append_assoc (reverse second) (reverse first) (drop a.place old)) ∙ ap (λ z. z ++ drop a.place old) (sym (ap reverse both ∙ reverse-append first second));
@@ -75,10 +76,10 @@ none_laid right_to_left pen old = record {
   behind = refl;
 }
 
-offsets-append : (right_to_left : Bool) (at : ℤ) (xs ys : List Copy) → list_all fits_i32 (offsets (laid_on right_to_left at (xs ++ ys))) ≡ (list_all fits_i32 (offsets (laid_on right_to_left at xs)) && list_all fits_i32 (offsets (laid_on right_to_left (moved right_to_left at (moves xs)) ys)))
+offsets-append : (right_to_left : Bool) (at : ℤ) (xs ys : List Copy) → list_all fits_i32 (offsets (laid_on right_to_left at (xs ++ ys))) ≡ (list_all fits_i32 (offsets (laid_on right_to_left at xs)) && list_all fits_i32 (offsets (laid_on right_to_left (pen_behind right_to_left at (moves xs)) ys)))
 offsets-append right_to_left at xs ys =
     let first = laid_on right_to_left at xs in
-    let second = laid_on right_to_left (moved right_to_left at (moves xs)) ys in
+    let second = laid_on right_to_left (pen_behind right_to_left at (moves xs)) ys in
     ap (λ cs. list_all fits_i32 (offsets cs)) (laid_on-append right_to_left at xs ys) ∙ ap (list_all fits_i32) (map-append (λ (c : Cell). c.1.x_offset) first second) ∙ list_all-append fits_i32 (offsets first) (offsets second)
 
 -- where copies can be laid, the first of them can, and behind these the others
@@ -106,7 +107,7 @@ pub replicate_first : {X : Type 0} (count k : ℕ) (x : X) → k < count → rep
 replicate_first count k x p = ap (λ n. replicate n x) (less count k p)
 
 -- a number far from the ends of its 128 bits fits them
-pub near_fits : (x : ℤ) → IsNear x → FitsSigned w128 x
+pub near_fits : (x : ℤ) → IsNumber x → FitsSigned w128 x
 near_fits (pos n) near = record { sfits = omega (arith, ints, near.high) }
 near_fits (negsuc n) near = record { sfits = omega (arith, ints, near.low) }
 

@@ -9,7 +9,7 @@ use Rattle.shapers_stretch.specs.declared.ot_shaper_arabic_stretch.measuring.Run
 use Rattle.shapers_stretch.specs.Measure.{added, overlap}
 use Rattle.shapers_stretch.specs.Stretch.{Copy, copies, copies_of, laid, repeating, width_of}
 use Rattle.shapers_stretch.proofs.Moves.{length_if}
-use Rattle.shapers_stretch.proofs.Pen.{laid_is, laid_on, moved}
+use Rattle.shapers_stretch.proofs.Pen.{laid_is, laid_on, pen_behind}
 
 length-replicated : {X : Type 0} (n : ℕ) (x : X) → length (replicate n x) ≡ n
 length-replicated zero x = refl
@@ -37,7 +37,7 @@ length-copies font z (c ∷ cs) =
 
 length-laid_on : (right_to_left : Bool) (pen : ℤ) (cs : List Copy) → length (laid_on right_to_left pen cs) ≡ length cs
 length-laid_on right_to_left pen [] = refl
-length-laid_on right_to_left pen (c ∷ cs) = ap suc (length-laid_on right_to_left (moved right_to_left pen c.move) cs)
+length-laid_on right_to_left pen (c ∷ cs) = ap suc (length-laid_on right_to_left (pen_behind right_to_left pen c.move) cs)
 
 pub length-laid : (right_to_left : Bool) (from : ℤ) (cs : List Copy) → length (laid right_to_left from cs) ≡ length cs
 length-laid right_to_left from cs = ap length (laid_is right_to_left from cs) ∙ length-laid_on right_to_left from cs

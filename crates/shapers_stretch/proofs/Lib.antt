@@ -15,6 +15,7 @@ pub mod Laying
 pub mod Lengths
 pub mod RunLaying
 pub mod Steps
+pub mod Postprocessing
 pub mod Sums
 pub mod TileWalk
 pub mod Widths

@@ -24,7 +24,7 @@ use Rattle.shapers_stretch.specs.Measure.{added, copies_added, fits_i32, numbers
 use Rattle.shapers_stretch.specs.Stretch.{Copy, Laying, copies, copies_of, has_run, laid_run, measured, overflows, part_overflows, repeating, run_of, stretched, stretched_over, stretched_part, unbroken, width_of}
 use Rattle.shapers_stretch.proofs.LastParts.{LastPartAt, last_part_at}
 use Rattle.shapers_stretch.proofs.Lengths.{length-copies, length-laid}
-use Rattle.shapers_stretch.proofs.Pen.{laid_is, laid_on, moved, stands}
+use Rattle.shapers_stretch.proofs.Pen.{laid_is, laid_on}
 
 -- glyphs beside positions
 pub glyphs_zip : (gs : List hb_glyph_info_t) (ps : List GlyphPosition) → length gs ≡ length ps → glyphs_of (zip gs ps) ≡ gs
@@ -98,19 +98,9 @@ pub no_run_length : (how : Laying) (part : List Cell) → has_run part ≡ false
 no_run_length how part e = ap (λ b. cond (not b) part (before_word part ++ stretched_over how (run_of how.font part) (word_of part) (tiles_of part))) e
 
 -- the offsets of a laid list, from the moves of its copies alone
-stands_same : (right_to_left : Bool) (pen move : ℤ) → stands right_to_left pen move ≡ stands_at right_to_left pen move
-stands_same true pen move = refl
-stands_same false pen move = refl
-
-moved_same : (right_to_left : Bool) (pen move : ℤ) → moved right_to_left pen move ≡ pen_behind right_to_left pen move
-moved_same true pen move = refl
-moved_same false pen move = refl
-
 on_offsets : (right_to_left : Bool) (pen : ℤ) (cs : List Copy) → map (λ c. c.1.x_offset) (laid_on right_to_left pen cs) ≡ offsets_on right_to_left pen (map (λ copy. copy.move) cs)
 on_offsets right_to_left pen [] = refl
-on_offsets right_to_left pen (c ∷ cs) =
-    let rest = map (λ c. c.1.x_offset) (laid_on right_to_left (moved right_to_left pen c.move) cs) in
-    ap (λ x. x ∷ rest) (stands_same right_to_left pen c.move) ∙ ap (λ xs. stands_at right_to_left pen c.move ∷ xs) (on_offsets right_to_left (moved right_to_left pen c.move) cs ∙ ap (λ p. offsets_on right_to_left p (map (λ copy. copy.move) cs)) (moved_same right_to_left pen c.move))
+on_offsets right_to_left pen (c ∷ cs) = ap (λ xs. stands_at right_to_left pen c.move ∷ xs) (on_offsets right_to_left (pen_behind right_to_left pen c.move) cs)
 
 map-replicate : {X Y : Type 0} (f : X → Y) (n : ℕ) (x : X) → map f (replicate n x) ≡ replicate n (f x)
 map-replicate f zero x = refl

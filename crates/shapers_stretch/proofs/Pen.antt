@@ -3,7 +3,8 @@ use Rattle.std.proofs.Common.{◌≡◌, ℤ, ◌+ℤ◌, Bool, true, false, Lis
 use Rattle.std.proofs.lemmas.Int.{ints}
 use Rattle.shapers_buffer.specs.Lists.{each_after}
 use Rattle.shapers_stretch.specs.Stretch.{Copy, laid, laid_at, moves, offset}
-pub use Rattle.shapers_stretch.specs.LayingWalk.{stands, moved, laid_on}
+pub use Rattle.shapers_stretch.specs.CountingWalk.{stands_at, pen_behind}
+pub use Rattle.shapers_stretch.specs.LayingWalk.{laid_on}
 use Rattle.shapers_stretch.proofs.Moves.{moves-append}
 use Rattle.shapers_stretch.proofs.Sums.{total_cons}
 
@@ -11,22 +12,22 @@ use Rattle.shapers_stretch.proofs.Sums.{total_cons}
 moves-push : (before : List Copy) (c : Copy) → moves (before ++ c ∷ []) ≡ moves before +ℤ c.move
 moves-push before c = omega (arith, ints, moves-append before (c ∷ []), total_cons c.move [])
 
-offset_is : (right_to_left : Bool) (from : ℤ) (before : List Copy) (c : Copy) → offset right_to_left from before c ≡ stands right_to_left (moved right_to_left from (moves before)) c.move
+offset_is : (right_to_left : Bool) (from : ℤ) (before : List Copy) (c : Copy) → offset right_to_left from before c ≡ stands_at right_to_left (pen_behind right_to_left from (moves before)) c.move
 offset_is true from before c = omega (arith, ints, moves-push before c)
 offset_is false from before c = refl
 
-pen_next : (right_to_left : Bool) (from : ℤ) (before : List Copy) (c : Copy) → moved right_to_left from (moves (before ++ c ∷ [])) ≡ moved right_to_left (moved right_to_left from (moves before)) c.move
+pen_next : (right_to_left : Bool) (from : ℤ) (before : List Copy) (c : Copy) → pen_behind right_to_left from (moves (before ++ c ∷ [])) ≡ pen_behind right_to_left (pen_behind right_to_left from (moves before)) c.move
 pen_next true from before c = omega (arith, ints, moves-push before c)
 pen_next false from before c = omega (arith, ints, moves-push before c)
 
-laid_after : (right_to_left : Bool) (from : ℤ) (before cs : List Copy) → map (λ p. laid_at (offset right_to_left from p.0 p.1) p.1.tile) (each_after before cs) ≡ laid_on right_to_left (moved right_to_left from (moves before)) cs
+laid_after : (right_to_left : Bool) (from : ℤ) (before cs : List Copy) → map (λ p. laid_at (offset right_to_left from p.0 p.1) p.1.tile) (each_after before cs) ≡ laid_on right_to_left (pen_behind right_to_left from (moves before)) cs
 laid_after right_to_left from before [] = refl
 laid_after right_to_left from before (c ∷ cs) =
     let rest = map (λ p. laid_at (offset right_to_left from p.0 p.1) p.1.tile) (each_after (before ++ c ∷ []) cs) in
-    let first = laid_at (stands right_to_left (moved right_to_left from (moves before)) c.move) c.tile in
+    let first = laid_at (stands_at right_to_left (pen_behind right_to_left from (moves before)) c.move) c.tile in
     ap (λ x. laid_at x c.tile ∷ rest) (offset_is right_to_left from before c) ∙ ap (λ ys. first ∷ ys) (laid_after right_to_left from (before ++ c ∷ []) cs ∙ ap (λ pen. laid_on right_to_left pen cs) (pen_next right_to_left from before c))
 
-pub no_move : (right_to_left : Bool) (from : ℤ) → moved right_to_left from (moves []) ≡ from
+pub no_move : (right_to_left : Bool) (from : ℤ) → pen_behind right_to_left from (moves []) ≡ from
 no_move true from = omega (arith, ints)
 no_move false from = omega (arith, ints)
 
@@ -34,14 +35,14 @@ no_move false from = omega (arith, ints)
 pub laid_is : (right_to_left : Bool) (from : ℤ) (cs : List Copy) → laid right_to_left from cs ≡ laid_on right_to_left from cs
 laid_is right_to_left from cs = laid_after right_to_left from [] cs ∙ ap (λ pen. laid_on right_to_left pen cs) (no_move right_to_left from)
 
-moved_on : (right_to_left : Bool) (pen : ℤ) (c : Copy) (xs : List Copy) → moved right_to_left (moved right_to_left pen c.move) (moves xs) ≡ moved right_to_left pen (moves (c ∷ xs))
+moved_on : (right_to_left : Bool) (pen : ℤ) (c : Copy) (xs : List Copy) → pen_behind right_to_left (pen_behind right_to_left pen c.move) (moves xs) ≡ pen_behind right_to_left pen (moves (c ∷ xs))
 moved_on true pen c xs = omega (arith, ints, total_cons c.move (map (λ copy. copy.move) xs))
 moved_on false pen c xs = omega (arith, ints, total_cons c.move (map (λ copy. copy.move) xs))
 
 -- copies and then others
-pub laid_on-append : (right_to_left : Bool) (pen : ℤ) (xs ys : List Copy) → laid_on right_to_left pen (xs ++ ys) ≡ laid_on right_to_left pen xs ++ laid_on right_to_left (moved right_to_left pen (moves xs)) ys
+pub laid_on-append : (right_to_left : Bool) (pen : ℤ) (xs ys : List Copy) → laid_on right_to_left pen (xs ++ ys) ≡ laid_on right_to_left pen xs ++ laid_on right_to_left (pen_behind right_to_left pen (moves xs)) ys
 laid_on-append right_to_left pen [] ys = ap (λ pen. laid_on right_to_left pen ys) (sym (no_move right_to_left pen))
 laid_on-append right_to_left pen (c ∷ xs) ys =
-    let first = laid_at (stands right_to_left pen c.move) c.tile in
-    let rest = laid_on right_to_left (moved right_to_left pen c.move) xs in
-    ap (λ zs. first ∷ zs) (laid_on-append right_to_left (moved right_to_left pen c.move) xs ys ∙ ap (λ pen. rest ++ laid_on right_to_left pen ys) (moved_on right_to_left pen c xs))
+    let first = laid_at (stands_at right_to_left pen c.move) c.tile in
+    let rest = laid_on right_to_left (pen_behind right_to_left pen c.move) xs in
+    ap (λ zs. first ∷ zs) (laid_on-append right_to_left (pen_behind right_to_left pen c.move) xs ys ∙ ap (λ pen. rest ++ laid_on right_to_left pen ys) (moved_on right_to_left pen c xs))

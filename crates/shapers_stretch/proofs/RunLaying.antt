@@ -16,7 +16,8 @@ use Rattle.shapers_stretch.specs.declared.ot_shaper_arabic_stretch.laying.Pen.{P
 use Rattle.shapers_stretch.specs.declared.ot_shaper_arabic_stretch.measuring.Lay.{Lay}
 use Rattle.shapers_stretch.specs.declared.ot_shaper_arabic_stretch.measuring.Run.{Run}
 use Rattle.shapers_stretch.specs.Cells.{Cell, glyphs_of, positions_of}
-use Rattle.shapers_stretch.specs.LayingWalk.{CanLay, CanLayRun, IsLayOf, IsNear, Lays, laid_on, offsets}
+use Rattle.shapers_stretch.specs.CountingWalk.{IsNumber}
+use Rattle.shapers_stretch.specs.LayingWalk.{CanLay, CanLayRun, IsLayOf, Lays, laid_on, offsets}
 use Rattle.shapers_stretch.specs.Lays.{lay_if_fits}
 use Rattle.shapers_stretch.specs.Measure.{fits_i32, numbers, start}
 use Rattle.shapers_stretch.specs.Stretch.{Copy, Laying, copies, laid_run, measured, unbroken}
@@ -58,7 +59,7 @@ lay_is choice right_to_left z lay e =
       high = found.small.high;
     }
 
-pub start_near : (choice : StretchStart) (right_to_left : Bool) (z : Run) (lay : Lay) → lay_if_fits choice right_to_left z ≡ Some lay → IsNear lay.start
+pub start_near : (choice : StretchStart) (right_to_left : Bool) (z : Run) (lay : Lay) → lay_if_fits choice right_to_left z ≡ Some lay → IsNumber lay.start
 start_near choice right_to_left z lay e =
     let s = (found_lay choice right_to_left z lay e).small.start in
     record { low = s.low; high = s.high }
@@ -69,8 +70,8 @@ start_read choice right_to_left z lay e = to_z-of_z w128 lay.start (near_fits la
 pub start_is : (choice : StretchStart) (right_to_left : Bool) (z : Run) (lay : Lay) → lay_if_fits choice right_to_left z ≡ Some lay → to_z w128 (of_z w128 lay.start) ≡ start choice right_to_left z
 start_is choice right_to_left z lay e = start_read choice right_to_left z lay e ∙ ap (λ (l : Lay). l.start) (found_lay choice right_to_left z lay e).is
 
-pub start_read_near : (choice : StretchStart) (right_to_left : Bool) (z : Run) (lay : Lay) → lay_if_fits choice right_to_left z ≡ Some lay → IsNear (to_z w128 (of_z w128 lay.start))
-start_read_near choice right_to_left z lay e = subst IsNear (sym (start_read choice right_to_left z lay e)) (start_near choice right_to_left z lay e)
+pub start_read_near : (choice : StretchStart) (right_to_left : Bool) (z : Run) (lay : Lay) → lay_if_fits choice right_to_left z ≡ Some lay → IsNumber (to_z w128 (of_z w128 lay.start))
+start_read_near choice right_to_left z lay e = subst IsNumber (sym (start_read choice right_to_left z lay e)) (start_near choice right_to_left z lay e)
 
 -- one is found where no number overflows
 pub lay_some : (choice : StretchStart) (right_to_left : Bool) (z : Run) (rest : List ℤ) {P : Type 0} → list_all fits_i32 (numbers choice z ++ rest) ≡ true → lay_if_fits choice right_to_left z ≡ None → P

@@ -3,6 +3,8 @@ use Rattle.std.specs.Prelude.{◌≡◌, ◌≤◌, ◌+◌, ◌^◌, ◌≤ℤ�
 use Rattle.std.specs.List.{list_all}
 use Rattle.shapers_buffer.specs.declared.buffer.glyph.hb_glyph_info_t.{hb_glyph_info_t}
 use Rattle.shapers_base.specs.declared.plan.arabic.StretchStart.{StretchStart}
+use Rattle.shapers_buffer.specs.declared.buffer.refusal.ShaperError.{ShaperError}
+use Rattle.shapers_buffer.specs.declared.buffer.refusal.ShaperError.TheVariants.{StretchOverflow}
 use Rattle.shapers_base.specs.Font.{Font}
 use Rattle.shapers_stretch.specs.Cells.{Cell, repeats}
 use Rattle.shapers_stretch.specs.declared.ot_shaper_arabic_stretch.measuring.Lay.{Lay}
@@ -74,3 +76,7 @@ pub record IsCounted (how : Laying) (cs : List Cell) (end added : ℕ) : Type 0 
   pub within : end ≤ length cs
   pub fits : overflows how cs ≡ overflows how (take end cs)
   pub longer : length (stretched how cs) + end ≡ (length (stretched how (take end cs)) + length cs) + added
+
+-- the refusal that the numbers of a text in working order give
+abbrev pub text_refusal : Laying → List Cell → Option ShaperError
+text_refusal how cs = if overflows how cs then Some StretchOverflow else None

@@ -6,25 +6,17 @@ use Rattle.shapers_buffer.specs.declared.buffer.glyph.hb_glyph_info_t.{hb_glyph_
 use Rattle.shapers_base.specs.declared.plan.arabic.StretchStart.{StretchStart}
 use Rattle.shapers_base.specs.Font.{Font}
 use Rattle.shapers_stretch.specs.Cells.{Cell, glyphs_of, positions_of}
+use Rattle.shapers_stretch.specs.CountingWalk.{pen_behind, stands_at}
 use Rattle.shapers_stretch.specs.Measure.{added, fits_i32, numbers, overlap}
 use Rattle.shapers_stretch.specs.Stretch.{Copy, Laying, copies, laid_at, laid_run, measured, moves, overflows, stretched}
 use Rattle.shapers_stretch.specs.declared.ot_shaper_arabic_stretch.laying.Pen.{Pen}
 use Rattle.shapers_stretch.specs.declared.ot_shaper_arabic_stretch.measuring.Lay.{Lay}
 use Rattle.shapers_stretch.specs.declared.ot_shaper_arabic_stretch.measuring.Run.{Run}
 
--- where a copy stands when the pen is here, and where the pen is behind it
-abbrev pub stands : Bool → ℤ → ℤ → ℤ
-stands true pen move = pen -ℤ move
-stands false pen move = pen
-
-abbrev pub moved : Bool → ℤ → ℤ → ℤ
-moved true pen move = pen -ℤ move
-moved false pen move = pen +ℤ move
-
 -- copies laid from a pen on
 abbrev pub laid_on : Bool → ℤ → List Copy → List Cell
 laid_on right_to_left pen [] = []
-laid_on right_to_left pen (c ∷ cs) = laid_at (stands right_to_left pen c.move) c.tile ∷ laid_on right_to_left (moved right_to_left pen c.move) cs
+laid_on right_to_left pen (c ∷ cs) = laid_at (stands_at right_to_left pen c.move) c.tile ∷ laid_on right_to_left (pen_behind right_to_left pen c.move) cs
 
 -- the offsets of cells
 abbrev pub offsets : List Cell → List ℤ
@@ -39,7 +31,7 @@ pub record CanLay (right_to_left : Bool) (copies : List Copy) (pen : Pen) (gs : 
 
 -- Copies were laid from `before` to `after`: the first of them stands last, and what stands before them is as it was.
 pub record Lays (right_to_left : Bool) (copies : List Copy) (before after : Pen) (old now : List Cell) : Type 0 where
-  pub pen : after.at ≡ moved right_to_left before.at (moves copies)
+  pub pen : after.at ≡ pen_behind right_to_left before.at (moves copies)
   pub place : after.place + length copies ≡ before.place
   pub kept : take after.place now ≡ take after.place old
   pub behind : drop after.place now ≡ reverse (laid_on right_to_left before.at copies) ++ drop before.place old
@@ -77,11 +69,6 @@ pub record HasRoom (how : Laying) (gs : List hb_glyph_info_t) (ps : List GlyphPo
   pub room : length (stretched how (text_of len gs ps)) ≡ length gs
   pub glyph_numbers : AllByRecursion (λ g. g.glyph_id ≤ 65535) (take len gs)
   pub fits : overflows how (text_of len gs ps) ≡ false
-
--- a number far from the ends of its 128 bits
-pub record IsNear (x : ℤ) : Type 0 where
-  pub low : negsuc (2 ^ 70) ≤ℤ x
-  pub high : x ≤ℤ pos (2 ^ 70)
 
 -- the numbers by which the copies of a run are laid
 pub record IsLayOf (z : Run) (lay : Lay) : Type 0 where

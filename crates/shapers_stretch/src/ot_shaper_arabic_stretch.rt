@@ -6,8 +6,10 @@ mod counting;
 mod laying;
 mod measuring;
 mod parts;
+mod postprocessing;
 mod recording;
 
+pub use postprocessing::postprocess_glyphs;
 pub use recording::record_stch;
 
 /// The law of widths: what is laid for a run is as wide as the numbers of the run say; and where its

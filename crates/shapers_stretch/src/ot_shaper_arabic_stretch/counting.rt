@@ -199,8 +199,8 @@ fn product(count: usize, step: i128) -> i128
     count as i128 * step
 }
 
-// Where the pen is when it has moved so far.
-fn moved(right_to_left: bool, pen: i128, move_by: i128) -> i128
+/// Where the pen is when it has moved so far.
+pub(super) fn moved(right_to_left: bool, pen: i128, move_by: i128) -> i128
     requires pen { IsNumber pen }
     requires low { negsuc (2 ^ 99) ≤ℤ move_by }
     requires high { move_by ≤ℤ pos (2 ^ 99) }

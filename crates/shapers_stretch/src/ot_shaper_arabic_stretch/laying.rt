@@ -4,11 +4,13 @@ ghost use Rattle.std.specs.Prelude.{◌≡◌, ◌≤◌, ◌<◌, ◌^◌, ◌+
 ghost use Rattle.std.specs.List.{AllByRecursion, zip};
 ghost use Rattle.shapers_buffer.specs.Clusters.{stretch_of};
 ghost use Rattle.shapers_stretch.specs.Cells.{Cell, glyphs_of, positions_of};
-ghost use Rattle.shapers_stretch.specs.LayingWalk.{CanLay, CanLayRun, HasRoom, IsLaidFrom, IsLayOf, IsNear, IsUnlaid, Lays, laying_by, moved, stands, text_of, whole_of};
+ghost use Rattle.shapers_stretch.specs.CountingWalk.{IsNumber, stands_at};
+ghost use Rattle.shapers_stretch.specs.LayingWalk.{CanLay, CanLayRun, HasRoom, IsLaidFrom, IsLayOf, IsUnlaid, Lays, laying_by, text_of, whole_of};
 ghost use Rattle.shapers_stretch.specs.Lays.{lay_of};
 ghost use Rattle.shapers_stretch.specs.Measure.{added, fits_i32, overlap};
 ghost use Rattle.shapers_stretch.specs.Stretch.{Copy, copies, copies_of, laid_run, measured, stretched, unbroken};
 
+use super::counting::moved;
 use super::measuring::{Lay, Run, advance_of, lay_of, measure};
 use super::parts::{LastPart, last_part, repeats};
 use shapers_base::buffer::{GlyphPosition, PositionedWalk, hb_glyph_info_t, unsafe_to_break_in};
@@ -234,7 +236,7 @@ fn lay_tiles<F: hb_font_t>(
     pen: Pen,
 ) -> Pen
     requires lay { IsLayOf run lay }
-    requires near { IsNear pen.at }
+    requires near { IsNumber pen.at }
     requires in_order { tiles ≤ end }
     requires ahead { end ≤ pen.place }
     requires numbers { AllByRecursion (λ g. g.glyph_id ≤ 65535) (take end glyphs.old) }
@@ -271,13 +273,13 @@ fn lay_tile<F: hb_font_t>(
     pen: Pen,
 ) -> Pen
     requires lay { IsLayOf run lay }
-    requires near { IsNear pen.at }
+    requires near { IsNumber pen.at }
     requires number { tile.glyph.glyph_id ≤ 65535 }
     requires can { let cell : Cell = (tile.glyph, tile.position) in
         CanLay right_to_left (copies_of (F.font face.now) run cell) pen glyphs.old positions.old }
     ensures both { length glyphs.new ≡ length positions.new }
     ensures same_length { length glyphs.new ≡ length glyphs.old }
-    ensures near { IsNear result.at }
+    ensures near { IsNumber result.at }
     ensures lays { let cell : Cell = (tile.glyph, tile.position) in
         let laid = copies_of (F.font face.now) run cell in
         Lays right_to_left laid pen result (zip glyphs.old positions.old) (zip glyphs.new positions.new) }
@@ -304,13 +306,13 @@ fn lay_copies(
 ) -> Pen
     requires step_low { negsuc (2 ^ 67) ≤ℤ step }
     requires step_high { step ≤ℤ pos (2 ^ 67) }
-    requires near { IsNear pen.at }
+    requires near { IsNumber pen.at }
     requires can { let cell : Cell = (tile.glyph, tile.position) in
         let copy : Copy = record { tile = cell; move = step } in
         CanLay right_to_left (replicate count copy) pen glyphs.old positions.old }
     ensures both { length glyphs.new ≡ length positions.new }
     ensures same_length { length glyphs.new ≡ length glyphs.old }
-    ensures near { IsNear result.at }
+    ensures near { IsNumber result.at }
     ensures lays { let cell : Cell = (tile.glyph, tile.position) in
         let copy : Copy = record { tile = cell; move = step } in
         Lays right_to_left (replicate count copy) pen result (zip glyphs.old positions.old) (zip glyphs.new positions.new) }
@@ -333,13 +335,13 @@ fn lay_copy(
 ) -> Pen
     requires step_low { negsuc (2 ^ 67) ≤ℤ step }
     requires step_high { step ≤ℤ pos (2 ^ 67) }
-    requires near { IsNear pen.at }
+    requires near { IsNumber pen.at }
     requires can { let cell : Cell = (tile.glyph, tile.position) in
         let copy : Copy = record { tile = cell; move = step } in
         CanLay right_to_left (copy ∷ []) pen glyphs.old positions.old }
     ensures both { length glyphs.new ≡ length positions.new }
     ensures same_length { length glyphs.new ≡ length glyphs.old }
-    ensures near { IsNear result.at }
+    ensures near { IsNumber result.at }
     ensures lays { let cell : Cell = (tile.glyph, tile.position) in
         let copy : Copy = record { tile = cell; move = step } in
         Lays right_to_left (copy ∷ []) pen result (zip glyphs.old positions.old) (zip glyphs.new positions.new) }
@@ -360,23 +362,13 @@ fn lay_copy(
 fn offset_of(right_to_left: bool, at: i128, step: i128) -> i32
     requires step_low { negsuc (2 ^ 67) ≤ℤ step }
     requires step_high { step ≤ℤ pos (2 ^ 67) }
-    requires near { IsNear at }
-    requires fits { fits_i32 (stands right_to_left at step) ≡ true }
-    ensures { result ≡ stands right_to_left at step }
+    requires near { IsNumber at }
+    requires fits { fits_i32 (stands_at right_to_left at step) ≡ true }
+    ensures { result ≡ stands_at right_to_left at step }
 {
     if right_to_left {
         (at - step) as i32
     } else {
         at as i32
     }
-}
-
-// Where the pen is behind a copy.
-fn moved(right_to_left: bool, at: i128, step: i128) -> i128
-    requires step_low { negsuc (2 ^ 67) ≤ℤ step }
-    requires step_high { step ≤ℤ pos (2 ^ 67) }
-    requires near { IsNear at }
-    ensures { result ≡ moved right_to_left at step }
-{
-    if right_to_left { at - step } else { at + step }
 }

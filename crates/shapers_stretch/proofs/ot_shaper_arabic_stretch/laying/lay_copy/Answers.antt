@@ -1,7 +1,7 @@
 use Rattle.std.proofs.Common.{◌∙◌, ap, of_z, to_z, FitsSigned}
 use Rattle.std.proofs.lemmas.Int.{to_z-of_z}
 use mir.Syntax.{w32, w128}
-use Rattle.shapers_stretch.specs.LayingWalk.{moved, stands}
+use Rattle.shapers_stretch.specs.CountingWalk.{pen_behind, stands_at}
 use Rattle.shapers_stretch.specs.Stretch.{Copy}
 use Rattle.shapers_stretch.proofs.Laying.{near_fits, one_laid}
 use Rattle.shapers_stretch.proofs.ot_shaper_arabic_stretch.laying.lay_copy.Goals as goal
@@ -13,6 +13,6 @@ returns-clause-lays c =
     let fits_at : FitsSigned w128 c.moved.result = record { sfits = c.moved.type_inv } in
     let at = to_z-of_z w128 c.args.pen.at (near_fits c.args.pen.at c.requires.near) in
     let step = to_z-of_z w128 c.args.step c.ranges.step in
-    let there = ap (λ a. stands c.args.right_to_left a (to_z w128 (of_z w128 c.args.step))) at ∙ ap (stands c.args.right_to_left c.args.pen.at) step in
-    let behind = ap (λ a. moved c.args.right_to_left a (to_z w128 (of_z w128 c.args.step))) at ∙ ap (moved c.args.right_to_left c.args.pen.at) step in
-    one_laid c.args.right_to_left copy c.args.pen c.args.glyphs.now c.args.positions.now _ _ c.requires.can (to_z-of_z w128 c.moved.result fits_at ∙ c.moved.ensures ∙ behind) (to_z-of_z w32 c.offset_of.result fits_offset ∙ c.offset_of.ensures ∙ there)
+    let there = ap (λ a. stands_at c.args.right_to_left a (to_z w128 (of_z w128 c.args.step))) at ∙ ap (stands_at c.args.right_to_left c.args.pen.at) step in
+    let behind = ap (λ a. pen_behind c.args.right_to_left a (to_z w128 (of_z w128 c.args.step))) at ∙ ap (pen_behind c.args.right_to_left c.args.pen.at) step in
+    one_laid c.args.right_to_left copy c.args.pen c.args.glyphs.now c.args.positions.now _ _ c.requires.can (to_z-of_z w128 c.moved.result fits_at ∙ c.moved.ensures.value ∙ behind) (to_z-of_z w32 c.offset_of.result fits_offset ∙ c.offset_of.ensures ∙ there)

@@ -3,7 +3,7 @@ use Rattle.std.specs.List.{zip}
 use Rattle.std.proofs.lemmas.Int.{ints, to_z-of_z}
 use mir.Syntax.{w128}
 use Rattle.shapers_stretch.specs.Cells.{Cell, repeats}
-use Rattle.shapers_stretch.specs.LayingWalk.{IsNear}
+use Rattle.shapers_stretch.specs.CountingWalk.{IsNumber}
 use Rattle.shapers_stretch.specs.Measure.{overlap}
 use Rattle.shapers_stretch.specs.Stretch.{width_of}
 use Rattle.shapers_stretch.proofs.Laying.{near_fits, tile_all, tile_first, tile_more, tile_once}
@@ -37,7 +37,7 @@ lay_copies-requires-clause-can g c =
     let more : repeats c.args.tile.glyph ≡ true = grind arith in
     let over : to_z w128 (of_z w128 c.args.lay.overlap) ≡ overlap c.args.run = to_z-of_z w128 c.args.lay.overlap (near_fits _ (record { low = omega (arith, ints, c.requires.lay.low); high = omega (arith, ints, c.requires.lay.high) })) ∙ c.requires.lay.overlap in
     let difference = to_z w128 (of_z w128 c.from-width.result) -ℤ to_z w128 (of_z w128 c.args.lay.overlap) in
-    let near : IsNear difference = record { low = omega (arith, ints, c.from-width.ensures, c.requires.lay.high, c.advance_of.type_inv); high = omega (arith, ints, c.from-width.ensures, c.requires.lay.low, c.advance_of.type_inv) } in
+    let near : IsNumber difference = record { low = omega (arith, ints, c.from-width.ensures, c.requires.lay.high, c.advance_of.type_inv); high = omega (arith, ints, c.from-width.ensures, c.requires.lay.low, c.advance_of.type_inv) } in
     let step : to_z w128 (of_z w128 difference) ≡ width_of font c.args.tile.glyph -ℤ overlap c.args.run = to_z-of_z w128 difference (near_fits difference near) ∙ ap (λ w. w -ℤ to_z w128 (of_z w128 c.args.lay.overlap)) width ∙ ap (λ o. width_of font c.args.tile.glyph -ℤ o) over in
     tile_more c.args.right_to_left font c.args.run cell _ _ c.args.lay.added c.args.pen c.lay_copies-pen.result c.args.glyphs.now n.glyphs c.args.positions.now n.positions (zip c.args.glyphs.now c.args.positions.now) (zip n.glyphs n.positions) more width step c.requires.lay.added c.requires.can c.lay_copies-pen.ensures.lays c.lay_copies-pen.ensures.same_length c.lay_copies-pen.ensures.both
 
@@ -52,6 +52,6 @@ returns-clause-lays g c =
     let more : repeats c.args.tile.glyph ≡ true = grind arith in
     let over : to_z w128 (of_z w128 c.args.lay.overlap) ≡ overlap c.args.run = to_z-of_z w128 c.args.lay.overlap (near_fits _ (record { low = omega (arith, ints, c.requires.lay.low); high = omega (arith, ints, c.requires.lay.high) })) ∙ c.requires.lay.overlap in
     let difference = to_z w128 (of_z w128 c.from-width.result) -ℤ to_z w128 (of_z w128 c.args.lay.overlap) in
-    let near : IsNear difference = record { low = omega (arith, ints, c.from-width.ensures, c.requires.lay.high, c.advance_of.type_inv); high = omega (arith, ints, c.from-width.ensures, c.requires.lay.low, c.advance_of.type_inv) } in
+    let near : IsNumber difference = record { low = omega (arith, ints, c.from-width.ensures, c.requires.lay.high, c.advance_of.type_inv); high = omega (arith, ints, c.from-width.ensures, c.requires.lay.low, c.advance_of.type_inv) } in
     let step : to_z w128 (of_z w128 difference) ≡ width_of font c.args.tile.glyph -ℤ overlap c.args.run = to_z-of_z w128 difference (near_fits difference near) ∙ ap (λ w. w -ℤ to_z w128 (of_z w128 c.args.lay.overlap)) width ∙ ap (λ o. width_of font c.args.tile.glyph -ℤ o) over in
     tile_all c.args.right_to_left font c.args.run cell _ _ c.args.lay.added c.args.pen c.lay_copies-pen.result c.lay_copies.result (zip c.args.glyphs.now c.args.positions.now) (zip n.glyphs n.positions) (zip m.glyphs m.positions) more width step c.requires.lay.added c.lay_copies-pen.ensures.lays c.lay_copies.ensures.lays

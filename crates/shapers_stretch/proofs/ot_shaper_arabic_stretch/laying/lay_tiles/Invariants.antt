@@ -1,13 +1,13 @@
 -- The tiles behind this place are laid, and those before it can be: the writer is no further than the reader.
 use Rattle.std.proofs.Common.{◌≡◌, length}
 use Rattle.std.specs.List.{zip}
-use Rattle.shapers_stretch.specs.LayingWalk.{IsNear}
+use Rattle.shapers_stretch.specs.CountingWalk.{IsNumber}
 use Rattle.shapers_stretch.proofs.TileWalk.{TilesLeft}
 use Rattle.shapers_stretch.proofs.ot_shaper_arabic_stretch.laying.lay_tiles.Given as goal
 
 abbrev pub invariant-loop-i : goal.invariant-loop-i
 invariant-loop-i g l = record {
   same_length : length l.glyphs ≡ length l.initial.glyphs;
-  near : IsNear l.pen.at;
+  near : IsNumber l.pen.at;
   walk : TilesLeft l.right_to_left (g.F.hb_font_t.font l.face) l.run l.tiles l.end l.i l.fn.pen l.pen (zip l.initial.glyphs l.initial.positions) l.glyphs l.positions;
 }
