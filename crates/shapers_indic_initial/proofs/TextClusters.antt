@@ -33,7 +33,7 @@ use Rattle.shapers_indic_initial.specs.InitialOrder.{ordered_base, ordered_place
 use Rattle.shapers_indic_initial.specs.InitialReordering.{halant_step, in_order, initial_steps, joiner_step, order_step, positioned, steps_of_reordered, with_base, with_joiner_first}
 use Rattle.shapers_indic_initial.specs.InitialRules.{Rules, rules_of}
 use Rattle.shapers_indic_initial.proofs.InitialLaws.{halant_laws, halant_order, halant_step_of, initial_laws, initial_text_reordered, joiner_laws, three_laws}
-use Rattle.shapers_indic_initial.proofs.InitialSerials.{same_three}
+use Rattle.shapers_indic_initial.proofs.InitialReads.{same_three}
 use Rattle.shapers_indic_initial.proofs.InitialSteps.{length_permuted, order_fits}
 use Rattle.shapers_indic_initial.proofs.LaterSteps.{Apart, Leaves, leaves_along}
 use Rattle.shapers_indic_initial.proofs.OrderClusters.{HeldIn, Lies, all_by_two, all_held, held_together, once_permuted, one_cluster, order_merges, together_lies}
