@@ -15,7 +15,7 @@ use Rattle.rustybuzz_shapers.specs.Pauses.{PauseAnswers, Paused, RefusesPause, c
 use Rattle.rustybuzz_shapers.specs.declared.shaper.standing.Standing.TheVariants.{Has, WillHave}
 
 -- each of the fifteen
-built : map pause_standing (SetupSyllablesIndic ∷ SetupSyllablesKhmer ∷ SetupSyllablesMyanmar ∷ SetupSyllablesUse ∷ InitialReordering ∷ ReorderKhmer ∷ ReorderMyanmar ∷ ReorderUse ∷ FinalReordering ∷ RecordStch ∷ RecordRphf ∷ RecordPref ∷ SyllabicClearVar ∷ ClearSubstitutionFlags ∷ ArabicFallbackShape ∷ []) ≡ Has ∷ Has ∷ Has ∷ Has ∷ WillHave ∷ Has ∷ Has ∷ Has ∷ WillHave ∷ Has ∷ Has ∷ Has ∷ Has ∷ Has ∷ Has ∷ []
+built : map pause_standing (SetupSyllablesIndic ∷ SetupSyllablesKhmer ∷ SetupSyllablesMyanmar ∷ SetupSyllablesUse ∷ InitialReordering ∷ ReorderKhmer ∷ ReorderMyanmar ∷ ReorderUse ∷ FinalReordering ∷ RecordStch ∷ RecordRphf ∷ RecordPref ∷ SyllabicClearVar ∷ ClearSubstitutionFlags ∷ ArabicFallbackShape ∷ []) ≡ Has ∷ Has ∷ Has ∷ Has ∷ Has ∷ Has ∷ Has ∷ Has ∷ WillHave ∷ Has ∷ Has ∷ Has ∷ Has ∷ Has ∷ Has ∷ []
 built = refl
 
 -- three glyphs, each with its cluster, byte and mask
@@ -72,12 +72,15 @@ too_short = record { len = 2; kind = 0 } ∷ []
 refused : (font : Font) → RefusesPause {T = Unit {0}} SetupSyllablesIndic font too_short text (Err SpansDontCover) × RefusesPause {T = Unit {0}} SetupSyllablesKhmer font too_short text (Err SpansDontCover) × RefusesPause {T = Unit {0}} SetupSyllablesMyanmar font too_short text (Err SpansDontCover) × RefusesPause {T = Unit {0}} SetupSyllablesUse font too_short text (Err SpansDontCover)
 refused font = (refl, refl, refl, refl)
 
--- a reordering refuses a syllable of unknown kind by its first place: in Khmer one above 2, in Myanmar one above 3; the universal shaper none
+-- a reordering refuses a syllable of unknown kind by its first place: in Khmer one above 2, in Indic one above 5, in Myanmar one above 3; the universal shaper none
 abbrev kinds_of : ℕ → ℕ → Buffer
 kinds_of k l = record text { glyphs = glyph 0 (0x10 + k) 8 ∷ glyph 1 (0x10 + k) 8 ∷ glyph 2 (0x20 + l) 8 ∷ [] }
 
 unknown : (font : Font) → (r : Result (Unit {0}) ShaperError) → RefusesPause ReorderKhmer font [] (kinds_of 2 3) r → r ≡ Err (UnknownSyllable 2)
 unknown font r h = h.0
+
+unknown_in_indic : (font : Font) → (r : Result (Unit {0}) ShaperError) → RefusesPause InitialReordering font [] (kinds_of 5 6) r → r ≡ Err (UnknownSyllable 2)
+unknown_in_indic font r h = h.0
 
 unknown_in_myanmar : (font : Font) → (r : Result (Unit {0}) ShaperError) → RefusesPause ReorderMyanmar font [] (kinds_of 4 4) r → r ≡ Err (UnknownSyllable 0)
 unknown_in_myanmar font r h = h.0

@@ -5,6 +5,12 @@ use Rattle.shapers_buffer.specs.Glyph.{order_view}
 use Rattle.shapers_buffer.specs.declared.buffer.glyph.hb_glyph_info_t.{hb_glyph_info_t}
 use Rattle.shapers_clusters.specs.Laws.{ReorderedHold}
 use Rattle.shapers_clusters.specs.Steps.{Step}
+use Rattle.shapers_base.specs.Map.{Map}
+use Rattle.shapers_base.specs.declared.plan.indic.indic_shape_plan_t.{indic_shape_plan_t}
+use Rattle.shapers_indic.specs.Plan.{is_indic_data}
+use Rattle.shapers_indic_initial.specs.InitialPause.{InitiallyReordered, indic_in, initial_circles, initial_refusal, order_by_font, steps_by_font, with_positions_and_circles}
+use Rattle.shapers_indic_initial.specs.InitialReordering.{initial_steps}
+use Rattle.shapers_indic_initial.specs.InitialRules.{rules_of}
 use Rattle.shapers_khmer.specs.Khmer.{khmer_circles, khmer_order, khmer_steps, order_in}
 use Rattle.shapers_khmer.specs.Plan.{is_khmer_data}
 use Rattle.shapers_myanmar.specs.Myanmar.{myanmar_circles, myanmar_order, myanmar_steps}
@@ -12,7 +18,7 @@ use Rattle.shapers_stretch.specs.Recorded.{tiles_recorded}
 use Rattle.shapers_syllabic.specs.Borders.{SetUpCutsAtSpans, spans_set_up}
 use Rattle.shapers_syllabic.specs.Circles.{circled}
 use Rattle.shapers_syllabic.specs.Reordering.{PauseReordered, carried, circles_of_sort, text_steps}
-use Rattle.shapers_syllabic.specs.ReorderingLaws.{PauseCutsAtBorders}
+use Rattle.shapers_syllabic.specs.ReorderingLaws.{PauseCutsAtBorders, TextReordered}
 use Rattle.shapers_syllabic.specs.declared.ot_shaper_syllabic.circles.DottedCircles.{DottedCircles}
 use Rattle.shapers_universal.specs.PlanData.{is_universal, rphf_of}
 use Rattle.shapers_universal.specs.Universal.{universal_order, universal_steps}
@@ -40,7 +46,7 @@ pause_standing SetupSyllablesIndic = Has
 pause_standing SetupSyllablesKhmer = Has
 pause_standing SetupSyllablesMyanmar = Has
 pause_standing SetupSyllablesUse = Has
-pause_standing InitialReordering = WillHave
+pause_standing InitialReordering = Has
 pause_standing ReorderKhmer = Has
 pause_standing ReorderMyanmar = Has
 pause_standing ReorderUse = Has
@@ -62,7 +68,7 @@ PauseFits SetupSyllablesIndic plan = Unit {0}
 PauseFits SetupSyllablesKhmer plan = Unit {0}
 PauseFits SetupSyllablesMyanmar plan = Unit {0}
 PauseFits SetupSyllablesUse plan = is_universal plan.plan_data ≡ true
-PauseFits InitialReordering plan = Unit {0}
+PauseFits InitialReordering plan = is_indic_data plan.plan_data ≡ true
 PauseFits ReorderKhmer plan = is_khmer_data plan.plan_data ≡ true
 PauseFits ReorderMyanmar plan = Unit {0}
 PauseFits ReorderUse plan = Unit {0}
@@ -74,8 +80,9 @@ PauseFits SyllabicClearVar plan = Unit {0}
 PauseFits ClearSubstitutionFlags plan = Unit {0}
 PauseFits ArabicFallbackShape plan = Unit {0}
 
--- the dotted circles that a reordering pause opens: of Khmer and the universal shaper behind rephas, of Myanmar in front
+-- the dotted circles that a reordering pause opens: of Indic, Khmer and the universal shaper behind rephas, of Myanmar in front
 abbrev pub circles_of : Pause → Font → Buffer → Option DottedCircles
+circles_of InitialReordering font b = initial_circles font b
 circles_of ReorderKhmer font b = circles_of_sort khmer_circles font b
 circles_of ReorderMyanmar font b = circles_of_sort myanmar_circles font b
 circles_of ReorderUse font b = circles_of_sort universal_circles font b
@@ -91,7 +98,7 @@ Paused SetupSyllablesIndic plan font spans old new = new ≡ spans_set_up spans 
 Paused SetupSyllablesKhmer plan font spans old new = new ≡ spans_set_up spans 1 old
 Paused SetupSyllablesMyanmar plan font spans old new = new ≡ spans_set_up spans 2 old
 Paused SetupSyllablesUse plan font spans old new = new ≡ syllables_set_up plan.plan_data plan.ot_map spans old
-Paused InitialReordering plan font spans old new = Unbuilt
+Paused InitialReordering plan font spans old new = InitiallyReordered font plan.ot_map (indic_in plan) old new
 Paused ReorderKhmer plan font spans old new = PauseReordered (circles_of ReorderKhmer font old) (khmer_order (order_in plan.plan_data)) khmer_steps old new
 Paused ReorderMyanmar plan font spans old new = PauseReordered (circles_of ReorderMyanmar font old) myanmar_order myanmar_steps old new
 Paused ReorderUse plan font spans old new = PauseReordered (circles_of ReorderUse font old) universal_order universal_steps old new
@@ -107,13 +114,17 @@ Paused ArabicFallbackShape plan font spans old new = new ≡ old
 abbrev pub ReorderingKeeps : Option DottedCircles → (List hb_glyph_info_t → List hb_glyph_info_t) → (List hb_glyph_info_t → List Step) → Buffer → Buffer → Type 0
 ReorderingKeeps circles meaning steps old new = PauseCutsAtBorders circles meaning steps old new × ReorderedHold carried old.level (text_steps steps (order_view (opened circles old))) (opened circles old) new.glyphs
 
+-- so the initial reordering of Indic, which merges what it moves over only after the moves: no glyph is lost, no cluster rises, glyph flags stay unless it fell, and what shared a cluster still does
+abbrev pub InitialKeeps : Font → Map → indic_shape_plan_t → Buffer → Buffer → Type 0
+InitialKeeps font m p old new = PauseCutsAtBorders (circles_of InitialReordering font old) (order_by_font font m p old.script) (steps_by_font font m p old.script) old new × TextReordered (initial_steps (rules_of font m p) old.script) (with_positions_and_circles font m p old) new
+
 -- the laws of a pause: spans may be cut between any two, and texts at any border of syllables
 abbrev pub PauseKeeps : Pause → hb_ot_shape_plan_t → Font → List Span → Buffer → Buffer → Type 0
 PauseKeeps SetupSyllablesIndic plan font spans old new = SetUpCutsAtSpans spans 4 old new
 PauseKeeps SetupSyllablesKhmer plan font spans old new = SetUpCutsAtSpans spans 1 old new
 PauseKeeps SetupSyllablesMyanmar plan font spans old new = SetUpCutsAtSpans spans 2 old new
 PauseKeeps SetupSyllablesUse plan font spans old new = UniversalSetUpCutsAtSpans plan.plan_data plan.ot_map spans old new
-PauseKeeps InitialReordering plan font spans old new = Unbuilt
+PauseKeeps InitialReordering plan font spans old new = InitialKeeps font plan.ot_map (indic_in plan) old new
 PauseKeeps ReorderKhmer plan font spans old new = ReorderingKeeps (circles_of ReorderKhmer font old) (khmer_order (order_in plan.plan_data)) khmer_steps old new
 PauseKeeps ReorderMyanmar plan font spans old new = ReorderingKeeps (circles_of ReorderMyanmar font old) myanmar_order myanmar_steps old new
 PauseKeeps ReorderUse plan font spans old new = ReorderingKeeps (circles_of ReorderUse font old) universal_order universal_steps old new
@@ -131,7 +142,7 @@ PauseAnswers SetupSyllablesIndic font old answer = answer ≡ false
 PauseAnswers SetupSyllablesKhmer font old answer = answer ≡ false
 PauseAnswers SetupSyllablesMyanmar font old answer = answer ≡ false
 PauseAnswers SetupSyllablesUse font old answer = answer ≡ false
-PauseAnswers InitialReordering font old answer = Unbuilt
+PauseAnswers InitialReordering font old answer = answer ≡ is_some (circles_of InitialReordering font old)
 PauseAnswers ReorderKhmer font old answer = answer ≡ is_some (circles_of ReorderKhmer font old)
 PauseAnswers ReorderMyanmar font old answer = answer ≡ is_some (circles_of ReorderMyanmar font old)
 PauseAnswers ReorderUse font old answer = answer ≡ is_some (circles_of ReorderUse font old)
@@ -153,7 +164,7 @@ RefusesPause SetupSyllablesIndic font spans old r = RefusesInput (spans_refusal 
 RefusesPause SetupSyllablesKhmer font spans old r = RefusesInput (spans_refusal spans old) r
 RefusesPause SetupSyllablesMyanmar font spans old r = RefusesInput (spans_refusal spans old) r
 RefusesPause SetupSyllablesUse font spans old r = RefusesInput (spans_refusal spans old) r
-RefusesPause InitialReordering font spans old r = Unbuilt
+RefusesPause InitialReordering font spans old r = RefusesReordering (initial_refusal old) (circles_of InitialReordering font old) old r
 RefusesPause ReorderKhmer font spans old r = RefusesReordering (unknown_refusal 2 old.glyphs) (circles_of ReorderKhmer font old) old r
 RefusesPause ReorderMyanmar font spans old r = RefusesReordering (unknown_refusal 3 old.glyphs) (circles_of ReorderMyanmar font old) old r
 RefusesPause ReorderUse font spans old r = RefusesReordering None (circles_of ReorderUse font old) old r

@@ -74,6 +74,7 @@ pub fn pause_fits(pause: Pause, plan: &hb_ot_shape_plan_t) -> bool
     ensures { IsTrue result ↔ PauseFits pause plan.now }
 {
     match pause {
+        Pause::InitialReordering => matches!(plan.plan_data, PlanData::Indic(_)),
         Pause::ReorderKhmer => matches!(plan.plan_data, PlanData::Khmer(_)),
         Pause::SetupSyllablesUse | Pause::RecordRphf => {
             matches!(plan.plan_data, PlanData::Universal(_))
@@ -82,7 +83,6 @@ pub fn pause_fits(pause: Pause, plan: &hb_ot_shape_plan_t) -> bool
         Pause::SetupSyllablesIndic
         | Pause::SetupSyllablesKhmer
         | Pause::SetupSyllablesMyanmar
-        | Pause::InitialReordering
         | Pause::ReorderMyanmar
         | Pause::ReorderUse
         | Pause::FinalReordering

@@ -6,6 +6,7 @@ use super::standing::Standing;
 use shapers_base::buffer::{ShaperError, Span, hb_buffer_t};
 use shapers_base::font::hb_font_t;
 use shapers_base::plan::{Pause, hb_ot_shape_plan_t};
+use shapers_indic_initial::ot_shaper_indic_initial;
 use shapers_khmer::ot_shaper_khmer;
 use shapers_myanmar::ot_shaper_myanmar;
 use shapers_stretch::ot_shaper_arabic_stretch;
@@ -24,6 +25,7 @@ pub fn pause_standing(pause: Pause) -> Standing
         | Pause::SetupSyllablesKhmer
         | Pause::SetupSyllablesMyanmar
         | Pause::SetupSyllablesUse
+        | Pause::InitialReordering
         | Pause::ReorderKhmer
         | Pause::ReorderMyanmar
         | Pause::ReorderUse
@@ -33,7 +35,7 @@ pub fn pause_standing(pause: Pause) -> Standing
         | Pause::SyllabicClearVar
         | Pause::ClearSubstitutionFlags
         | Pause::ArabicFallbackShape => Standing::Has,
-        Pause::InitialReordering | Pause::FinalReordering => Standing::WillHave,
+        Pause::FinalReordering => Standing::WillHave,
     }
 }
 
@@ -72,6 +74,9 @@ pub fn run_pause<F: hb_font_t>(
             set_up_syllables(spans, myanmar_syllable::BROKEN_CLUSTER, buffer)?;
         }
         Pause::SetupSyllablesUse => ot_shaper_use::setup_syllables_use(plan, spans, buffer)?,
+        Pause::InitialReordering => {
+            return ot_shaper_indic_initial::initial_reordering(plan, face, buffer);
+        }
         Pause::ReorderKhmer => return ot_shaper_khmer::reorder_khmer(plan, face, buffer),
         Pause::ReorderMyanmar => return ot_shaper_myanmar::reorder_myanmar(face, buffer),
         Pause::ReorderUse => return ot_shaper_use::reorder_use(face, buffer),
@@ -81,7 +86,7 @@ pub fn run_pause<F: hb_font_t>(
         Pause::SyllabicClearVar => clear_syllables(buffer),
         Pause::ClearSubstitutionFlags => clear_substitution_flags(buffer),
         Pause::ArabicFallbackShape => {}
-        Pause::InitialReordering | Pause::FinalReordering => unreachable!(),
+        Pause::FinalReordering => unreachable!(),
     }
     Ok(false)
 }
