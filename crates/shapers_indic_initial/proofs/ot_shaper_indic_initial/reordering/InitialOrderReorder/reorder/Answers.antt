@@ -1,5 +1,5 @@
 -- The parts of a syllable that is reordered, and another one.
-use Rattle.std.proofs.Common.{◌≡◌, true, false, ap, refl, sym, ◌∙◌, subst, []}
+use Rattle.std.proofs.Common.{◌≡◌, ap, refl, sym, ◌∙◌, subst, []}
 use Rattle.shapers_buffer.specs.Clusters.{stretch_of}
 use Rattle.shapers_indic_initial.specs.InitialFont.{all_by_virama}
 use Rattle.shapers_indic_initial.specs.InitialReordering.{is_reordered, masked_in_order, opening_steps, positioned}
