@@ -86,7 +86,7 @@ impl hb_ot_shaper_t {
             Self::Arabic => Hooks {
                 collect_features: Has,
                 create_data: Has,
-                postprocess_glyphs: WillHave,
+                postprocess_glyphs: Has,
                 setup_masks: Has,
                 reorder_marks: Has,
                 ..NO_HOOKS
