@@ -4,6 +4,8 @@ use Rattle.shapers_buffer.specs.Buffer.{Buffer}
 use Rattle.shapers_base.specs.Font.{CharacterTables, Font}
 use Rattle.shapers_base.specs.declared.plan.hb_ot_shape_plan_t.{hb_ot_shape_plan_t}
 use Rattle.shapers_base.specs.declared.plan.Preprocess.TheVariants.{CallerRunsVowelConstraints, Done}
+use Rattle.shapers_stretch.specs.Recorded.{start_of}
+use Rattle.shapers_stretch.specs.Stretch.{marks_stretched}
 use Rattle.rustybuzz_shapers.specs.Hooks.{Composed, DataCreated, Decomposed, MarksKeep, MarksReordered, MasksSet, Postprocessed, PreprocessKeeps, Preprocessed, preprocess_answer}
 use Rattle.rustybuzz_shapers.specs.declared.shaper.hb_ot_shaper_t.TheVariants.{Arabic, Hangul, Hebrew, Indic, Khmer, Myanmar, MyanmarZawgyi, Thai, Universal}
 
@@ -26,6 +28,10 @@ text_kept plan font b = (refl, refl, refl, refl, refl, refl, refl)
 -- the glyphs stay after positioning
 glyphs_stay : (plan : hb_ot_shape_plan_t) (font : Font) (b : Buffer) → Postprocessed Hangul plan font b b × Postprocessed Hebrew plan font b b × Postprocessed Indic plan font b b × Postprocessed Khmer plan font b b × Postprocessed Myanmar plan font b b × Postprocessed MyanmarZawgyi plan font b b × Postprocessed Thai plan font b b × Postprocessed Universal plan font b b
 glyphs_stay plan font b = (refl, refl, refl, refl, refl, refl, refl, refl)
+
+-- but for Arabic's marks that stretch
+marks_stretch : (plan : hb_ot_shape_plan_t) (font : Font) (b : Buffer) → Postprocessed Arabic plan font b (marks_stretched font (start_of plan.plan_data) b)
+marks_stretch plan font b = refl
 
 -- no two characters compose
 no_pair : (plan : hb_ot_shape_plan_t) (tables : CharacterTables) (x y : ℕ) → Composed Arabic plan tables x y None × Composed Hangul plan tables x y None × Composed Myanmar plan tables x y None × Composed MyanmarZawgyi plan tables x y None × Composed Thai plan tables x y None

@@ -15,7 +15,7 @@ nine = CollectFeatures ∷ OverrideFeatures ∷ CreateData ∷ PreprocessText �
 abbrev row : hb_ot_shaper_t → List Standing
 row shaper = map (standing shaper) nine
 
-row_of_arabic : row Arabic ≡ Has ∷ Lacks ∷ Has ∷ Lacks ∷ WillHave ∷ Lacks ∷ Lacks ∷ Has ∷ Has ∷ []
+row_of_arabic : row Arabic ≡ Has ∷ Lacks ∷ Has ∷ Lacks ∷ Has ∷ Lacks ∷ Lacks ∷ Has ∷ Has ∷ []
 row_of_arabic = refl
 
 row_of_hangul : row Hangul ≡ Has ∷ Has ∷ Has ∷ Has ∷ Lacks ∷ Lacks ∷ Lacks ∷ Has ∷ Lacks ∷ []

@@ -5,7 +5,7 @@ use Rattle.std.specs.List.{All, list_any}
 use Rattle.shapers_buffer.specs.Buffer.{Buffer}
 use Rattle.shapers_base.specs.Font.{CharacterTables, Font}
 use Rattle.shapers_buffer.specs.Glyph.{clusters}
-use Rattle.shapers_buffer.specs.Refusals.{RefusesLength}
+use Rattle.shapers_buffer.specs.Refusals.{Refuses, RefusesLength}
 use Rattle.shapers_arabic.specs.Marks as arabic
 use Rattle.shapers_arabic.specs.Marks.{marks_merged, marks_reordered}
 use Rattle.shapers_arabic.specs.JoinedText.{CutsAsHalves, IsJoined}
@@ -25,6 +25,8 @@ use Rattle.shapers_indic.specs.Characters.{composed_in_indic, decomposed_in_indi
 use Rattle.shapers_indic.specs.Plan.{indic_plan}
 use Rattle.shapers_khmer.specs.Khmer.{decomposed_in_khmer}
 use Rattle.shapers_khmer.specs.Plan.{khmer_masks}
+use Rattle.shapers_stretch.specs.Recorded.{start_of}
+use Rattle.shapers_stretch.specs.Stretch.{marks_stretched, stretch_refusal}
 use Rattle.shapers_syllabic.specs.Characters.{composed_behind, with_category, with_category_and_position}
 use Rattle.shapers_universal.specs.PlanData.{arabic_of, is_universal, universal_plan}
 use Rattle.shapers_universal.specs.UniversalMasks.{CanJoin, MasksAreSet}
@@ -94,6 +96,18 @@ MarksFit MyanmarZawgyi start end = Unit {0}
 MarksFit Thai start end = Unit {0}
 MarksFit Universal start end = Unit {0}
 
+-- what postprocessing asks of the plan and the glyphs: for Arabic its data, and glyph numbers of a font
+abbrev pub PostprocessFits : hb_ot_shaper_t → hb_ot_shape_plan_t → List hb_glyph_info_t → Type 0
+PostprocessFits Arabic plan gs = IsArabic plan.plan_data × All (λ g. g.glyph_id ≤ 65535) gs
+PostprocessFits Hangul plan gs = Unit {0}
+PostprocessFits Hebrew plan gs = Unit {0}
+PostprocessFits Indic plan gs = Unit {0}
+PostprocessFits Khmer plan gs = Unit {0}
+PostprocessFits Myanmar plan gs = Unit {0}
+PostprocessFits MyanmarZawgyi plan gs = Unit {0}
+PostprocessFits Thai plan gs = Unit {0}
+PostprocessFits Universal plan gs = Unit {0}
+
 -- what preprocessing answers
 abbrev pub preprocess_answer : hb_ot_shaper_t → Option Preprocess
 preprocess_answer Arabic = None
@@ -144,7 +158,7 @@ RefusesPreprocess Universal font old r = IsOk r
 
 -- the buffer before and after postprocessing
 abbrev pub Postprocessed : hb_ot_shaper_t → hb_ot_shape_plan_t → Font → Buffer → Buffer → Type 0
-Postprocessed Arabic plan font old new = Unbuilt
+Postprocessed Arabic plan font old new = new ≡ marks_stretched font (start_of plan.plan_data) old
 Postprocessed Hangul plan font old new = new ≡ old
 Postprocessed Hebrew plan font old new = new ≡ old
 Postprocessed Indic plan font old new = new ≡ old
@@ -154,17 +168,20 @@ Postprocessed MyanmarZawgyi plan font old new = new ≡ old
 Postprocessed Thai plan font old new = new ≡ old
 Postprocessed Universal plan font old new = new ≡ old
 
--- when it refuses
-abbrev pub RefusesPostprocess : {T : Type 0} → hb_ot_shaper_t → Buffer → Result T ShaperError → Type 0
-RefusesPostprocess Arabic old r = Unbuilt
-RefusesPostprocess Hangul old r = IsOk r
-RefusesPostprocess Hebrew old r = IsOk r
-RefusesPostprocess Indic old r = IsOk r
-RefusesPostprocess Khmer old r = IsOk r
-RefusesPostprocess Myanmar old r = IsOk r
-RefusesPostprocess MyanmarZawgyi old r = IsOk r
-RefusesPostprocess Thai old r = IsOk r
-RefusesPostprocess Universal old r = IsOk r
+-- when it refuses: for Arabic where a number doesn't fit, and then as a growth to the result's length does, but never without a mark that
+-- stretches; the others never
+abbrev pub RefusesPostprocess : {T : Type 0} → hb_ot_shaper_t → hb_ot_shape_plan_t → Font → Buffer → Result T ShaperError → Type 0
+RefusesPostprocess Arabic plan font old r =
+    let choice = start_of plan.plan_data in
+    Refuses (stretch_refusal font choice old) old.max_len (length (marks_stretched font choice old).glyphs) r × (old.stch ≡ false → IsOk r)
+RefusesPostprocess Hangul plan font old r = IsOk r
+RefusesPostprocess Hebrew plan font old r = IsOk r
+RefusesPostprocess Indic plan font old r = IsOk r
+RefusesPostprocess Khmer plan font old r = IsOk r
+RefusesPostprocess Myanmar plan font old r = IsOk r
+RefusesPostprocess MyanmarZawgyi plan font old r = IsOk r
+RefusesPostprocess Thai plan font old r = IsOk r
+RefusesPostprocess Universal plan font old r = IsOk r
 
 -- what two characters compose to
 abbrev pub Composed : hb_ot_shaper_t → hb_ot_shape_plan_t → CharacterTables → ℕ → ℕ → Option (Option ℕ) → Type 0

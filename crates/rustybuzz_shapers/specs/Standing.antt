@@ -14,7 +14,7 @@ row features overrides keeps before after pairs parts masks marks = record { col
 
 -- the hooks of each shaper
 abbrev pub hooks_of : hb_ot_shaper_t → Hooks
-hooks_of Arabic = row Has Lacks Has Lacks WillHave Lacks Lacks Has Has
+hooks_of Arabic = row Has Lacks Has Lacks Has Lacks Lacks Has Has
 hooks_of Hangul = row Has Has Has Has Lacks Lacks Lacks Has Lacks
 hooks_of Hebrew = row Lacks Lacks Lacks Lacks Lacks Has Lacks Lacks Has
 hooks_of Indic = row Has Has Has Has Lacks Has Has Has Lacks

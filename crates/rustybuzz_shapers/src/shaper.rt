@@ -3,7 +3,7 @@
 ghost use Rattle.std.specs.Prelude.{◌≡◌, ◌≤◌, [], length, IfOk, IsOk, IsNone, is_some, IsOkUnless, OnOk, OnErr};
 ghost use Rattle.shapers_buffer.specs.declared.buffer.refusal.ShaperError.TheVariants.{Memory};
 ghost use Rattle.shapers_arabic.specs.Requests.{rclt};
-ghost use Rattle.rustybuzz_shapers.specs.Hooks.{CanAsk, Composed, DataCreated, Decomposed, GlyphsFit, MasksSet, MarksFit, MarksKeep, MarksReordered, PlanFits, Postprocessed, Preprocessed, PreprocessKeeps, preprocess_answer, RefusesPostprocess, RefusesPreprocess};
+ghost use Rattle.rustybuzz_shapers.specs.Hooks.{CanAsk, Composed, DataCreated, Decomposed, GlyphsFit, MasksSet, MarksFit, MarksKeep, MarksReordered, PlanFits, PostprocessFits, Postprocessed, Preprocessed, PreprocessKeeps, preprocess_answer, RefusesPostprocess, RefusesPreprocess};
 ghost use Rattle.rustybuzz_shapers.specs.Records.{asked, collected, if_there, normalizes, overridden, places_marks, wants_gpos_script, zeroes_marks};
 ghost use Rattle.rustybuzz_shapers.specs.Standing.{is_there, standing};
 
@@ -23,6 +23,7 @@ use shapers_hangul::ot_shaper_hangul;
 use shapers_indic::ot_shaper_indic;
 use shapers_khmer::ot_shaper_khmer;
 use shapers_myanmar::ot_shaper_myanmar;
+use shapers_stretch::ot_shaper_arabic_stretch;
 use shapers_text::{ot_shaper_hebrew, ot_shaper_thai};
 use shapers_universal::ot_shaper_use;
 pub use standing::{Hook, Hooks, Standing};
@@ -219,7 +220,8 @@ impl hb_ot_shaper_t {
         }
     }
 
-    /// Rewrites the glyphs after positioning.
+    /// Rewrites the glyphs after positioning: for Arabic, marks stretch over the words before them, by
+    /// the widths of `widths_law`.
     pub fn postprocess_glyphs<F: hb_font_t>(
         self,
         plan: &hb_ot_shape_plan_t,
@@ -228,15 +230,19 @@ impl hb_ot_shaper_t {
     ) -> Result<Option<()>, ShaperError>
         requires with_positions { length buffer.old.positions ≡ length buffer.old.glyphs }
         requires settled { CanAsk self Hook.PostprocessGlyphs }
+        requires fits { PostprocessFits self plan.now buffer.old.glyphs }
         ensures answer { let standing = standing self Hook.PostprocessGlyphs in
             IfOk result (λ answer. is_some answer ≡ is_there standing) }
         ensures ok { let font = F.font face.now in
             OnOk result (Postprocessed self plan.now font buffer.old buffer.new) }
-        ensures refusal { RefusesPostprocess self buffer.old result }
+        ensures refusal { RefusesPostprocess self plan.now (F.font face.now) buffer.old result }
         ensures err { OnErr result (buffer.new ≡ buffer.old) }
     {
         match self {
-            Self::Arabic => unreachable!(),
+            Self::Arabic => {
+                ot_shaper_arabic_stretch::postprocess_glyphs(plan, face, buffer)?;
+                Ok(Some(()))
+            }
             Self::Hangul
             | Self::Hebrew
             | Self::Indic

@@ -56,6 +56,7 @@ impl Session {
         check(self.buffer.positions_len() == self.buffer.len())?;
         check_hook(shaper, Hook::PostprocessGlyphs)?;
         let plan = shaper.with_data(self.settings.plan()?);
+        check(shaper.postprocess_fits(&plan, &self.buffer))?;
         let answer = shaper.postprocess_glyphs(&plan, &self.settings.font, &mut self.buffer)?;
         self.answer_if_absent(answer)
     }

@@ -2,6 +2,7 @@
 ghost use Rattle.std.specs.Prelude.{◌≡◌, ◌≤◌, ◌↔◌, All, IsTrue, is_some};
 ghost use Rattle.std.specs.Char.{IsScalar};
 ghost use Rattle.rustybuzz_shapers.specs.Pauses.{PauseFits};
+ghost use Rattle.shapers_arabic.specs.PlanData.{IsArabic};
 ghost use Rattle.shapers_universal.specs.PlanData.{arabic_of};
 
 use super::hb_ot_shaper_t;
@@ -14,7 +15,7 @@ use shapers_khmer::ot_shaper_khmer;
 use shapers_universal::ot_shaper_use;
 
 impl hb_ot_shaper_t {
-    ghost use Rattle.rustybuzz_shapers.specs.Hooks.{GlyphsFit, MarksFit, PlanFits};
+    ghost use Rattle.rustybuzz_shapers.specs.Hooks.{GlyphsFit, MarksFit, PlanFits, PostprocessFits};
 
     /// The plan with the data that the shaper's hooks read, where it keeps any.
     pub fn with_data(self, mut plan: hb_ot_shape_plan_t) -> hb_ot_shape_plan_t
@@ -67,6 +68,24 @@ impl hb_ot_shaper_t {
             | Self::Thai => true,
         }
     }
+
+    /// Whether `postprocess_glyphs` takes the plan and the buffer's glyphs: for Arabic, a plan with its
+    /// data and glyph numbers of a font.
+    pub fn postprocess_fits(self, plan: &hb_ot_shape_plan_t, buffer: &hb_buffer_t) -> bool
+        ensures { IsTrue result ↔ PostprocessFits self plan.now buffer.now.glyphs }
+    {
+        match self {
+            Self::Arabic => is_arabic(&plan.plan_data) && are_glyph_numbers(buffer.glyphs()),
+            Self::Hangul
+            | Self::Hebrew
+            | Self::Indic
+            | Self::Khmer
+            | Self::Myanmar
+            | Self::MyanmarZawgyi
+            | Self::Thai
+            | Self::Universal => true,
+        }
+    }
 }
 
 /// Whether the plan's data are of the kind that the pause reads.
@@ -110,4 +129,18 @@ fn are_characters(glyphs: &[hb_glyph_info_t]) -> bool
     glyphs
         .iter()
         .all(|glyph| char::from_u32(glyph.glyph_id).is_some())
+}
+
+// Whether these are the data of Arabic.
+fn is_arabic(plan_data: &PlanData) -> bool
+    ensures { IsTrue result ↔ IsArabic plan_data.now }
+{
+    matches!(plan_data, PlanData::Arabic(_))
+}
+
+// Whether these glyphs are numbered as a font's are.
+fn are_glyph_numbers(glyphs: &[hb_glyph_info_t]) -> bool
+    ensures { IsTrue result ↔ All (λ g. g.glyph_id ≤ 65535) glyphs.now }
+{
+    glyphs.iter().all(|glyph| glyph.glyph_id <= 65535)
 }

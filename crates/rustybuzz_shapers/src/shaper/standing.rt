@@ -112,7 +112,7 @@ const NO_HOOKS: Hooks = Hooks {
 const ARABIC_HOOKS: Hooks = Hooks {
     collect_features: Has,
     create_data: Has,
-    postprocess_glyphs: WillHave,
+    postprocess_glyphs: Has,
     setup_masks: Has,
     reorder_marks: Has,
     ..NO_HOOKS
