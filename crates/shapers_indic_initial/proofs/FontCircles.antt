@@ -68,11 +68,11 @@ circled_one font m p v rule none xs =
     let n = rephas_len rule.repha xs in
     let c = rule.circle in
     let one : with_circle rule (map f xs) ≡ map f (with_circle rule xs) =
-      ap (λ k. take k (map f xs) ++ circle_in (map f xs) c ∷ drop k (map f xs)) (rephas_stay font m p v rule.repha xs)
-      ∙ ap (λ ys. ys ++ circle_in (map f xs) c ∷ drop n (map f xs)) (take-map f n xs)
-      ∙ ap (λ x. map f (take n xs) ++ x ∷ drop n (map f xs)) (circle_in_stays font m p v c xs none)
-      ∙ ap (λ ys. map f (take n xs) ++ f (circle_in xs c) ∷ ys) (drop-map f n xs)
-      ∙ sym (map-append f (take n xs) (circle_in xs c ∷ drop n xs)) in
+    ap (λ k. take k (map f xs) ++ circle_in (map f xs) c ∷ drop k (map f xs)) (rephas_stay font m p v rule.repha xs)
+    ∙ ap (λ ys. ys ++ circle_in (map f xs) c ∷ drop n (map f xs)) (take-map f n xs)
+    ∙ ap (λ x. map f (take n xs) ++ x ∷ drop n (map f xs)) (circle_in_stays font m p v c xs none)
+    ∙ ap (λ ys. map f (take n xs) ++ f (circle_in xs c) ∷ ys) (drop-map f n xs)
+    ∙ sym (map-append f (take n xs) (circle_in xs c ∷ drop n xs)) in
     ap (λ (b : Bool). if b then with_circle rule (map f xs) else map f xs) (kind_stays font m p v rule.broken_kind xs)
     ∙ ap (λ ys. if is_of_kind rule.broken_kind xs then ys else map f xs) one
     ∙ (elim (is_of_kind rule.broken_kind xs) as (λ b. (if b then map f (with_circle rule xs) else map f xs) ≡ map f (if b then with_circle rule xs else xs)) [ true ↦ refl | false ↦ refl ])
@@ -124,10 +124,10 @@ initially_reordered font m p old new done =
     let pieces : syllables (A xs) ≡ map A (syllables xs) = syllables_by_font font m p v xs in
     let meant : text_order I (order_view (circled c (A old.glyphs))) ≡ text_order (order_by_font font m p old.script) xs = ap (text_order I) view ∙ ap (flat_map I) pieces ∙ joined_after A I (syllables xs) in
     let led : text_steps S (order_view (circled c (A old.glyphs))) ≡ text_steps (steps_by_font font m p old.script) xs =
-      ap (text_steps S) view
-      ∙ ap (λ ps. steps_along (length (A xs)) 0 (map (piece_of S) ps)) pieces
-      ∙ ap (steps_along (length (A xs)) 0) (pieces_after A S (length-font_positions font m p v) (syllables xs))
-      ∙ ap (λ n. steps_along n 0 (map (piece_of (λ ys. S (A ys))) (syllables xs))) (length-font_positions font m p v xs) in
+    ap (text_steps S) view
+    ∙ ap (λ ps. steps_along (length (A xs)) 0 (map (piece_of S) ps)) pieces
+    ∙ ap (steps_along (length (A xs)) 0) (pieces_after A S (length-font_positions font m p v) (syllables xs))
+    ∙ ap (λ n. steps_along n 0 (map (piece_of (λ ys. S (A ys))) (syllables xs))) (length-font_positions font m p v xs) in
     record {
       others = done.others;
       order = done.order ∙ sym meant;
