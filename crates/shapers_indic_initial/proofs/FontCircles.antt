@@ -1,9 +1,7 @@
 -- Positions by the font and dotted circles: neither reads what the other gives.
-use Rattle.std.proofs.Common.{◌≡◌, ℕ, ◌+◌, ◌==◌, Bool, true, false, if◌then◌else◌, cond, List, [], ◌∷◌, ◌++◌, length, take, drop, map, flat_map, refl, sym, ap, ◌∙◌, arith, Option, Some, None}
-use Rattle.std.specs.List.{prefix_len}
+use Rattle.std.proofs.Common.{◌≡◌, ℕ, ◌+◌, ◌==◌, Bool, true, false, if◌then◌else◌, cond, List, [], ◌∷◌, ◌++◌, length, take, drop, map, flat_map, refl, sym, ap, ◌∙◌, Option, Some, None}
 use Rattle.std.proofs.lemmas.List.{map-append, map-id, take-map, drop-map}
 use Rattle.shapers_buffer.specs.declared.buffer.glyph.hb_glyph_info_t.{hb_glyph_info_t}
-use Rattle.shapers_buffer.specs.declared.buffer.tag.Script.{Script}
 use Rattle.shapers_buffer.specs.Buffer.{Buffer}
 use Rattle.shapers_buffer.specs.Glyph.{default_glyph, order_view}
 use Rattle.shapers_buffer.specs.Syllables.{kind_of, syllables}
@@ -22,8 +20,8 @@ use Rattle.shapers_indic_initial.specs.InitialReordering.{initial_order, initial
 use Rattle.shapers_indic_initial.specs.InitialRules.{rules_of}
 use Rattle.shapers_indic_initial.proofs.FontPositions.{by_virama-syllable, font_positions-carried, font_positions-viewed, length-font_positions}
 use Rattle.shapers_syllabic.specs.declared.ot_shaper_syllabic.circles.DottedCircles.{DottedCircles}
-use Rattle.shapers_syllabic.specs.Circles.{circle_in, circled, circled_syllable, circles_for, is_of_kind, rephas_len, wants_circles, with_circle, with_circles}
-use Rattle.shapers_syllabic.specs.Reordering.{PauseReordered, SyllablesReordered, carried, text_order, text_steps}
+use Rattle.shapers_syllabic.specs.Circles.{circle_in, circled, circled_syllable, circles_for, is_of_kind, rephas_len, wants_circles, with_circle}
+use Rattle.shapers_syllabic.specs.Reordering.{PauseReordered, carried, text_order, text_steps}
 use Rattle.shapers_syllabic.proofs.Borders.{syllables-viewed}
 use Rattle.shapers_syllabic.proofs.ReorderingLemmas.{run_steps-carried}
 

@@ -1,14 +1,14 @@
 -- The parts of the initial reordering of a syllable, one after another.
-use Rattle.std.proofs.Common.{◌≡◌, ℕ, ◌+◌, ◌-◌, ◌≤◌, Bool, true, false, if◌then◌else◌, List, [], ◌∷◌, ◌++◌, length, take, drop, map, refl, sym, ap, ◌∙◌, arith, Option, length-append, length-take-le, length-drop}
+use Rattle.std.proofs.Common.{◌≡◌, ℕ, ◌-◌, ◌≤◌, Bool, true, false, if◌then◌else◌, List, [], ◌∷◌, ◌++◌, length, take, drop, refl, sym, ap, ◌∙◌, arith, Option, length-append, length-take-le, length-drop}
 use Rattle.std.proofs.lemmas.List.{length-map, take-map, drop-map}
 use Rattle.shapers_buffer.specs.declared.buffer.glyph.hb_glyph_info_t.{hb_glyph_info_t}
 use Rattle.shapers_buffer.specs.declared.buffer.tag.Script.{Script}
 use Rattle.shapers_buffer.specs.Buffer.{Buffer}
-use Rattle.shapers_buffer.specs.Clusters.{stretch_of, with_stretch}
+use Rattle.shapers_buffer.specs.Clusters.{stretch_of}
 use Rattle.shapers_buffer.specs.Glyph.{order_view, plain}
 use Rattle.shapers_clusters.specs.Steps.{Step}
 use Rattle.shapers_clusters.proofs.Picks.{length-pick}
-use Rattle.shapers_indic_initial.specs.InitialReordering.{in_order, initial_order, initial_steps, is_reordered, joiner_step, masked_in_order, order_step, positioned, steps_of_reordered, with_joiner_first}
+use Rattle.shapers_indic_initial.specs.InitialReordering.{in_order, initial_order, initial_steps, is_reordered, joiner_step, masked_in_order, opening_steps, order_step, positioned, steps_of_reordered, with_joiner_first}
 use Rattle.shapers_indic_initial.specs.InitialRules.{Rules}
 use Rattle.shapers_indic_initial.proofs.InitialLaws.{halant_laws, halant_order, halant_step_of, joiner_laws}
 use Rattle.shapers_indic_initial.proofs.InitialSteps.{order_fits}
@@ -18,16 +18,12 @@ use Rattle.shapers_syllabic.proofs.LawsThen.{laws_then}
 use Rattle.shapers_syllabic.proofs.ReorderingWalk.{length-meaning}
 use Rattle.shapers_syllabic.proofs.SyllableThen.{changed_parts, syllable_as, syllable_then}
 
--- the steps up to the order
-abbrev pub steps_to_positions : Rules → Option Script → List hb_glyph_info_t → List Step
-steps_to_positions r script gs = joiner_step script gs ∷ (halant_step_of r script (with_joiner_first script gs) ∷ [])
-
 -- each part keeps the length
-positioned_laws : (r : Rules) (script : Option Script) → ReorderLaws (positioned r script) (steps_to_positions r script)
+positioned_laws : (r : Rules) (script : Option Script) → ReorderLaws (positioned r script) (opening_steps r script)
 positioned_laws r script = laws_then (with_joiner_first script) (halant_order r script) (λ gs. joiner_step script gs ∷ []) (λ gs. halant_step_of r script gs ∷ []) (joiner_laws script) (halant_laws r script)
 
 length-positioned : (r : Rules) (script : Option Script) (gs : List hb_glyph_info_t) → length (positioned r script gs) ≡ length gs
-length-positioned r script gs = length-meaning (positioned r script) (steps_to_positions r script) (positioned_laws r script) gs
+length-positioned r script gs = length-meaning (positioned r script) (opening_steps r script) (positioned_laws r script) gs
 
 length-in_order : (r : Rules) (gs : List hb_glyph_info_t) → length (in_order gs) ≡ length gs
 length-in_order r gs =
@@ -62,29 +58,29 @@ after meaning steps s e old new h l k done =
     }
 
 -- positions, order and masks
-ordered_and_masked : (r : Rules) (script : Option Script) (s e : ℕ) (b1 b2 b3 b4 : Buffer) → s ≤ e → e ≤ length b1.glyphs → SyllableReordered (positioned r script) (steps_to_positions r script) s e b1 b2 → SyllableReordered in_order (λ gs. order_step r gs ∷ []) s e b2 b3 → SyllableReordered (masked_in_order r script) (λ _. []) s e b3 b4 → SyllableReordered (λ gs. masked_in_order r script (in_order (positioned r script gs))) (λ gs. steps_to_positions r script gs ++ ((order_step r (positioned r script gs) ∷ []) ++ [])) s e b1 b4
+ordered_and_masked : (r : Rules) (script : Option Script) (s e : ℕ) (b1 b2 b3 b4 : Buffer) → s ≤ e → e ≤ length b1.glyphs → SyllableReordered (positioned r script) (opening_steps r script) s e b1 b2 → SyllableReordered in_order (λ gs. order_step r gs ∷ []) s e b2 b3 → SyllableReordered (masked_in_order r script) (λ _. []) s e b3 b4 → SyllableReordered (λ gs. masked_in_order r script (in_order (positioned r script gs))) (λ gs. opening_steps r script gs ++ ((order_step r (positioned r script gs) ∷ []) ++ [])) s e b1 b4
 ordered_and_masked r script s e b1 b2 b3 b4 h l p o m =
     let x1 = stretch_of s e (order_view b1.glyphs) in
     let n1 : length (positioned r script x1) ≡ e - s = length-positioned r script x1 ∙ length-stretch s e b1.glyphs h l in
-    let a = after (positioned r script) (steps_to_positions r script) s e b1 b2 h l n1 p in
+    let a = after (positioned r script) (opening_steps r script) s e b1 b2 h l n1 p in
     let l2 : e ≤ length b2.glyphs = omega (arith, a.long) in
     let x2 = stretch_of s e (order_view b2.glyphs) in
     let n2 : length (in_order x2) ≡ e - s = length-in_order r x2 ∙ length-stretch s e b2.glyphs h l2 in
-    syllable_then (positioned r script) (λ gs. masked_in_order r script (in_order gs)) (steps_to_positions r script) (λ gs. (order_step r gs ∷ []) ++ []) s e b1 b2 b4 h l n1 p
+    syllable_then (positioned r script) (λ gs. masked_in_order r script (in_order gs)) (opening_steps r script) (λ gs. (order_step r gs ∷ []) ++ []) s e b1 b2 b4 h l n1 p
     (syllable_then in_order (masked_in_order r script) (λ gs. order_step r gs ∷ []) (λ _. []) s e b2 b3 b4 h l2 n2 o m)
 
 -- a syllable that is reordered, behind a part without steps
-pub initial_syllable : (first : List hb_glyph_info_t → List hb_glyph_info_t) (r : Rules) (script : Option Script) (s e : ℕ) (b0 b1 b2 b3 b4 : Buffer) → s ≤ e → e ≤ length b0.glyphs → ((gs : List hb_glyph_info_t) → length (first gs) ≡ length gs) → SyllableReordered first (λ _. []) s e b0 b1 → is_reordered (stretch_of s e b1.glyphs) ≡ true → SyllableReordered (positioned r script) (steps_to_positions r script) s e b1 b2 → SyllableReordered in_order (λ gs. order_step r gs ∷ []) s e b2 b3 → SyllableReordered (masked_in_order r script) (λ _. []) s e b3 b4 → SyllableReordered (λ gs. initial_order r script (first gs)) (λ gs. initial_steps r script (first gs)) s e b0 b4
+pub initial_syllable : (first : List hb_glyph_info_t → List hb_glyph_info_t) (r : Rules) (script : Option Script) (s e : ℕ) (b0 b1 b2 b3 b4 : Buffer) → s ≤ e → e ≤ length b0.glyphs → ((gs : List hb_glyph_info_t) → length (first gs) ≡ length gs) → SyllableReordered first (λ _. []) s e b0 b1 → is_reordered (stretch_of s e b1.glyphs) ≡ true → SyllableReordered (positioned r script) (opening_steps r script) s e b1 b2 → SyllableReordered in_order (λ gs. order_step r gs ∷ []) s e b2 b3 → SyllableReordered (masked_in_order r script) (λ _. []) s e b3 b4 → SyllableReordered (λ gs. initial_order r script (first gs)) (λ gs. initial_steps r script (first gs)) s e b0 b4
 initial_syllable first r script s e b0 b1 b2 b3 b4 h l long f kind p o m =
     let x0 = stretch_of s e (order_view b0.glyphs) in
     let n0 : length (first x0) ≡ e - s = long x0 ∙ length-stretch s e b0.glyphs h l in
     let a = after first (λ _. []) s e b0 b1 h l n0 f in
     let l1 : e ≤ length b1.glyphs = omega (arith, a.long) in
     let yes : is_reordered (first x0) ≡ true = sym (ap is_reordered a.syllable) ∙ kind-stretch s e b1.glyphs ∙ kind in
-    syllable_as (λ gs. masked_in_order r script (in_order (positioned r script (first gs)))) (λ gs. initial_order r script (first gs)) (λ gs. [] ++ (steps_to_positions r script (first gs) ++ ((order_step r (positioned r script (first gs)) ∷ []) ++ []))) (λ gs. initial_steps r script (first gs)) s e b0 b4
+    syllable_as (λ gs. masked_in_order r script (in_order (positioned r script (first gs)))) (λ gs. initial_order r script (first gs)) (λ gs. [] ++ (opening_steps r script (first gs) ++ ((order_step r (positioned r script (first gs)) ∷ []) ++ []))) (λ gs. initial_steps r script (first gs)) s e b0 b4
     (sym (ap (λ (b : Bool). if b then masked_in_order r script (in_order (positioned r script (first x0))) else first x0) yes))
     (sym (ap (λ (b : Bool). if b then steps_of_reordered r script (first x0) else []) yes))
-    (syllable_then first (λ gs. masked_in_order r script (in_order (positioned r script gs))) (λ _. []) (λ gs. steps_to_positions r script gs ++ ((order_step r (positioned r script gs) ∷ []) ++ [])) s e b0 b1 b4 h l n0 f
+    (syllable_then first (λ gs. masked_in_order r script (in_order (positioned r script gs))) (λ _. []) (λ gs. opening_steps r script gs ++ ((order_step r (positioned r script gs) ∷ []) ++ [])) s e b0 b1 b4 h l n0 f
     (ordered_and_masked r script s e b1 b2 b3 b4 h l1 p o m))
 
 -- another syllable

@@ -34,6 +34,7 @@ pub mod OrderListing
 pub mod OrderShifted
 mod OrderedBase
 pub mod OrderedPlaces
+pub mod OrderedSyllable
 pub mod PlaceSearch
 mod Positions
 pub mod TextClusters

@@ -1,5 +1,5 @@
 -- The walks that give masks, step by step.
-use Rattle.std.proofs.Common.{◌≡◌, ℕ, zero, suc, ◌+◌, ◌-◌, ◌<◌, ◌≤◌, ◌==◌, ◌&&◌, ◌||◌, Bool, true, false, not, cond, if◌then◌else◌, List, [], ◌∷◌, ◌++◌, length, take, drop, map, get_or, set, refl, sym, ap, ◌∙◌, subst, arith, append_assoc, Option, Some, None, length-take-le}
+use Rattle.std.proofs.Common.{◌≡◌, ℕ, zero, suc, ◌+◌, ◌-◌, ◌<◌, ◌==◌, ◌&&◌, ◌||◌, Bool, true, false, not, cond, if◌then◌else◌, List, [], ◌∷◌, ◌++◌, length, take, drop, map, get_or, set, refl, sym, ap, ◌∙◌, subst, arith, append_assoc, Option, Some, None, length-take-le}
 use Rattle.std.specs.Prelude.{find, nat_lt, slice_get}
 use Rattle.std.specs.List.{enumerate_from, list_any, prefix_len, range_with_len}
 use Rattle.std.specs.Option.{option_map_or}

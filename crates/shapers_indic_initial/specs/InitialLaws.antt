@@ -8,7 +8,7 @@ use Rattle.shapers_base.specs.declared.plan.indic.indic_shape_plan_t.{indic_shap
 use Rattle.shapers_base.specs.Font.{Font}
 use Rattle.shapers_base.specs.Map.{Map}
 use Rattle.shapers_indic_initial.specs.InitialClusters.{EachSyllableMerges}
-use Rattle.shapers_indic_initial.specs.InitialPause.{InitiallyReordered, with_positions_and_circles}
+use Rattle.shapers_indic_initial.specs.InitialPause.{InitiallyReordered, order_by_font, steps_by_font, with_positions_and_circles}
 use Rattle.shapers_indic_initial.specs.InitialReordering.{initial_order, initial_steps}
 use Rattle.shapers_indic_initial.specs.InitialRules.{Rules, rules_of}
 use Rattle.shapers_syllabic.specs.ReorderingLaws.{ReadsNoSerials, ReorderLaws, TextReordered}
@@ -34,3 +34,7 @@ InitialTextMerges = (font : Font) (m : Map) (p : indic_shape_plan_t) (old new : 
     InitiallyReordered font m p old new → merges old.level ≡ true →
     let gs = (with_positions_and_circles font m p old).glyphs in
     EachSyllableMerges (rules_of font m p) old.script old.level (order_view gs) (clusters gs) (clusters new.glyphs)
+
+-- Nor does the order with positions by the font, so that the pause can be cut between any two spans.
+abbrev pub OrderByFontReadsNoSerials : Type 0
+OrderByFontReadsNoSerials = (font : Font) (m : Map) (p : indic_shape_plan_t) (script : Option Script) → ReadsNoSerials (order_by_font font m p script) (steps_by_font font m p script)

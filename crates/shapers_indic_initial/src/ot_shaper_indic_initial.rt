@@ -9,6 +9,9 @@ mod masks;
 mod opening;
 mod order;
 mod ordered_base;
+mod pause;
 mod positions;
 mod reordering;
 mod reph;
+
+pub use pause::initial_reordering;

@@ -4,12 +4,16 @@ ghost use Rattle.shapers_indic_initial.specs.InitialReordering.{is_reordered, ma
 ghost use Rattle.shapers_indic_initial.specs.InitialRules.{rules_of};
 ghost use Rattle.shapers_syllabic.specs.Reordering.{SyllableReordered};
 
+use super::font_positions::update_consonant_positions;
 use super::masks::set_masks;
+use super::opening::set_positions;
+use super::order::order_syllable;
 use super::ordered_base::ordered_base;
-use shapers_base::buffer::{GlyphWalk, Script, hb_buffer_t, hb_glyph_info_t};
+use shapers_base::buffer::{GlyphWalk, Script, ShaperError, hb_buffer_t, hb_glyph_info_t};
 use shapers_base::font::{GlyphId, hb_font_t};
 use shapers_base::map::hb_ot_map_t;
 use shapers_base::plan::indic_shape_plan_t;
+use shapers_syllabic::ot_shaper_syllabic::Reorder;
 use shapers_syllabic::ot_shaper_syllabic::indic_syllable::{
     BROKEN_CLUSTER, CONSONANT_SYLLABLE, STANDALONE_CLUSTER, VOWEL_SYLLABLE,
 };
@@ -24,12 +28,47 @@ pub(super) struct InitialOrder<'a, F: hb_font_t> {
     pub(super) virama: Option<GlyphId>,
 }
 
+impl<'a, F: hb_font_t> Reorder for InitialOrder<'a, F> {
+    ghost use Rattle.shapers_indic_initial.specs.InitialFont.{all_by_virama};
+    ghost use Rattle.shapers_indic_initial.specs.InitialReordering.{initial_order, initial_steps};
+    ghost use Rattle.shapers_indic_initial.specs.InitialRules.{rules_of};
+
+    ghost meaning = { λ r script gs.
+        let positioned = all_by_virama (F.font r.face.now) r.map.now r.plan.now r.virama gs in
+        initial_order (rules_of (F.font r.face.now) r.map.now r.plan.now) script positioned };
+
+    ghost steps = { λ r script gs.
+        let positioned = all_by_virama (F.font r.face.now) r.map.now r.plan.now r.virama gs in
+        initial_steps (rules_of (F.font r.face.now) r.map.now r.plan.now) script positioned };
+
+    ghost can_reorder = { λ _ _. Unit {0} };
+
+    ghost may_refuse = { λ _. ⊥ };
+
+    fn reorder(
+        &self,
+        buffer: &mut hb_buffer_t,
+        start: usize,
+        end: usize,
+    ) -> Result<(), ShaperError> {
+        let (plan, map, face) = (self.plan, self.map, self.face);
+        update_consonant_positions(plan, map, face, self.virama, buffer, start, end);
+        if is_reordered(&buffer.glyphs()[start..end]) {
+            set_positions(plan, map, face, buffer, start, end);
+            order_syllable(buffer, start, end, plan.is_old_spec);
+            self.mask_syllable(buffer, start, end);
+        }
+        Ok(())
+    }
+}
+
 impl<'a, F: hb_font_t> InitialOrder<'a, F> {
     // Gives the glyphs of an ordered syllable their masks.
     fn mask_syllable(&self, buffer: &mut hb_buffer_t, start: usize, end: usize)
         requires in_order { start ≤ end }
         requires in_range { end ≤ length buffer.old.glyphs }
-        ensures { let rules = rules_of (F.font self.now.face.now) self.now.map.now self.now.plan.now in
+        ensures { let font = F.font self.now.face.now in
+            let rules = rules_of font self.now.map.now self.now.plan.now in
             SyllableReordered (masked_in_order rules buffer.old.script) (λ _. [])
             start end buffer.old buffer.new }
     {

@@ -1,5 +1,5 @@
 -- One glyph back.
-use Rattle.std.proofs.Common.{◌≡◌, ◌+◌, ◌-◌, ap, sym, ◌∙◌, arith, get_or}
+use Rattle.std.proofs.Common.{◌≡◌, ◌-◌, ap, sym, ◌∙◌, arith, get_or}
 use Rattle.shapers_buffer.specs.Glyph.{default_glyph}
 use Rattle.shapers_indic_initial.proofs.MaskWalks.{half_back, half_taken}
 use Rattle.shapers_indic_initial.proofs.ot_shaper_indic_initial.masks.clear_half.Goals as goal

@@ -1,6 +1,5 @@
 -- One more pair asked about.
-use Rattle.std.proofs.Common.{◌≡◌, ◌+◌, ◌-◌, length, ◌∙◌, arith}
-use Rattle.shapers_base.specs.Questions.{would_by}
+use Rattle.std.proofs.Common.{◌+◌, ◌-◌, length, ◌∙◌, arith}
 use Rattle.shapers_buffer.specs.Clusters.{stretch_of}
 use Rattle.shapers_indic.specs.Glyphs.{numbers}
 use Rattle.shapers_indic_initial.specs.InitialRules.{rules_of}

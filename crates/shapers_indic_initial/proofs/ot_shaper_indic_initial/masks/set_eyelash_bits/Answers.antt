@@ -1,5 +1,5 @@
 -- One more glyph.
-use Rattle.std.proofs.Common.{◌≡◌, ◌+◌, ◌-◌, ap, sym, ◌∙◌, arith, get_or, set, if◌then◌else◌, true, false}
+use Rattle.std.proofs.Common.{◌≡◌, ap, sym, ◌∙◌, arith, get_or, set, if◌then◌else◌}
 use Rattle.shapers_buffer.specs.Glyph.{default_glyph}
 use Rattle.shapers_buffer.specs.GlyphFlags.{with_bits}
 use Rattle.shapers_indic_initial.proofs.MaskWalks.{eyelash_next}

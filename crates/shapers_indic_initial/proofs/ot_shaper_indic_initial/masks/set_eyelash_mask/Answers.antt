@@ -1,5 +1,5 @@
 -- With an eyelash, and without.
-use Rattle.std.proofs.Common.{◌≡◌, ap, sym, ◌∙◌, map, if◌then◌else◌, true, false}
+use Rattle.std.proofs.Common.{ap, sym, ◌∙◌, map, if◌then◌else◌, true, false}
 use Rattle.std.specs.List.{enumerate_from}
 use Rattle.shapers_buffer.specs.GlyphFlags.{with_bits}
 use Rattle.shapers_indic.specs.declared.ot_shaper_indic.indic_feature.TheConstants.{BLWF}

@@ -1,6 +1,6 @@
 -- The masks of a syllable.
-use Rattle.std.proofs.Common.{arith, ap, sym, ◌∙◌}
-use Rattle.shapers_buffer.specs.Buffer.{Buffer, but_places}
+use Rattle.std.proofs.Common.{arith, ap, ◌∙◌}
+use Rattle.shapers_buffer.specs.Buffer.{but_places}
 use Rattle.shapers_buffer.specs.Clusters.{with_stretch}
 use Rattle.shapers_indic_initial.specs.InitialReordering.{masked_in_order}
 use Rattle.shapers_indic_initial.specs.InitialRules.{rules_of}

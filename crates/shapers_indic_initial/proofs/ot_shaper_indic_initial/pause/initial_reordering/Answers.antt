@@ -1,0 +1,49 @@
+-- What the pause promises, by the plan's data.
+use Rattle.std.proofs.Common.{Option, OnOk, subst}
+use Rattle.std.proofs.lemmas.Result.{on_ok_weaker}
+use Rattle.shapers_base.specs.declared.font.GlyphId.{GlyphId}
+use Rattle.shapers_base.specs.declared.plan.indic.indic_shape_plan_t.{indic_shape_plan_t}
+use Rattle.shapers_indic_initial.specs.InitialFont.{all_by_virama}
+use Rattle.shapers_indic_initial.specs.InitialPause.{indic_in, initial_circles, order_by_font, steps_by_font}
+use Rattle.shapers_indic_initial.specs.InitialReordering.{initial_order, initial_steps}
+use Rattle.shapers_indic_initial.specs.InitialRules.{rules_of}
+use Rattle.shapers_indic_initial.proofs.FontCircles.{initially_reordered}
+use Rattle.shapers_indic_initial.proofs.FontPositions.{laws_by_font}
+use Rattle.shapers_indic_initial.proofs.InitialLaws.{initial_text_reordered}
+use Rattle.shapers_syllabic.specs.Reordering.{PauseReordered}
+use Rattle.shapers_syllabic.specs.ReorderingLaws.{PauseCutsAtBorders}
+use Rattle.shapers_indic_initial.proofs.ot_shaper_indic_initial.pause.initial_reordering.Goals as goal
+
+pub reorder_pause-requires-clause-laws : goal.reorder_pause-requires-clause-laws
+reorder_pause-requires-clause-laws g c = laws_by_font (g.F.hb_font_t.font c.args.face.now) c.args.plan.now.ot_map c.indic_in-data.result.now c.virama_glyph.result c.args.buffer.now.script
+
+pub returns-clause-ok : goal.returns-clause-ok
+returns-clause-ok g c =
+    let font = g.F.hb_font_t.font c.args.face.now in
+    let m = c.args.plan.now.ot_map in
+    let p = c.indic_in-data.result.now in
+    let b = c.args.buffer.now in
+    let new = c.reorder_pause.new.buffer in
+    let circles = initial_circles font b in
+    let r = rules_of font m p in
+    let by_plan = subst (λ (v : Option GlyphId). OnOk c.reorder_pause.result (PauseReordered circles (λ gs. initial_order r b.script (all_by_virama font m p v gs)) (λ gs. initial_steps r b.script (all_by_virama font m p v gs)) b new)) c.virama_glyph.ensures c.reorder_pause.ensures.ok in
+    let done = subst (λ (q : indic_shape_plan_t). OnOk c.reorder_pause.result (PauseReordered circles (order_by_font font m q b.script) (steps_by_font font m q b.script) b new)) c.indic_in-data.ensures by_plan in
+    on_ok_weaker c.reorder_pause.result (initially_reordered font m (indic_in c.args.plan.now) b new) done
+
+pub returns-clause-cut : goal.returns-clause-cut
+returns-clause-cut g c =
+    let font = g.F.hb_font_t.font c.args.face.now in
+    let m = c.args.plan.now.ot_map in
+    let p = c.indic_in-data.result.now in
+    let b = c.args.buffer.now in
+    let new = c.reorder_pause.new.buffer in
+    let circles = initial_circles font b in
+    let r = rules_of font m p in
+    let by_plan = subst (λ (v : Option GlyphId). OnOk c.reorder_pause.result (PauseCutsAtBorders circles (λ gs. initial_order r b.script (all_by_virama font m p v gs)) (λ gs. initial_steps r b.script (all_by_virama font m p v gs)) b new)) c.virama_glyph.ensures c.reorder_pause.ensures.cut in
+    subst (λ (q : indic_shape_plan_t). OnOk c.reorder_pause.result (PauseCutsAtBorders circles (order_by_font font m q b.script) (steps_by_font font m q b.script) b new)) c.indic_in-data.ensures by_plan
+
+pub returns-clause-laws : goal.returns-clause-laws
+returns-clause-laws g c =
+    let font = g.F.hb_font_t.font c.args.face.now in
+    let m = c.args.plan.now.ot_map in
+    on_ok_weaker c.reorder_pause.result (initial_text_reordered font m (indic_in c.args.plan.now) c.args.buffer.now c.reorder_pause.new.buffer) (returns-clause-ok g c)

@@ -1,0 +1,81 @@
+//! The pause of the initial reordering.
+ghost use Rattle.std.specs.Prelude.{◌≡◌, [], IfOk, IsOk, None, OnErr, OnOk, is_some, length, true};
+ghost use Rattle.shapers_buffer.specs.Refusals.{Refuses};
+ghost use Rattle.shapers_indic.specs.Plan.{is_indic_data};
+ghost use Rattle.shapers_indic_initial.specs.InitialPause.{InitiallyReordered, indic_in, initial_circles, initial_refusal, order_by_font, steps_by_font, with_positions_and_circles};
+ghost use Rattle.shapers_indic_initial.specs.InitialReordering.{initial_steps};
+ghost use Rattle.shapers_indic_initial.specs.InitialRules.{rules_of};
+ghost use Rattle.shapers_syllabic.specs.Circles.{circled};
+ghost use Rattle.shapers_syllabic.specs.ReorderingLaws.{PauseCutsAtBorders, TextReordered};
+
+use super::font_positions::virama_glyph;
+use super::reordering::InitialOrder;
+use shapers_base::buffer::{ShaperError, hb_buffer_t};
+use shapers_base::font::hb_font_t;
+use shapers_base::plan::ot_category_t::{OT_DOTTEDCIRCLE, OT_Repha};
+use shapers_base::plan::ot_position_t::POS_END;
+use shapers_base::plan::{PlanData, hb_ot_shape_plan_t, indic_shape_plan_t};
+use shapers_syllabic::ot_shaper_syllabic::indic_syllable::{BROKEN_CLUSTER, NON_INDIC_CLUSTER};
+use shapers_syllabic::ot_shaper_syllabic::{CircleSort, reorder_pause};
+
+// The dotted circles of Indic.
+const CIRCLES: CircleSort = CircleSort {
+    broken_kind: BROKEN_CLUSTER,
+    category: OT_DOTTEDCIRCLE,
+    repha: Some(OT_Repha),
+    position: Some(POS_END),
+};
+
+/// Gives consonants positions by the font and broken syllables their dotted circles, and then
+/// reorders each syllable: its base, what goes with which glyph, the order by positions, the masks of
+/// the basic features. Answers whether circles were wanted. Refuses with `UnknownSyllable`, before
+/// anything changes; with `TooLong`; and with `Memory`, but not where no circle opens. (OpenType,
+/// development of Indic scripts.)
+pub fn initial_reordering<F: hb_font_t>(
+    plan: &hb_ot_shape_plan_t,
+    face: &F,
+    buffer: &mut hb_buffer_t,
+) -> Result<bool, ShaperError>
+    requires kept { is_indic_data plan.now.plan_data ≡ true }
+    requires without_positions { buffer.old.positions ≡ [] }
+    ensures answer { let circles = initial_circles (F.font face.now) buffer.old in
+        IfOk result (λ answer. answer ≡ is_some circles) }
+    ensures ok { OnOk result (InitiallyReordered
+        (F.font face.now) plan.now.ot_map (indic_in plan.now) buffer.old buffer.new) }
+    ensures cut { let font = F.font face.now in
+        let kept = indic_in plan.now in
+        OnOk result (PauseCutsAtBorders (initial_circles font buffer.old)
+        (order_by_font font plan.now.ot_map kept buffer.old.script)
+        (steps_by_font font plan.now.ot_map kept buffer.old.script) buffer.old buffer.new) }
+    ensures laws { let font = F.font face.now in
+        let rules = rules_of font plan.now.ot_map (indic_in plan.now) in
+        let opened = with_positions_and_circles font plan.now.ot_map (indic_in plan.now) buffer.old in
+        OnOk result (TextReordered (initial_steps rules buffer.old.script) opened buffer.new) }
+    ensures refusal { let circles = initial_circles (F.font face.now) buffer.old in
+        let opened = circled circles buffer.old.glyphs in
+        Refuses (initial_refusal buffer.old) buffer.old.max_len (length opened) result }
+    ensures err { OnErr result (buffer.new ≡ buffer.old) }
+    ensures without_memory { let circles = initial_circles (F.font face.now) buffer.old in
+        let opened = circled circles buffer.old.glyphs in
+        initial_refusal buffer.old ≡ None → opened ≡ buffer.old.glyphs → IsOk result }
+{
+    let data = indic_in(plan);
+    let order = InitialOrder {
+        plan: data,
+        map: &plan.ot_map,
+        face,
+        virama: virama_glyph(data, face),
+    };
+    reorder_pause(face, &order, &CIRCLES, Some(NON_INDIC_CLUSTER), buffer)
+}
+
+// What the plan keeps for Indic.
+fn indic_in(plan: &hb_ot_shape_plan_t) -> &indic_shape_plan_t
+    requires { is_indic_data plan.now.plan_data ≡ true }
+    ensures { result.now ≡ indic_in plan.now }
+{
+    match &plan.plan_data {
+        PlanData::Indic(kept) => kept,
+        _ => unreachable!(),
+    }
+}
