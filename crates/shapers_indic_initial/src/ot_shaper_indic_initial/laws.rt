@@ -1,6 +1,6 @@
 //! Laws of the initial reordering, each the contract of a function without a body.
 ghost use Rattle.shapers_indic_initial.specs.InitialClusters.{InitialClustersLaw, OrderMergesLaw};
-ghost use Rattle.shapers_indic_initial.specs.InitialLaws.{InitialReadsNoSerials, InitialReorderLaws, InitialTextMerges, InitialTextReordered};
+ghost use Rattle.shapers_indic_initial.specs.InitialLaws.{InitialReadsNoSerials, InitialReorderLaws, InitialTextMerges, InitialTextReordered, OrderByFontReadsNoSerials};
 
 /// The steps of a syllable take each of its places once and lead to its order.
 pub fn initial_reorder_laws()
@@ -33,4 +33,9 @@ pub fn initial_clusters()
 /// The same of each syllable after the pause.
 pub fn initial_text_merges()
     ensures { InitialTextMerges }
+{}
+
+/// Nor does the order with positions by the font: the pause can be cut between any two spans.
+pub fn order_by_font_reads_no_serials()
+    ensures { OrderByFontReadsNoSerials }
 {}
