@@ -4,6 +4,7 @@ mod base;
 mod cycles;
 mod font_positions;
 mod halant;
+pub mod laws;
 mod masks;
 mod opening;
 mod order;
