@@ -25,6 +25,8 @@ use Rattle.shapers_stretch.specs.Stretch.{Copy, Laying, copies, copies_of, has_r
 use Rattle.shapers_stretch.proofs.LastParts.{LastPartAt, last_part_at}
 use Rattle.shapers_stretch.proofs.Lengths.{length-copies, length-laid}
 use Rattle.shapers_stretch.proofs.Pen.{laid_is, laid_on}
+use Rattle.shapers_stretch.proofs.Moves.{map-replicate}
+use Rattle.shapers_stretch.proofs.Zips.{length-zipped}
 
 -- glyphs beside positions
 pub glyphs_zip : (gs : List hb_glyph_info_t) (ps : List GlyphPosition) → length gs ≡ length ps → glyphs_of (zip gs ps) ≡ gs
@@ -37,9 +39,6 @@ positions_zip [] [] e = refl
 positions_zip [] (p ∷ ps) e = absurd (omega arith)
 positions_zip (g ∷ gs) [] e = absurd (omega arith)
 positions_zip (g ∷ gs) (p ∷ ps) e = ap (λ qs. p ∷ qs) (positions_zip gs ps (omega arith))
-
-pub length_zip : (gs : List hb_glyph_info_t) (ps : List GlyphPosition) → length gs ≡ length ps → length (zip gs ps) ≡ length gs
-length_zip gs ps e = sym (length-map (zip gs ps) (λ c. c.0)) ∙ ap length (glyphs_zip gs ps e)
 
 -- flags change no tile
 flag_if : (b : Bool) (bits : ℕ) (g : hb_glyph_info_t) → repeats (cond b g (with_bits bits g)) ≡ repeats g
@@ -101,10 +100,6 @@ no_run_length how part e = ap (λ b. cond (not b) part (before_word part ++ stre
 on_offsets : (right_to_left : Bool) (pen : ℤ) (cs : List Copy) → map (λ c. c.1.x_offset) (laid_on right_to_left pen cs) ≡ offsets_on right_to_left pen (map (λ copy. copy.move) cs)
 on_offsets right_to_left pen [] = refl
 on_offsets right_to_left pen (c ∷ cs) = ap (λ xs. stands_at right_to_left pen c.move ∷ xs) (on_offsets right_to_left (pen_behind right_to_left pen c.move) cs)
-
-map-replicate : {X Y : Type 0} (f : X → Y) (n : ℕ) (x : X) → map f (replicate n x) ≡ replicate n (f x)
-map-replicate f zero x = refl
-map-replicate f (suc n) x = ap (λ ys. f x ∷ ys) (map-replicate f n x)
 
 moves_if : (b : Bool) (n : ℕ) (copy : Copy) → map (λ copy. copy.move) (cond b (replicate n copy) []) ≡ cond b (replicate n copy.move) []
 moves_if true n copy = map-replicate (λ copy. copy.move) n copy
@@ -215,7 +210,7 @@ uncounted_run how cs s w t at less e =
 pub last_part_zipped : (gs : List hb_glyph_info_t) (ps : List GlyphPosition) (s w t : ℕ) → length gs ≡ length ps → 0 < length gs → t + suffix_len is_tile gs ≡ length gs → w + suffix_len in_word (take t gs) ≡ t → s + suffix_len (λ g. not (is_tile g)) (take w gs) ≡ w → LastPartAt (zip gs ps) s w t
 last_part_zipped gs ps s w t both some ends word start =
     let P : List hb_glyph_info_t → Type 0 = λ gs'. t + suffix_len is_tile gs' ≡ length gs' → w + suffix_len in_word (take t gs') ≡ t → s + suffix_len (λ g. not (is_tile g)) (take w gs') ≡ w → LastPartAt (zip gs ps) s w t in
-    subst P (glyphs_zip gs ps both) (last_part_at (zip gs ps) s w t (omega (arith, length_zip gs ps both))) ends word start
+    subst P (glyphs_zip gs ps both) (last_part_at (zip gs ps) s w t (omega (arith, length-zipped gs ps both))) ends word start
 
 pub tiles_zipped : (gs : List hb_glyph_info_t) (ps : List GlyphPosition) (t : ℕ) → length gs ≡ length ps → glyphs_of (drop t (zip gs ps)) ≡ drop t gs
 tiles_zipped gs ps t both = sym (drop-map (λ c. c.0) t (zip gs ps)) ∙ ap (drop t) (glyphs_zip gs ps both)
@@ -239,7 +234,7 @@ run_sliced how gs ps w t both h =
 pub counted_start : (how : Laying) (gs : List hb_glyph_info_t) (ps : List GlyphPosition) → length gs ≡ length ps → IsCounted how (zip gs ps) (length gs) 0
 counted_start how gs ps both =
     let cs = zip gs ps in
-    let long = length_zip gs ps both in
+    let long = length-zipped gs ps both in
     let whole : take (length gs) cs ≡ cs = take_all (length gs) cs (omega arith) in
     record { within = omega arith; fits = ap (overflows how) (sym whole); longer = omega (arith, ap (λ cs. length (stretched how cs)) whole) }
 
