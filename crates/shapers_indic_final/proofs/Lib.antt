@@ -7,4 +7,5 @@ pub mod FinalPlaces
 mod FinalPrefRows
 mod FinalReorderingRows
 mod FinalRephRows
+pub mod FinalSteps
 pub mod FinalWords
