@@ -1,5 +1,5 @@
 -- The steps of the final reordering: a part of a syllable whose first glyph goes last, or whose last one goes first.
-use Rattle.std.proofs.Common.{◌≡◌, ℕ, ◌+◌, ◌-◌, ◌<◌, ◌≤◌, List, [], ◌∷◌, ◌++◌, length, take, drop, take_all, take-append-drop, length-drop, length-take, append_assoc, refl, sym, ap, ◌∙◌, subst, arith, zero-add}
+use Rattle.std.proofs.Common.{◌≡◌, ℕ, ◌+◌, ◌-◌, ◌<◌, ◌≤◌, List, ◌++◌, length, take, drop, take_all, take-append-drop, length-drop, length-take, append_assoc, refl, sym, ap, ◌∙◌, subst, arith, zero-add}
 use Rattle.std.proofs.Math.Seq.{take-add}
 use Rattle.std.specs.List.{AllByRecursion, range_with_len}
 use Rattle.std.specs.List.Sorted.{IsPermutation}
@@ -33,16 +33,16 @@ stretch_inside s e i k f xs h l m =
     let by_k : n ≡ k + (n - k) = omega arith in
     let front : take i (take n rest) ≡ take i rest = take-take i n rest (omega arith) in
     let middle : take (k - i) (drop i (take n rest)) ≡ stretch_of (s + i) (s + k) xs =
-        ap (λ m. take (k - i) (drop i (take m rest))) by_i
-        ∙ ap (take (k - i)) (drop-take i (n - i) rest)
-        ∙ take-take (k - i) (n - i) (drop i rest) (omega arith)
-        ∙ ap (take (k - i)) (drop-drop i s xs)
-        ∙ ap (λ m. take m (drop (s + i) xs)) (let e : k - i ≡ (s + k) - (s + i) = omega arith in e) in
+    ap (λ m. take (k - i) (drop i (take m rest))) by_i
+    ∙ ap (take (k - i)) (drop-take i (n - i) rest)
+    ∙ take-take (k - i) (n - i) (drop i rest) (omega arith)
+    ∙ ap (take (k - i)) (drop-drop i s xs)
+    ∙ ap (λ m. take m (drop (s + i) xs)) (let e : k - i ≡ (s + k) - (s + i) = omega arith in e) in
     let back : drop k (take n rest) ++ drop e xs ≡ drop (s + k) xs =
-        ap (λ ys. ys ++ drop e xs) (ap (λ m. drop k (take m rest)) by_k ∙ drop-take k (n - k) rest)
-        ∙ ap (λ ys. take (n - k) (drop k rest) ++ ys) (ap (λ m. drop m xs) (let a : e ≡ (s + k) + (n - k) = omega arith in a) ∙ sym (drop-drop (n - k) (s + k) xs) ∙ ap (drop (n - k)) (sym (drop-drop k s xs)))
-        ∙ take-append-drop (n - k) (drop k rest)
-        ∙ drop-drop k s xs in
+    ap (λ ys. ys ++ drop e xs) (ap (λ m. drop k (take m rest)) by_k ∙ drop-take k (n - k) rest)
+    ∙ ap (λ ys. take (n - k) (drop k rest) ++ ys) (ap (λ m. drop m xs) (let a : e ≡ (s + k) + (n - k) = omega arith in a) ∙ sym (drop-drop (n - k) (s + k) xs) ∙ ap (drop (n - k)) (sym (drop-drop k s xs)))
+    ∙ take-append-drop (n - k) (drop k rest)
+    ∙ drop-drop k s xs in
     let F = f (take (k - i) (drop i (take n rest))) in
     ap (λ ys. take s xs ++ ys) (append_assoc (take i (take n rest)) (F ++ drop k (take n rest)) (drop e xs) ∙ ap (λ ys. take i (take n rest) ++ ys) (append_assoc F (drop k (take n rest)) (drop e xs)))
     ∙ ap (λ ys. take s xs ++ (ys ++ (F ++ (drop k (take n rest) ++ drop e xs)))) front

@@ -43,14 +43,7 @@ pub(super) fn move_pref(buffer: &mut hb_buffer_t, s: usize, e: usize, j: usize, 
 
 // Moves the glyph of place `i` of the syllable from `s` to `e`, a left matra, to its place `j`, and
 // merges from there up to its place `b`.
-pub(super) fn move_matra(
-    buffer: &mut hb_buffer_t,
-    s: usize,
-    e: usize,
-    b: usize,
-    i: usize,
-    j: usize,
-)
+pub(super) fn move_matra(buffer: &mut hb_buffer_t, s: usize, e: usize, b: usize, i: usize, j: usize)
     requires before { i ≤ j }
     requires base { j ≤ b }
     requires base_in_order { s + b ≤ e }

@@ -1,5 +1,5 @@
 -- One move and one merge are the step.
-use Rattle.std.proofs.Common.{ℕ, List, length, ◌+◌, ◌≤◌, ◌≡◌, ap, ◌∙◌, arith}
+use Rattle.std.proofs.Common.{length, ◌+◌, ap, ◌∙◌, arith}
 use Rattle.shapers_buffer.specs.Buffer.{Buffer}
 use Rattle.shapers_buffer.specs.Clusters.{merge, with_stretch}
 use Rattle.shapers_indic_final.specs.FinalGlyphs.{first_goes_last}
