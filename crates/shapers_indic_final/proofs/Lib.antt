@@ -1,9 +1,11 @@
 mod FinalBaseRows
 pub mod FinalLinks
 mod FinalMatraRows
+pub mod FinalMoves
 mod FinalOpeningRows
 pub mod FinalPlaces
 mod FinalPrefRows
 mod FinalReorderingRows
 mod FinalRephRows
+pub mod FinalSteps
 pub mod FinalWords
