@@ -7,8 +7,8 @@ use Rattle.shapers_clusters.specs.Laws.{ReorderedHold}
 use Rattle.shapers_clusters.specs.Steps.{Step}
 use Rattle.shapers_base.specs.Map.{Map}
 use Rattle.shapers_base.specs.declared.plan.indic.indic_shape_plan_t.{indic_shape_plan_t}
-use Rattle.shapers_indic.specs.Plan.{is_indic_data}
-use Rattle.shapers_indic_initial.specs.InitialPause.{InitiallyReordered, indic_in, initial_circles, initial_refusal, order_by_font, steps_by_font, with_positions_and_circles}
+use Rattle.shapers_indic.specs.Plan.{indic_in, is_indic_data}
+use Rattle.shapers_indic_initial.specs.InitialPause.{InitiallyReordered, initial_circles, initial_refusal, order_by_font, steps_by_font, with_positions_and_circles}
 use Rattle.shapers_indic_initial.specs.InitialReordering.{initial_steps}
 use Rattle.shapers_indic_initial.specs.InitialRules.{rules_of}
 use Rattle.shapers_khmer.specs.Khmer.{khmer_circles, khmer_order, khmer_steps, order_in}

@@ -7,6 +7,7 @@ use Rattle.shapers_buffer.specs.declared.buffer.tag.hb_tag_t.{hb_tag_t}
 use Rattle.shapers_buffer.specs.declared.buffer.tag.Script.{Script}
 use Rattle.shapers_base.specs.declared.map.TheConstants.{F_GLOBAL}
 use Rattle.shapers_base.specs.declared.plan.PlanData.{PlanData}
+use Rattle.shapers_base.specs.declared.plan.hb_ot_shape_plan_t.{hb_ot_shape_plan_t}
 use Rattle.shapers_base.specs.declared.plan.PlanData.TheVariants.{Indic}
 use Rattle.shapers_base.specs.declared.plan.indic.BlwfMode.{BlwfMode}
 use Rattle.shapers_base.specs.declared.plan.indic.BlwfMode.TheVariants.{PreAndPost, PostOnly}
@@ -101,3 +102,11 @@ is_indic_data _ = false
 abbrev pub masks_in : PlanData → List ℕ
 masks_in (Indic kept) = kept.mask_array
 masks_in _ = []
+
+-- what the plan keeps for Indic; where it keeps nothing, what it would
+abbrev pub indic_data : indic_shape_plan_t → PlanData → indic_shape_plan_t
+indic_data otherwise (Indic kept) = kept
+indic_data otherwise _ = otherwise
+
+abbrev pub indic_in : hb_ot_shape_plan_t → indic_shape_plan_t
+indic_in plan = indic_data (indic_plan plan.script plan.ot_map) plan.plan_data

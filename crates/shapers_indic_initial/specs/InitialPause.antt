@@ -46,11 +46,3 @@ order_by_font font m p script gs = initial_order (rules_of font m p) script (pos
 
 abbrev pub steps_by_font : Font → Map → indic_shape_plan_t → Option Script → List hb_glyph_info_t → List Step
 steps_by_font font m p script gs = initial_steps (rules_of font m p) script (positions_by_font font m p gs)
-
--- what the plan keeps for Indic; where it keeps nothing, what it would
-abbrev pub indic_data : indic_shape_plan_t → PlanData → indic_shape_plan_t
-indic_data otherwise (Indic kept) = kept
-indic_data otherwise _ = otherwise
-
-abbrev pub indic_in : hb_ot_shape_plan_t → indic_shape_plan_t
-indic_in plan = indic_data (indic_plan plan.script plan.ot_map) plan.plan_data

@@ -1,8 +1,8 @@
 //! What the shaper keeps in the plan.
-ghost use Rattle.std.specs.Prelude.{◌≡◌, ◌%◌, find};
+ghost use Rattle.std.specs.Prelude.{◌≡◌, ◌%◌, find, true};
 ghost use Rattle.std.specs.List.{AllByRecursion};
 ghost use Rattle.shapers_base.specs.declared.plan.PlanData.TheVariants.{Indic};
-ghost use Rattle.shapers_indic.specs.Plan.{config_of, feature_masks, has_old_spec, indic_plan, is_old_script, is_script, masks_in, scripts, zero_context};
+ghost use Rattle.shapers_indic.specs.Plan.{config_of, feature_masks, has_old_spec, indic_in, indic_plan, is_indic_data, is_old_script, is_script, masks_in, scripts, zero_context};
 
 use BlwfMode::{PostOnly, PreAndPost};
 use RephMode::{Explicit, Implicit, LogRepha};
@@ -191,4 +191,15 @@ pub fn create_data(plan: &hb_ot_shape_plan_t) -> PlanData
         vatu: question(*b"vatu"),
         mask_array: masks_of(map),
     })
+}
+
+/// What the plan keeps for Indic.
+pub fn indic_in(plan: &hb_ot_shape_plan_t) -> &indic_shape_plan_t
+    requires { is_indic_data plan.now.plan_data ≡ true }
+    ensures { result.now ≡ indic_in plan.now }
+{
+    match &plan.plan_data {
+        PlanData::Indic(kept) => kept,
+        _ => unreachable!(),
+    }
 }

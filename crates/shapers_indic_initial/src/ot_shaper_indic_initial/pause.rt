@@ -1,8 +1,8 @@
 //! The pause of the initial reordering.
 ghost use Rattle.std.specs.Prelude.{◌≡◌, [], IfOk, IsOk, None, OnErr, OnOk, is_some, length, true};
 ghost use Rattle.shapers_buffer.specs.Refusals.{Refuses};
-ghost use Rattle.shapers_indic.specs.Plan.{is_indic_data};
-ghost use Rattle.shapers_indic_initial.specs.InitialPause.{InitiallyReordered, indic_in, initial_circles, initial_refusal, order_by_font, steps_by_font, with_positions_and_circles};
+ghost use Rattle.shapers_indic.specs.Plan.{indic_in, is_indic_data};
+ghost use Rattle.shapers_indic_initial.specs.InitialPause.{InitiallyReordered, initial_circles, initial_refusal, order_by_font, steps_by_font, with_positions_and_circles};
 ghost use Rattle.shapers_indic_initial.specs.InitialReordering.{initial_steps};
 ghost use Rattle.shapers_indic_initial.specs.InitialRules.{rules_of};
 ghost use Rattle.shapers_syllabic.specs.Circles.{circled};
@@ -14,7 +14,8 @@ use shapers_base::buffer::{ShaperError, hb_buffer_t};
 use shapers_base::font::hb_font_t;
 use shapers_base::plan::ot_category_t::{OT_DOTTEDCIRCLE, OT_Repha};
 use shapers_base::plan::ot_position_t::POS_END;
-use shapers_base::plan::{PlanData, hb_ot_shape_plan_t, indic_shape_plan_t};
+use shapers_base::plan::hb_ot_shape_plan_t;
+use shapers_indic::ot_shaper_indic::indic_in;
 use shapers_syllabic::ot_shaper_syllabic::indic_syllable::{BROKEN_CLUSTER, NON_INDIC_CLUSTER};
 use shapers_syllabic::ot_shaper_syllabic::{CircleSort, reorder_pause};
 
@@ -67,15 +68,4 @@ pub fn initial_reordering<F: hb_font_t>(
         virama: virama_glyph(data, face),
     };
     reorder_pause(face, &order, &CIRCLES, Some(NON_INDIC_CLUSTER), buffer)
-}
-
-// What the plan keeps for Indic.
-fn indic_in(plan: &hb_ot_shape_plan_t) -> &indic_shape_plan_t
-    requires { is_indic_data plan.now.plan_data ≡ true }
-    ensures { result.now ≡ indic_in plan.now }
-{
-    match &plan.plan_data {
-        PlanData::Indic(kept) => kept,
-        _ => unreachable!(),
-    }
 }

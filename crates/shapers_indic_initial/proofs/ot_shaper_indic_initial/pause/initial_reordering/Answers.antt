@@ -4,7 +4,8 @@ use Rattle.std.proofs.lemmas.Result.{on_ok_weaker}
 use Rattle.shapers_base.specs.declared.font.GlyphId.{GlyphId}
 use Rattle.shapers_base.specs.declared.plan.indic.indic_shape_plan_t.{indic_shape_plan_t}
 use Rattle.shapers_indic_initial.specs.InitialFont.{all_by_virama}
-use Rattle.shapers_indic_initial.specs.InitialPause.{indic_in, initial_circles, order_by_font, steps_by_font}
+use Rattle.shapers_indic.specs.Plan.{indic_in}
+use Rattle.shapers_indic_initial.specs.InitialPause.{initial_circles, order_by_font, steps_by_font}
 use Rattle.shapers_indic_initial.specs.InitialReordering.{initial_order, initial_steps}
 use Rattle.shapers_indic_initial.specs.InitialRules.{rules_of}
 use Rattle.shapers_indic_initial.proofs.FontCircles.{initially_reordered}
