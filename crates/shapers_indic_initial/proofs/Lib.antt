@@ -33,4 +33,5 @@ pub mod OrderedPlaces
 pub mod OrderedSyllable
 pub mod PlaceSearch
 mod Positions
+pub mod StillOrder
 mod Walks
