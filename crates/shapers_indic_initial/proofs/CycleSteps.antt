@@ -244,7 +244,7 @@ merging_end s e base p b0 b h w =
     sym (ap (λ k. merge_all b0.level (shifted s (left_from (places_from s e b.places) base p k)) b.glyphs) none) ∙ w.left
 
 -- a placement list that has each place once
-once_range : (n : ℕ) → EachOnce (range_with_len 0 n)
+pub once_range : (n : ℕ) → EachOnce (range_with_len 0 n)
 once_range n =
     let m = length-range_with_len 0 n in
     record {

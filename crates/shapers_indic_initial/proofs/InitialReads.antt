@@ -66,11 +66,11 @@ passes_at f test reads (g ∷ gs) (suc i) = passes_at f test reads gs i
 pub passes_stays : (f : hb_glyph_info_t → hb_glyph_info_t) (test : hb_glyph_info_t → Bool) → ReadsView f test → (gs : List hb_glyph_info_t) → passes test (map f gs) ≡ passes test gs
 passes_stays f test reads gs = fun_ext (passes_at f test reads gs)
 
-prefix_stays : (f : hb_glyph_info_t → hb_glyph_info_t) (test : hb_glyph_info_t → Bool) → ReadsView f test → (gs : List hb_glyph_info_t) → prefix_len test (map f gs) ≡ prefix_len test gs
+pub prefix_stays : (f : hb_glyph_info_t → hb_glyph_info_t) (test : hb_glyph_info_t → Bool) → ReadsView f test → (gs : List hb_glyph_info_t) → prefix_len test (map f gs) ≡ prefix_len test gs
 prefix_stays f test reads [] = refl
 prefix_stays f test reads (g ∷ gs) = same_two (λ b n. cond b (1 + n) 0) (reads g) (prefix_stays f test reads gs)
 
-numbers_stay : (f : hb_glyph_info_t → hb_glyph_info_t) → KeepsRead f → (gs : List hb_glyph_info_t) → numbers (map f gs) ≡ numbers gs
+pub numbers_stay : (f : hb_glyph_info_t → hb_glyph_info_t) → KeepsRead f → (gs : List hb_glyph_info_t) → numbers (map f gs) ≡ numbers gs
 numbers_stay f k [] = refl
 numbers_stay f k (g ∷ gs) = same_two (λ (i : ℕ) ns. (let n : GlyphId = record { 0 = i % 65536 } in n) ∷ ns) (k.glyph_id g) (numbers_stay f k gs)
 

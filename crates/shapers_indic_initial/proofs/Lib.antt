@@ -1,12 +1,14 @@
 mod Bases
 pub mod CycleMerges
 pub mod CycleSteps
+pub mod CycleWays
 pub mod Cycles
 mod FontCircles
 mod FontPositions
 pub mod GatheredCuts
 pub mod Groups
 mod InitialBaseRows
+mod InitialClusterRows
 mod InitialFontRows
 pub mod InitialLaws
 mod InitialMaskRows
@@ -15,17 +17,18 @@ mod InitialPauseRows
 mod InitialPositionRows
 pub mod InitialReads
 mod InitialRows
-pub mod InitialSerials
 pub mod InitialSerialsStay
 pub mod InitialSteps
 mod InitialSyllable
 pub mod InitialViews
 mod InitialWords
 pub mod InitialWrites
+pub mod LaterSteps
 mod MaskViews
 mod MaskWalks
 pub mod Moves
 mod Opening
+pub mod OrderClusters
 pub mod OrderListing
 pub mod OrderShifted
 mod OrderedBase
@@ -34,4 +37,5 @@ pub mod OrderedSyllable
 pub mod PlaceSearch
 mod Positions
 pub mod StillOrder
+pub mod TextClusters
 mod Walks

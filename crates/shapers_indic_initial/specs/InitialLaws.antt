@@ -1,10 +1,13 @@
 -- Laws of the initial reordering, as statements.
-use Rattle.std.specs.Prelude.{Option}
+use Rattle.std.specs.Prelude.{Option, ◌≡◌, true}
 use Rattle.shapers_buffer.specs.declared.buffer.tag.Script.{Script}
 use Rattle.shapers_buffer.specs.Buffer.{Buffer}
+use Rattle.shapers_buffer.specs.Clusters.{merges}
+use Rattle.shapers_buffer.specs.Glyph.{clusters, order_view}
 use Rattle.shapers_base.specs.declared.plan.indic.indic_shape_plan_t.{indic_shape_plan_t}
 use Rattle.shapers_base.specs.Font.{Font}
 use Rattle.shapers_base.specs.Map.{Map}
+use Rattle.shapers_indic_initial.specs.InitialClusters.{EachSyllableMerges}
 use Rattle.shapers_indic_initial.specs.InitialPause.{InitiallyReordered, with_positions_and_circles}
 use Rattle.shapers_indic_initial.specs.InitialReordering.{initial_order, initial_steps}
 use Rattle.shapers_indic_initial.specs.InitialRules.{Rules, rules_of}
@@ -24,3 +27,10 @@ abbrev pub InitialTextReordered : Type 0
 InitialTextReordered = (font : Font) (m : Map) (p : indic_shape_plan_t) (old new : Buffer) →
     InitiallyReordered font m p old new →
     TextReordered (initial_steps (rules_of font m p) old.script) (with_positions_and_circles font m p old) new
+
+-- And at the levels that merge, each syllable's clusters by what its order moves.
+abbrev pub InitialTextMerges : Type 0
+InitialTextMerges = (font : Font) (m : Map) (p : indic_shape_plan_t) (old new : Buffer) →
+    InitiallyReordered font m p old new → merges old.level ≡ true →
+    let gs = (with_positions_and_circles font m p old).glyphs in
+    EachSyllableMerges (rules_of font m p) old.script old.level (order_view gs) (clusters gs) (clusters new.glyphs)

@@ -1,5 +1,6 @@
 pub mod CycleWalk
 pub mod InitialBase
+pub mod InitialClusters
 pub mod InitialFont
 pub mod InitialLaws
 pub mod InitialMasks

@@ -15,8 +15,8 @@ use shapers_base::plan::ot_category_t::{
 };
 use shapers_base::plan::ot_position_t::{POS_BELOW_C, POS_POST_C};
 
-/// Where the base of a syllable stands, the syllable's length if it has none, and whether there is a
-/// reph.
+/// Where the base of a syllable stands, the syllable's length if it has none, and whether there is
+/// a reph.
 #[derive(Clone, Copy)]
 pub(super) struct Base {
     pub(super) place: usize,
@@ -59,8 +59,8 @@ fn last_or_first(lo: usize, glyphs: &[hb_glyph_info_t]) -> Option<usize>
     first_candidate(search_from(lo, glyphs), glyphs)
 }
 
-// The last consonant without a below-base or post-base form from place `lo` on, or behind what stops
-// the search.
+// The last consonant without a below-base or post-base form from place `lo` on, or behind what
+// stops the search.
 fn last_base(lo: usize, glyphs: &[hb_glyph_info_t]) -> Option<usize>
     requires { lo ≤ length glyphs.now }
     ensures { let gs = glyphs.now in

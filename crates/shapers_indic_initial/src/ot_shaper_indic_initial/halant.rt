@@ -12,7 +12,7 @@ use shapers_syllabic::ot_shaper_syllabic::is_consonant;
 
 const KANNADA: Option<Script> = Some(Script(*b"Knda"));
 
-/// The place of the first H after the base and the place of the glyph behind which it goes: the last
+/// The place of the first H after the base and that of the glyph behind which it goes: the last
 /// consonant after it, in Kannada not over another H. `None` if it stays.
 pub(super) fn halant_move(
     script: Option<Script>,

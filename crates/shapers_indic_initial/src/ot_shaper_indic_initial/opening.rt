@@ -1,4 +1,4 @@
-//! What comes before the order of a syllable: its positions, and the glyphs that move by themselves.
+//! What comes before the order of a syllable: its positions, and the moves of single glyphs.
 //! (OpenType, development of Indic scripts: "Reorder characters".)
 ghost use Rattle.std.specs.Prelude.{◌≡◌, ◌-◌, ◌<◌, ◌≤◌, length};
 ghost use Rattle.shapers_buffer.specs.Buffer.{but_places};
@@ -86,7 +86,8 @@ fn move_halant(
 fn move_to_end(buffer: &mut hb_buffer_t, from: usize, end: usize)
     requires in_order { from < end }
     requires in_range { end ≤ length buffer.old.glyphs }
-    ensures others { but_places buffer.new ≡ record (but_places buffer.old) { glyphs = buffer.new.glyphs } }
+    ensures others { let glyphs = buffer.new.glyphs in
+        but_places buffer.new ≡ record (but_places buffer.old) { glyphs = glyphs } }
     ensures moved { buffer.new.glyphs ≡ moved_behind from (end - 1) buffer.old.glyphs }
 {
     let last = end - 1;

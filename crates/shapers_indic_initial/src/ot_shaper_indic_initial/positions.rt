@@ -135,8 +135,8 @@ fn part_halants(glyphs: &mut [hb_glyph_info_t])
     }
 }
 
-// The position of a glyph where the nearest glyph before it that doesn't go with a left matra has this
-// one.
+// The position of a glyph where the nearest glyph before it that doesn't go with a left matra has
+// this one.
 fn halant_position(glyph: &hb_glyph_info_t, behind: u8) -> u8
     ensures { let g = glyph.now in
         let parts = has_category OT_H g && has_position POS_PRE_M g in
@@ -196,7 +196,8 @@ fn consonant_position(glyph: &hb_glyph_info_t) -> Option<u8>
     }
 }
 
-// The position of what a consonant of this position owns, if one does, where it has `position` so far.
+// The position of what a consonant of this position owns, if one does, where it has `position` so
+// far.
 fn owned_position(owner: Option<u8>, position: u8) -> u8
     ensures { result ≡ (if nat_le POS_SMVD position then position else unwrap_or owner position) }
 {
