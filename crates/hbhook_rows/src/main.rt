@@ -13,12 +13,13 @@ use std::alloc::{AllocError, Global};
 use std::{fs, io};
 
 /// The files of rows.
-const FILES: [&str; 12] = [
+const FILES: [&str; 13] = [
     "arabic.rows",
     "hangul.rows",
     "hebrew.rows",
     "hooks.rows",
     "indic.rows",
+    "indic_initial.rows",
     "khmer.rows",
     "lines.rows",
     "long.rows",

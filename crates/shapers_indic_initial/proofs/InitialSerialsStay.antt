@@ -1,46 +1,50 @@
 -- The initial reordering doesn't read the serials of syllables: what it makes of glyphs, and its steps.
 use mathlib.Core.Path.{fun_ext}
-use Rattle.std.proofs.Common.{ℕ, ◌+◌, ◌-◌, ◌≡◌, ◌==◌, ◌&&◌, ◌||◌, max, not, Bool, true, false, cond, if◌then◌else◌, List, [], ◌∷◌, ◌++◌, map, flat_map, length, take, drop, reverse, Option, None, Some, refl, sym, ◌∙◌, ap, suc, arith}
-use Rattle.std.specs.Prelude.{filter, find, fold, nat_le, nat_lt, option_map, unwrap_or}
+use Rattle.std.proofs.Common.{ℕ, ◌+◌, ◌-◌, ◌≡◌, ◌==◌, ◌&&◌, ◌||◌, max, not, Bool, true, false, if◌then◌else◌, List, [], ◌∷◌, ◌++◌, map, flat_map, length, take, drop, Option, None, Some, refl, sym, ◌∙◌, ap, suc, arith}
+use Rattle.std.specs.Prelude.{filter, fold, nat_lt, unwrap_or}
 use Rattle.std.specs.List.{enumerate_from, list_any, prefix_len}
-use Rattle.std.specs.Option.{option_map_or}
-use Rattle.std.proofs.lemmas.List.{drop-map, map-append, take-map}
+use Rattle.std.proofs.lemmas.List.{drop-map, length-map, map-append, take-map}
 use Rattle.shapers_buffer.specs.declared.buffer.glyph.hb_glyph_info_t.{hb_glyph_info_t}
 use Rattle.shapers_buffer.specs.declared.buffer.tag.Script.{Script}
 use Rattle.shapers_buffer.specs.Clusters.{stretch_of, with_stretch}
 use Rattle.shapers_buffer.specs.GlyphFlags.{with_bits}
-use Rattle.shapers_buffer.specs.Lists.{each_after}
 use Rattle.shapers_buffer.specs.Places.{pick}
 use Rattle.shapers_buffer.specs.Syllables.{kind_of}
-use Rattle.shapers_buffer.proofs.MappedLists.{list_any-map, map-reverse}
+use Rattle.shapers_buffer.proofs.MappedLists.{list_any-map}
 use Rattle.shapers_base.specs.declared.plan.ot_category_t.TheConstants.{OT_H, OT_Ra, OT_ZWJ, OT_ZWNJ}
-use Rattle.shapers_base.specs.declared.plan.ot_position_t.TheConstants.{POS_BASE_C, POS_PRE_M, POS_RA_TO_BECOME_REPH, POS_SMVD}
+use Rattle.shapers_base.specs.declared.plan.ot_position_t.TheConstants.{POS_BASE_C, POS_PRE_M, POS_RA_TO_BECOME_REPH}
 use Rattle.shapers_clusters.specs.Steps.{Step, still_step, swap_step}
 use Rattle.shapers_clusters.proofs.Picks.{pick-map}
 use Rattle.shapers_indic.specs.declared.ot_shaper_indic.indic_feature.TheConstants.{BLWF, HALF, PREF, RPHF}
-use Rattle.shapers_indic.specs.Glyphs.{at_position, greatest_place, has_category, has_position, is_matra, is_one_of, least_place, number, numbers, places}
-use Rattle.shapers_indic_initial.specs.InitialBase.{base_place, has_reph}
+use Rattle.shapers_indic.specs.Glyphs.{has_category, has_position, is_matra, is_one_of, least_place, numbers, places}
+use Rattle.shapers_indic_initial.specs.InitialBase.{base_place}
 use Rattle.shapers_indic_initial.specs.InitialMasks.{bits_of, has_eyelash, is_in_eyelash, loses_half, mask_after_base, mask_before_base, opens_eyelash, pref_pair, with_bits_on_pair, with_eyelash_mask, with_initial_masks, with_masks_around, with_pref_mask, with_reph_mask, without_bits, without_half}
 use Rattle.shapers_indic_initial.specs.InitialOrder.{group, group_in_order, last_unit_first, ordered_base, ordered_places, ordered_stretches}
-use Rattle.shapers_indic_initial.specs.InitialPositions.{attached_to, before_next, bounds, by_base, carries, draws_sign, halant_after, halant_behind, halant_from, halant_places, halant_to, is_attached, is_passed_by_halant, last_after_halant, moved_behind, owned_by, position_by_base, with_attached, with_halants, with_marks_attached, with_owner, with_owners, with_owners_after, with_signs}
+use Rattle.shapers_indic_initial.specs.InitialPositions.{with_marks_attached, with_owners_after}
 use Rattle.shapers_indic_initial.specs.InitialReordering.{halant_step, in_order, is_reordered, joiner_step, masked_in_order, order_step, steps_of_reordered, with_base, with_joiner_first}
-use Rattle.shapers_indic_initial.specs.InitialRules.{Rules, mask_at, rules_of}
-use Rattle.shapers_base.specs.declared.font.GlyphId.{GlyphId}
-use Rattle.shapers_base.specs.declared.plan.indic.indic_shape_plan_t.{indic_shape_plan_t}
-use Rattle.shapers_base.specs.Font.{Font}
-use Rattle.shapers_base.specs.Map.{Map}
-use Rattle.shapers_indic_initial.specs.InitialFont.{all_by_virama, by_virama, consonant_position, positions_by_font, virama_glyph}
-use Rattle.shapers_indic_initial.specs.InitialLaws.{InitialReadsNoSerials, OrderByFontReadsNoSerials}
+use Rattle.shapers_indic_initial.specs.InitialRules.{Rules, mask_at}
+use Rattle.shapers_indic_initial.specs.InitialLaws.{InitialReadsNoSerials}
 use Rattle.shapers_indic_initial.proofs.InitialLaws.{all_three, halant_order, halant_step_of, masked_order}
-use Rattle.shapers_indic_initial.proofs.InitialSerials.{ReadsNoByte, base_stays, has_reph_stays, joiner_first_stays, length_stays, numbers_stay, passes_stays, prefix_stays, same_three, same_two}
+use Rattle.shapers_indic_initial.proofs.InitialReads.{KeepsRead, base_stays, joiner_first_stays, numbers_stay, passes_stays, prefix_stays, same_three, same_two}
+use Rattle.shapers_indic_initial.proofs.InitialWrites.{halant_places_stay, with_base_stays, with_marks_stays, with_owners_after_stays}
 use Rattle.shapers_syllabic.specs.declared.ot_shaper_syllabic.kinds.indic_syllable.TheConstants.{BROKEN_CLUSTER, CONSONANT_SYLLABLE, STANDALONE_CLUSTER, VOWEL_SYLLABLE}
 use Rattle.shapers_syllabic.specs.Borders.{unnumbered}
 use Rattle.shapers_syllabic.specs.Consonants.{is_consonant}
 use Rattle.shapers_syllabic.proofs.LawsThen.{reads_by_view, reads_then, reads_where}
 
+-- glyphs without serials keep what is read
+pub unnumbered_keeps : KeepsRead unnumbered
+unnumbered_keeps = record {
+  glyph_id = λ g. refl;
+  category = λ g. refl;
+  auxiliary = λ g. refl;
+  marks = λ g. refl;
+  at_positions = λ p g. refl;
+}
+
 -- the step of Kannada
 joiner_step_stays : (script : Option Script) (gs : List hb_glyph_info_t) → joiner_step script (map unnumbered gs) ≡ joiner_step script gs
-joiner_step_stays script gs = same_two (λ b n. if b then swap_step n 1 else still_step n) (joiner_first_stays script gs) (length_stays gs)
+joiner_step_stays script gs = same_two (λ b n. if b then swap_step n 1 else still_step n) (joiner_first_stays unnumbered unnumbered_keeps script gs) (length-map gs unnumbered)
 
 joiner_moves_stays : (script : Option Script) (gs : List hb_glyph_info_t) → map unnumbered (with_joiner_first script gs) ≡ with_joiner_first script (map unnumbered gs)
 joiner_moves_stays script gs = sym (pick-map unnumbered (joiner_step script gs).places gs) ∙ ap (λ (st : Step). pick st.places (map unnumbered gs)) (sym (joiner_step_stays script gs))
@@ -50,12 +54,6 @@ numbered_stays : (change : ℕ → hb_glyph_info_t → hb_glyph_info_t) → ((i 
 numbered_stays change each n [] = refl
 numbered_stays change each n (g ∷ gs) = same_two (λ x (xs : List hb_glyph_info_t). x ∷ xs) (each n g) (numbered_stays change each (n + 1) gs)
 
-each_after_stays : (change : List hb_glyph_info_t → hb_glyph_info_t → hb_glyph_info_t) → ((before : List hb_glyph_info_t) (g : hb_glyph_info_t) → unnumbered (change before g) ≡ change (map unnumbered before) (unnumbered g)) → (before gs : List hb_glyph_info_t) → map unnumbered (map (λ t. change t.0 t.1) (each_after before gs)) ≡ map (λ t. change t.0 t.1) (each_after (map unnumbered before) (map unnumbered gs))
-each_after_stays change each before [] = refl
-each_after_stays change each before (g ∷ gs) =
-    same_two (λ x (xs : List hb_glyph_info_t). x ∷ xs) (each before g)
-    (each_after_stays change each (before ++ g ∷ []) gs ∙ ap (λ bs. map (λ t. change t.0 t.1) (each_after bs (map unnumbered gs))) (map-append unnumbered before (g ∷ [])))
-
 stretch_stays : (change : List hb_glyph_info_t → List hb_glyph_info_t) → ((gs : List hb_glyph_info_t) → map unnumbered (change gs) ≡ change (map unnumbered gs)) → (s e : ℕ) (gs : List hb_glyph_info_t) → map unnumbered (with_stretch s e change gs) ≡ with_stretch s e change (map unnumbered gs)
 stretch_stays change each s e gs =
     let b = stretch_of s e gs in
@@ -64,124 +62,28 @@ stretch_stays change each s e gs =
     (map-append unnumbered (change b) (drop e gs)
     ∙ same_two (λ xs (ys : List hb_glyph_info_t). xs ++ ys) (each b ∙ ap change (sym (ap (take (e - s)) (drop-map unnumbered s gs) ∙ take-map unnumbered (e - s) (drop s gs)))) (sym (drop-map unnumbered e gs)))
 
--- positions by the base
-by_base_stays : (base : ℕ) (reph : Bool) (gs : List hb_glyph_info_t) → map unnumbered (by_base base reph gs) ≡ by_base base reph (map unnumbered gs)
-by_base_stays base reph gs = numbered_stays (λ i g. at_position (position_by_base base reph i g.auxiliary) g) (λ i g. refl) 0 gs
-
-with_base_stays : (r : Rules) (gs : List hb_glyph_info_t) → map unnumbered (with_base r gs) ≡ with_base r (map unnumbered gs)
-with_base_stays r gs =
-    by_base_stays (base_place r gs) (has_reph r gs) gs ∙ same_two (λ b h. by_base b h (map unnumbered gs)) (sym (base_stays r gs)) (sym (has_reph_stays r gs))
-
 -- the older specification's H
-halant_after_stays : (base : ℕ) (gs : List hb_glyph_info_t) → halant_after base (map unnumbered gs) ≡ halant_after base gs
-halant_after_stays base gs = same_two (λ t n. least_place t (base + 1) n) (passes_stays (has_category OT_H) (λ g. refl) gs) (length_stays gs)
-
-last_after_stays : (script : Option Script) (h : ℕ) (gs : List hb_glyph_info_t) → last_after_halant script (map unnumbered gs) h ≡ last_after_halant script gs h
-last_after_stays script h gs = same_two (λ t n. greatest_place t (h + 1) n) (passes_stays (is_passed_by_halant script) (λ g. refl) gs) (length_stays gs)
-
-halant_to_stays : (gs : List hb_glyph_info_t) (h : ℕ) (o : Option ℕ) → halant_to (map unnumbered gs) h o ≡ halant_to gs h o
-halant_to_stays gs h None = ap (places 0) (length_stays gs)
-halant_to_stays gs h (Some j) = same_two (λ (t : ℕ → Bool) (n : ℕ). if t j then places 0 n else moved_behind h j (places 0 n)) (passes_stays (has_category OT_H) (λ g. refl) gs) (length_stays gs)
-
-halant_from_stays : (script : Option Script) (gs : List hb_glyph_info_t) (o : Option ℕ) → halant_from script (map unnumbered gs) o ≡ halant_from script gs o
-halant_from_stays script gs None = ap (places 0) (length_stays gs)
-halant_from_stays script gs (Some h) = halant_to_stays gs h (last_after_halant script (map unnumbered gs) h) ∙ ap (halant_to gs h) (last_after_stays script h gs)
-
-halant_places_stay : (r : Rules) (script : Option Script) (base : ℕ) (gs : List hb_glyph_info_t) → halant_places r script base (map unnumbered gs) ≡ halant_places r script base gs
-halant_places_stay r script base gs =
-    same_two (λ ps n. if r.old then ps else places 0 n) (halant_from_stays script gs (halant_after base (map unnumbered gs)) ∙ ap (halant_from script gs) (halant_after_stays base gs)) (length_stays gs)
-
 halant_step_stays : (r : Rules) (script : Option Script) (base : ℕ) (gs : List hb_glyph_info_t) → halant_step r script base (map unnumbered gs) ≡ halant_step r script base gs
-halant_step_stays r script base gs = ap (λ (ps : List ℕ). let st : Step = record { merged_first = []; places = ps; merged_then = [] } in st) (halant_places_stay r script base gs)
-
--- a position found in glyphs
-found_stays : (test : hb_glyph_info_t → Bool) → ReadsNoByte test → (otherwise : ℕ) (gs : List hb_glyph_info_t) → option_map_or (λ h. h.auxiliary) (find test (map unnumbered gs)) otherwise ≡ option_map_or (λ h. h.auxiliary) (find test gs) otherwise
-found_stays test reads otherwise [] = refl
-found_stays test reads otherwise (g ∷ gs) =
-    ap (λ b. option_map_or (λ h. h.auxiliary) (cond b (Some (unnumbered g)) (find test (map unnumbered gs))) otherwise) (reads g)
-    ∙ elim (test g) as (λ b. option_map_or (λ h. h.auxiliary) (cond b (Some (unnumbered g)) (find test (map unnumbered gs))) otherwise ≡ option_map_or (λ h. h.auxiliary) (cond b (Some g) (find test gs)) otherwise) [
-      | true ↦ refl
-      | false ↦ found_stays test reads otherwise gs
-    ]
-
-found_before : (test : hb_glyph_info_t → Bool) → ReadsNoByte test → (otherwise : ℕ) (before : List hb_glyph_info_t) → option_map_or (λ h. h.auxiliary) (find test (reverse (map unnumbered before))) otherwise ≡ option_map_or (λ h. h.auxiliary) (find test (reverse before)) otherwise
-found_before test reads otherwise before =
-    ap (λ xs. option_map_or (λ h. h.auxiliary) (find test xs) otherwise) (sym (map-reverse unnumbered before)) ∙ found_stays test reads otherwise (reverse before)
-
-if_position : (b : Bool) (p : ℕ) (g : hb_glyph_info_t) → unnumbered (if b then at_position p g else g) ≡ (if b then at_position p (unnumbered g) else unnumbered g)
-if_position true p g = refl
-if_position false p g = refl
-
-attached_stays : (before : List hb_glyph_info_t) (g : hb_glyph_info_t) → unnumbered (attached_to before g) ≡ attached_to (map unnumbered before) (unnumbered g)
-attached_stays before g =
-    if_position (is_attached g) (option_map_or (λ h. h.auxiliary) (find carries (reverse before)) 0) g
-    ∙ ap (λ (p : ℕ). if is_attached g then at_position p (unnumbered g) else unnumbered g) (sym (found_before carries (λ g. refl) 0 before))
-
-halant_behind_stays : (before : List hb_glyph_info_t) (g : hb_glyph_info_t) → unnumbered (halant_behind before g) ≡ halant_behind (map unnumbered before) (unnumbered g)
-halant_behind_stays before g =
-    if_position (has_category OT_H g && has_position POS_PRE_M g) (option_map_or (λ h. h.auxiliary) (find (λ h. not (has_position POS_PRE_M h)) (reverse before)) POS_PRE_M) g
-    ∙ ap (λ (p : ℕ). if has_category OT_H g && has_position POS_PRE_M g then at_position p (unnumbered g) else unnumbered g) (sym (found_before (λ h. not (has_position POS_PRE_M h)) (λ g. refl) POS_PRE_M before))
-
-before_next_stays : (g : hb_glyph_info_t) (gs : List hb_glyph_info_t) → unnumbered (before_next g gs) ≡ before_next (unnumbered g) (map unnumbered gs)
-before_next_stays g [] = refl
-before_next_stays g (next ∷ gs) = if_position (draws_sign g next) next.auxiliary g
-
-with_signs_stays : (gs : List hb_glyph_info_t) → map unnumbered (with_signs gs) ≡ with_signs (map unnumbered gs)
-with_signs_stays [] = refl
-with_signs_stays (g ∷ gs) = same_two (λ x (xs : List hb_glyph_info_t). x ∷ xs) (before_next_stays g gs) (with_signs_stays gs)
-
-marks_stay : (gs : List hb_glyph_info_t) → map unnumbered (with_marks_attached gs) ≡ with_marks_attached (map unnumbered gs)
-marks_stay gs =
-    each_after_stays halant_behind halant_behind_stays [] (with_signs (with_attached gs))
-    ∙ ap with_halants (with_signs_stays (with_attached gs) ∙ ap with_signs (each_after_stays attached_to attached_stays [] gs))
-
-owner_found : (gs : List hb_glyph_info_t) → find bounds (map unnumbered gs) ≡ option_map unnumbered (find bounds gs)
-owner_found [] = refl
-owner_found (g ∷ gs) = elim (bounds g) as (λ b. cond b (Some (unnumbered g)) (find bounds (map unnumbered gs)) ≡ option_map unnumbered (cond b (Some g) (find bounds gs))) [
-  | true ↦ refl
-  | false ↦ owner_found gs
-]
-
-owned_by_stays : (o : Option hb_glyph_info_t) (g : hb_glyph_info_t) → unnumbered (owned_by o g) ≡ owned_by (option_map unnumbered o) (unnumbered g)
-owned_by_stays None g = refl
-owned_by_stays (Some h) g = if_position (is_consonant h) h.auxiliary g
-
-if_kept : (b : Bool) (g x y : hb_glyph_info_t) → unnumbered x ≡ y → unnumbered (if b then g else x) ≡ (if b then unnumbered g else y)
-if_kept true g x y h = refl
-if_kept false g x y h = h
-
-with_owner_stays : (after : List hb_glyph_info_t) (g : hb_glyph_info_t) → unnumbered (with_owner after g) ≡ with_owner (map unnumbered after) (unnumbered g)
-with_owner_stays after g =
-    if_kept (bounds g || nat_le POS_SMVD g.auxiliary) g (owned_by (find bounds after) g) (owned_by (find bounds (map unnumbered after)) (unnumbered g))
-    (owned_by_stays (find bounds after) g ∙ ap (λ o. owned_by o (unnumbered g)) (sym (owner_found after)))
-
-with_owners_stays : (gs : List hb_glyph_info_t) → map unnumbered (with_owners gs) ≡ with_owners (map unnumbered gs)
-with_owners_stays [] = refl
-with_owners_stays (g ∷ gs) = same_two (λ x (xs : List hb_glyph_info_t). x ∷ xs) (with_owner_stays gs g) (with_owners_stays gs)
-
-owners_after_stay : (base : ℕ) (gs : List hb_glyph_info_t) → map unnumbered (with_owners_after base gs) ≡ with_owners_after base (map unnumbered gs)
-owners_after_stay base gs =
-    map-append unnumbered (take (base + 1) gs) (with_owners (drop (base + 1) gs))
-    ∙ same_two (λ xs (ys : List hb_glyph_info_t). xs ++ ys) (sym (take-map unnumbered (base + 1) gs)) (with_owners_stays (drop (base + 1) gs) ∙ ap with_owners (sym (drop-map unnumbered (base + 1) gs)))
+halant_step_stays r script base gs = ap (λ (ps : List ℕ). let st : Step = record { merged_first = []; places = ps; merged_then = [] } in st) (halant_places_stay unnumbered unnumbered_keeps r script base gs)
 
 halant_step_of_stays : (r : Rules) (script : Option Script) (gs : List hb_glyph_info_t) → halant_step_of r script (map unnumbered gs) ≡ halant_step_of r script gs
 halant_step_of_stays r script gs =
-    same_two (halant_step r script) (base_stays r gs) (sym (with_base_stays r gs)) ∙ halant_step_stays r script (base_place r gs) (with_base r gs)
+    same_two (halant_step r script) (base_stays unnumbered unnumbered_keeps r gs) (with_base_stays unnumbered unnumbered_keeps r gs) ∙ halant_step_stays r script (base_place r gs) (with_base r gs)
 
 halant_order_stays : (r : Rules) (script : Option Script) (gs : List hb_glyph_info_t) → map unnumbered (halant_order r script gs) ≡ halant_order r script (map unnumbered gs)
 halant_order_stays r script gs =
     let us = map unnumbered gs in
     let ps = (halant_step_of r script gs).places in
-    owners_after_stay (base_place r gs) (with_marks_attached (pick ps (with_base r gs)))
-    ∙ ap (with_owners_after (base_place r gs)) (marks_stay (pick ps (with_base r gs)) ∙ ap with_marks_attached (sym (pick-map unnumbered ps (with_base r gs)) ∙ ap (pick ps) (with_base_stays r gs)))
-    ∙ same_two (λ base (st : Step). with_owners_after base (with_marks_attached (pick st.places (with_base r us)))) (sym (base_stays r gs)) (sym (halant_step_of_stays r script gs))
+    sym (with_owners_after_stays unnumbered unnumbered_keeps (base_place r gs) (with_marks_attached (pick ps (with_base r gs))))
+    ∙ ap (with_owners_after (base_place r gs)) (sym (with_marks_stays unnumbered unnumbered_keeps (pick ps (with_base r gs))) ∙ ap with_marks_attached (sym (pick-map unnumbered ps (with_base r gs)) ∙ ap (pick ps) (sym (with_base_stays unnumbered unnumbered_keeps r gs))))
+    ∙ same_two (λ base (st : Step). with_owners_after base (with_marks_attached (pick st.places (with_base r us)))) (sym (base_stays unnumbered unnumbered_keeps r gs)) (sym (halant_step_of_stays r script gs))
 
 -- the order
 group_stays : (p : ℕ) (gs : List hb_glyph_info_t) → group (map unnumbered gs) p ≡ group gs p
-group_stays p gs = same_two (λ t n. filter t (places 0 n)) (passes_stays (has_position p) (λ g. refl) gs) (length_stays gs)
+group_stays p gs = same_two (λ t n. filter t (places 0 n)) (passes_stays unnumbered (has_position p) (λ g. refl) gs) (length-map gs unnumbered)
 
 in_order_at : (p : ℕ) (gs : List hb_glyph_info_t) → group_in_order (map unnumbered gs) p ≡ group_in_order gs p
-in_order_at p gs = same_two (λ (t : ℕ → Bool) ps. if p == POS_PRE_M then last_unit_first t ps else ps) (passes_stays is_matra (λ g. refl) gs) (group_stays p gs)
+in_order_at p gs = same_two (λ (t : ℕ → Bool) ps. if p == POS_PRE_M then last_unit_first t ps else ps) (passes_stays unnumbered is_matra (λ g. refl) gs) (group_stays p gs)
 
 auxiliaries_stay : (gs : List hb_glyph_info_t) → map (λ g. g.auxiliary) (map unnumbered gs) ≡ map (λ g. g.auxiliary) gs
 auxiliaries_stay [] = refl
@@ -192,7 +94,7 @@ ordered_places_stay gs =
     same_two (λ (f : ℕ → List ℕ) ps. flat_map f ps) (fun_ext (λ p. in_order_at p gs)) (ap (λ ps. places 0 (suc (fold max 0 ps))) (auxiliaries_stay gs))
 
 ordered_base_stays : (gs : List hb_glyph_info_t) → ordered_base (map unnumbered gs) ≡ ordered_base gs
-ordered_base_stays gs = same_two (λ t n. unwrap_or (least_place t 0 n) n) (passes_stays (has_position POS_BASE_C) (λ g. refl) gs) (length_stays gs)
+ordered_base_stays gs = same_two (λ t n. unwrap_or (least_place t 0 n) n) (passes_stays unnumbered (has_position POS_BASE_C) (λ g. refl) gs) (length-map gs unnumbered)
 
 in_order_stays : (gs : List hb_glyph_info_t) → map unnumbered (in_order gs) ≡ in_order (map unnumbered gs)
 in_order_stays gs = sym (pick-map unnumbered (ordered_places gs) gs) ∙ ap (λ ps. pick ps (map unnumbered gs)) (sym (ordered_places_stay gs))
@@ -210,17 +112,17 @@ bits_stay m (g ∷ gs) = ap (λ xs. unnumbered (with_bits m g) ∷ xs) (bits_sta
 reph_mask_stays : (r : Rules) (gs : List hb_glyph_info_t) → map unnumbered (with_reph_mask r gs) ≡ with_reph_mask r (map unnumbered gs)
 reph_mask_stays r gs =
     stretch_stays (map (with_bits (bits_of r RPHF))) (bits_stay (bits_of r RPHF)) 0 (prefix_len (has_position POS_RA_TO_BECOME_REPH) gs) gs
-    ∙ ap (λ n. with_stretch 0 n (map (with_bits (bits_of r RPHF))) (map unnumbered gs)) (sym (prefix_stays (has_position POS_RA_TO_BECOME_REPH) (λ g. refl) gs))
+    ∙ ap (λ n. with_stretch 0 n (map (with_bits (bits_of r RPHF))) (map unnumbered gs)) (sym (prefix_stays unnumbered (has_position POS_RA_TO_BECOME_REPH) (λ g. refl) gs))
 
 around_stays : (r : Rules) (base : ℕ) (gs : List hb_glyph_info_t) → map unnumbered (with_masks_around r base gs) ≡ with_masks_around r base (map unnumbered gs)
 around_stays r base gs =
     let before = with_stretch 0 base (map (with_bits (mask_before_base r))) gs in
     stretch_stays (map (with_bits (mask_after_base r))) (bits_stay (mask_after_base r)) (base + 1) (length gs) before
-    ∙ same_two (λ n xs. with_stretch (base + 1) n (map (with_bits (mask_after_base r))) xs) (sym (length_stays gs)) (stretch_stays (map (with_bits (mask_before_base r))) (bits_stay (mask_before_base r)) 0 base gs)
+    ∙ same_two (λ n xs. with_stretch (base + 1) n (map (with_bits (mask_after_base r))) xs) (sym (length-map gs unnumbered)) (stretch_stays (map (with_bits (mask_before_base r))) (bits_stay (mask_before_base r)) 0 base gs)
 
 opens_eyelash_stays : (base : ℕ) (gs : List hb_glyph_info_t) → opens_eyelash base (map unnumbered gs) ≡ opens_eyelash base gs
 opens_eyelash_stays base gs =
-    same_three (λ (a b c : ℕ → Bool). λ i. nat_lt (i + 1) base && a i && b (i + 1) && not (nat_lt (i + 2) base && c (i + 2))) (passes_stays (has_category OT_Ra) (λ g. refl) gs) (passes_stays (has_category OT_H) (λ g. refl) gs) (passes_stays (has_category OT_ZWJ) (λ g. refl) gs)
+    same_three (λ (a b c : ℕ → Bool). λ i. nat_lt (i + 1) base && a i && b (i + 1) && not (nat_lt (i + 2) base && c (i + 2))) (passes_stays unnumbered (has_category OT_Ra) (λ g. refl) gs) (passes_stays unnumbered (has_category OT_H) (λ g. refl) gs) (passes_stays unnumbered (has_category OT_ZWJ) (λ g. refl) gs)
 
 in_eyelash_stays : (base : ℕ) (gs : List hb_glyph_info_t) → is_in_eyelash base (map unnumbered gs) ≡ is_in_eyelash base gs
 in_eyelash_stays base gs = ap (λ (a : ℕ → Bool). λ i. a i || (nat_lt 0 i && a (i - 1))) (opens_eyelash_stays base gs)
@@ -235,11 +137,11 @@ eyelash_stays r script base gs =
     ∙ ap (λ (a : ℕ → Bool). map (λ t. if has_eyelash r script && a t.0 then with_bits (bits_of r BLWF) t.1 else t.1) (enumerate_from 0 (map unnumbered gs))) (sym (in_eyelash_stays base gs))
 
 numbers_between : (s e : ℕ) (gs : List hb_glyph_info_t) → numbers (stretch_of s e (map unnumbered gs)) ≡ numbers (stretch_of s e gs)
-numbers_between s e gs = ap numbers (ap (take (e - s)) (drop-map unnumbered s gs) ∙ take-map unnumbered (e - s) (drop s gs)) ∙ numbers_stay (stretch_of s e gs)
+numbers_between s e gs = ap numbers (ap (take (e - s)) (drop-map unnumbered s gs) ∙ take-map unnumbered (e - s) (drop s gs)) ∙ numbers_stay unnumbered unnumbered_keeps (stretch_of s e gs)
 
 pref_pair_stays : (r : Rules) (base : ℕ) (gs : List hb_glyph_info_t) → pref_pair r base (map unnumbered gs) ≡ pref_pair r base gs
 pref_pair_stays r base gs =
-    same_two (λ (n : ℕ) (t : ℕ → Bool). if not (mask_at r PREF == 0) && nat_lt (base + 2) n then least_place t (base + 1) (n - 1) else None) (length_stays gs) (fun_ext (λ i. ap r.forms_pref (numbers_between i (i + 2) gs)))
+    same_two (λ (n : ℕ) (t : ℕ → Bool). if not (mask_at r PREF == 0) && nat_lt (base + 2) n then least_place t (base + 1) (n - 1) else None) (length-map gs unnumbered) (fun_ext (λ i. ap r.forms_pref (numbers_between i (i + 2) gs)))
 
 on_pair_stays : (m : ℕ) (o : Option ℕ) (gs : List hb_glyph_info_t) → map unnumbered (with_bits_on_pair m o gs) ≡ with_bits_on_pair m o (map unnumbered gs)
 on_pair_stays m None gs = refl
@@ -251,7 +153,7 @@ pref_mask_stays r base gs =
 
 loses_stays : (gs : List hb_glyph_info_t) → loses_half (map unnumbered gs) ≡ loses_half gs
 loses_stays gs =
-    ap (λ n. list_any (is_one_of (OT_ZWNJ ∷ [])) (take n (map unnumbered gs))) (prefix_stays (λ g. not (is_consonant g)) (λ g. refl) gs)
+    ap (λ n. list_any (is_one_of (OT_ZWNJ ∷ [])) (take n (map unnumbered gs))) (prefix_stays unnumbered (λ g. not (is_consonant g)) (λ g. refl) gs)
     ∙ ap (list_any (is_one_of (OT_ZWNJ ∷ []))) (take-map unnumbered (prefix_len (λ g. not (is_consonant g)) gs) gs)
     ∙ list_any-map (is_one_of (OT_ZWNJ ∷ [])) unnumbered (take (prefix_len (λ g. not (is_consonant g)) gs) gs)
 
@@ -295,26 +197,3 @@ initial_reads_no_serials r script =
     (reads_then (halant_order r script) (masked_order r script) (λ gs. halant_step_of r script gs ∷ []) (λ gs. order_step r gs ∷ [])
     (reads_by_view (halant_order r script) (λ gs. halant_step_of r script gs ∷ []) (halant_order_stays r script) (λ gs. ap (λ (st : Step). st ∷ []) (halant_step_of_stays r script gs)))
     (reads_by_view (masked_order r script) (λ gs. order_step r gs ∷ []) (masked_order_stays r script) (λ gs. ap (λ (st : Step). st ∷ []) (order_step_stays r gs)))))
-
--- positions by the font
-by_virama_stays : (font : Font) (m : Map) (p : indic_shape_plan_t) (v : GlyphId) (gs : List hb_glyph_info_t) → map unnumbered (map (by_virama font m p v) gs) ≡ map (by_virama font m p v) (map unnumbered gs)
-by_virama_stays font m p v [] = refl
-by_virama_stays font m p v (g ∷ gs) =
-    same_two (λ x (xs : List hb_glyph_info_t). x ∷ xs) (if_position (has_position POS_BASE_C g) (consonant_position font m p v (number g)) g) (by_virama_stays font m p v gs)
-
-all_by_virama_stay : (font : Font) (m : Map) (p : indic_shape_plan_t) (o : Option GlyphId) (gs : List hb_glyph_info_t) → map unnumbered (all_by_virama font m p o gs) ≡ all_by_virama font m p o (map unnumbered gs)
-all_by_virama_stay font m p None gs = refl
-all_by_virama_stay font m p (Some v) gs = by_virama_stays font m p v gs
-
-by_font_same : (font : Font) (m : Map) (p : indic_shape_plan_t) (gs hs : List hb_glyph_info_t) → map unnumbered gs ≡ map unnumbered hs → map unnumbered (positions_by_font font m p gs) ≡ map unnumbered (positions_by_font font m p hs)
-by_font_same font m p gs hs same =
-    let v = virama_glyph font p in
-    all_by_virama_stay font m p v gs ∙ ap (all_by_virama font m p v) same ∙ sym (all_by_virama_stay font m p v hs)
-
-pub order_by_font_reads_no_serials : OrderByFontReadsNoSerials
-order_by_font_reads_no_serials font m p script =
-    let reads = initial_reads_no_serials (rules_of font m p) script in
-    record {
-      meant = λ gs hs same. reads.meant (positions_by_font font m p gs) (positions_by_font font m p hs) (by_font_same font m p gs hs same);
-      led = λ gs hs same. reads.led (positions_by_font font m p gs) (positions_by_font font m p hs) (by_font_same font m p gs hs same);
-    }

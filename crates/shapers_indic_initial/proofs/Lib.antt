@@ -36,5 +36,6 @@ pub mod OrderedPlaces
 pub mod OrderedSyllable
 pub mod PlaceSearch
 mod Positions
+pub mod StillOrder
 pub mod TextClusters
 mod Walks

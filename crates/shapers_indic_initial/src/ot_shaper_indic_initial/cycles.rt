@@ -1,5 +1,5 @@
 //! What merges once a syllable is in its new order: the cycles of the order, or all from the base on.
-ghost use Rattle.std.specs.Prelude.{◌≡◌, ◌<◌, ◌≤◌, ◌-◌, length, fold, max, min, slice_index, slice_set};
+ghost use Rattle.std.specs.Prelude.{◌≡◌, ◌<◌, ◌≤◌, ◌-◌, ◌||◌, nat_lt, length, fold, max, min, slice_index, slice_set};
 ghost use Rattle.shapers_buffer.specs.Clusters.{merge_all};
 ghost use Rattle.shapers_clusters.specs.Steps.{shifted};
 ghost use Rattle.shapers_indic_initial.specs.CycleWalk.{EachOnce, places_from, with_spent};
@@ -84,6 +84,14 @@ fn merge_cycles(buffer: &mut hb_buffer_t, start: usize, end: usize, base: usize)
     }
 }
 
+/// Whether all from the base on merges, and no cycles: in the older specification, and in a syllable of
+/// more than 127 glyphs.
+pub(super) fn merges_all(old_spec: bool, len: usize) -> bool
+    ensures { result ≡ (old_spec || nat_lt 127 len) }
+{
+    old_spec || len > 127
+}
+
 /// What merges once the glyphs from `start` to `end` are in their new order: in the older
 /// specification, and in a syllable of more than 127 glyphs, all from the base on, else each cycle of
 /// the order. `base` counts from `start`. It takes no memory.
@@ -106,7 +114,7 @@ pub(super) fn merge_ordered(
         let sts = stretches_by old_spec from base in
         buffer.new.glyphs ≡ merge_all buffer.old.level (shifted start sts) buffer.old.glyphs }
 {
-    if old_spec || end - start > 127 {
+    if merges_all(old_spec, end - start) {
         buffer.merge_clusters(start + base, end);
         return;
     }
