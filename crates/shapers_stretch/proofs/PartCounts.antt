@@ -25,7 +25,7 @@ use Rattle.shapers_stretch.specs.Stretch.{Copy, Laying, copies, copies_of, has_r
 use Rattle.shapers_stretch.proofs.LastParts.{LastPartAt, last_part_at}
 use Rattle.shapers_stretch.proofs.Lengths.{length-copies, length-laid}
 use Rattle.shapers_stretch.proofs.Laying.{take_less}
-use Rattle.shapers_stretch.proofs.Zips.{zip-take}
+use Rattle.shapers_stretch.proofs.Zips.{length-zipped, zip-take}
 use Rattle.shapers_stretch.proofs.Pen.{laid_is, laid_on}
 
 -- glyphs beside positions
@@ -39,9 +39,6 @@ positions_zip [] [] e = refl
 positions_zip [] (p ∷ ps) e = absurd (omega arith)
 positions_zip (g ∷ gs) [] e = absurd (omega arith)
 positions_zip (g ∷ gs) (p ∷ ps) e = ap (λ qs. p ∷ qs) (positions_zip gs ps (omega arith))
-
-pub length_zip : (gs : List hb_glyph_info_t) (ps : List GlyphPosition) → length gs ≡ length ps → length (zip gs ps) ≡ length gs
-length_zip gs ps e = sym (length-map (zip gs ps) (λ c. c.0)) ∙ ap length (glyphs_zip gs ps e)
 
 -- flags change no tile
 flag_if : (b : Bool) (bits : ℕ) (g : hb_glyph_info_t) → repeats (cond b g (with_bits bits g)) ≡ repeats g
@@ -217,7 +214,7 @@ uncounted_run how cs s w t at less e =
 pub last_part_zipped : (gs : List hb_glyph_info_t) (ps : List GlyphPosition) (s w t : ℕ) → length gs ≡ length ps → 0 < length gs → t + suffix_len is_tile gs ≡ length gs → w + suffix_len in_word (take t gs) ≡ t → s + suffix_len (λ g. not (is_tile g)) (take w gs) ≡ w → LastPartAt (zip gs ps) s w t
 last_part_zipped gs ps s w t both some ends word start =
     let P : List hb_glyph_info_t → Type 0 = λ gs'. t + suffix_len is_tile gs' ≡ length gs' → w + suffix_len in_word (take t gs') ≡ t → s + suffix_len (λ g. not (is_tile g)) (take w gs') ≡ w → LastPartAt (zip gs ps) s w t in
-    subst P (glyphs_zip gs ps both) (last_part_at (zip gs ps) s w t (omega (arith, length_zip gs ps both))) ends word start
+    subst P (glyphs_zip gs ps both) (last_part_at (zip gs ps) s w t (omega (arith, length-zipped gs ps both))) ends word start
 
 pub tiles_zipped : (gs : List hb_glyph_info_t) (ps : List GlyphPosition) (t : ℕ) → length gs ≡ length ps → glyphs_of (drop t (zip gs ps)) ≡ drop t gs
 tiles_zipped gs ps t both = sym (drop-map (λ c. c.0) t (zip gs ps)) ∙ ap (drop t) (glyphs_zip gs ps both)
@@ -241,7 +238,7 @@ run_sliced how gs ps w t both h =
 pub counted_start : (how : Laying) (gs : List hb_glyph_info_t) (ps : List GlyphPosition) → length gs ≡ length ps → IsCounted how (zip gs ps) (length gs) 0
 counted_start how gs ps both =
     let cs = zip gs ps in
-    let long = length_zip gs ps both in
+    let long = length-zipped gs ps both in
     let whole : take (length gs) cs ≡ cs = take_all (length gs) cs (omega arith) in
     record { within = omega arith; fits = ap (overflows how) (sym whole); longer = omega (arith, ap (λ cs. length (stretched how cs)) whole) }
 

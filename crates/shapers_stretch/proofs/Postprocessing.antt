@@ -16,7 +16,8 @@ use Rattle.shapers_stretch.specs.Cells.{Cell, glyphs_of, positions_of}
 use Rattle.shapers_stretch.specs.CountingWalk.{CountsAdded, text_refusal}
 use Rattle.shapers_stretch.specs.LayingWalk.{HasRoom, text_of}
 use Rattle.shapers_stretch.specs.Stretch.{Laying, cells, overflows, stretched, with_cells}
-use Rattle.shapers_stretch.proofs.PartCounts.{glyphs_zip, positions_zip, length_zip}
+use Rattle.shapers_stretch.proofs.PartCounts.{glyphs_zip, positions_zip}
+use Rattle.shapers_stretch.proofs.Zips.{length-zipped}
 
 -- what holds by place holds one after another
 pub one_by_one : {X : Type 0} (P : X → Type 0) (xs : List X) → All P xs → AllByRecursion P xs
@@ -98,7 +99,7 @@ nothing_added how cs n counted none =
 
 pub room_for : (b : Buffer) (how : Laying) (n : ℕ) → length b.positions ≡ length b.glyphs → CountsAdded how (cells b) (Some n) → RoomMade b.glyphs b.positions n
 room_for b how n both counted =
-    room_made b.glyphs b.positions n (sym both) (λ e. nothing_added how (cells b) n counted (omega (arith, length_zip b.glyphs b.positions (sym both))))
+    room_made b.glyphs b.positions n (sym both) (λ e. nothing_added how (cells b) n counted (omega (arith, length-zipped b.glyphs b.positions (sym both))))
 
 pub has_room : (b : Buffer) (how : Laying) (n : ℕ) → length b.positions ≡ length b.glyphs → All (λ g. g.glyph_id ≤ 65535) b.glyphs → CountsAdded how (cells b) (Some n) → HasRoom how (grown n b).glyphs (grown n b).positions (length b.glyphs)
 has_room b how n both numbers counted =
@@ -107,7 +108,7 @@ has_room b how n both numbers counted =
     record {
       both = omega (arith, room.glyphs, room.positions);
       in_range = omega (arith, room.glyphs);
-      room = ap (λ cs. length (stretched how cs)) room.text ∙ counted.1 ∙ ap (λ m. m + n) (length_zip b.glyphs b.positions (sym both)) ∙ sym room.glyphs;
+      room = ap (λ cs. length (stretched how cs)) room.text ∙ counted.1 ∙ ap (λ m. m + n) (length-zipped b.glyphs b.positions (sym both)) ∙ sym room.glyphs;
       glyph_numbers = subst (AllByRecursion P) (sym (take-append_seam b.glyphs (replicate n default_glyph))) (one_by_one P b.glyphs numbers);
       fits = ap (overflows how) room.text ∙ counted.0;
     }

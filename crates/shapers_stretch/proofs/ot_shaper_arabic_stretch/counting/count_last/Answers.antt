@@ -4,7 +4,8 @@ use Rattle.std.specs.Option.{MatchOption}
 use Rattle.std.proofs.lemmas.Bool.Decides.{nat_tests}
 use Rattle.shapers_stretch.specs.CountingWalk.{IsCounted}
 use Rattle.shapers_stretch.specs.Stretch.{Laying, overflows}
-use Rattle.shapers_stretch.proofs.PartCounts.{counted_plain, counted_run, last_part_zipped, length_zip, run_sliced, uncounted_run}
+use Rattle.shapers_stretch.proofs.PartCounts.{counted_plain, counted_run, last_part_zipped, run_sliced, uncounted_run}
+use Rattle.shapers_stretch.proofs.Zips.{length-zipped}
 use Rattle.shapers_stretch.proofs.ot_shaper_arabic_stretch.counting.count_last.Goals as goal
 
 empty_yes : (n : ℕ) (b : Bool) → b ≡ (n == 0) → b ≡ true → n ≡ 0
@@ -21,7 +22,7 @@ returns-then-is_empty g c =
     let p = c.last_part-part.result in
     let at = last_part_zipped gs ps p.start p.word p.tiles c.requires.both c.requires.some c.last_part-part.ensures.tiles c.last_part-part.ensures.word c.last_part-part.ensures.start in
     let none : length (take (length gs - p.tiles) (drop p.tiles gs)) ≡ 0 = empty_yes _ c.is_empty.result c.is_empty.ensures c.if-is_empty.true in
-    let long = length_zip gs ps c.requires.both in
+    let long = length-zipped gs ps c.requires.both in
     let rest : length (take (length gs - p.tiles) (drop p.tiles gs)) ≡ length gs - p.tiles = length-take-le (length gs - p.tiles) (drop p.tiles gs) (omega (arith, length-drop p.tiles gs)) in
     (counted_plain how (zip gs ps) p.start p.word p.tiles at (omega arith), omega (arith, at.less), omega arith)
 
@@ -33,7 +34,7 @@ returns-in_err-added g c =
     let p = c.last_part-part.result in
     let at = last_part_zipped gs ps p.start p.word p.tiles c.requires.both c.requires.some c.last_part-part.ensures.tiles c.last_part-part.ensures.word c.last_part-part.ensures.start in
     let some : 0 < length (take (length gs - p.tiles) (drop p.tiles gs)) = empty_no _ c.is_empty.result c.is_empty.ensures c.if-is_empty.false in
-    let long = length_zip gs ps c.requires.both in
+    let long = length-zipped gs ps c.requires.both in
     let rest : length (take (length gs - p.tiles) (drop p.tiles gs)) ≡ length gs - p.tiles = length-take-le (length gs - p.tiles) (drop p.tiles gs) (omega (arith, length-drop p.tiles gs)) in
     let lost : overflows how (zip gs ps) ≡ true = uncounted_run how (zip gs ps) p.start p.word p.tiles at (omega arith) (run_sliced how gs ps p.word p.tiles c.requires.both at.word_fits ∙ sym c.count_run.ensures.added ∙ c.in_err-added.was) in
     subst (λ r. MatchOption r (overflows how (zip gs ps) ≡ true) (λ c'. IsCounted how (zip gs ps) c'.start c'.added × (c'.start < length gs) × (c'.added < 2147483648))) (sym c.from_residual.ensures) lost
@@ -46,7 +47,7 @@ returns g c =
     let p = c.last_part-part.result in
     let at = last_part_zipped gs ps p.start p.word p.tiles c.requires.both c.requires.some c.last_part-part.ensures.tiles c.last_part-part.ensures.word c.last_part-part.ensures.start in
     let some : 0 < length (take (length gs - p.tiles) (drop p.tiles gs)) = empty_no _ c.is_empty.result c.is_empty.ensures c.if-is_empty.false in
-    let long = length_zip gs ps c.requires.both in
+    let long = length-zipped gs ps c.requires.both in
     let rest : length (take (length gs - p.tiles) (drop p.tiles gs)) ≡ length gs - p.tiles = length-take-le (length gs - p.tiles) (drop p.tiles gs) (omega (arith, length-drop p.tiles gs)) in
     let counted : IsCounted how (zip gs ps) p.start c.in_ok-added.added = counted_run how (zip gs ps) p.start p.word p.tiles c.in_ok-added.added at (omega arith) (run_sliced how gs ps p.word p.tiles c.requires.both at.word_fits ∙ sym c.in_ok-added.ensures.added) in
     (counted, omega (arith, at.less), c.in_ok-added.ensures.bound)

@@ -2,7 +2,7 @@ use Rattle.std.proofs.Common.{Some, length, sym}
 use Rattle.shapers_stretch.specs.CountingWalk.{CountsAdded}
 use Rattle.shapers_stretch.specs.LayingWalk.{laying_by}
 use Rattle.shapers_stretch.specs.Stretch.{cells}
-use Rattle.shapers_stretch.proofs.PartCounts.{length_zip}
+use Rattle.shapers_stretch.proofs.Zips.{length-zipped}
 use Rattle.shapers_stretch.proofs.Postprocessing.{counted_in, has_room_in, refuses_counted, stretched_in}
 use Rattle.shapers_stretch.proofs.ot_shaper_arabic_stretch.postprocessing.stretch_text.Goals as goal
 
@@ -25,11 +25,11 @@ returns-in-Ok-clause-refusal g c =
     let how = laying_by (g.F.hb_font_t.font c.args.face.now) c.args.choice c.args.right_to_left in
     let b = c.args.buffer.now in
     let counted : CountsAdded how (cells b) (Some c.in-Some.added) = counted_in b how c.glyphs-glyphs.result.now c.positions-positions.result.now (Some c.in-Some.added) c.glyphs-glyphs.ensures c.positions-positions.ensures c.in-Some.ensures in
-    refuses_counted how (cells b) c.in-Some.added (length b.glyphs) b.max_len _ counted (length_zip b.glyphs b.positions (sym c.requires.positions)) c.in-Ok.ensures.length
+    refuses_counted how (cells b) c.in-Some.added (length b.glyphs) b.max_len _ counted (length-zipped b.glyphs b.positions (sym c.requires.positions)) c.in-Ok.ensures.length
 
 pub returns-in-Err-clause-refusal : goal.returns-in-Err-clause-refusal
 returns-in-Err-clause-refusal g c =
     let how = laying_by (g.F.hb_font_t.font c.args.face.now) c.args.choice c.args.right_to_left in
     let b = c.args.buffer.now in
     let counted : CountsAdded how (cells b) (Some c.in-Some.added) = counted_in b how c.glyphs-glyphs.result.now c.positions-positions.result.now (Some c.in-Some.added) c.glyphs-glyphs.ensures c.positions-positions.ensures c.in-Some.ensures in
-    refuses_counted how (cells b) c.in-Some.added (length b.glyphs) b.max_len _ counted (length_zip b.glyphs b.positions (sym c.requires.positions)) c.in-Err.ensures.length
+    refuses_counted how (cells b) c.in-Some.added (length b.glyphs) b.max_len _ counted (length-zipped b.glyphs b.positions (sym c.requires.positions)) c.in-Err.ensures.length
