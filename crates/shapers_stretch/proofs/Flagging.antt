@@ -18,6 +18,8 @@ use Rattle.shapers_stretch.specs.Stretch.{Copy, copies, copies_of, unbroken, wid
 use Rattle.shapers_stretch.proofs.Laying.{take_less}
 use Rattle.shapers_stretch.proofs.TileWalk.{copies-push}
 use Rattle.shapers_stretch.proofs.Zips.{dropped, length-zipped, stretch_then, zip-append, zip-drop, zip-stretch, zip-take}
+use Rattle.shapers_stretch.proofs.Moves.{map-replicate}
+use Rattle.shapers_stretch.proofs.PartCounts.{length-unbroken}
 
 -- two stretches, one behind the other
 pub stretch_join : {X : Type 0} (s m e : ℕ) (xs : List X) → s ≤ m → m ≤ e → stretch_of s m xs ++ stretch_of m e xs ≡ stretch_of s e xs
@@ -70,9 +72,6 @@ zip_mapped f (c ∷ cs) = ap (λ (ds : List Cell). (f c.0, c.1) ∷ ds) (zip_map
 
 pub unbroken_is : (cs : List Cell) → unbroken cs ≡ map (flag_cell (least (clusters (glyphs_of cs)))) cs
 unbroken_is cs = zip_mapped (with_bits_off 3 (least (clusters (glyphs_of cs)))) cs
-
-length-unbroken : (cs : List Cell) → length (unbroken cs) ≡ length cs
-length-unbroken cs = ap length (unbroken_is cs) ∙ length-map cs (flag_cell (least (clusters (glyphs_of cs))))
 
 length-unsafe : (w e : ℕ) (gs : List hb_glyph_info_t) → w ≤ e → e ≤ length gs → length (unsafe_inside w e gs) ≡ length gs
 length-unsafe w e gs p q = omega (arith, length-append (take w gs) (flagged 3 (stretch_of w e gs) ++ drop e gs), length-append (flagged 3 (stretch_of w e gs)) (drop e gs), length-take-le w gs (omega arith), length-map (stretch_of w e gs) (with_bits_off 3 (least (clusters (stretch_of w e gs)))), stretch_length w e gs q, length-drop e gs)
@@ -132,12 +131,8 @@ flag_copy m copy = record copy { tile = flag_cell m copy.tile }
 abbrev copies_at : ℤ → ℤ → ℕ → Bool → Cell → List Copy
 copies_at w v n b c = record { tile = c; move = w } ∷ cond b (replicate n (record { tile = c; move = v })) []
 
-map-replicated : {X Y : Type 0} (f : X → Y) (n : ℕ) (x : X) → map f (replicate n x) ≡ replicate n (f x)
-map-replicated f zero x = refl
-map-replicated f (suc n) x = ap (λ ys. f x ∷ ys) (map-replicated f n x)
-
 flag_copies_at : (m : ℕ) (w v : ℤ) (n : ℕ) (b : Bool) (c : Cell) → copies_at w v n b (flag_cell m c) ≡ map (flag_copy m) (copies_at w v n b c)
-flag_copies_at m w v n true c = let copy : Copy = record { tile = c; move = v } in let first : Copy = record { tile = flag_cell m c; move = w } in ap (λ xs. first ∷ xs) (sym (map-replicated (flag_copy m) n copy))
+flag_copies_at m w v n true c = let copy : Copy = record { tile = c; move = v } in let first : Copy = record { tile = flag_cell m c; move = w } in ap (λ xs. first ∷ xs) (sym (map-replicate (flag_copy m) n copy))
 flag_copies_at m w v n false c = refl
 
 flag_copies_of : (font : Font) (z : Run) (m : ℕ) (c : Cell) → copies_of font z (flag_cell m c) ≡ map (flag_copy m) (copies_of font z c)

@@ -1,6 +1,6 @@
 -- How many copies a run is laid in.
-use Rattle.std.proofs.Common.{◌≡◌, ℕ, zero, suc, ◌+◌, ◌*◌, ℤ, ◌-ℤ◌, Bool, true, false, cond, List, [], ◌∷◌, ◌++◌, length, reverse, replicate, flat_map, refl, sym, ◌∙◌, ap, arith, mul-suc, mul-zero}
-use Rattle.std.proofs.lemmas.List.{append-nil, length-append}
+use Rattle.std.proofs.Common.{◌≡◌, ℕ, suc, ◌+◌, ◌*◌, ℤ, ◌-ℤ◌, Bool, true, false, cond, List, [], ◌∷◌, ◌++◌, length, reverse, replicate, flat_map, refl, sym, ◌∙◌, ap, arith, mul-suc, mul-zero}
+use Rattle.std.proofs.lemmas.List.{append-nil, length-append, length-replicate}
 use Rattle.std.proofs.lemmas.List.Concat.{flat_map-append}
 use Rattle.std.proofs.lemmas.Grind.{reverse_onto}
 use Rattle.shapers_base.specs.Font.{Font}
@@ -11,12 +11,8 @@ use Rattle.shapers_stretch.specs.Stretch.{Copy, copies, copies_of, laid, repeati
 use Rattle.shapers_stretch.proofs.Moves.{length_if}
 use Rattle.shapers_stretch.proofs.Pen.{laid_is, laid_on, pen_behind}
 
-length-replicated : {X : Type 0} (n : ℕ) (x : X) → length (replicate n x) ≡ n
-length-replicated zero x = refl
-length-replicated (suc n) x = ap suc (length-replicated n x)
-
 copies_if : (b : Bool) (n : ℕ) (first copy : Copy) → length (first ∷ cond b (replicate n copy) []) ≡ suc (cond b n 0)
-copies_if true n first copy = ap suc (length-replicated n copy)
+copies_if true n first copy = ap suc (length-replicate n copy)
 copies_if false n first copy = refl
 
 count_if : (b : Bool) (n k m total : ℕ) → total ≡ m + n * k → total + suc (cond b n 0) ≡ suc m + n * cond b (suc k) k

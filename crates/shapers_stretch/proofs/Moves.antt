@@ -23,7 +23,7 @@ times_neg : (n : ℕ) (a : ℤ) → pos n *ℤ neg_ℤ a ≡ neg_ℤ (pos n *ℤ
 times_neg zero a = omega (arith, ints, times_zero (neg_ℤ a), times_zero a)
 times_neg (suc n) a = omega (arith, ints, times_suc n (neg_ℤ a), times_suc n a, times_neg n a)
 
-map-replicate : {X Y : Type 0} (f : X → Y) (n : ℕ) (x : X) → map f (replicate n x) ≡ replicate n (f x)
+pub map-replicate : {X Y : Type 0} (f : X → Y) (n : ℕ) (x : X) → map f (replicate n x) ≡ replicate n (f x)
 map-replicate f zero x = refl
 map-replicate f (suc n) x = ap (λ ys. f x ∷ ys) (map-replicate f n x)
 

@@ -27,6 +27,8 @@ use Rattle.shapers_stretch.proofs.Lengths.{length-copies, length-laid}
 use Rattle.shapers_stretch.proofs.Laying.{take_less}
 use Rattle.shapers_stretch.proofs.Zips.{length-zipped, zip-take}
 use Rattle.shapers_stretch.proofs.Pen.{laid_is, laid_on}
+use Rattle.shapers_stretch.proofs.Moves.{map-replicate}
+use Rattle.shapers_stretch.proofs.Zips.{length-zipped}
 
 -- glyphs beside positions
 pub glyphs_zip : (gs : List hb_glyph_info_t) (ps : List GlyphPosition) → length gs ≡ length ps → glyphs_of (zip gs ps) ≡ gs
@@ -100,10 +102,6 @@ no_run_length how part e = ap (λ b. cond (not b) part (before_word part ++ stre
 on_offsets : (right_to_left : Bool) (pen : ℤ) (cs : List Copy) → map (λ c. c.1.x_offset) (laid_on right_to_left pen cs) ≡ offsets_on right_to_left pen (map (λ copy. copy.move) cs)
 on_offsets right_to_left pen [] = refl
 on_offsets right_to_left pen (c ∷ cs) = ap (λ xs. stands_at right_to_left pen c.move ∷ xs) (on_offsets right_to_left (pen_behind right_to_left pen c.move) cs)
-
-map-replicate : {X Y : Type 0} (f : X → Y) (n : ℕ) (x : X) → map f (replicate n x) ≡ replicate n (f x)
-map-replicate f zero x = refl
-map-replicate f (suc n) x = ap (λ ys. f x ∷ ys) (map-replicate f n x)
 
 moves_if : (b : Bool) (n : ℕ) (copy : Copy) → map (λ copy. copy.move) (cond b (replicate n copy) []) ≡ cond b (replicate n copy.move) []
 moves_if true n copy = map-replicate (λ copy. copy.move) n copy

@@ -1,5 +1,5 @@
 -- A buffer whose marks stretch: the room that is made, the text backwards, and what the hook says of both.
-use Rattle.std.proofs.Common.{◌≡◌, ◌≤◌, ◌+◌, ℕ, zero, suc, cond, List, [], ◌∷◌, ◌++◌, length, reverse, take, replicate, Option, None, Some, Result, Ok, Err, OnOk, refl, subst, sym, ◌∙◌, ap, arith, length-append}
+use Rattle.std.proofs.Common.{◌≡◌, ◌≤◌, ◌+◌, ℕ, cond, List, [], ◌∷◌, ◌++◌, length, reverse, take, replicate, Option, None, Some, Result, Ok, Err, OnOk, refl, subst, sym, ◌∙◌, ap, arith, length-append}
 use Rattle.std.specs.List.{All, AllByRecursion, zip}
 use Rattle.std.proofs.lemmas.List.Elements.{All-cons, All-head, All-nil, All-tail}
 use Rattle.std.proofs.lemmas.Grind.{reverse_onto}
@@ -18,6 +18,7 @@ use Rattle.shapers_stretch.specs.LayingWalk.{HasRoom, text_of}
 use Rattle.shapers_stretch.specs.Stretch.{Laying, cells, overflows, stretched, with_cells}
 use Rattle.shapers_stretch.proofs.PartCounts.{glyphs_zip, positions_zip}
 use Rattle.shapers_stretch.proofs.Zips.{length-zipped}
+use Rattle.std.proofs.lemmas.List.{length-replicate}
 
 -- what holds by place holds one after another
 pub one_by_one : {X : Type 0} (P : X → Type 0) (xs : List X) → All P xs → AllByRecursion P xs
@@ -36,10 +37,6 @@ pub backwards : {X : Type 0} (P : X → Type 0) (xs : List X) → All P xs → A
 backwards P xs h = by_place P (reverse xs) (all-reverse P xs (one_by_one P xs h))
 
 -- the room of a text: as many glyphs and positions behind it
-length-replicated : {X : Type 0} (n : ℕ) (x : X) → length (replicate n x) ≡ n
-length-replicated zero x = refl
-length-replicated (suc n) x = ap suc (length-replicated n x)
-
 pub room_positions : (n : ℕ) (ps : List GlyphPosition) → (length ps ≡ 0 → n ≡ 0) → more_positions n ps ≡ ps ++ replicate n default_position
 room_positions n [] h = ap (λ n. replicate n default_position) (sym (h refl))
 room_positions n (p ∷ ps) h = refl
@@ -60,8 +57,8 @@ room_made gs ps n both none =
     let same = room_positions n ps none in
     record {
       text = ap (λ qs. take (length gs) (zip (gs ++ replicate n default_glyph) qs)) same ∙ zip-front gs (replicate n default_glyph) ps (replicate n default_position) both;
-      glyphs = omega (arith, length-append gs (replicate n default_glyph), length-replicated n default_glyph);
-      positions = ap length same ∙ omega (arith, length-append ps (replicate n default_position), length-replicated n default_position);
+      glyphs = omega (arith, length-append gs (replicate n default_glyph), length-replicate n default_glyph);
+      positions = ap length same ∙ omega (arith, length-append ps (replicate n default_position), length-replicate n default_position);
     }
 
 -- cells backwards

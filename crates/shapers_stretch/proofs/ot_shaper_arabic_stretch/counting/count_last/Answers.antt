@@ -5,8 +5,8 @@ use Rattle.std.proofs.lemmas.Bool.Decides.{nat_tests}
 use Rattle.shapers_stretch.specs.CountingWalk.{IsCounted}
 use Rattle.shapers_stretch.specs.Stretch.{Laying, overflows}
 use Rattle.shapers_stretch.proofs.PartCounts.{counted_plain, counted_run, last_part_zipped, run_sliced, uncounted_run}
-use Rattle.shapers_stretch.proofs.Zips.{length-zipped}
 use Rattle.shapers_stretch.proofs.ot_shaper_arabic_stretch.counting.count_last.Goals as goal
+use Rattle.shapers_stretch.proofs.Zips.{length-zipped}
 
 empty_yes : (n : ℕ) (b : Bool) → b ≡ (n == 0) → b ≡ true → n ≡ 0
 empty_yes n b e h = grind (arith, nat_tests)
