@@ -24,6 +24,8 @@ use Rattle.shapers_stretch.specs.Measure.{added, copies_added, fits_i32, numbers
 use Rattle.shapers_stretch.specs.Stretch.{Copy, Laying, copies, copies_of, has_run, laid_run, measured, overflows, part_overflows, repeating, run_of, stretched, stretched_over, stretched_part, unbroken, width_of}
 use Rattle.shapers_stretch.proofs.LastParts.{LastPartAt, last_part_at}
 use Rattle.shapers_stretch.proofs.Lengths.{length-copies, length-laid}
+use Rattle.shapers_stretch.proofs.Laying.{take_less}
+use Rattle.shapers_stretch.proofs.Zips.{length-zipped, zip-take}
 use Rattle.shapers_stretch.proofs.Pen.{laid_is, laid_on}
 use Rattle.shapers_stretch.proofs.Moves.{map-replicate}
 use Rattle.shapers_stretch.proofs.Zips.{length-zipped}
@@ -238,18 +240,6 @@ counted_start how gs ps both =
     let whole : take (length gs) cs ≡ cs = take_all (length gs) cs (omega arith) in
     record { within = omega arith; fits = ap (overflows how) (sym whole); longer = omega (arith, ap (λ cs. length (stretched how cs)) whole) }
 
-take_less : {X : Type 0} (n m : ℕ) (xs : List X) → n ≤ m → take n (take m xs) ≡ take n xs
-take_less zero m xs h = refl
-take_less (suc n) zero xs h = absurd (omega arith)
-take_less (suc n) (suc m) [] h = refl
-take_less (suc n) (suc m) (x ∷ xs) h = ap (λ ys. x ∷ ys) (take_less n m xs (omega arith))
-
-zip_take : {X Y : Type 0} (n : ℕ) (xs : List X) (ys : List Y) → zip (take n xs) (take n ys) ≡ take n (zip xs ys)
-zip_take zero xs ys = refl
-zip_take (suc n) [] ys = refl
-zip_take (suc n) (x ∷ xs) [] = refl
-zip_take (suc n) (x ∷ xs) (y ∷ ys) = ap (λ zs. (x, y) ∷ zs) (zip_take n xs ys)
-
 counted_then : (how : Laying) (cs : List Cell) (end many start n : ℕ) → IsCounted how cs end many → IsCounted how (take end cs) start n → IsCounted how cs start (many + n)
 counted_then how cs end many start n first rest =
     let upto : length (take end cs) ≡ end = length-take-le end cs first.within in
@@ -262,7 +252,7 @@ counted_then how cs end many start n first rest =
     }
 
 pub counted_more : (how : Laying) (gs : List hb_glyph_info_t) (ps : List GlyphPosition) (end many start n : ℕ) → IsCounted how (zip gs ps) end many → IsCounted how (zip (take end gs) (take end ps)) start n → IsCounted how (zip gs ps) start (many + n)
-counted_more how gs ps end many start n first rest = counted_then how (zip gs ps) end many start n first (subst (λ cs. IsCounted how cs start n) (zip_take end gs ps) rest)
+counted_more how gs ps end many start n first rest = counted_then how (zip gs ps) end many start n first (subst (λ cs. IsCounted how cs start n) (sym (zip-take end gs ps)) rest)
 
 pub counted_all : (how : Laying) (cs : List Cell) (end many : ℕ) → IsCounted how cs end many → end ≡ 0 → CountsAdded how cs (Some many)
 counted_all how cs end many counted none =
@@ -270,7 +260,7 @@ counted_all how cs end many counted none =
     (counted.fits ∙ ap (overflows how) nothing, omega (arith, counted.longer, ap (λ cs. length (stretched how cs)) nothing))
 
 pub overflows_before : (how : Laying) (gs : List hb_glyph_info_t) (ps : List GlyphPosition) (end many : ℕ) → IsCounted how (zip gs ps) end many → overflows how (zip (take end gs) (take end ps)) ≡ true → overflows how (zip gs ps) ≡ true
-overflows_before how gs ps end many counted e = counted.fits ∙ ap (overflows how) (sym (zip_take end gs ps)) ∙ e
+overflows_before how gs ps end many counted e = counted.fits ∙ ap (overflows how) (zip-take end gs ps) ∙ e
 
 pub all_taken : (P : hb_glyph_info_t → Type 0) (n : ℕ) (gs : List hb_glyph_info_t) → AllByRecursion P gs → AllByRecursion P (take n gs)
 all_taken P zero gs h = tt
