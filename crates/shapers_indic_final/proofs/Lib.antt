@@ -2,6 +2,7 @@ mod FinalBaseRows
 pub mod FinalLinks
 mod FinalMatraRows
 pub mod FinalMoves
+pub mod FinalOpened
 mod FinalOpeningRows
 pub mod FinalPlaces
 mod FinalPrefRows
