@@ -16,14 +16,19 @@ use Rattle.shapers_base.specs.declared.plan.ot_position_t.TheConstants.{POS_BASE
 use Rattle.shapers_clusters.specs.Steps.{Step, still_step, swap_step}
 use Rattle.shapers_clusters.proofs.Picks.{pick-map}
 use Rattle.shapers_indic.specs.declared.ot_shaper_indic.indic_feature.TheConstants.{BLWF, HALF, PREF, RPHF}
-use Rattle.shapers_indic.specs.Glyphs.{has_category, has_position, is_matra, is_one_of, least_place, numbers, places}
+use Rattle.shapers_indic.specs.Glyphs.{at_position, has_category, has_position, is_matra, is_one_of, least_place, number, numbers, places}
 use Rattle.shapers_indic_initial.specs.InitialBase.{base_place}
 use Rattle.shapers_indic_initial.specs.InitialMasks.{bits_of, has_eyelash, is_in_eyelash, loses_half, mask_after_base, mask_before_base, opens_eyelash, pref_pair, with_bits_on_pair, with_eyelash_mask, with_initial_masks, with_masks_around, with_pref_mask, with_reph_mask, without_bits, without_half}
 use Rattle.shapers_indic_initial.specs.InitialOrder.{group, group_in_order, last_unit_first, ordered_base, ordered_places, ordered_stretches}
 use Rattle.shapers_indic_initial.specs.InitialPositions.{with_marks_attached, with_owners_after}
 use Rattle.shapers_indic_initial.specs.InitialReordering.{halant_step, in_order, is_reordered, joiner_step, masked_in_order, order_step, steps_of_reordered, with_base, with_joiner_first}
-use Rattle.shapers_indic_initial.specs.InitialRules.{Rules, mask_at}
-use Rattle.shapers_indic_initial.specs.InitialLaws.{InitialReadsNoSerials}
+use Rattle.shapers_base.specs.declared.font.GlyphId.{GlyphId}
+use Rattle.shapers_base.specs.declared.plan.indic.indic_shape_plan_t.{indic_shape_plan_t}
+use Rattle.shapers_base.specs.Font.{Font}
+use Rattle.shapers_base.specs.Map.{Map}
+use Rattle.shapers_indic_initial.specs.InitialFont.{all_by_virama, by_virama, consonant_position, positions_by_font, virama_glyph}
+use Rattle.shapers_indic_initial.specs.InitialRules.{Rules, mask_at, rules_of}
+use Rattle.shapers_indic_initial.specs.InitialLaws.{InitialReadsNoSerials, OrderByFontReadsNoSerials}
 use Rattle.shapers_indic_initial.proofs.InitialLaws.{all_three, halant_order, halant_step_of, masked_order}
 use Rattle.shapers_indic_initial.proofs.InitialReads.{KeepsRead, base_stays, joiner_first_stays, numbers_stay, passes_stays, prefix_stays, same_three, same_two}
 use Rattle.shapers_indic_initial.proofs.InitialWrites.{halant_places_stay, with_base_stays, with_marks_stays, with_owners_after_stays}
@@ -197,3 +202,30 @@ initial_reads_no_serials r script =
     (reads_then (halant_order r script) (masked_order r script) (λ gs. halant_step_of r script gs ∷ []) (λ gs. order_step r gs ∷ [])
     (reads_by_view (halant_order r script) (λ gs. halant_step_of r script gs ∷ []) (halant_order_stays r script) (λ gs. ap (λ (st : Step). st ∷ []) (halant_step_of_stays r script gs)))
     (reads_by_view (masked_order r script) (λ gs. order_step r gs ∷ []) (masked_order_stays r script) (λ gs. ap (λ (st : Step). st ∷ []) (order_step_stays r gs)))))
+
+-- positions by the font
+if_position : (b : Bool) (p : ℕ) (g : hb_glyph_info_t) → unnumbered (if b then at_position p g else g) ≡ (if b then at_position p (unnumbered g) else unnumbered g)
+if_position true p g = refl
+if_position false p g = refl
+
+by_virama_stays : (font : Font) (m : Map) (p : indic_shape_plan_t) (v : GlyphId) (gs : List hb_glyph_info_t) → map unnumbered (map (by_virama font m p v) gs) ≡ map (by_virama font m p v) (map unnumbered gs)
+by_virama_stays font m p v [] = refl
+by_virama_stays font m p v (g ∷ gs) =
+    same_two (λ x (xs : List hb_glyph_info_t). x ∷ xs) (if_position (has_position POS_BASE_C g) (consonant_position font m p v (number g)) g) (by_virama_stays font m p v gs)
+
+all_by_virama_stay : (font : Font) (m : Map) (p : indic_shape_plan_t) (o : Option GlyphId) (gs : List hb_glyph_info_t) → map unnumbered (all_by_virama font m p o gs) ≡ all_by_virama font m p o (map unnumbered gs)
+all_by_virama_stay font m p None gs = refl
+all_by_virama_stay font m p (Some v) gs = by_virama_stays font m p v gs
+
+by_font_same : (font : Font) (m : Map) (p : indic_shape_plan_t) (gs hs : List hb_glyph_info_t) → map unnumbered gs ≡ map unnumbered hs → map unnumbered (positions_by_font font m p gs) ≡ map unnumbered (positions_by_font font m p hs)
+by_font_same font m p gs hs same =
+    let v = virama_glyph font p in
+    all_by_virama_stay font m p v gs ∙ ap (all_by_virama font m p v) same ∙ sym (all_by_virama_stay font m p v hs)
+
+pub order_by_font_reads_no_serials : OrderByFontReadsNoSerials
+order_by_font_reads_no_serials font m p script =
+    let reads = initial_reads_no_serials (rules_of font m p) script in
+    record {
+      meant = λ gs hs same. reads.meant (positions_by_font font m p gs) (positions_by_font font m p hs) (by_font_same font m p gs hs same);
+      led = λ gs hs same. reads.led (positions_by_font font m p gs) (positions_by_font font m p hs) (by_font_same font m p gs hs same);
+    }

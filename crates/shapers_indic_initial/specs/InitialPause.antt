@@ -5,16 +5,12 @@ use Rattle.shapers_buffer.specs.declared.buffer.refusal.ShaperError.{ShaperError
 use Rattle.shapers_buffer.specs.declared.buffer.tag.Script.{Script}
 use Rattle.shapers_buffer.specs.Buffer.{Buffer}
 use Rattle.shapers_buffer.specs.Syllables.{unknown_refusal}
-use Rattle.shapers_base.specs.declared.plan.PlanData.{PlanData}
-use Rattle.shapers_base.specs.declared.plan.PlanData.TheVariants.{Indic}
-use Rattle.shapers_base.specs.declared.plan.hb_ot_shape_plan_t.{hb_ot_shape_plan_t}
 use Rattle.shapers_base.specs.declared.plan.indic.indic_shape_plan_t.{indic_shape_plan_t}
 use Rattle.shapers_base.specs.declared.plan.ot_category_t.TheConstants.{OT_DOTTEDCIRCLE, OT_Repha}
 use Rattle.shapers_base.specs.declared.plan.ot_position_t.TheConstants.{POS_END}
 use Rattle.shapers_base.specs.Font.{Font}
 use Rattle.shapers_base.specs.Map.{Map}
 use Rattle.shapers_clusters.specs.Steps.{Step}
-use Rattle.shapers_indic.specs.Plan.{indic_plan}
 use Rattle.shapers_indic_initial.specs.InitialFont.{positions_by_font}
 use Rattle.shapers_indic_initial.specs.InitialReordering.{initial_order, initial_steps}
 use Rattle.shapers_indic_initial.specs.InitialRules.{rules_of}
