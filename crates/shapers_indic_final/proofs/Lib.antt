@@ -5,6 +5,7 @@ pub mod FinalMoves
 pub mod FinalOpened
 mod FinalOpeningRows
 pub mod FinalPlaces
+pub mod FinalPlacing
 mod FinalPrefRows
 mod FinalReorderingRows
 mod FinalRephRows
