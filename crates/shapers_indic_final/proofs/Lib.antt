@@ -5,7 +5,9 @@ pub mod FinalMoves
 pub mod FinalOpened
 mod FinalOpeningRows
 pub mod FinalPlaces
+pub mod FinalPlain
 mod FinalPrefRows
+pub mod FinalReads
 mod FinalReorderingRows
 mod FinalRephRows
 pub mod FinalSteps
