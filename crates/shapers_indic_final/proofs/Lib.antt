@@ -1,6 +1,7 @@
 mod FinalBaseRows
 pub mod FinalLinks
 mod FinalMatraRows
+pub mod FinalMeanings
 pub mod FinalMoves
 pub mod FinalOpened
 mod FinalOpeningRows
@@ -11,4 +12,5 @@ pub mod FinalReads
 mod FinalReorderingRows
 mod FinalRephRows
 pub mod FinalSteps
+pub mod FinalTargets
 pub mod FinalWords
