@@ -2,41 +2,42 @@
 use Rattle.std.proofs.Common.{ℕ, ◌<◌, ◌≤◌, ◌≡◌, List, [], ◌∷◌, ◌++◌, map, length, refl, sym, ◌∙◌, ap, subst, arith, zero, suc, ◌+◌, ◌-◌, Bool, true, false, cond, take, drop, take-suc, append_assoc, append-nil, length-append, length-take-le, get_or, reverse, inl, inr, ◌==◌, not, if◌then◌else◌, take-append-drop, length-drop, Option, None, Some}
 use Rattle.std.specs.List.{AllByRecursion, range_with_len, enumerate_from}
 use Rattle.std.specs.List.Sorted.{IsPermutation}
+use Rattle.std.specs.Prelude.{filter, nat_lt, unwrap_or}
 use Rattle.std.proofs.lemmas.List.{drop_at, reverse-append, take_at}
 use Rattle.std.proofs.lemmas.List.FromFn.{length-range_with_len}
 use Rattle.std.proofs.lemmas.List.Sorted.{length_permutation, IsPermutation-refl}
-use Rattle.shapers_buffer.specs.declared.buffer.glyph.hb_glyph_info_t.{hb_glyph_info_t}
-use Rattle.shapers_buffer.specs.Clusters.{with_stretch, stretch_of}
-use Rattle.shapers_buffer.specs.Glyph.{plain, default_glyph}
-use Rattle.shapers_buffer.specs.Places.{pick}
-use Rattle.shapers_buffer.proofs.MappedLists.{all-append}
-use Rattle.shapers_clusters.specs.Cuts.{EndWithin}
-use Rattle.shapers_clusters.specs.Steps.{FitSteps, FitsStep, Permutes, Step, old_places}
-use Rattle.shapers_clusters.proofs.Moves.{length-old_places, within-old_places}
-use Rattle.shapers_clusters.proofs.Picks.{length-pick, pick-all, pick-map, pick-pick}
-use Rattle.shapers_indic.specs.Glyphs.{places, passes, greatest_place, least_place}
-use Rattle.shapers_indic_final.proofs.FinalSteps.{Picks, all_within, stretch_permutes, stretch_picks}
-use Rattle.shapers_syllabic.proofs.LawsThen.{old_places_then}
-use Rattle.std.specs.Prelude.{filter, nat_lt, unwrap_or}
 use Rattle.std.proofs.lemmas.Bool.{cases_Bool, and_parts}
 use Rattle.std.proofs.lemmas.List.Elements.{filter-append}
+use Rattle.std.proofs.lemmas.Bool.Decides.{nat_tests}
+use Rattle.shapers_buffer.specs.declared.buffer.glyph.hb_glyph_info_t.{hb_glyph_info_t}
+use Rattle.shapers_buffer.specs.Clusters.{with_stretch, stretch_of}
+use Rattle.shapers_buffer.specs.Glyph.{plain, default_glyph, order_view}
+use Rattle.shapers_buffer.specs.Places.{pick}
+use Rattle.shapers_buffer.specs.declared.buffer.tag.Script.{Script}
+use Rattle.shapers_buffer.specs.declared.buffer.level.BufferClusterLevel.{BufferClusterLevel}
+use Rattle.shapers_buffer.proofs.MappedLists.{all-append}
+use Rattle.shapers_base.specs.declared.plan.indic.RephPosition.{RephPosition}
+use Rattle.shapers_clusters.specs.Cuts.{EndWithin}
+use Rattle.shapers_clusters.specs.Steps.{FitSteps, FitsStep, Permutes, Step, old_places, run_steps}
+use Rattle.shapers_clusters.proofs.Moves.{length-old_places, within-old_places, order_view-run_steps}
+use Rattle.shapers_clusters.proofs.Picks.{length-pick, pick-all, pick-map, pick-pick}
+use Rattle.shapers_indic.specs.Glyphs.{places, passes, greatest_place, least_place}
 use Rattle.shapers_indic_final.specs.FinalGlyphs.{first_goes_last, last_goes_first}
 use Rattle.shapers_indic_final.specs.FinalMatras.{is_left, matra_step, end_of_base, ends_search, halant_or_start, has_room, is_free_halant, matra_steps, matra_target, matras_go, merging_step, nearest_halant, parted, parting_steps, place_before, with_matras}
-use Rattle.shapers_indic_final.proofs.FinalMoves.{permutes_first_last, picks_first_last, permutes_last_first, picks_last_first}
-use Rattle.shapers_indic_final.proofs.FinalPlaces.{passes_there, places_last}
-use Rattle.std.proofs.lemmas.Bool.Decides.{nat_tests}
-use Rattle.shapers_buffer.specs.declared.buffer.tag.Script.{Script}
-use Rattle.shapers_base.specs.declared.plan.indic.RephPosition.{RephPosition}
 use Rattle.shapers_indic_final.specs.FinalPref.{formed_pref, moved_before, pref_move, pref_step, pref_steps, pref_target, with_pref}
 use Rattle.shapers_indic_final.specs.FinalReph.{opens_with_reph, reph_step, reph_steps, reph_target, with_reph}
 use Rattle.shapers_indic_final.specs.FinalRules.{has_no_half_forms}
+use Rattle.shapers_indic_final.specs.FinalBase.{Based, with_viramas}
+use Rattle.shapers_indic_final.specs.FinalReordering.{after_matras, after_pref, after_reph, based, final_order, final_steps, steps_of_based, steps_of_pref}
+use Rattle.shapers_indic_final.specs.declared.ot_shaper_indic_final.rules.Rules.{Rules}
+use Rattle.shapers_indic_final.proofs.FinalSteps.{Picks, all_within, stretch_permutes, stretch_picks}
+use Rattle.shapers_indic_final.proofs.FinalMoves.{permutes_first_last, picks_first_last, permutes_last_first, picks_last_first}
+use Rattle.shapers_indic_final.proofs.FinalPlaces.{passes_there, places_last}
 use Rattle.shapers_indic_final.proofs.FinalTargets.{PlaceWithin, formed_pref_within, greatest_within, opens_some, pref_target_within, reph_target_within}
-use Rattle.shapers_syllabic.proofs.ReorderingLemmas.{old_places_one}
 use Rattle.shapers_indic_final.proofs.FinalPlain.{TouchesNoFlag, with_matras_plain, with_pref_plain, with_reph_plain}
-use Rattle.shapers_clusters.specs.Steps.{run_steps}
-use Rattle.shapers_clusters.proofs.Moves.{order_view-run_steps}
-use Rattle.shapers_buffer.specs.Glyph.{order_view}
-use Rattle.shapers_buffer.specs.declared.buffer.level.BufferClusterLevel.{BufferClusterLevel}
+use Rattle.shapers_indic_final.proofs.FinalHidden.{base_within}
+use Rattle.shapers_syllabic.proofs.LawsThen.{old_places_then}
+use Rattle.shapers_syllabic.proofs.ReorderingLemmas.{old_places_one}
 
 -- that the syllable gs becomes ms by these steps: they fit it, take each place once, and lead to it
 pub record MovesAt (gs ms : List hb_glyph_info_t) (steps : List Step) : Type 0 where
@@ -295,7 +296,7 @@ pub pref_moves : (pref : ℕ) (script : Option Script) (base : ℕ) (gs : List h
 pref_moves pref script base gs = before_moves gs (pref_target script base gs) (base + 1) (formed_pref pref base gs) (pref_target_within script base gs) (formed_pref_within pref base gs)
 
 -- so steps run on glyphs lead to these meanings, in the order view
-leads : (level : BufferClusterLevel) (gs ms : List hb_glyph_info_t) (steps : List Step) → MovesAt gs ms steps → order_view (run_steps level steps gs) ≡ map plain ms
+pub leads : (level : BufferClusterLevel) (gs ms : List hb_glyph_info_t) (steps : List Step) → MovesAt gs ms steps → order_view (run_steps level steps gs) ≡ map plain ms
 leads level gs ms steps moves = order_view-run_steps level steps gs ∙ pick-map plain (old_places (length gs) steps) gs ∙ ap (map plain) (sym moves.picks)
 
 pub matras_lead : (level : BufferClusterLevel) (script : Option Script) (base : ℕ) (gs : List hb_glyph_info_t) → base ≤ length gs → order_view (run_steps level (matra_steps script base gs) gs) ≡ with_matras script base (order_view gs)
@@ -306,3 +307,27 @@ reph_leads level position base gs = leads level gs (with_reph position base gs) 
 
 pub pref_leads : (level : BufferClusterLevel) (pref : ℕ) → TouchesNoFlag pref → (script : Option Script) (base : ℕ) (gs : List hb_glyph_info_t) → order_view (run_steps level (pref_steps pref script base gs) gs) ≡ with_pref pref script base (order_view gs)
 pref_leads level pref off script base gs = leads level gs (with_pref pref script base gs) (pref_steps pref script base gs) (pref_moves pref script base gs) ∙ sym (with_pref_plain pref off script base gs)
+
+-- all of them, from the syllable with its base on
+tried_moves : (r : Rules) (script : Option Script) (b : Based) → MovesAt b.glyphs (after_pref r script b) (steps_of_pref r script b)
+tried_moves r script b = elim b.tries_pref as (λ t. MovesAt b.glyphs (if t then with_pref r.pref script b.base b.glyphs else b.glyphs) (if t then pref_steps r.pref script b.base b.glyphs else [])) [
+  | true ↦ pref_moves r.pref script b.base b.glyphs
+  | false ↦ same_moves b.glyphs
+]
+
+pub based_moves : (r : Rules) (script : Option Script) (b : Based) → b.base ≤ length b.glyphs → MovesAt b.glyphs (after_pref r script (after_reph r (after_matras r script b))) (steps_of_based r script b)
+based_moves r script b l =
+    let p = after_matras r script b in
+    let q = after_reph r p in
+    let end = after_pref r script q in
+    let ms = matra_steps script b.base b.glyphs in
+    let rs = reph_steps r.reph_pos p.base p.glyphs in
+    let ps = steps_of_pref r script q in
+    moves_then b.glyphs p.glyphs end ms (rs ++ ps) (matras_move script b.base b.glyphs l)
+    (moves_then p.glyphs q.glyphs end rs ps (reph_moves r.reph_pos p.base p.glyphs) (tried_moves r script q))
+
+pub final_moves : (r : Rules) (script : Option Script) (gs : List hb_glyph_info_t) → MovesAt (based r script gs).glyphs (final_order r script gs) (final_steps r script gs)
+final_moves r script gs = based_moves r script (based r script gs) (base_within r script (with_viramas r gs))
+
+pub final_leads : (level : BufferClusterLevel) (r : Rules) (script : Option Script) (gs : List hb_glyph_info_t) → order_view (run_steps level (final_steps r script gs) (based r script gs).glyphs) ≡ order_view (final_order r script gs)
+final_leads level r script gs = leads level (based r script gs).glyphs (final_order r script gs) (final_steps r script gs) (final_moves r script gs)

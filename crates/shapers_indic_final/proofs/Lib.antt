@@ -1,4 +1,5 @@
 mod FinalBaseRows
+pub mod FinalHidden
 pub mod FinalLinks
 mod FinalMatraRows
 pub mod FinalMeanings
