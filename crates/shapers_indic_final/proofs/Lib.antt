@@ -1,6 +1,7 @@
 mod FinalBaseRows
 pub mod FinalLinks
 mod FinalMatraRows
+pub mod FinalMoves
 mod FinalOpeningRows
 pub mod FinalPlaces
 mod FinalPrefRows

@@ -4,7 +4,9 @@
 mod base;
 mod glyphs;
 mod matras;
+mod moves;
 mod opening;
 mod pref;
 mod reph;
 pub mod rules;
+mod viramas;

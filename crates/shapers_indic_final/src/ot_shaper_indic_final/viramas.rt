@@ -1,0 +1,52 @@
+//! Viramas that lookups put in for several glyphs and then took apart become halants again.
+ghost use Rattle.std.specs.Prelude.{◌≡◌, ◌≤◌, length, map};
+ghost use Rattle.shapers_buffer.specs.Clusters.{with_stretch};
+ghost use Rattle.shapers_indic_final.specs.FinalGlyphs.{is_lost_virama, recovered};
+
+use shapers_base::buffer::{GlyphChange, hb_buffer_t, hb_glyph_info_t};
+use shapers_base::font::GlyphId;
+use shapers_base::plan::ot_category_t::OT_H;
+
+// Recovers the viramas of the syllable from `s` to `e`.
+pub(super) fn recover_viramas(virama: Option<GlyphId>, buffer: &mut hb_buffer_t, s: usize, e: usize)
+    requires in_order { s ≤ e }
+    requires in_range { e ≤ length buffer.old.glyphs }
+    ensures { let change = with_stretch s e (map (recovered virama)) in
+        buffer.new ≡ record buffer.old { glyphs = change buffer.old.glyphs } }
+{
+    buffer.change_each(s, e, &Recover { virama });
+}
+
+// The virama to be recovered, if there is one.
+#[derive(Clone, Copy)]
+struct Recover {
+    virama: Option<GlyphId>,
+}
+
+impl GlyphChange for Recover {
+    ghost use Rattle.shapers_indic_final.specs.FinalGlyphs.{recovered};
+
+    ghost changed = { λ change glyph. recovered change.virama glyph };
+
+    fn change(&self, glyph: &mut hb_glyph_info_t) {
+        if is_lost_virama(self.virama, glyph) {
+            glyph.category = OT_H;
+            glyph.marks.set_ligated(false);
+            glyph.marks.set_multiplied(false);
+        }
+    }
+}
+
+// Whether a glyph is the virama's, and lookups put it in for several and then took it apart.
+fn is_lost_virama(virama: Option<GlyphId>, glyph: &hb_glyph_info_t) -> bool
+    ensures { result ≡ is_lost_virama virama glyph.now }
+{
+    match virama {
+        Some(virama) => {
+            glyph.glyph_id == virama.0 as u32
+                && glyph.marks.is_ligated()
+                && glyph.marks.is_multiplied()
+        }
+        None => false,
+    }
+}
