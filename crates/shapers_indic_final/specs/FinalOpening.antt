@@ -1,5 +1,5 @@
 -- A left matra that opens a syllable: init at the start of a word, else no break before it; and the whole text.
-use Rattle.std.specs.Prelude.{ℕ, ◌+◌, ◌-◌, ◌≡◌, Bool, ◌&&◌, true, false, not, List, [], ◌∷◌, ◌++◌, length, map, Option, None, Some, if◌then◌else◌}
+use Rattle.std.specs.Prelude.{ℕ, ◌+◌, ◌-◌, ◌≡◌, Bool, ◌&&◌, true, false, not, List, [], ◌∷◌, ◌++◌, length, map, take, drop, Option, None, Some, if◌then◌else◌}
 use Rattle.shapers_buffer.specs.declared.buffer.category.hb_unicode_general_category_t.{hb_unicode_general_category_t}
 use Rattle.shapers_buffer.specs.declared.buffer.category.hb_unicode_general_category_t.TheVariants.{Cf, Cn, Co, Cs, Ll, Lm, Lo, Lt, Lu, Mc, Me, Mn}
 use Rattle.shapers_buffer.specs.declared.buffer.glyph.hb_glyph_info_t.{hb_glyph_info_t}
@@ -64,6 +64,15 @@ final_text r script gs = with_inits r.init None (map (final_order r script) (syl
 abbrev pub bound_at : ℕ → Bool → List hb_glyph_info_t → List hb_glyph_info_t
 bound_at s true gs = unsafe_inside (s - 1) (s + 1) gs
 bound_at s false gs = gs
+
+-- what stands before a place; the glyphs with the syllable from there on opened by it
+abbrev pub before_place : ℕ → List hb_glyph_info_t → Option hb_glyph_info_t
+before_place s gs = last_or None (take s gs)
+
+abbrev pub opened : ℕ → ℕ → List hb_glyph_info_t → List hb_glyph_info_t
+opened bits s gs =
+    let before = before_place s gs in
+    bound_at s (is_bound before (drop s gs)) (take s gs ++ with_init bits before (drop s gs))
 
 -- the glyphs after the steps of the syllable from place s on, and then with the break before it unsafe, where it is opened so; by the glyph before it
 abbrev pub syllable_run : Rules → Option Script → BufferClusterLevel → ℕ → Option hb_glyph_info_t → List hb_glyph_info_t → List hb_glyph_info_t → List hb_glyph_info_t

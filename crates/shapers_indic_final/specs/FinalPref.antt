@@ -40,9 +40,12 @@ abbrev pub with_pref : ℕ → Option Script → ℕ → List hb_glyph_info_t �
 with_pref pref script base gs = moved_before (pref_target script base gs) (formed_pref pref base gs) gs
 
 -- the step of n places in which all from place j up to place i merges, and the glyph of place i goes to j
+abbrev pub pref_move : ℕ → ℕ → ℕ → Step
+pref_move n j i = record { merged_first = (j, i + 1) ∷ []; places = with_stretch j (i + 1) last_goes_first (places 0 n); merged_then = [] }
+
 abbrev pub pref_step : ℕ → ℕ → Option ℕ → List Step
 pref_step n j None = []
-pref_step n j (Some i) = record { merged_first = (j, i + 1) ∷ []; places = moved_before j (Some i) (places 0 n); merged_then = [] } ∷ []
+pref_step n j (Some i) = pref_move n j i ∷ []
 
 abbrev pub pref_steps : ℕ → Option Script → ℕ → List hb_glyph_info_t → List Step
 pref_steps pref script base gs = pref_step (length gs) (pref_target script base gs) (formed_pref pref base gs)

@@ -67,11 +67,11 @@ reph_target position base gs = option_map_or (with_joiner base gs) (halant_after
 abbrev pub with_reph : RephPosition → ℕ → List hb_glyph_info_t → List hb_glyph_info_t
 with_reph position base gs = if opens_with_reph gs then with_stretch 0 (reph_target position base gs + 1) first_goes_last gs else gs
 
-abbrev pub is_crossed : RephPosition → ℕ → List hb_glyph_info_t → Bool
-is_crossed position base gs = opens_with_reph gs && nat_lt 0 base && nat_le base (reph_target position base gs)
+abbrev pub carried_along : ℕ → ℕ → ℕ
+carried_along base target = if nat_lt 0 base && nat_le base target then base - 1 else base
 
 abbrev pub base_after_reph : RephPosition → ℕ → List hb_glyph_info_t → ℕ
-base_after_reph position base gs = if is_crossed position base gs then base - 1 else base
+base_after_reph position base gs = if opens_with_reph gs then carried_along base (reph_target position base gs) else base
 
 -- the step of n places in which all up to place j merges, and the first glyph goes there
 abbrev pub reph_step : ℕ → ℕ → Step

@@ -6,3 +6,4 @@ pub mod FinalPref
 pub mod FinalReordering
 pub mod FinalReph
 pub mod FinalRules
+pub mod FinalWalk

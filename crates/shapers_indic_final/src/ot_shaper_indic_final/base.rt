@@ -1,16 +1,18 @@
 //! The base of a syllable after substitutions. (OpenType, development of Indic scripts: "Final
 //! reordering".)
-ghost use Rattle.std.specs.Prelude.{if◌then◌else◌, ◌≡◌, ◌<◌, ◌≤◌, ◌+◌, ◌∷◌, [], length, map, unwrap_or};
+ghost use Rattle.std.specs.Prelude.{if◌then◌else◌, ◌-◌, ◌≡◌, ◌<◌, ◌≤◌, ◌+◌, ◌∷◌, [], length, map, unwrap_or};
 ghost use Rattle.std.specs.List.{prefix_len};
 ghost use Rattle.std.specs.Option.{IfSome};
+ghost use Rattle.shapers_buffer.specs.Clusters.{stretch_of, with_stretch};
 ghost use Rattle.shapers_indic.specs.Glyphs.{at_position, greatest_place, is_one_of, passes};
 ghost use Rattle.shapers_indic_final.specs.FinalBase.{as_linked, base_by_links, base_by_pref, before_halants, before_joiner, behind_halants, first_base, is_behind_base, is_from_base_on, is_unformed, is_unformed_below, last_link, links_written, may_be_settled, settled_base, stepped_back, unformed_pref, with_base, with_base_at, with_links, with_pref_base};
 ghost use Rattle.shapers_indic_final.specs.FinalGlyphs.{is_halant};
+ghost use Rattle.shapers_indic_final.specs.FinalWalk.{settled};
 
 use super::glyphs::{is_formed, is_halant};
 use super::pref::pref_place;
 use super::rules::{Rules, is_malayalam};
-use shapers_base::buffer::{Script, hb_glyph_info_t};
+use shapers_base::buffer::{GlyphWalk, Script, hb_buffer_t, hb_glyph_info_t};
 use shapers_base::plan::ot_category_t::{OT_H, OT_N, OT_ZWJ};
 use shapers_base::plan::ot_position_t::{POS_BASE_C, POS_BELOW_C};
 use shapers_indic::ot_shaper_indic::glyphs::is_joiner;
@@ -24,12 +26,65 @@ pub(super) struct Based {
     pub(super) tries_pref: bool,
 }
 
-/// Finds the base of a syllable, and gives the glyphs that become it the base's position.
-pub(super) fn find_base(
+// Finds the base of the syllable from `start` to `end`, and gives the glyphs that become it the
+// base's position.
+pub(super) fn settle_base(
     rules: &Rules,
     script: Option<Script>,
-    glyphs: &mut [hb_glyph_info_t],
+    buffer: &mut hb_buffer_t,
+    start: usize,
+    end: usize,
 ) -> Based
+    requires in_order { start ≤ end }
+    requires in_range { end ≤ length buffer.old.glyphs }
+    ensures glyphs { let changed = with_stretch start end (settled rules.now script) in
+        buffer.new ≡ record buffer.old { glyphs = changed buffer.old.glyphs } }
+    ensures base { let syllable = stretch_of start end buffer.old.glyphs in
+        result.base ≡ (with_base rules.now script syllable).base }
+    ensures tries { let syllable = stretch_of start end buffer.old.glyphs in
+        result.tries_pref ≡ (with_base rules.now script syllable).tries_pref }
+    ensures same_length { length buffer.new.glyphs ≡ length buffer.old.glyphs }
+    ensures within { result.base ≤ end - start }
+{
+    let mut walk = BaseWalk {
+        rules: *rules,
+        script,
+        start,
+        end,
+        based: Based {
+            base: 0,
+            tries_pref: false,
+        },
+    };
+    buffer.walk(&mut walk);
+    walk.based
+}
+
+// The syllable whose base is looked for, and what was found.
+#[derive(Clone, Copy)]
+struct BaseWalk {
+    rules: Rules,
+    script: Option<Script>,
+    start: usize,
+    end: usize,
+    based: Based,
+}
+
+impl GlyphWalk for BaseWalk {
+    ghost use Rattle.std.specs.Prelude.{◌≡◌, ◌≤◌, length};
+    ghost use Rattle.shapers_indic_final.specs.FinalWalk.{Settles};
+
+    ghost can_walk = { λ w gs. (w.start ≤ w.end) × (w.end ≤ length gs) };
+
+    ghost walks = { λ v w gs hs. Settles v.rules v.script v.start v.end w.based.base w.based.tries_pref gs hs };
+
+    fn walk(&mut self, glyphs: &mut [hb_glyph_info_t]) {
+        self.based = find_base(&self.rules, self.script, &mut glyphs[self.start..self.end]);
+    }
+}
+
+// Finds the base of a syllable, and gives the glyphs that become it the base's position.
+fn find_base(rules: &Rules, script: Option<Script>, glyphs: &mut [hb_glyph_info_t]) -> Based
     ensures glyphs { glyphs.new ≡ (with_base rules.now script glyphs.old).glyphs }
     ensures base { result.base ≡ (with_base rules.now script glyphs.old).base }
     ensures tries { result.tries_pref ≡ (with_base rules.now script glyphs.old).tries_pref }

@@ -1,7 +1,8 @@
 //! Where the left matras of a syllable go. (OpenType, development of Indic scripts: "Reorder matras".)
 ghost use Rattle.std.specs.Prelude.{◌≡◌, ◌<◌, ◌≤◌, ◌+◌, ◌-◌, length, true, unwrap_or};
-ghost use Rattle.shapers_indic.specs.Glyphs.{greatest_place};
-ghost use Rattle.shapers_indic_final.specs.FinalMatras.{ends_search, is_free_halant, is_left, matra_target, matras_go, nearest_halant, place_before};
+ghost use Rattle.std.specs.Option.{IfSome};
+ghost use Rattle.shapers_indic.specs.Glyphs.{greatest_place, least_place, passes};
+ghost use Rattle.shapers_indic_final.specs.FinalMatras.{end_of_base, ends_search, has_room, is_free_halant, is_left, matra_target, matras_go, nearest_halant, place_before};
 
 use super::glyphs::{is_halant, is_matra_or_halant};
 use super::rules::has_no_half_forms;
@@ -22,6 +23,41 @@ pub(super) fn matras_go(p: usize, glyphs: &[hb_glyph_info_t]) -> bool
     ensures { result ≡ matras_go p glyphs.now }
 {
     p > 0 && !is_left(&glyphs[p])
+}
+
+// Whether there may be left matras before a base.
+pub(super) fn has_room(base: usize, glyphs: &[hb_glyph_info_t]) -> bool
+    ensures { result ≡ has_room base glyphs.now }
+{
+    glyphs.len() > 1 && base > 0
+}
+
+// The end of what merges with a left matra: the base with it, if there is one.
+pub(super) fn end_of_base(base: usize, glyphs: &[hb_glyph_info_t]) -> usize
+    requires { base ≤ length glyphs.now }
+    ensures place { result ≡ end_of_base base glyphs.now }
+    ensures within { result ≤ length glyphs.now }
+    ensures behind { base ≤ result }
+{
+    if base < glyphs.len() {
+        base + 1
+    } else {
+        glyphs.len()
+    }
+}
+
+// The first left matra before the base.
+pub(super) fn first_left(base: usize, glyphs: &[hb_glyph_info_t]) -> Option<usize>
+    requires { base ≤ length glyphs.now }
+    ensures place { result ≡ least_place (passes is_left glyphs.now) 0 base }
+    ensures within { IfSome result (λ i. i < base) }
+{
+    for i in 0..base {
+        if is_left(&glyphs[i]) {
+            return Some(i);
+        }
+    }
+    None
 }
 
 // The place that left matras go to, the start if they stay.

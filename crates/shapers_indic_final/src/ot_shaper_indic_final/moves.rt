@@ -1,14 +1,66 @@
 //! One glyph moved to the other end of a stretch, by the placement list.
-ghost use Rattle.std.specs.Prelude.{◌≡◌, ◌-◌, ◌<◌, ◌≤◌, length};
+ghost use Rattle.std.specs.Prelude.{◌≡◌, ◌+◌, ◌-◌, ◌<◌, ◌≤◌, length};
 ghost use Rattle.std.specs.List.{range_with_len};
 ghost use Rattle.shapers_buffer.specs.Clusters.{with_stretch};
 ghost use Rattle.shapers_buffer.specs.Places.{listed};
+ghost use Rattle.shapers_clusters.specs.Steps.{run_step, widened};
 ghost use Rattle.shapers_indic_final.specs.FinalGlyphs.{first_goes_last, last_goes_first};
+ghost use Rattle.shapers_indic_final.specs.FinalMatras.{matra_step};
+ghost use Rattle.shapers_indic_final.specs.FinalPref.{pref_move};
+ghost use Rattle.shapers_indic_final.specs.FinalReph.{reph_step};
 
 use shapers_base::buffer::hb_buffer_t;
 
+// Merges the syllable from `s` to `e` up to its place `j`, and moves its first glyph, the reph, there.
+pub(super) fn move_reph(buffer: &mut hb_buffer_t, s: usize, e: usize, j: usize)
+    requires in_order { s + j < e }
+    requires in_range { e ≤ length buffer.old.glyphs }
+    ensures { let step = widened s e (length buffer.old.glyphs) (reph_step (e - s) j) in
+        buffer.new ≡ record buffer.old {
+          glyphs = run_step buffer.old.level step buffer.old.glyphs;
+          places = buffer.new.places;
+        } }
+{
+    buffer.merge_clusters(s, s + j + 1);
+    move_first_last(buffer, s, s + j + 1);
+}
+
+// Merges the syllable from `s` to `e` from its place `j` up to its place `i`, and moves the glyph
+// of place `i`, which `pref` formed, to `j`.
+pub(super) fn move_pref(buffer: &mut hb_buffer_t, s: usize, e: usize, j: usize, i: usize)
+    requires before { j ≤ i }
+    requires in_order { s + i < e }
+    requires in_range { e ≤ length buffer.old.glyphs }
+    ensures { let step = widened s e (length buffer.old.glyphs) (pref_move (e - s) j i) in
+        buffer.new ≡ record buffer.old {
+          glyphs = run_step buffer.old.level step buffer.old.glyphs;
+          places = buffer.new.places;
+        } }
+{
+    buffer.merge_clusters(s + j, s + i + 1);
+    move_last_first(buffer, s + j, s + i + 1);
+}
+
+// Moves the glyph of place `i` of the syllable from `s` to `e`, a left matra, to its place `j`, and
+// merges from there up to its place `b`.
+pub(super) fn move_matra(buffer: &mut hb_buffer_t, s: usize, e: usize, b: usize, i: usize, j: usize)
+    requires before { i ≤ j }
+    requires base { j ≤ b }
+    requires base_in_order { s + b ≤ e }
+    requires in_order { s + j < e }
+    requires in_range { e ≤ length buffer.old.glyphs }
+    ensures { let step = widened s e (length buffer.old.glyphs) (matra_step (e - s) b i j) in
+        buffer.new ≡ record buffer.old {
+          glyphs = run_step buffer.old.level step buffer.old.glyphs;
+          places = buffer.new.places;
+        } }
+{
+    move_first_last(buffer, s + i, s + j + 1);
+    buffer.merge_clusters(s + j, s + b);
+}
+
 // Moves the first glyph of the stretch from `s` to `e` behind the others.
-pub(super) fn move_first_last(buffer: &mut hb_buffer_t, s: usize, e: usize)
+fn move_first_last(buffer: &mut hb_buffer_t, s: usize, e: usize)
     requires in_order { s < e }
     requires in_range { e ≤ length buffer.old.glyphs }
     ensures { buffer.new ≡ record buffer.old {
@@ -21,7 +73,7 @@ pub(super) fn move_first_last(buffer: &mut hb_buffer_t, s: usize, e: usize)
 }
 
 // Moves the last glyph of the stretch from `s` to `e` before the others.
-pub(super) fn move_last_first(buffer: &mut hb_buffer_t, s: usize, e: usize)
+fn move_last_first(buffer: &mut hb_buffer_t, s: usize, e: usize)
     requires in_order { s < e }
     requires in_range { e ≤ length buffer.old.glyphs }
     ensures { buffer.new ≡ record buffer.old {

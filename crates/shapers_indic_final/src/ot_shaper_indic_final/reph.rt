@@ -3,7 +3,7 @@ ghost use Rattle.std.specs.Prelude.{◌≡◌, ◌<◌, ◌≤◌, ◌+◌, coun
 ghost use Rattle.std.specs.List.{prefix_len};
 ghost use Rattle.std.specs.Option.{IfSome};
 ghost use Rattle.shapers_indic.specs.Glyphs.{greatest_place, has_position, is_matra, least_place};
-ghost use Rattle.shapers_indic_final.specs.FinalReph.{at_end, behind_base, halant_after_start, is_moving_reph, is_with_main, is_with_sub, last_but_signs, matras_between, opens_with_reph, reph_target, with_joiner, end_of_run};
+ghost use Rattle.shapers_indic_final.specs.FinalReph.{at_end, behind_base, carried_along, halant_after_start, is_moving_reph, is_with_main, is_with_sub, last_but_signs, matras_between, opens_with_reph, reph_target, with_joiner, end_of_run};
 
 use super::glyphs::{is_formed, is_halant};
 use shapers_base::buffer::hb_glyph_info_t;
@@ -41,6 +41,18 @@ pub(super) fn reph_target(position: RephPosition, base: usize, glyphs: &[hb_glyp
     match halant_after_start(base, glyphs) {
         Some(halant) => with_joiner(base, glyphs, halant),
         None => behind_base(position, base, glyphs),
+    }
+}
+
+// Where the base stands once the reph has gone to `target`: one place before, if the reph crossed it.
+pub(super) fn base_after_reph(base: usize, target: usize) -> usize
+    ensures place { result ≡ carried_along base target }
+    ensures within { result ≤ base }
+{
+    if base > 0 && base <= target {
+        base - 1
+    } else {
+        base
     }
 }
 
