@@ -12,6 +12,7 @@ pub mod FinalPlaces
 mod FinalPrefRows
 mod FinalReorderingRows
 mod FinalRephRows
+pub mod FinalSerials
 pub mod FinalSteps
 pub mod FinalTargets
 pub mod FinalText

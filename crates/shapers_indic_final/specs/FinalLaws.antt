@@ -18,11 +18,15 @@ use Rattle.shapers_indic_final.specs.FinalReordering.{final_order, final_steps}
 use Rattle.shapers_indic_final.specs.declared.ot_shaper_indic_final.rules.Rules.{Rules}
 use Rattle.shapers_syllabic.specs.Borders.{MeetAtBorder}
 use Rattle.shapers_syllabic.specs.Reordering.{carried, text_order, text_steps}
-use Rattle.shapers_syllabic.specs.ReorderingLaws.{ReorderLaws}
+use Rattle.shapers_syllabic.specs.ReorderingLaws.{ReadsNoSerials, ReorderLaws}
 
 -- the order and the steps of a syllable keep the laws of reorderings
 abbrev pub FinalReorderLaws : Type 0
 FinalReorderLaws = (r : Rules) (script : Option Script) → ReorderLaws (final_order r script) (final_steps r script)
+
+-- no serial of a syllable is read
+abbrev pub FinalReadsNoSerials : Type 0
+FinalReadsNoSerials = (r : Rules) (script : Option Script) → ReadsNoSerials (final_order r script) (final_steps r script)
 
 -- the steps of all syllables of a text
 abbrev pub final_text_steps : Rules → Option Script → List hb_glyph_info_t → List Step
