@@ -1,5 +1,7 @@
 mod FinalBaseRows
+pub mod FinalFlags
 pub mod FinalHidden
+pub mod FinalKept
 pub mod FinalLaws
 pub mod FinalLawsAt
 pub mod FinalLinks
