@@ -13,7 +13,7 @@ use Rattle.shapers_clusters.specs.Laws.{ClustersHold}
 use Rattle.shapers_clusters.specs.Steps.{FitSteps, old_places, run_steps}
 use Rattle.shapers_clusters.proofs.Moves.{clusters-run_steps}
 use Rattle.shapers_clusters.proofs.Picks.{pick-map}
-use Rattle.shapers_clusters.proofs.Proved.{clusters_hold, steps_hold}
+use Rattle.shapers_clusters.proofs.Proved.{clusters_hold, seen_steps_hold, steps_hold}
 use Rattle.shapers_clusters.proofs.Views.{seen-same}
 use Rattle.shapers_indic_final.specs.FinalLaws.{FlagsFallButBreaks, FinalTextLaws, final_clusters, final_text_steps}
 use Rattle.shapers_indic_final.specs.FinalOpening.{text_run}
@@ -21,8 +21,9 @@ use Rattle.shapers_indic_final.specs.FinalReordering.{final_order, final_steps}
 use Rattle.shapers_indic_final.proofs.FinalFlags.{flags-text, flags-whole}
 use Rattle.shapers_indic_final.proofs.FinalLaws.{final_laws}
 use Rattle.shapers_syllabic.specs.Reordering.{carried, text_order}
+use Rattle.shapers_syllabic.proofs.ReorderingLemmas.{carried_hides}
 use Rattle.shapers_syllabic.proofs.ReorderingLaws.{nothing_lost, text_steps-long}
-use Rattle.shapers_indic_final.proofs.FinalText.{all_syllables, clusters-whole, halves, hidden-inits, none_higher, numbers-seen, seen-order_view, seen-text, steps_from, text_fits}
+use Rattle.shapers_indic_final.proofs.FinalText.{all_syllables, clusters-whole, halves, hidden-inits, none_higher, numbers-seen, seen-order_view, seen-text, steps_from, text_fits, unbroken-text}
 
 -- all laws of the text
 pub finally_kept : FinalTextLaws
@@ -56,5 +57,7 @@ finally_kept r old new done =
       none_rises = subst (λ js. AllZip (λ a b. b ≤ a) (pick olds (clusters gs)) js) (clusters-run_steps old.level steps gs ∙ sym are)
           (subst (λ cs. AllZip (λ a b. b ≤ a) cs (clusters (run_steps old.level steps gs))) (sym (pick-map (λ g. g.cluster) olds gs)) (none_higher (pick olds gs) (run_steps old.level steps gs) held.falls));
       flags = subst (λ sts. AllZip FlagsFallButBreaks (pick (old_places (length gs) sts) gs) ns) (sym is) (flags-whole (pick (old_places (length gs) (steps_from r old.script (length gs) 0 (syllables xs))) gs) ran ns (flags-text r old.script old.level 0 None (syllables xs) gs (all_syllables gs)) done.moved);
+      unbroken = λ none. seen_steps_hold carried carried_hides old.level steps gs ns fits
+          (done.moved ∙ ap (map carried) (unbroken-text r old.script old.level 0 None (syllables xs) gs (all_syllables gs) none ∙ ap (λ sts. run_steps old.level sts gs) (sym is)));
       cuts = λ hs ks parts border. halves r old.script old.level gs ns hs ks done.order are parts border;
     }

@@ -13,14 +13,14 @@ use Rattle.shapers_buffer.specs.Marks.{no_marks}
 use Rattle.shapers_buffer.specs.Places.{pick}
 use Rattle.shapers_buffer.specs.Syllables.{syllables}
 use Rattle.shapers_clusters.specs.Flags.{FallsTo, seen}
-use Rattle.shapers_clusters.specs.Steps.{FitSteps, FitsStep, Step, joined_step, joined_steps, old_places, run_steps, steps_along, widened}
+use Rattle.shapers_clusters.specs.Steps.{FitSteps, FitsStep, Step, joined_step, joined_steps, old_places, run_step, run_steps, steps_along, widened}
 use Rattle.shapers_clusters.proofs.FlagCalls.{map-unsafe_inside}
 use Rattle.shapers_clusters.proofs.Moves.{clusters-run_steps, within-old_places}
 use Rattle.shapers_clusters.proofs.Picks.{pick-all, pick-pick}
 use Rattle.shapers_clusters.proofs.Proved.{along_holds, steps_hold}
 use Rattle.shapers_clusters.proofs.Views.{seen-run_steps}
 use Rattle.shapers_clusters.proofs.Widened.{all_fit-widened}
-use Rattle.shapers_indic_final.specs.FinalLaws.{FinallyOfHalves, final_clusters, final_text_behind, final_text_steps}
+use Rattle.shapers_indic_final.specs.FinalLaws.{BreaksNowhere, FinallyOfHalves, final_clusters, final_text_behind, final_text_steps}
 use Rattle.shapers_indic_final.specs.FinalMatras.{is_left}
 use Rattle.shapers_indic_final.specs.FinalOpening.{bound_at, final_text, in_word, is_bound, last_or, syllable_run, text_run, with_init, with_inits}
 use Rattle.shapers_indic_final.specs.FinalReordering.{final_order, final_steps}
@@ -210,3 +210,18 @@ halves r script level all new gs hs order in_clusters is border =
           ∙ ap (λ cs. cs ++ clusters two) (clusters-run_steps level (final_text_steps r script gs) gs)
           ∙ ap (λ cs. final_clusters r script level gs ++ cs) (clusters-run_steps level (final_text_steps r script hs) hs);
     }
+
+-- a text of which no syllable is opened inside a word
+pub unbroken-text : (r : Rules) (script : Option Script) (level : BufferClusterLevel) (s : ℕ) (before : Option hb_glyph_info_t) (syls : List (List hb_glyph_info_t)) (ys : List hb_glyph_info_t) → s + length (flat_map (λ syl. syl) syls) ≤ length ys → BreaksNowhere r script before syls → text_run r script level s before syls ys ≡ run_steps level (steps_from r script (length ys) s syls) ys
+unbroken-text r script level s before [] ys l none = refl
+unbroken-text r script level s before (syl ∷ syls) ys l none =
+    let zs = syllable_run r script level s before syl ys in
+    let sts = syllable_steps r script s (length ys) syl in
+    let t = s + length syl in
+    let all = length-append syl (flat_map (λ syl. syl) syls) in
+    let long = length-syllable r script level s before syl ys (omega (arith, all)) in
+    let is : zs ≡ run_steps level sts ys = ap (λ b. bound_at s b (run_steps level sts ys)) none.0 in
+    unbroken-text r script level t (last_or before (final_order r script syl)) syls zs (omega (arith, all, long)) none.1
+    ∙ ap (λ n. run_steps level (steps_from r script n t syls) zs) long
+    ∙ ap (run_steps level (steps_from r script (length ys) t syls)) is
+    ∙ sym (fold-append (λ xs step. run_step level step xs) ys sts (steps_from r script (length ys) t syls))
