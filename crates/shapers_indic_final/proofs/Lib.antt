@@ -1,11 +1,16 @@
 mod FinalBaseRows
+pub mod FinalFlags
 pub mod FinalHidden
+pub mod FinalKept
+pub mod FinalLaws
+pub mod FinalLawsAt
 pub mod FinalLinks
 mod FinalMatraRows
 pub mod FinalMeanings
 pub mod FinalMoves
 pub mod FinalOpened
 mod FinalOpeningRows
+pub mod FinalParting
 pub mod FinalPlaces
 pub mod FinalPlacing
 pub mod FinalPlain
@@ -13,6 +18,8 @@ mod FinalPrefRows
 pub mod FinalReads
 mod FinalReorderingRows
 mod FinalRephRows
+pub mod FinalSerials
 pub mod FinalSteps
 pub mod FinalTargets
+pub mod FinalText
 pub mod FinalWords
