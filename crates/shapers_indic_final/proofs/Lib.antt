@@ -1,12 +1,18 @@
 mod FinalBaseRows
+pub mod FinalHidden
+pub mod FinalLaws
+pub mod FinalLawsAt
 pub mod FinalLinks
 mod FinalMatraRows
 pub mod FinalMoves
 pub mod FinalOpened
 mod FinalOpeningRows
+pub mod FinalParting
 pub mod FinalPlaces
 mod FinalPrefRows
 mod FinalReorderingRows
 mod FinalRephRows
 pub mod FinalSteps
+pub mod FinalTargets
+pub mod FinalText
 pub mod FinalWords
