@@ -20,6 +20,7 @@ use Rattle.shapers_syllabic.specs.Reordering.{carried}
 use Rattle.shapers_indic.specs.Glyphs.{greatest_place, least_place, passes, places}
 use Rattle.shapers_indic_final.specs.FinalBase.{Based, with_viramas}
 use Rattle.shapers_indic_final.specs.FinalGlyphs.{first_goes_last, last_goes_first}
+use Rattle.shapers_indic_final.specs.FinalLaws.{FinalReorderLaws}
 use Rattle.shapers_indic_final.specs.FinalMatras.{end_of_base, ends_search, halant_or_start, has_room, is_free_halant, is_left, matra_steps, matra_target, matras_go, merging_step, nearest_halant, parted, parting_steps, place_before, with_matras}
 use Rattle.shapers_indic_final.specs.FinalPref.{formed_pref, moved_before, pref_move, pref_step, pref_steps, pref_target, with_pref}
 use Rattle.shapers_indic_final.specs.FinalReordering.{after_matras, after_pref, after_reph, based, final_order, final_steps, steps_of_pref}
@@ -32,7 +33,6 @@ use Rattle.shapers_indic_final.proofs.FinalMoves.{permutes_first_last, permutes_
 use Rattle.shapers_indic_final.proofs.FinalParting.{all_at, is_other}
 use Rattle.shapers_indic_final.proofs.FinalPlaces.{passes_there}
 use Rattle.shapers_indic_final.proofs.FinalTargets.{PlaceWithin, formed_pref_within, greatest_within, opens_some, pref_target_within, reph_target_within}
-use Rattle.shapers_syllabic.specs.ReorderingLaws.{ReorderLaws}
 
 -- the left matras go to a place
 parting_at : (gs : List hb_glyph_info_t) (p e : ℕ) → p < length gs → passes is_left gs p ≡ false → e ≤ length gs → LawsAt gs (with_stretch 0 (p + 1) (parted is_left) gs) (parting_steps p e gs)
@@ -162,7 +162,7 @@ final_at r script gs =
 hidden : (r : Rules) (script : Option Script) (gs : List hb_glyph_info_t) → map carried (based r script gs).glyphs ≡ map carried gs
 hidden r script gs = hidden-based r script (with_viramas r gs) ∙ hidden-viramas r gs
 
-pub final_laws : (r : Rules) (script : Option Script) → ReorderLaws (final_order r script) (final_steps r script)
+pub final_laws : FinalReorderLaws
 final_laws r script = record {
   fits = λ gs. (let at = final_at r script gs in subst (λ n. FitSteps n (final_steps r script gs)) (length-same carried (based r script gs).glyphs gs (hidden r script gs)) at.fits);
   permutes = λ gs. (let at = final_at r script gs in subst (λ n. AllByRecursion (Permutes n) (final_steps r script gs)) (length-same carried (based r script gs).glyphs gs (hidden r script gs)) at.permutes);

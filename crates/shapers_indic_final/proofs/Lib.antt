@@ -1,5 +1,7 @@
 mod FinalBaseRows
+pub mod FinalFlags
 pub mod FinalHidden
+pub mod FinalKept
 pub mod FinalLaws
 pub mod FinalLawsAt
 pub mod FinalLinks
@@ -12,6 +14,7 @@ pub mod FinalPlaces
 mod FinalPrefRows
 mod FinalReorderingRows
 mod FinalRephRows
+pub mod FinalSerials
 pub mod FinalSteps
 pub mod FinalTargets
 pub mod FinalText
