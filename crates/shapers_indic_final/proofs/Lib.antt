@@ -11,7 +11,9 @@ pub mod FinalOpened
 mod FinalOpeningRows
 pub mod FinalParting
 pub mod FinalPlaces
+pub mod FinalPlain
 mod FinalPrefRows
+pub mod FinalReads
 mod FinalReorderingRows
 mod FinalRephRows
 pub mod FinalSerials
