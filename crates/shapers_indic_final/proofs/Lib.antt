@@ -1,17 +1,24 @@
 mod FinalBaseRows
 pub mod FinalHidden
+pub mod FinalFlags
+pub mod FinalKept
+pub mod FinalLaws
+pub mod FinalLawsAt
 pub mod FinalLinks
 mod FinalMatraRows
 pub mod FinalMeanings
 pub mod FinalMoves
 pub mod FinalOpened
 mod FinalOpeningRows
+pub mod FinalParting
 pub mod FinalPlaces
 pub mod FinalPlain
 mod FinalPrefRows
 pub mod FinalReads
 mod FinalReorderingRows
 mod FinalRephRows
+pub mod FinalSerials
 pub mod FinalSteps
 pub mod FinalTargets
+pub mod FinalText
 pub mod FinalWords

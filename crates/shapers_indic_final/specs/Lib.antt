@@ -1,5 +1,6 @@
 pub mod FinalBase
 pub mod FinalGlyphs
+pub mod FinalLaws
 pub mod FinalMatras
 pub mod FinalOpening
 pub mod FinalPref

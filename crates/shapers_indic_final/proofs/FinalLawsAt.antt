@@ -1,0 +1,93 @@
+-- The laws of the reordering of one syllable, and of one reordering after another.
+use Rattle.std.proofs.Common.{ℕ, ◌<◌, ◌≤◌, ◌≡◌, List, [], ◌∷◌, ◌++◌, map, length, refl, sym, ◌∙◌, ap, subst, arith}
+use Rattle.std.specs.List.{AllByRecursion, range_with_len}
+use Rattle.std.specs.List.Sorted.{IsPermutation}
+use Rattle.std.proofs.lemmas.List.FromFn.{length-range_with_len}
+use Rattle.std.proofs.lemmas.List.Sorted.{length_permutation}
+use Rattle.shapers_buffer.specs.declared.buffer.glyph.hb_glyph_info_t.{hb_glyph_info_t}
+use Rattle.shapers_buffer.specs.Clusters.{with_stretch}
+use Rattle.shapers_buffer.specs.Glyph.{plain}
+use Rattle.shapers_buffer.specs.Places.{pick}
+use Rattle.shapers_buffer.proofs.MappedLists.{all-append}
+use Rattle.shapers_clusters.specs.Cuts.{EndWithin}
+use Rattle.shapers_clusters.specs.Flags.{seen}
+use Rattle.shapers_clusters.specs.Steps.{FitSteps, FitsStep, Permutes, Step, old_places}
+use Rattle.shapers_clusters.proofs.Moves.{length-old_places, within-old_places}
+use Rattle.shapers_clusters.proofs.Picks.{length-pick, pick-all, pick-map, pick-pick}
+use Rattle.shapers_clusters.proofs.Through.{length-same}
+use Rattle.shapers_clusters.proofs.Views.{seen-same}
+use Rattle.shapers_indic.specs.Glyphs.{places}
+use Rattle.shapers_indic_final.proofs.FinalSteps.{Picks, all_within, stretch_permutes, stretch_picks}
+use Rattle.shapers_syllabic.specs.Reordering.{carried}
+use Rattle.shapers_syllabic.proofs.LawsThen.{old_places_then}
+use Rattle.shapers_syllabic.proofs.ReorderingLemmas.{old_places_one}
+
+-- that the syllable gs becomes ms by these steps: they fit it, take each place once, and lead there
+pub record LawsAt (gs ms : List hb_glyph_info_t) (steps : List Step) : Type 0 where
+  pub fits : FitSteps (length gs) steps
+  pub permutes : AllByRecursion (Permutes (length gs)) steps
+  pub moved : ms ≡ pick (old_places (length gs) steps) gs
+
+pub length_at : (gs ms : List hb_glyph_info_t) (steps : List Step) → LawsAt gs ms steps → length ms ≡ length gs
+length_at gs ms steps laws =
+    let olds = old_places (length gs) steps in
+    ap length laws.moved ∙ length-pick olds gs (within-old_places (length gs) steps) ∙ length-old_places (length gs) steps laws.fits
+
+-- one after another
+pub then_at : (gs ms ns : List hb_glyph_info_t) (steps more : List Step) → LawsAt gs ms steps → LawsAt ms ns more → LawsAt gs ns (steps ++ more)
+then_at gs ms ns steps more one two =
+    let k : length ms ≡ length gs = length_at gs ms steps one in
+    let olds = old_places (length gs) steps in
+    record {
+      fits = all-append (FitsStep (length gs)) steps more one.fits (subst (λ n. FitSteps n more) k two.fits);
+      permutes = all-append (Permutes (length gs)) steps more one.permutes (subst (λ n. AllByRecursion (Permutes n) more) k two.permutes);
+      moved = two.moved
+          ∙ ap (λ n. pick (old_places n more) ms) k
+          ∙ ap (pick (old_places (length gs) more)) one.moved
+          ∙ pick-pick (old_places (length gs) more) olds gs (within-old_places (length gs) steps)
+          ∙ ap (λ ps. pick ps gs) (sym (old_places_then (length gs) steps more one.fits));
+    }
+
+-- nothing
+pub same_at : (gs ms : List hb_glyph_info_t) → ms ≡ gs → LawsAt gs ms []
+same_at gs ms same = record {
+  fits = tt;
+  permutes = tt;
+  moved = same ∙ sym (pick-all (length gs) gs refl);
+}
+
+-- to a view of glyphs that are another's to it
+pub agrees_at : (xs gs ms : List hb_glyph_info_t) (steps : List Step) → map carried gs ≡ map carried xs → LawsAt gs ms steps → seen carried ms ≡ pick (old_places (length xs) steps) (seen carried xs)
+agrees_at xs gs ms steps same laws =
+    let view : hb_glyph_info_t → hb_glyph_info_t = λ g. plain (carried g) in
+    ap (seen carried) laws.moved
+    ∙ sym (pick-map view (old_places (length gs) steps) gs)
+    ∙ ap (λ n. pick (old_places n steps) (seen carried gs)) (length-same carried gs xs same)
+    ∙ ap (pick (old_places (length xs) steps)) (seen-same carried gs xs same)
+
+-- a step that takes each place once fits, if what it merges ends within
+pub fits_permuted : (n : ℕ) (step : Step) → Permutes n step → EndWithin n step.merged_first → EndWithin n step.merged_then → FitsStep n step
+fits_permuted n step perm first last = record {
+  as_many = length_permutation (range_with_len 0 n) step.places perm ∙ length-range_with_len 0 n;
+  within = all_within n step.places perm;
+  first_within = first;
+  then_within = last;
+}
+
+-- one step
+pub step_at : (gs ms : List hb_glyph_info_t) (step : Step) → Permutes (length gs) step → EndWithin (length gs) step.merged_first → EndWithin (length gs) step.merged_then → ms ≡ pick step.places gs → LawsAt gs ms (step ∷ [])
+step_at gs ms step perm first last is =
+    let fits = fits_permuted (length gs) step perm first last in
+    record {
+      fits = (fits, tt);
+      permutes = (perm, tt);
+      moved = is ∙ ap (λ ps. pick ps gs) (sym (old_places_one (length gs) step fits));
+    }
+
+-- one step that changes a stretch
+pub stretch_at : (f : List ℕ → List ℕ) (g : List hb_glyph_info_t → List hb_glyph_info_t) → Picks f g → ((ps : List ℕ) → IsPermutation ps (f ps)) → (i k : ℕ) (step : Step) (gs : List hb_glyph_info_t) → i < k → k ≤ length gs → step.places ≡ with_stretch i k f (places 0 (length gs)) → EndWithin (length gs) step.merged_first → EndWithin (length gs) step.merged_then → LawsAt gs (with_stretch i k g gs) (step ∷ [])
+stretch_at f g picks permutes i k step gs h l is first last =
+    let n = length gs in
+    let low : i ≤ k = omega arith in
+    let perm : Permutes n step = subst (IsPermutation (range_with_len 0 n)) (sym is) (stretch_permutes f permutes i k n low) in
+    step_at gs (with_stretch i k g gs) step perm first last (sym (ap (λ ps. pick ps gs) is ∙ stretch_picks f g picks i k n gs h l refl))

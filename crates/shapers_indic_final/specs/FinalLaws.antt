@@ -1,0 +1,71 @@
+-- The laws of the final reordering of a text, as statements.
+use Rattle.std.specs.Prelude.{ℕ, ◌%◌, ◌≡◌, ◌≤◌, ◌<◌, ◌⊎◌, bit_or, List, ◌++◌, length, map, Option, None}
+use Rattle.std.specs.List.{AllZip}
+use Rattle.std.specs.List.Sorted.{IsPermutation}
+use Rattle.shapers_buffer.specs.declared.buffer.glyph.hb_glyph_info_t.{hb_glyph_info_t}
+use Rattle.shapers_buffer.specs.declared.buffer.level.BufferClusterLevel.{BufferClusterLevel}
+use Rattle.shapers_buffer.specs.declared.buffer.tag.Script.{Script}
+use Rattle.shapers_buffer.specs.Buffer.{Buffer}
+use Rattle.shapers_buffer.specs.Glyph.{clusters, order_view}
+use Rattle.shapers_buffer.specs.Places.{pick}
+use Rattle.shapers_buffer.specs.Syllables.{syllables}
+use Rattle.shapers_clusters.specs.Cuts.{ShareNone}
+use Rattle.shapers_clusters.specs.Flags.{seen}
+use Rattle.shapers_clusters.specs.Laws.{ClustersHold}
+use Rattle.shapers_clusters.specs.Steps.{Step, joined_steps, old_places}
+use Rattle.shapers_indic_final.specs.FinalOpening.{FinallyReordered, final_text, last_or, with_inits}
+use Rattle.shapers_indic_final.specs.FinalReordering.{final_order, final_steps}
+use Rattle.shapers_indic_final.specs.declared.ot_shaper_indic_final.rules.Rules.{Rules}
+use Rattle.shapers_syllabic.specs.Borders.{MeetAtBorder}
+use Rattle.shapers_syllabic.specs.Reordering.{carried, text_order, text_steps}
+use Rattle.shapers_syllabic.specs.ReorderingLaws.{ReadsNoSerials, ReorderLaws}
+
+-- the order and the steps of a syllable keep the laws of reorderings
+abbrev pub FinalReorderLaws : Type 0
+FinalReorderLaws = (r : Rules) (script : Option Script) → ReorderLaws (final_order r script) (final_steps r script)
+
+-- no serial of a syllable is read
+abbrev pub FinalReadsNoSerials : Type 0
+FinalReadsNoSerials = (r : Rules) (script : Option Script) → ReadsNoSerials (final_order r script) (final_steps r script)
+
+-- the steps of all syllables of a text
+abbrev pub final_text_steps : Rules → Option Script → List hb_glyph_info_t → List Step
+final_text_steps r script gs = text_steps (final_steps r script) (order_view gs)
+
+-- what a text becomes behind a glyph, which decides on init at its start alone
+abbrev pub final_text_behind : Rules → Option Script → Option hb_glyph_info_t → List hb_glyph_info_t → List hb_glyph_info_t
+final_text_behind r script before gs = with_inits r.init before (map (final_order r script) (syllables gs))
+
+-- The clusters of a text after the steps of its syllables.
+abbrev pub final_clusters : Rules → Option Script → BufferClusterLevel → List hb_glyph_info_t → List ℕ
+final_clusters r script level gs = joined_steps level (final_text_steps r script gs) (clusters gs)
+
+-- Glyph flags of an old glyph and a new one: its cluster doesn't rise; if it fell the flags are gone, else they are kept; but the
+-- bits of an unsafe break may come besides.
+pub record FlagsFallButBreaks (old new : hb_glyph_info_t) : Type 0 where
+  pub at_most : new.cluster ≤ old.cluster
+  pub fell : new.cluster < old.cluster → (new.mask % 8 ≡ 0) ⊎ (new.mask % 8 ≡ 3)
+  pub kept : new.cluster ≡ old.cluster → (new.mask % 8 ≡ old.mask % 8) ⊎ (new.mask % 8 ≡ bit_or (old.mask % 8) 3)
+
+-- A text cut at a border of syllables: the order view is that of the first half, and then that of the second behind its last
+-- glyph; where the halves share no cluster, so are the clusters.
+pub record FinallyOfHalves (r : Rules) (script : Option Script) (level : BufferClusterLevel) (gs hs new : List hb_glyph_info_t) : Type 0 where
+  pub order : order_view new ≡ final_text r script (order_view gs) ++ final_text_behind r script (last_or None (text_order (final_order r script) (order_view gs))) (order_view hs)
+  pub in_clusters : ShareNone gs hs → clusters new ≡ final_clusters r script level gs ++ final_clusters r script level hs
+
+-- What holds of any text after the pause. Nothing is lost: what is carried along, clusters and glyph flags apart, and glyph numbers
+-- alone, are those of the text in some order, each from the place that the steps say. The clusters are what the steps of all
+-- syllables make of the old ones, one after another: each is one that was there, labels are respected, at level Characters each
+-- glyph keeps its own; none rises. Glyph flags. Cuts at borders of syllables.
+pub record FinallyKept (r : Rules) (old new : Buffer) : Type 0 where
+  pub kept : IsPermutation (seen carried old.glyphs) (seen carried new.glyphs)
+  pub numbers : IsPermutation (map (λ g. g.glyph_id) old.glyphs) (map (λ g. g.glyph_id) new.glyphs)
+  pub moved_view : seen carried new.glyphs ≡ pick (old_places (length old.glyphs) (final_text_steps r old.script old.glyphs)) (seen carried old.glyphs)
+  pub clusters_are : clusters new.glyphs ≡ final_clusters r old.script old.level old.glyphs
+  pub in_clusters : ClustersHold old.level (final_text_steps r old.script old.glyphs) (clusters old.glyphs) (clusters new.glyphs)
+  pub none_rises : AllZip (λ a b. b ≤ a) (pick (old_places (length old.glyphs) (final_text_steps r old.script old.glyphs)) (clusters old.glyphs)) (clusters new.glyphs)
+  pub flags : AllZip FlagsFallButBreaks (pick (old_places (length old.glyphs) (final_text_steps r old.script old.glyphs)) old.glyphs) new.glyphs
+  pub cuts : (gs hs : List hb_glyph_info_t) → old.glyphs ≡ gs ++ hs → MeetAtBorder gs hs → FinallyOfHalves r old.script old.level gs hs new.glyphs
+
+abbrev pub FinalTextLaws : Type 0
+FinalTextLaws = (r : Rules) (old new : Buffer) → FinallyReordered r old new → FinallyKept r old new
