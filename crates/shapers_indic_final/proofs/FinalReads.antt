@@ -26,9 +26,6 @@ use Rattle.shapers_indic_final.specs.FinalReordering.{after_matras, after_pref, 
 use Rattle.shapers_indic_final.specs.FinalReph.{at_end, base_after_reph, behind_base, carried_along, end_of_run, is_with_main, is_with_sub, last_but_signs, matras_between, opens_with_reph, reph_step, reph_steps, reph_target, with_joiner, with_reph}
 use Rattle.shapers_indic_final.specs.FinalRules.{has_no_half_forms, is_malayalam}
 use Rattle.shapers_indic_final.specs.declared.ot_shaper_indic_final.rules.Rules.{Rules}
-use Rattle.shapers_syllabic.specs.ReorderingLaws.{ReadsNoSerials}
-use Rattle.shapers_syllabic.proofs.LawsThen.{reads_by_view}
-use Rattle.shapers_buffer.specs.Syllables.{kind_of}
 
 -- functions at several equal arguments
 same_two : {A B C : Type 0} (f : A → B → C) {a b : A} {c d : B} → a ≡ b → c ≡ d → f a c ≡ f b d
@@ -416,12 +413,3 @@ order_stays v r kept script gs =
 
 pub final_steps_stay : (v : View) (r : Rules) → KeepsMask v r.pref → (script : Option Script) (gs : List hb_glyph_info_t) → final_steps r script (seen_by v gs) ≡ final_steps r script gs
 final_steps_stay v r kept script gs = ap (steps_of_based r script) (based_stays v r kept script gs) ∙ steps_seen v r kept script (based r script gs)
-
--- so no serial of a syllable is read
-abbrev pub unnumbered_view : View
-unnumbered_view = record { in_clusters = λ c. c; in_masks = λ m. m; in_syllables = kind_of }
-
-pub reads_no_serials : (r : Rules) (script : Option Script) → ReadsNoSerials (final_order r script) (final_steps r script)
-reads_no_serials r script =
-    let v = unnumbered_view in
-    reads_by_view (final_order r script) (final_steps r script) (order_stays v r (λ m. refl) script) (final_steps_stay v r (λ m. refl) script)
