@@ -1,7 +1,7 @@
 -- The laws of the final reordering of a syllable: its steps fit it, take each place once, and lead to the order.
-use Rattle.std.proofs.Common.{ℕ, suc, ◌+◌, ◌-◌, ◌<◌, ◌≤◌, ◌≡◌, ◌==◌, not, Bool, true, false, cond, if◌then◌else◌, List, [], ◌∷◌, ◌++◌, length, take, drop, take-suc, take-append-drop, append_assoc, append-nil, length-drop, get_or, Option, None, Some, refl, sym, ◌∙◌, ap, subst, arith, inl, inr}
+use Rattle.std.proofs.Common.{map, ℕ, suc, ◌+◌, ◌-◌, ◌<◌, ◌≤◌, ◌≡◌, ◌==◌, not, Bool, true, false, cond, if◌then◌else◌, List, [], ◌∷◌, ◌++◌, length, take, drop, take-suc, take-append-drop, append_assoc, append-nil, length-drop, get_or, Option, None, Some, refl, sym, ◌∙◌, ap, subst, arith, inl, inr}
 use Rattle.std.specs.Prelude.{filter, nat_lt, unwrap_or}
-use Rattle.std.specs.List.{range_with_len}
+use Rattle.std.specs.List.{AllByRecursion, range_with_len}
 use Rattle.std.specs.List.Sorted.{IsPermutation}
 use Rattle.std.proofs.lemmas.Bool.{and_parts, cases_Bool}
 use Rattle.std.proofs.lemmas.Bool.Decides.{nat_tests}
@@ -14,6 +14,9 @@ use Rattle.shapers_buffer.specs.Glyph.{default_glyph}
 use Rattle.shapers_buffer.specs.Places.{pick}
 use Rattle.shapers_base.specs.declared.plan.indic.RephPosition.{RephPosition}
 use Rattle.shapers_clusters.proofs.Picks.{pick-all}
+use Rattle.shapers_clusters.proofs.Through.{length-same}
+use Rattle.shapers_clusters.specs.Steps.{FitSteps, Permutes}
+use Rattle.shapers_syllabic.specs.Reordering.{carried}
 use Rattle.shapers_indic.specs.Glyphs.{greatest_place, least_place, passes, places}
 use Rattle.shapers_indic_final.specs.FinalBase.{Based, with_viramas}
 use Rattle.shapers_indic_final.specs.FinalGlyphs.{first_goes_last, last_goes_first}
@@ -25,7 +28,7 @@ use Rattle.shapers_indic_final.specs.FinalReph.{opens_with_reph, reph_step, reph
 use Rattle.shapers_indic_final.specs.FinalRules.{has_no_half_forms}
 use Rattle.shapers_indic_final.specs.declared.ot_shaper_indic_final.rules.Rules.{Rules}
 use Rattle.shapers_indic_final.proofs.FinalHidden.{base_within, hidden-based, hidden-viramas}
-use Rattle.shapers_indic_final.proofs.FinalLawsAt.{LawsAt, same_at, step_at, stretch_at, then_at}
+use Rattle.shapers_indic_final.proofs.FinalLawsAt.{LawsAt, agrees_at, same_at, step_at, stretch_at, then_at}
 use Rattle.shapers_indic_final.proofs.FinalMoves.{permutes_first_last, permutes_last_first, picks_first_last, picks_last_first}
 use Rattle.shapers_indic_final.proofs.FinalParting.{all_at, is_other}
 use Rattle.shapers_indic_final.proofs.FinalPlaces.{passes_there}
@@ -94,7 +97,7 @@ negated : (b : Bool) → not b ≡ true → b ≡ false
 negated true h = sym h
 negated false h = refl
 
-matras_at : (script : Option Script) (base : ℕ) (gs : List hb_glyph_info_t) → base ≤ length gs → LawsAt gs (with_matras script base gs) (matra_steps script base gs)
+pub matras_at : (script : Option Script) (base : ℕ) (gs : List hb_glyph_info_t) → base ≤ length gs → LawsAt gs (with_matras script base gs) (matra_steps script base gs)
 matras_at script base gs l =
     let p = matra_target script base gs in
     let e = end_of_base base gs in
@@ -113,7 +116,7 @@ matras_at script base gs l =
     ]
 
 -- the reph
-reph_at : (position : RephPosition) (base : ℕ) (gs : List hb_glyph_info_t) → LawsAt gs (with_reph position base gs) (reph_steps position base gs)
+pub reph_at : (position : RephPosition) (base : ℕ) (gs : List hb_glyph_info_t) → LawsAt gs (with_reph position base gs) (reph_steps position base gs)
 reph_at position base gs =
     let j = reph_target position base gs in
     elim (cases_Bool (opens_with_reph gs)) [
@@ -134,17 +137,17 @@ moved_at gs j s (Some i) l within =
     let ends : i + 1 ≤ length gs = omega arith in
     stretch_at last_goes_first last_goes_first picks_last_first permutes_last_first j (i + 1) (pref_move (length gs) j i) gs (omega arith) ends refl (ends, tt) tt
 
-pref_at : (pref : ℕ) (script : Option Script) (base : ℕ) (gs : List hb_glyph_info_t) → LawsAt gs (with_pref pref script base gs) (pref_steps pref script base gs)
+pub pref_at : (pref : ℕ) (script : Option Script) (base : ℕ) (gs : List hb_glyph_info_t) → LawsAt gs (with_pref pref script base gs) (pref_steps pref script base gs)
 pref_at pref script base gs = moved_at gs (pref_target script base gs) (base + 1) (formed_pref pref base gs) (pref_target_within script base gs) (formed_pref_within pref base gs)
 
-tried_at : (r : Rules) (script : Option Script) (b : Based) → LawsAt b.glyphs (after_pref r script b) (steps_of_pref r script b)
+pub tried_at : (r : Rules) (script : Option Script) (b : Based) → LawsAt b.glyphs (after_pref r script b) (steps_of_pref r script b)
 tried_at r script b = elim b.tries_pref as (λ t. LawsAt b.glyphs (if t then with_pref r.pref script b.base b.glyphs else b.glyphs) (if t then pref_steps r.pref script b.base b.glyphs else [])) [
   | true ↦ pref_at r.pref script b.base b.glyphs
   | false ↦ same_at b.glyphs b.glyphs refl
 ]
 
--- all of them
-pub final_at : (r : Rules) (script : Option Script) (gs : List hb_glyph_info_t) → LawsAt gs (final_order r script gs) (final_steps r script gs)
+-- all of them, from the syllable with its base on
+pub final_at : (r : Rules) (script : Option Script) (gs : List hb_glyph_info_t) → LawsAt (based r script gs).glyphs (final_order r script gs) (final_steps r script gs)
 final_at r script gs =
     let b = based r script gs in
     let p = after_matras r script b in
@@ -153,13 +156,15 @@ final_at r script gs =
     let ms = matra_steps script b.base b.glyphs in
     let rs = reph_steps r.reph_pos p.base p.glyphs in
     let ps = steps_of_pref r script q in
-    then_at gs b.glyphs end [] (ms ++ (rs ++ ps)) (same_at gs b.glyphs (hidden-based r script (with_viramas r gs) ∙ hidden-viramas r gs))
-    (then_at b.glyphs p.glyphs end ms (rs ++ ps) (matras_at script b.base b.glyphs (base_within r script (with_viramas r gs)))
-    (then_at p.glyphs q.glyphs end rs ps (reph_at r.reph_pos p.base p.glyphs) (tried_at r script q)))
+    then_at b.glyphs p.glyphs end ms (rs ++ ps) (matras_at script b.base b.glyphs (base_within r script (with_viramas r gs)))
+    (then_at p.glyphs q.glyphs end rs ps (reph_at r.reph_pos p.base p.glyphs) (tried_at r script q))
+
+hidden : (r : Rules) (script : Option Script) (gs : List hb_glyph_info_t) → map carried (based r script gs).glyphs ≡ map carried gs
+hidden r script gs = hidden-based r script (with_viramas r gs) ∙ hidden-viramas r gs
 
 pub final_laws : FinalReorderLaws
 final_laws r script = record {
-  fits = λ gs. (let at = final_at r script gs in at.fits);
-  permutes = λ gs. (let at = final_at r script gs in at.permutes);
-  agrees = λ gs. (let at = final_at r script gs in at.agrees);
+  fits = λ gs. (let at = final_at r script gs in subst (λ n. FitSteps n (final_steps r script gs)) (length-same carried (based r script gs).glyphs gs (hidden r script gs)) at.fits);
+  permutes = λ gs. (let at = final_at r script gs in subst (λ n. AllByRecursion (Permutes n) (final_steps r script gs)) (length-same carried (based r script gs).glyphs gs (hidden r script gs)) at.permutes);
+  agrees = λ gs. agrees_at gs (based r script gs).glyphs (final_order r script gs) (final_steps r script gs) (hidden r script gs) (final_at r script gs);
 }

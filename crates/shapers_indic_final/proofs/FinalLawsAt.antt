@@ -2,7 +2,6 @@
 use Rattle.std.proofs.Common.{ℕ, ◌<◌, ◌≤◌, ◌≡◌, List, [], ◌∷◌, ◌++◌, map, length, refl, sym, ◌∙◌, ap, subst, arith}
 use Rattle.std.specs.List.{AllByRecursion, range_with_len}
 use Rattle.std.specs.List.Sorted.{IsPermutation}
-use Rattle.std.proofs.lemmas.List.{length-map}
 use Rattle.std.proofs.lemmas.List.FromFn.{length-range_with_len}
 use Rattle.std.proofs.lemmas.List.Sorted.{length_permutation}
 use Rattle.shapers_buffer.specs.declared.buffer.glyph.hb_glyph_info_t.{hb_glyph_info_t}
@@ -15,52 +14,56 @@ use Rattle.shapers_clusters.specs.Flags.{seen}
 use Rattle.shapers_clusters.specs.Steps.{FitSteps, FitsStep, Permutes, Step, old_places}
 use Rattle.shapers_clusters.proofs.Moves.{length-old_places, within-old_places}
 use Rattle.shapers_clusters.proofs.Picks.{length-pick, pick-all, pick-map, pick-pick}
+use Rattle.shapers_clusters.proofs.Through.{length-same}
 use Rattle.shapers_clusters.proofs.Views.{seen-same}
 use Rattle.shapers_indic.specs.Glyphs.{places}
 use Rattle.shapers_indic_final.proofs.FinalSteps.{Picks, all_within, stretch_permutes, stretch_picks}
 use Rattle.shapers_syllabic.specs.Reordering.{carried}
 use Rattle.shapers_syllabic.proofs.LawsThen.{old_places_then}
-use Rattle.shapers_syllabic.proofs.ReorderingLemmas.{agrees_by_places}
+use Rattle.shapers_syllabic.proofs.ReorderingLemmas.{old_places_one}
 
 -- that the syllable gs becomes ms by these steps: they fit it, take each place once, and lead there
 pub record LawsAt (gs ms : List hb_glyph_info_t) (steps : List Step) : Type 0 where
   pub fits : FitSteps (length gs) steps
   pub permutes : AllByRecursion (Permutes (length gs)) steps
-  pub agrees : seen carried ms ≡ pick (old_places (length gs) steps) (seen carried gs)
+  pub moved : ms ≡ pick (old_places (length gs) steps) gs
 
 pub length_at : (gs ms : List hb_glyph_info_t) (steps : List Step) → LawsAt gs ms steps → length ms ≡ length gs
 length_at gs ms steps laws =
     let olds = old_places (length gs) steps in
-    let n : length (seen carried gs) ≡ length gs = length-map gs (λ g. plain (carried g)) in
-    let P : ℕ → Type 0 = λ k. AllByRecursion (λ p. p < k) olds in
-    sym (length-map ms (λ g. plain (carried g)))
-    ∙ ap length laws.agrees
-    ∙ length-pick olds (seen carried gs) (subst P (sym n) (within-old_places (length gs) steps))
-    ∙ length-old_places (length gs) steps laws.fits
+    ap length laws.moved ∙ length-pick olds gs (within-old_places (length gs) steps) ∙ length-old_places (length gs) steps laws.fits
 
 -- one after another
 pub then_at : (gs ms ns : List hb_glyph_info_t) (steps more : List Step) → LawsAt gs ms steps → LawsAt ms ns more → LawsAt gs ns (steps ++ more)
 then_at gs ms ns steps more one two =
     let k : length ms ≡ length gs = length_at gs ms steps one in
     let olds = old_places (length gs) steps in
-    let long : length gs ≡ length (seen carried gs) = sym (length-map gs (λ g. plain (carried g))) in
     record {
       fits = all-append (FitsStep (length gs)) steps more one.fits (subst (λ n. FitSteps n more) k two.fits);
       permutes = all-append (Permutes (length gs)) steps more one.permutes (subst (λ n. AllByRecursion (Permutes n) more) k two.permutes);
-      agrees = two.agrees
-          ∙ ap (λ n. pick (old_places n more) (seen carried ms)) k
-          ∙ ap (pick (old_places (length gs) more)) one.agrees
-          ∙ pick-pick (old_places (length gs) more) olds (seen carried gs) (subst (λ n. AllByRecursion (λ p. p < n) olds) long (within-old_places (length gs) steps))
-          ∙ ap (λ ps. pick ps (seen carried gs)) (sym (old_places_then (length gs) steps more one.fits));
+      moved = two.moved
+          ∙ ap (λ n. pick (old_places n more) ms) k
+          ∙ ap (pick (old_places (length gs) more)) one.moved
+          ∙ pick-pick (old_places (length gs) more) olds gs (within-old_places (length gs) steps)
+          ∙ ap (λ ps. pick ps gs) (sym (old_places_then (length gs) steps more one.fits));
     }
 
--- nothing that shows
-pub same_at : (gs ms : List hb_glyph_info_t) → map carried ms ≡ map carried gs → LawsAt gs ms []
+-- nothing
+pub same_at : (gs ms : List hb_glyph_info_t) → ms ≡ gs → LawsAt gs ms []
 same_at gs ms same = record {
   fits = tt;
   permutes = tt;
-  agrees = seen-same carried ms gs same ∙ sym (pick-all (length gs) (seen carried gs) (length-map gs (λ g. plain (carried g))));
+  moved = same ∙ sym (pick-all (length gs) gs refl);
 }
+
+-- to a view of glyphs that are another's to it
+pub agrees_at : (xs gs ms : List hb_glyph_info_t) (steps : List Step) → map carried gs ≡ map carried xs → LawsAt gs ms steps → seen carried ms ≡ pick (old_places (length xs) steps) (seen carried xs)
+agrees_at xs gs ms steps same laws =
+    let view : hb_glyph_info_t → hb_glyph_info_t = λ g. plain (carried g) in
+    ap (seen carried) laws.moved
+    ∙ sym (pick-map view (old_places (length gs) steps) gs)
+    ∙ ap (λ n. pick (old_places n steps) (seen carried gs)) (length-same carried gs xs same)
+    ∙ ap (pick (old_places (length xs) steps)) (seen-same carried gs xs same)
 
 -- a step that takes each place once fits, if what it merges ends within
 pub fits_permuted : (n : ℕ) (step : Step) → Permutes n step → EndWithin n step.merged_first → EndWithin n step.merged_then → FitsStep n step
@@ -78,7 +81,7 @@ step_at gs ms step perm first last is =
     record {
       fits = (fits, tt);
       permutes = (perm, tt);
-      agrees = agrees_by_places step gs ms fits (ap (seen carried) is ∙ sym (pick-map (λ g. plain (carried g)) step.places gs));
+      moved = is ∙ ap (λ ps. pick ps gs) (sym (old_places_one (length gs) step fits));
     }
 
 -- one step that changes a stretch
