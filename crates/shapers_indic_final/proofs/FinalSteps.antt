@@ -78,7 +78,7 @@ stretch_picks f g picks i k n gs h l long =
     ∙ ap (λ qs. take i gs ++ (g (stretch_of i k gs) ++ pick qs gs)) back
     ∙ ap (λ ys. take i gs ++ (g (stretch_of i k gs) ++ ys)) (pick-range k (n - k) gs (omega arith) ∙ rest)
 
-three_parts : {X : Type 0} (s e : ℕ) (xs : List X) → s ≤ e → take s xs ++ (stretch_of s e xs ++ drop e xs) ≡ xs
+pub three_parts : {X : Type 0} (s e : ℕ) (xs : List X) → s ≤ e → take s xs ++ (stretch_of s e xs ++ drop e xs) ≡ xs
 three_parts s e xs l =
     ap (λ ys. take s xs ++ (stretch_of s e xs ++ ys)) (ap (λ m. drop m xs) (let a : e ≡ s + (e - s) = omega arith in a) ∙ sym (drop-drop (e - s) s xs))
     ∙ ap (λ ys. take s xs ++ ys) (take-append-drop (e - s) (drop s xs))

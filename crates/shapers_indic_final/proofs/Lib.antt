@@ -12,6 +12,7 @@ mod FinalOpeningRows
 pub mod FinalParting
 pub mod FinalPlaces
 pub mod FinalPlain
+pub mod FinalPlacing
 mod FinalPrefRows
 pub mod FinalReads
 mod FinalReorderingRows

@@ -6,6 +6,7 @@ mod glyphs;
 mod matras;
 mod moves;
 mod opening;
+mod placing;
 mod pref;
 mod reph;
 pub mod rules;

@@ -1,0 +1,144 @@
+//! Left matras, the reph and a formed pref glyph of one syllable, each put in its place.
+ghost use Rattle.std.specs.Prelude.{◌≡◌, ◌<◌, ◌≤◌, ◌+◌, ◌-◌, length, map};
+ghost use Rattle.shapers_buffer.specs.Clusters.{stretch_of};
+ghost use Rattle.shapers_clusters.specs.Steps.{run_steps, widened};
+ghost use Rattle.shapers_indic_final.specs.FinalMatras.{end_of_base, matra_steps, parting_steps, staying_steps};
+ghost use Rattle.shapers_indic_final.specs.FinalPref.{pref_steps};
+ghost use Rattle.shapers_indic_final.specs.FinalReph.{base_after_reph, reph_steps};
+
+use super::matras::{end_of_base, first_left, has_room, is_left, matra_target, matras_go};
+use super::moves::{move_matra, move_pref, move_reph};
+use super::pref::{formed_pref, pref_target};
+use super::reph::{base_after_reph, opens_with_reph, reph_target};
+use shapers_base::buffer::{Script, hb_buffer_t};
+use shapers_base::plan::RephPosition;
+
+// Puts the reph of the syllable from `s` to `e` in its place, and answers where the base stands then.
+pub(super) fn place_reph(
+    position: RephPosition,
+    base: usize,
+    buffer: &mut hb_buffer_t,
+    s: usize,
+    e: usize,
+) -> usize
+    requires in_order { s ≤ e }
+    requires in_range { e ≤ length buffer.old.glyphs }
+    requires in_syllable { base ≤ e - s }
+    ensures glyphs { let steps = reph_steps position base (stretch_of s e buffer.old.glyphs) in
+        let wide = map (widened s e (length buffer.old.glyphs)) steps in
+        buffer.new ≡ record buffer.old {
+          glyphs = run_steps buffer.old.level wide buffer.old.glyphs;
+          places = buffer.new.places;
+        } }
+    ensures same_length { length buffer.new.glyphs ≡ length buffer.old.glyphs }
+    ensures place { result ≡ base_after_reph position base (stretch_of s e buffer.old.glyphs) }
+    ensures within { result ≤ e - s }
+{
+    if !opens_with_reph(&buffer.glyphs()[s..e]) {
+        return base;
+    }
+    let target = reph_target(position, base, &buffer.glyphs()[s..e]);
+    move_reph(buffer, s, e, target);
+    base_after_reph(base, target)
+}
+
+// Puts the glyph of the syllable from `s` to `e` that `pref` formed in its place.
+pub(super) fn place_pref(
+    script: Option<Script>,
+    pref: u32,
+    base: usize,
+    buffer: &mut hb_buffer_t,
+    s: usize,
+    e: usize,
+)
+    requires in_order { s ≤ e }
+    requires in_range { e ≤ length buffer.old.glyphs }
+    requires in_syllable { base ≤ e - s }
+    ensures glyphs { let steps = pref_steps pref script base (stretch_of s e buffer.old.glyphs) in
+        let wide = map (widened s e (length buffer.old.glyphs)) steps in
+        buffer.new ≡ record buffer.old {
+          glyphs = run_steps buffer.old.level wide buffer.old.glyphs;
+          places = buffer.new.places;
+        } }
+    ensures same_length { length buffer.new.glyphs ≡ length buffer.old.glyphs }
+{
+    let formed = formed_pref(pref, base, &buffer.glyphs()[s..e]);
+    if let Some(i) = formed {
+        let target = pref_target(script, base, &buffer.glyphs()[s..e]);
+        move_pref(buffer, s, e, target, i);
+    }
+}
+
+// Puts the left matras of the syllable from `s` to `e` in their place.
+pub(super) fn place_matras(
+    script: Option<Script>,
+    base: usize,
+    buffer: &mut hb_buffer_t,
+    s: usize,
+    e: usize,
+)
+    requires in_order { s ≤ e }
+    requires in_range { e ≤ length buffer.old.glyphs }
+    requires in_syllable { base ≤ e - s }
+    ensures glyphs { let steps = matra_steps script base (stretch_of s e buffer.old.glyphs) in
+        let wide = map (widened s e (length buffer.old.glyphs)) steps in
+        buffer.new ≡ record buffer.old {
+          glyphs = run_steps buffer.old.level wide buffer.old.glyphs;
+          places = buffer.new.places;
+        } }
+    ensures same_length { length buffer.new.glyphs ≡ length buffer.old.glyphs }
+{
+    if !has_room(base, &buffer.glyphs()[s..e]) {
+        return;
+    }
+    let end = end_of_base(base, &buffer.glyphs()[s..e]);
+    let target = matra_target(script, base, &buffer.glyphs()[s..e]);
+    if matras_go(target, &buffer.glyphs()[s..e]) {
+        part_matras(target, end, buffer, s, e);
+    } else {
+        merge_matras(base, end, buffer, s, e);
+    }
+}
+
+// Moves the left matras before place `p` of the syllable from `s` to `e` there, the last one first,
+// and merges each with all up to place `b`.
+fn part_matras(p: usize, b: usize, buffer: &mut hb_buffer_t, s: usize, e: usize)
+    requires in_range { e ≤ length buffer.old.glyphs }
+    requires before { p < b }
+    requires base_in_order { s + b ≤ e }
+    ensures glyphs { let steps = parting_steps p b (stretch_of s e buffer.old.glyphs) in
+        let wide = map (widened s e (length buffer.old.glyphs)) steps in
+        buffer.new ≡ record buffer.old {
+          glyphs = run_steps buffer.old.level wide buffer.old.glyphs;
+          places = buffer.new.places;
+        } }
+    ensures same_length { length buffer.new.glyphs ≡ length buffer.old.glyphs }
+{
+    let mut target = p;
+    for i in (0..p).rev() {
+        if is_left(&buffer.glyphs()[s + i]) {
+            move_matra(buffer, s, e, b, i, target);
+            target -= 1;
+        }
+    }
+}
+
+// Merges the syllable from `s` to `e` from its first left matra before the base up to place `b`.
+fn merge_matras(base: usize, b: usize, buffer: &mut hb_buffer_t, s: usize, e: usize)
+    requires in_order { s ≤ e }
+    requires in_range { e ≤ length buffer.old.glyphs }
+    requires in_syllable { base ≤ e - s }
+    requires end { b ≡ end_of_base base (stretch_of s e buffer.old.glyphs) }
+    ensures glyphs { let steps = staying_steps base (stretch_of s e buffer.old.glyphs) in
+        let wide = map (widened s e (length buffer.old.glyphs)) steps in
+        buffer.new ≡ record buffer.old {
+          glyphs = run_steps buffer.old.level wide buffer.old.glyphs;
+          places = buffer.new.places;
+        } }
+    ensures same_length { length buffer.new.glyphs ≡ length buffer.old.glyphs }
+{
+    let first = first_left(base, &buffer.glyphs()[s..e]);
+    if let Some(i) = first {
+        buffer.merge_clusters(s + i, s + b);
+    }
+}
