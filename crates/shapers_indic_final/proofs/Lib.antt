@@ -19,6 +19,7 @@ mod FinalReorderingRows
 mod FinalRephRows
 pub mod FinalSerials
 pub mod FinalSteps
+pub mod FinalSyllable
 pub mod FinalTargets
 pub mod FinalText
 pub mod FinalWords
