@@ -20,6 +20,7 @@ mod FinalReorderingRows
 mod FinalRephRows
 pub mod FinalSerials
 pub mod FinalSteps
+pub mod FinalSyllable
 pub mod FinalTargets
 pub mod FinalText
 pub mod FinalWords

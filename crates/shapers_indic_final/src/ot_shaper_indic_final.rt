@@ -8,6 +8,7 @@ mod moves;
 mod opening;
 mod placing;
 mod pref;
+mod reordering;
 mod reph;
 pub mod rules;
 mod viramas;

@@ -1,0 +1,35 @@
+//! The final reordering of one syllable.
+ghost use Rattle.std.specs.Prelude.{◌%◌, ◌≡◌, ◌≤◌, length};
+ghost use Rattle.shapers_indic_final.specs.FinalReordering.{final_order, final_steps};
+ghost use Rattle.shapers_syllabic.specs.Reordering.{SyllableReordered};
+
+use super::base::settle_base;
+use super::placing::{place_matras, place_pref, place_reph};
+use super::rules::Rules;
+use super::viramas::recover_viramas;
+use shapers_base::buffer::{Script, hb_buffer_t};
+
+// Reorders the syllable from `s` to `e`: its viramas, its base, its left matras, its reph, and a
+// glyph that `pref` formed.
+pub(super) fn reorder_syllable(
+    rules: &Rules,
+    script: Option<Script>,
+    buffer: &mut hb_buffer_t,
+    s: usize,
+    e: usize,
+)
+    requires in_order { s ≤ e }
+    requires in_range { e ≤ length buffer.old.glyphs }
+    requires pref { rules.now.pref % 8 ≡ 0 }
+    ensures reordered { SyllableReordered
+        (final_order rules.now script) (final_steps rules.now script) s e buffer.old buffer.new }
+    ensures same_length { length buffer.new.glyphs ≡ length buffer.old.glyphs }
+{
+    recover_viramas(rules.virama, buffer, s, e);
+    let based = settle_base(rules, script, buffer, s, e);
+    place_matras(script, based.base, buffer, s, e);
+    let base = place_reph(rules.reph_pos, based.base, buffer, s, e);
+    if based.tries_pref {
+        place_pref(script, rules.pref, base, buffer, s, e);
+    }
+}
