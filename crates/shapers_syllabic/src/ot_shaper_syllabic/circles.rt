@@ -186,8 +186,8 @@ impl DottedCircles {
         }
     }
 
-    // Opens the last broken syllable of the first `read` glyphs, which move up, from it on, by as many
-    // places as they have broken syllables. Answers where it starts.
+    // Opens the last broken syllable of the first `read` glyphs, which move up, from it on, by as
+    // many places as they have broken syllables. Answers where it starts.
     fn open_last(&self, glyphs: &mut [hb_glyph_info_t], read: usize, left: usize) -> usize
         requires some { 0 < left }
         requires in_range { read + left ≤ length glyphs.old }
