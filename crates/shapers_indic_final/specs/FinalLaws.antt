@@ -1,5 +1,5 @@
 -- The laws of the final reordering of a text, as statements.
-use Rattle.std.specs.Prelude.{ℕ, ◌%◌, ◌≡◌, ◌≤◌, ◌<◌, ◌⊎◌, bit_or, false, List, [], ◌∷◌, ◌++◌, length, map, Option, None}
+use Rattle.std.specs.Prelude.{ℕ, ◌%◌, ◌≡◌, ◌≤◌, ◌<◌, ◌⊎◌, bit_or, false, List, [], ◌∷◌, ◌++◌, length, map, drop, Option, None}
 use Rattle.std.specs.List.{AllZip}
 use Rattle.std.specs.List.Sorted.{IsPermutation}
 use Rattle.shapers_buffer.specs.declared.buffer.glyph.hb_glyph_info_t.{hb_glyph_info_t}
@@ -52,10 +52,19 @@ abbrev pub BreaksNowhere : Rules → Option Script → Option hb_glyph_info_t �
 BreaksNowhere r script before [] = Unit {0}
 BreaksNowhere r script before (syl ∷ syls) = (is_bound before (final_order r script syl) ≡ false) × BreaksNowhere r script (last_or before (final_order r script syl)) syls
 
+-- what is left of a glyph without its mask; two lists that differ in the mask of their first glyph alone
+abbrev pub unmasked : hb_glyph_info_t → hb_glyph_info_t
+unmasked g = record g { mask = 0 }
+
+pub record SameButFirstMask (xs ys : List hb_glyph_info_t) : Type 0 where
+  pub first : map unmasked xs ≡ map unmasked ys
+  pub rest : drop 1 xs ≡ drop 1 ys
+
 -- A text cut at a border of syllables: the order view is that of the first half, and then that of the second behind its last
--- glyph; where the halves share no cluster, so are the clusters.
+-- glyph, which for itself differs in the mask of its first glyph alone; where the halves share no cluster, so are the clusters.
 pub record FinallyOfHalves (r : Rules) (script : Option Script) (level : BufferClusterLevel) (gs hs new : List hb_glyph_info_t) : Type 0 where
   pub order : order_view new ≡ final_text r script (order_view gs) ++ final_text_behind r script (last_or None (text_order (final_order r script) (order_view gs))) (order_view hs)
+  pub alone : SameButFirstMask (final_text_behind r script (last_or None (text_order (final_order r script) (order_view gs))) (order_view hs)) (final_text r script (order_view hs))
   pub in_clusters : ShareNone gs hs → clusters new ≡ final_clusters r script level gs ++ final_clusters r script level hs
 
 -- What holds of any text after the pause. Nothing is lost: what is carried along, clusters and glyph flags apart, and glyph numbers
