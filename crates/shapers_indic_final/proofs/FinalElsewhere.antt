@@ -25,13 +25,12 @@ use Rattle.shapers_indic_final.specs.FinalLaws.{at_opening}
 use Rattle.shapers_indic_final.specs.FinalOpening.{bound_at, is_bound, last_or, syllable_run, text_run}
 use Rattle.shapers_indic_final.specs.FinalReordering.{final_order, final_steps}
 use Rattle.shapers_indic_final.specs.declared.ot_shaper_indic_final.rules.Rules.{Rules}
-use Rattle.shapers_indic_final.proofs.FinalLaws.{final_at, final_laws}
-use Rattle.shapers_indic_final.proofs.FinalLawsAt.{length_at}
+use Rattle.shapers_indic_final.proofs.FinalLaws.{final_laws}
 use Rattle.shapers_indic_final.proofs.FinalText.{length-syllable, steps_from, syllable_fits, syllable_steps}
 use Rattle.shapers_syllabic.specs.Reordering.{carried}
 use Rattle.shapers_syllabic.proofs.LawsThen.{old_places_then}
 use Rattle.shapers_syllabic.proofs.ReorderingLaws.{each_piece}
-use Rattle.shapers_syllabic.proofs.ReorderingWalk.{pieces_of}
+use Rattle.shapers_syllabic.proofs.ReorderingWalk.{length-meaning, pieces_of}
 
 -- places below t stay, and none above comes from below
 pub record Keeps (t n : ℕ) (ps : List ℕ) : Type 0 where
@@ -172,7 +171,7 @@ elsewhere r script level s before (syl ∷ syls) ys l i h none =
       | inr k ↦ elim (cases_Bool b) [
         | inl opens ↦
             let some = bound_some before (final_order r script syl) opens in
-            let same = length_at syl (final_order r script syl) (final_steps r script syl) (final_at r script syl) in
+            let same = length-meaning (final_order r script) (final_steps r script) (final_laws r script) syl in
             let high = keeps.above i k h in
             ap (λ c. c && (q == s || q + 1 == s)) opens ∙ behind_opening s q (omega arith)
         | inr off ↦ ap (λ c. c && (q == s || q + 1 == s)) off
