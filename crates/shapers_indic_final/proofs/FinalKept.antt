@@ -1,28 +1,30 @@
 -- The laws of the final reordering of a text, proved.
-use Rattle.std.proofs.Common.{ℕ, ◌≤◌, ◌≡◌, map, length, None, sym, ◌∙◌, ap, subst}
+use Rattle.std.proofs.Common.{ℕ, ◌≤◌, ◌≡◌, map, length, get_or, None, sym, ◌∙◌, ap, subst, arith}
 use Rattle.std.specs.List.{AllZip}
 use Rattle.std.specs.List.Sorted.{IsPermutation}
 use Rattle.std.proofs.lemmas.List.{length-map}
 use Rattle.std.proofs.lemmas.List.Sorted.{IsPermutation-map}
 use Rattle.shapers_buffer.specs.declared.buffer.glyph.hb_glyph_info_t.{hb_glyph_info_t}
-use Rattle.shapers_buffer.specs.Glyph.{clusters, order_view}
+use Rattle.shapers_buffer.specs.Glyph.{clusters, default_glyph, order_view}
 use Rattle.shapers_buffer.specs.Places.{pick}
 use Rattle.shapers_buffer.specs.Syllables.{syllables}
-use Rattle.shapers_clusters.specs.Flags.{seen}
+use Rattle.shapers_clusters.specs.Flags.{FlagsFall, seen}
 use Rattle.shapers_clusters.specs.Laws.{ClustersHold}
 use Rattle.shapers_clusters.specs.Steps.{FitSteps, old_places, run_steps}
 use Rattle.shapers_clusters.proofs.Moves.{clusters-run_steps}
 use Rattle.shapers_clusters.proofs.Picks.{pick-map}
-use Rattle.shapers_clusters.proofs.Proved.{clusters_hold, steps_hold}
+use Rattle.shapers_clusters.proofs.Proved.{clusters_hold, seen_steps_hold, steps_hold}
 use Rattle.shapers_clusters.proofs.Views.{seen-same}
 use Rattle.shapers_indic_final.specs.FinalLaws.{FlagsFallButBreaks, FinalTextLaws, final_clusters, final_text_steps}
 use Rattle.shapers_indic_final.specs.FinalOpening.{text_run}
 use Rattle.shapers_indic_final.specs.FinalReordering.{final_order, final_steps}
+use Rattle.shapers_indic_final.proofs.FinalElsewhere.{elsewhere, elsewhere-whole}
 use Rattle.shapers_indic_final.proofs.FinalFlags.{flags-text, flags-whole}
 use Rattle.shapers_indic_final.proofs.FinalLaws.{final_laws}
 use Rattle.shapers_syllabic.specs.Reordering.{carried, text_order}
+use Rattle.shapers_syllabic.proofs.ReorderingLemmas.{carried_hides}
 use Rattle.shapers_syllabic.proofs.ReorderingLaws.{nothing_lost, text_steps-long}
-use Rattle.shapers_indic_final.proofs.FinalText.{all_syllables, clusters-whole, halves, hidden-inits, none_higher, numbers-seen, seen-order_view, seen-text, steps_from, text_fits}
+use Rattle.shapers_indic_final.proofs.FinalText.{all_syllables, clusters-whole, halves, hidden-inits, none_higher, numbers-seen, seen-order_view, seen-text, steps_from, text_fits, unbroken-text}
 
 -- all laws of the text
 pub finally_kept : FinalTextLaws
@@ -44,6 +46,7 @@ finally_kept r old new done =
     let is = text_steps-long (final_steps r old.script) gs in
     let held = steps_hold old.level steps gs fits in
     let olds = old_places (length gs) steps in
+    let new_long : length ns ≡ length gs = sym (length-map ns (λ g. g.cluster)) ∙ ap length are ∙ (let stays = clusters_hold old.level steps (clusters gs) (subst (λ n. FitSteps n steps) (sym (length-map gs (λ g. g.cluster))) fits) in stays.same_length) ∙ length-map gs (λ g. g.cluster) in
     let many : length gs ≡ length (clusters gs) = sym (length-map gs (λ g. g.cluster)) in
     record {
       kept = kept;
@@ -56,5 +59,10 @@ finally_kept r old new done =
       none_rises = subst (λ js. AllZip (λ a b. b ≤ a) (pick olds (clusters gs)) js) (clusters-run_steps old.level steps gs ∙ sym are)
           (subst (λ cs. AllZip (λ a b. b ≤ a) cs (clusters (run_steps old.level steps gs))) (sym (pick-map (λ g. g.cluster) olds gs)) (none_higher (pick olds gs) (run_steps old.level steps gs) held.falls));
       flags = subst (λ sts. AllZip FlagsFallButBreaks (pick (old_places (length gs) sts) gs) ns) (sym is) (flags-whole (pick (old_places (length gs) (steps_from r old.script (length gs) 0 (syllables xs))) gs) ran ns (flags-text r old.script old.level 0 None (syllables xs) gs (all_syllables gs)) done.moved);
+      flags_elsewhere = λ i l none.
+          elsewhere-whole (get_or (pick olds gs) i default_glyph) ran ns done.moved i l
+          (subst (λ sts. FlagsFall (get_or (pick (old_places (length gs) sts) gs) i default_glyph) (get_or ran i default_glyph)) (sym is) (elsewhere r old.script old.level 0 None (syllables xs) gs (all_syllables gs) i (omega (arith, new_long)) none));
+      unbroken = λ none. seen_steps_hold carried carried_hides old.level steps gs ns fits
+          (done.moved ∙ ap (map carried) (unbroken-text r old.script old.level 0 None (syllables xs) gs (all_syllables gs) none ∙ ap (λ sts. run_steps old.level sts gs) (sym is)));
       cuts = λ hs ks parts border. halves r old.script old.level gs ns hs ks done.order are parts border;
     }

@@ -1,5 +1,5 @@
 -- What the final reordering makes of the clusters of a text, of what is carried along, and of a text cut.
-use Rattle.std.proofs.Common.{ℕ, ◌+◌, ◌-◌, ◌%◌, ◌<◌, ◌≤◌, ◌≡◌, ◌&&◌, not, Bool, true, false, if◌then◌else◌, List, [], ◌∷◌, ◌++◌, map, length, length-append, append_assoc, Option, None, Some, refl, sym, ◌∙◌, ap, subst, arith}
+use Rattle.std.proofs.Common.{ℕ, ◌+◌, ◌-◌, ◌%◌, ◌<◌, ◌≤◌, ◌≡◌, ◌&&◌, not, Bool, true, false, if◌then◌else◌, List, [], ◌∷◌, ◌++◌, map, drop, length, length-append, append_assoc, Option, None, Some, refl, sym, ◌∙◌, ap, subst, arith}
 use Rattle.std.specs.Prelude.{bit_or}
 use Rattle.std.specs.List.{AllByRecursion, AllZip, flat_map, sum_by}
 use Rattle.std.proofs.lemmas.List.{length-map, map-append}
@@ -13,14 +13,14 @@ use Rattle.shapers_buffer.specs.Marks.{no_marks}
 use Rattle.shapers_buffer.specs.Places.{pick}
 use Rattle.shapers_buffer.specs.Syllables.{syllables}
 use Rattle.shapers_clusters.specs.Flags.{FallsTo, seen}
-use Rattle.shapers_clusters.specs.Steps.{FitSteps, FitsStep, Step, joined_step, joined_steps, old_places, run_steps, steps_along, widened}
+use Rattle.shapers_clusters.specs.Steps.{FitSteps, FitsStep, Step, joined_step, joined_steps, old_places, run_step, run_steps, steps_along, widened}
 use Rattle.shapers_clusters.proofs.FlagCalls.{map-unsafe_inside}
 use Rattle.shapers_clusters.proofs.Moves.{clusters-run_steps, within-old_places}
 use Rattle.shapers_clusters.proofs.Picks.{pick-all, pick-pick}
 use Rattle.shapers_clusters.proofs.Proved.{along_holds, steps_hold}
 use Rattle.shapers_clusters.proofs.Views.{seen-run_steps}
 use Rattle.shapers_clusters.proofs.Widened.{all_fit-widened}
-use Rattle.shapers_indic_final.specs.FinalLaws.{FinallyOfHalves, final_clusters, final_text_behind, final_text_steps}
+use Rattle.shapers_indic_final.specs.FinalLaws.{BreaksNowhere, FinallyOfHalves, SameButFirstMask, final_clusters, final_text_behind, final_text_steps, unmasked}
 use Rattle.shapers_indic_final.specs.FinalMatras.{is_left}
 use Rattle.shapers_indic_final.specs.FinalOpening.{bound_at, final_text, in_word, is_bound, last_or, syllable_run, text_run, with_init, with_inits}
 use Rattle.shapers_indic_final.specs.FinalReordering.{final_order, final_steps}
@@ -193,6 +193,19 @@ text-append r script gs hs border =
     let f = final_order r script in
     ap (λ ps. with_inits r.init None (map f ps)) (syllables-append gs hs border) ∙ inits-append r.init f None (syllables gs) (syllables hs)
 
+-- a glyph before it counts for the mask of the first glyph alone
+pub but_first : (bits : ℕ) (one two : Option hb_glyph_info_t) (ps : List (List hb_glyph_info_t)) → SameButFirstMask (with_inits bits one ps) (with_inits bits two ps)
+but_first bits one two [] = record { first = refl; rest = refl }
+but_first bits one two ([] ∷ ps) = but_first bits one two ps
+but_first bits one two ((g ∷ gs) ∷ ps) =
+    let more = gs ++ with_inits bits (last_or (Some g) gs) ps in
+    let F : Bool → List hb_glyph_info_t = λ b. (if b then with_bits bits g ∷ gs else g ∷ gs) ++ with_inits bits (last_or (Some g) gs) ps in
+    let view : (b : Bool) → map unmasked (F b) ≡ map unmasked (g ∷ more) = λ b. elim b as (λ b. map unmasked (F b) ≡ map unmasked (g ∷ more)) [ true ↦ refl | false ↦ refl ] in
+    let tail : (b : Bool) → drop 1 (F b) ≡ more = λ b. elim b as (λ b. drop 1 (F b) ≡ more) [ true ↦ refl | false ↦ refl ] in
+    let a = is_left g && not (in_word one) in
+    let b = is_left g && not (in_word two) in
+    record { first = view a ∙ sym (view b); rest = tail a ∙ sym (tail b) }
+
 pub halves : (r : Rules) (script : Option Script) (level : BufferClusterLevel) (all new gs hs : List hb_glyph_info_t) → order_view new ≡ final_text r script (order_view all) → clusters new ≡ final_clusters r script level all → all ≡ gs ++ hs → MeetAtBorder gs hs → FinallyOfHalves r script level gs hs new
 halves r script level all new gs hs order in_clusters is border =
     let steps = final_steps r script in
@@ -201,6 +214,7 @@ halves r script level all new gs hs order in_clusters is border =
     let both = gs ++ hs in
     record {
       order = order ∙ ap (λ xs. final_text r script (order_view xs)) is ∙ ap (final_text r script) (map-append plain gs hs) ∙ text-append r script (order_view gs) (order_view hs) (border-view gs hs border);
+      alone = but_first r.init (last_or None (text_order (final_order r script) (order_view gs))) None (map (final_order r script) (syllables (order_view hs)));
       in_clusters = λ none.
           in_clusters
           ∙ ap (final_clusters r script level) is
@@ -210,3 +224,18 @@ halves r script level all new gs hs order in_clusters is border =
           ∙ ap (λ cs. cs ++ clusters two) (clusters-run_steps level (final_text_steps r script gs) gs)
           ∙ ap (λ cs. final_clusters r script level gs ++ cs) (clusters-run_steps level (final_text_steps r script hs) hs);
     }
+
+-- a text of which no syllable is opened inside a word
+pub unbroken-text : (r : Rules) (script : Option Script) (level : BufferClusterLevel) (s : ℕ) (before : Option hb_glyph_info_t) (syls : List (List hb_glyph_info_t)) (ys : List hb_glyph_info_t) → s + length (flat_map (λ syl. syl) syls) ≤ length ys → BreaksNowhere r script before syls → text_run r script level s before syls ys ≡ run_steps level (steps_from r script (length ys) s syls) ys
+unbroken-text r script level s before [] ys l none = refl
+unbroken-text r script level s before (syl ∷ syls) ys l none =
+    let zs = syllable_run r script level s before syl ys in
+    let sts = syllable_steps r script s (length ys) syl in
+    let t = s + length syl in
+    let all = length-append syl (flat_map (λ syl. syl) syls) in
+    let long = length-syllable r script level s before syl ys (omega (arith, all)) in
+    let is : zs ≡ run_steps level sts ys = ap (λ b. bound_at s b (run_steps level sts ys)) none.0 in
+    unbroken-text r script level t (last_or before (final_order r script syl)) syls zs (omega (arith, all, long)) none.1
+    ∙ ap (λ n. run_steps level (steps_from r script n t syls) zs) long
+    ∙ ap (run_steps level (steps_from r script (length ys) t syls)) is
+    ∙ sym (fold-append (λ xs step. run_step level step xs) ys sts (steps_from r script (length ys) t syls))

@@ -1,4 +1,5 @@
 mod FinalBaseRows
+pub mod FinalElsewhere
 pub mod FinalFlags
 pub mod FinalHidden
 pub mod FinalKept

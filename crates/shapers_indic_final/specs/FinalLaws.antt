@@ -1,19 +1,19 @@
 -- The laws of the final reordering of a text, as statements.
-use Rattle.std.specs.Prelude.{ℕ, ◌%◌, ◌≡◌, ◌≤◌, ◌<◌, ◌⊎◌, bit_or, List, ◌++◌, length, map, Option, None}
+use Rattle.std.specs.Prelude.{ℕ, Bool, ◌+◌, ◌==◌, ◌&&◌, ◌||◌, ◌%◌, ◌≡◌, ◌≤◌, ◌<◌, ◌⊎◌, bit_or, false, List, [], ◌∷◌, ◌++◌, length, map, drop, get_or, Option, None}
 use Rattle.std.specs.List.{AllZip}
 use Rattle.std.specs.List.Sorted.{IsPermutation}
 use Rattle.shapers_buffer.specs.declared.buffer.glyph.hb_glyph_info_t.{hb_glyph_info_t}
 use Rattle.shapers_buffer.specs.declared.buffer.level.BufferClusterLevel.{BufferClusterLevel}
 use Rattle.shapers_buffer.specs.declared.buffer.tag.Script.{Script}
 use Rattle.shapers_buffer.specs.Buffer.{Buffer}
-use Rattle.shapers_buffer.specs.Glyph.{clusters, order_view}
+use Rattle.shapers_buffer.specs.Glyph.{clusters, default_glyph, order_view}
 use Rattle.shapers_buffer.specs.Places.{pick}
 use Rattle.shapers_buffer.specs.Syllables.{syllables}
 use Rattle.shapers_clusters.specs.Cuts.{ShareNone}
-use Rattle.shapers_clusters.specs.Flags.{seen}
-use Rattle.shapers_clusters.specs.Laws.{ClustersHold}
+use Rattle.shapers_clusters.specs.Flags.{FlagsFall, seen}
+use Rattle.shapers_clusters.specs.Laws.{ClustersHold, SeenStepsHold}
 use Rattle.shapers_clusters.specs.Steps.{Step, joined_steps, old_places}
-use Rattle.shapers_indic_final.specs.FinalOpening.{FinallyReordered, final_text, last_or, with_inits}
+use Rattle.shapers_indic_final.specs.FinalOpening.{FinallyReordered, final_text, is_bound, last_or, with_inits}
 use Rattle.shapers_indic_final.specs.FinalReordering.{final_order, final_steps}
 use Rattle.shapers_indic_final.specs.declared.ot_shaper_indic_final.rules.Rules.{Rules}
 use Rattle.shapers_syllabic.specs.Borders.{MeetAtBorder}
@@ -47,16 +47,37 @@ pub record FlagsFallButBreaks (old new : hb_glyph_info_t) : Type 0 where
   pub fell : new.cluster < old.cluster → (new.mask % 8 ≡ 0) ⊎ (new.mask % 8 ≡ 3)
   pub kept : new.cluster ≡ old.cluster → (new.mask % 8 ≡ old.mask % 8) ⊎ (new.mask % 8 ≡ bit_or (old.mask % 8) 3)
 
+-- whether none of these syllables is opened inside a word, behind a glyph
+abbrev pub BreaksNowhere : Rules → Option Script → Option hb_glyph_info_t → List (List hb_glyph_info_t) → Type 0
+BreaksNowhere r script before [] = Unit {0}
+BreaksNowhere r script before (syl ∷ syls) = (is_bound before (final_order r script syl) ≡ false) × BreaksNowhere r script (last_or before (final_order r script syl)) syls
+
+-- whether place i is the first of a syllable that opens inside a word, or the one before it; of these syllables, from place s on
+abbrev pub at_opening : Rules → Option Script → ℕ → Option hb_glyph_info_t → List (List hb_glyph_info_t) → ℕ → Bool
+at_opening r script s before [] i = false
+at_opening r script s before (syl ∷ syls) i =
+    is_bound before (final_order r script syl) && (i == s || i + 1 == s) || at_opening r script (s + length syl) (last_or before (final_order r script syl)) syls i
+
+-- what is left of a glyph without its mask; two lists that differ in the mask of their first glyph alone
+abbrev pub unmasked : hb_glyph_info_t → hb_glyph_info_t
+unmasked g = record g { mask = 0 }
+
+pub record SameButFirstMask (xs ys : List hb_glyph_info_t) : Type 0 where
+  pub first : map unmasked xs ≡ map unmasked ys
+  pub rest : drop 1 xs ≡ drop 1 ys
+
 -- A text cut at a border of syllables: the order view is that of the first half, and then that of the second behind its last
--- glyph; where the halves share no cluster, so are the clusters.
+-- glyph, which for itself differs in the mask of its first glyph alone; where the halves share no cluster, so are the clusters.
 pub record FinallyOfHalves (r : Rules) (script : Option Script) (level : BufferClusterLevel) (gs hs new : List hb_glyph_info_t) : Type 0 where
   pub order : order_view new ≡ final_text r script (order_view gs) ++ final_text_behind r script (last_or None (text_order (final_order r script) (order_view gs))) (order_view hs)
+  pub alone : SameButFirstMask (final_text_behind r script (last_or None (text_order (final_order r script) (order_view gs))) (order_view hs)) (final_text r script (order_view hs))
   pub in_clusters : ShareNone gs hs → clusters new ≡ final_clusters r script level gs ++ final_clusters r script level hs
 
 -- What holds of any text after the pause. Nothing is lost: what is carried along, clusters and glyph flags apart, and glyph numbers
 -- alone, are those of the text in some order, each from the place that the steps say. The clusters are what the steps of all
 -- syllables make of the old ones, one after another: each is one that was there, labels are respected, at level Characters each
--- glyph keeps its own; none rises. Glyph flags. Cuts at borders of syllables.
+-- glyph keeps its own; none rises. Glyph flags; and where no
+-- syllable is opened inside a word, the laws of steps as they are. Cuts at borders of syllables.
 pub record FinallyKept (r : Rules) (old new : Buffer) : Type 0 where
   pub kept : IsPermutation (seen carried old.glyphs) (seen carried new.glyphs)
   pub numbers : IsPermutation (map (λ g. g.glyph_id) old.glyphs) (map (λ g. g.glyph_id) new.glyphs)
@@ -65,6 +86,10 @@ pub record FinallyKept (r : Rules) (old new : Buffer) : Type 0 where
   pub in_clusters : ClustersHold old.level (final_text_steps r old.script old.glyphs) (clusters old.glyphs) (clusters new.glyphs)
   pub none_rises : AllZip (λ a b. b ≤ a) (pick (old_places (length old.glyphs) (final_text_steps r old.script old.glyphs)) (clusters old.glyphs)) (clusters new.glyphs)
   pub flags : AllZip FlagsFallButBreaks (pick (old_places (length old.glyphs) (final_text_steps r old.script old.glyphs)) old.glyphs) new.glyphs
+  pub flags_elsewhere : (i : ℕ) →
+      i < length new.glyphs → at_opening r old.script 0 None (syllables (order_view old.glyphs)) i ≡ false →
+      FlagsFall (get_or (pick (old_places (length old.glyphs) (final_text_steps r old.script old.glyphs)) old.glyphs) i default_glyph) (get_or new.glyphs i default_glyph)
+  pub unbroken : BreaksNowhere r old.script None (syllables (order_view old.glyphs)) → SeenStepsHold carried old.level (final_text_steps r old.script old.glyphs) old.glyphs new.glyphs
   pub cuts : (gs hs : List hb_glyph_info_t) → old.glyphs ≡ gs ++ hs → MeetAtBorder gs hs → FinallyOfHalves r old.script old.level gs hs new.glyphs
 
 abbrev pub FinalTextLaws : Type 0

@@ -3,6 +3,7 @@
 //! scripts: "Final reordering".)
 mod base;
 mod glyphs;
+pub mod laws;
 mod matras;
 mod moves;
 mod opening;

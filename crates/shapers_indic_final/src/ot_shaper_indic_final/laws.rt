@@ -1,0 +1,20 @@
+//! Laws of the final reordering, each the contract of a function without a body.
+ghost use Rattle.shapers_indic_final.specs.FinalLaws.{FinalReadsNoSerials, FinalReorderLaws, FinalTextLaws};
+
+/// The steps of a syllable take each of its places once and lead to its final order.
+pub fn final_reorder_laws()
+    ensures { FinalReorderLaws }
+{}
+
+/// What a syllable becomes hangs on the kind in its bytes and not on their serials, so that pauses can
+/// be cut between any two spans.
+pub fn final_reads_no_serials()
+    ensures { FinalReadsNoSerials }
+{}
+
+/// After the pause no glyph is lost, no cluster rises, glyph flags stay unless it fell, but for a break
+/// before a syllable that opens inside a word, and labels that clusters and merged stretches respect are
+/// still respected.
+pub fn final_text_laws()
+    ensures { FinalTextLaws }
+{}
