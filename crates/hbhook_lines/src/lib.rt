@@ -1,4 +1,5 @@
-//! The lines of the program: reads them, carries them out on a buffer of glyphs and prints the buffer.
+//! The lines of the program: reads them, carries them out on a buffer of glyphs and prints the
+//! buffer.
 #![tactic(auto)]
 
 pub mod command;

@@ -80,7 +80,8 @@ impl Tables for LineTables {
     ghost tables = { λ tables. record {
       joining = λ c. (entry_of tables.entries c).joining_type;
       general = λ c. (entry_of tables.entries c).general_category;
-      indic = λ c. let entry = entry_of tables.entries c in (entry.indic_category, entry.indic_position);
+      indic = λ c. let entry = entry_of tables.entries c in
+          (entry.indic_category, entry.indic_position);
       universal = λ c. (entry_of tables.entries c).universal_category;
       composed = λ a b. whole_of tables.pairs.items a b;
       decomposed = λ whole. parts_of tables.pairs.items whole;

@@ -1,8 +1,9 @@
-//! Runs the worked rows of data/ through the program's lines, tells of each that fails, and counts them.
+//! Runs the worked rows of data/ through the program's lines, tells of each that fails, and counts
+//! them.
 //!
-//! In a file of rows a line that begins with `#` is a comment, and an empty line ends a row. A row is
-//! a run: its lines, each behind `> `, what they print, and behind `! ` the status and the message of
-//! a run that ends in a fault.
+//! In a file of rows a line that begins with `#` is a comment, and an empty line ends a row. A row
+//! is a run: its lines, each behind `> `, what they print, and behind `! ` the status and the
+//! message of a run that ends in a fault.
 #![tactic(auto)]
 
 #[cfg(test)]
@@ -29,8 +30,8 @@ const FILES: [&str; 13] = [
     "universal.rows",
 ];
 
-/// A row: the line of the file that it begins on, the lines of the run, what they print, and how the
-/// run ends.
+/// A row: the line of the file that it begins on, the lines of the run, what they print, and how
+/// the run ends.
 #[derive(Drop)]
 struct Row {
     begins_on: usize,

@@ -220,8 +220,8 @@ impl hb_ot_shaper_t {
         }
     }
 
-    /// Rewrites the glyphs after positioning: for Arabic, marks stretch over the words before them, by
-    /// the widths of `widths_law`.
+    /// Rewrites the glyphs after positioning: for Arabic, marks stretch over the words before them,
+    /// by the widths of `widths_law`.
     pub fn postprocess_glyphs<F: hb_font_t>(
         self,
         plan: &hb_ot_shape_plan_t,

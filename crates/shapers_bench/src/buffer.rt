@@ -43,7 +43,8 @@ fn merges_at_each_level(rt: HostRuntime) -> Result<(), Fail> {
     ];
     for level in levels {
         let merges = level != BufferClusterLevel::Characters;
-        // clusters that rise: the follower of equal cluster goes along, flags go where a cluster changes
+        // clusters that rise: the follower of equal cluster goes along, flags go where a cluster
+        // changes
         let mut rising = text(rt.alloc(), &[0, 1, 2, 2, 3], 15)?;
         rising.set_cluster_level(level);
         assert!(rt; rising.len() == 5);

@@ -16,7 +16,8 @@ pub fn thai_glyphs<F: hb_font_t>(
     face: &F,
     text: &[char],
 ) -> Result<hb_buffer_t, ShaperError>
-    ensures { IfOk result (λ buffer. All (λ cluster. cluster < length text.now) (clusters buffer.glyphs)) }
+    ensures { IfOk result (λ buffer. All (λ cluster. cluster < length text.now)
+        (clusters buffer.glyphs)) }
 {
     let plan = thai_plan(alloc);
     let mut buffer = buffer_of(alloc, text)?;
@@ -45,7 +46,8 @@ fn thai_plan(alloc: Global) -> hb_ot_shape_plan_t {
 
 // A buffer with a glyph for each character, whose cluster is the character's place.
 fn buffer_of(alloc: Global, text: &[char]) -> Result<hb_buffer_t, ShaperError>
-    ensures places { IfOk result (λ buffer. All (λ cluster. cluster < length text.now) (clusters buffer.glyphs)) }
+    ensures places { IfOk result (λ buffer. All (λ cluster. cluster < length text.now)
+        (clusters buffer.glyphs)) }
     ensures unplaced { IfOk result (λ buffer. buffer.positions ≡ []) }
 {
     let mut buffer = hb_buffer_t::new(alloc, text.len().saturating_mul(2));

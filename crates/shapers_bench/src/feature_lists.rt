@@ -1,4 +1,5 @@
-//! The feature lists, each whole. A row is a tag with its flags and its value, or a pause by its name.
+//! The feature lists, each whole. A row is a tag with its flags and its value, or a pause by its
+//! name.
 use rustybuzz_shapers::buffer::{Script, hb_tag_t};
 use rustybuzz_shapers::font::{GlyphId, hb_font_t};
 use rustybuzz_shapers::plan::{Request, hb_ot_shape_planner_t};

@@ -1,16 +1,17 @@
 -- Merges that go on behind glyphs that are in one cluster already.
-use Rattle.std.proofs.Common.{◌≡◌, ◌<◌, ◌≤◌, ℕ, ◌+◌, ◌-◌, ◌==◌, true, List, [], ◌∷◌, ◌++◌, min, map, length, get_or, take, drop, reverse, refl, sym, ap, ◌∙◌, append_assoc, arith, length-take, length-drop}
+use Rattle.std.proofs.Common.{◌≡◌, ◌<◌, ◌≤◌, ℕ, ◌+◌, ◌-◌, ◌==◌, inl, inr, nat_lt, not, true, List, [], ◌∷◌, ◌++◌, min, map, length, get_or, take, drop, reverse, refl, sym, ap, ◌∙◌, append_assoc, arith, length-take, length-drop}
 use Rattle.std.specs.Prelude.{fold}
 use Rattle.std.specs.List.{list_all}
 use Rattle.std.proofs.lemmas.List.{length-reverse, map-append, reverse-append, reverse-reverse, length-map, drop-drop, take_at, drop_at, get_or-take, get_or-drop}
 use Rattle.std.proofs.Math.Seq.{take-add}
-use Rattle.std.proofs.lemmas.Bool.{and_parts}
+use Rattle.std.proofs.lemmas.Bool.{and_parts, cases_Bool, eqb-true}
 use Rattle.std.proofs.lemmas.Bool.Decides.{nat_tests}
 use Rattle.std.proofs.lemmas.Grind.{fold-append}
 use Rattle.shapers_buffer.specs.declared.buffer.glyph.hb_glyph_info_t.{hb_glyph_info_t}
+use Rattle.shapers_buffer.specs.declared.buffer.level.BufferClusterLevel.{BufferClusterLevel}
 use Rattle.shapers_buffer.specs.Glyph.{clusters, default_glyph}
-use Rattle.shapers_buffer.specs.Clusters.{least, first_cluster, last_cluster, has_cluster, in_cluster, in_one_cluster, flooded, merged, stretch_of, taken_in}
-use Rattle.shapers_buffer.proofs.ClusterLemmas.{first-read, flooded_itself, merged_is}
+use Rattle.shapers_buffer.specs.Clusters.{least, first_cluster, last_cluster, has_cluster, in_cluster, in_one_cluster, flooded, merge, merged, merges, stretch_of, taken_in}
+use Rattle.shapers_buffer.proofs.ClusterLemmas.{first-read, flooded_itself, merged_is, three_parts}
 
 -- glyphs of a cluster stay when they are put into it, and it is their least one
 in_cluster_stays : (c : ℕ) (gs : List hb_glyph_info_t) → list_all (has_cluster c) gs ≡ true → map (in_cluster c) gs ≡ gs
@@ -64,6 +65,26 @@ joined_behind before (g ∷ gs) hs behind some more one le =
     ∙ ap (λ l. before ++ (l ++ flooded (last_cluster ((g ∷ gs) ++ hs)) c behind)) stay
     ∙ ap (λ k. before ++ (((g ∷ gs) ++ map (in_cluster c) hs) ++ flooded k c behind)) (last_of_end (g ∷ gs) hs more)
     ∙ ap (λ l. before ++ l) (append_assoc (g ∷ gs) (map (in_cluster c) hs) (flooded (last_cluster hs) c behind))
+
+-- the last of glyphs that are all in a cluster
+last_stays : (c : ℕ) (gs : List hb_glyph_info_t) → 0 < length gs → list_all (has_cluster c) gs ≡ true → last_cluster gs ≡ c
+last_stays c [] some h = absurd (omega arith)
+last_stays c (g ∷ []) some h = eqb-true g.cluster c (and_parts (g.cluster == c) true h).0
+last_stays c (g ∷ (k ∷ gs)) some h =
+    last_of_end (g ∷ []) (k ∷ gs) (omega arith) ∙ last_stays c (k ∷ gs) (omega arith) (and_parts (g.cluster == c) (list_all (has_cluster c) (k ∷ gs)) h).1
+
+-- glyphs in one cluster stay at their merge
+one_stays : (before gs behind : List hb_glyph_info_t) → 0 < length gs → in_one_cluster gs ≡ true → reverse (flooded (first_cluster gs) (least (clusters gs)) (reverse before)) ++ (map (in_cluster (least (clusters gs))) gs ++ flooded (last_cluster gs) (least (clusters gs)) behind) ≡ before ++ (gs ++ behind)
+one_stays before [] behind some one = absurd (omega arith)
+one_stays before (g ∷ gs) behind some one =
+    let c = g.cluster in
+    let all = g ∷ gs in
+    ap (λ m. reverse (flooded c m (reverse before)) ++ (map (in_cluster m) all ++ flooded (last_cluster all) m behind)) (least_stays c gs (and_parts (c == c) (list_all (has_cluster c) gs) one).1)
+    ∙ ap (λ l. reverse l ++ (map (in_cluster c) all ++ flooded (last_cluster all) c behind)) (flooded_itself c (reverse before))
+    ∙ ap (λ l. l ++ (map (in_cluster c) all ++ flooded (last_cluster all) c behind)) (reverse-reverse before)
+    ∙ ap (λ l. before ++ (l ++ flooded (last_cluster all) c behind)) (in_cluster_stays c all one)
+    ∙ ap (λ k. before ++ (all ++ flooded k c behind)) (last_stays c all some one)
+    ∙ ap (λ l. before ++ (all ++ l)) (flooded_itself c behind)
 
 -- a stretch in two
 stretch_in_two : {X : Type 0} (s mid e : ℕ) (xs : List X) → s ≤ mid → mid ≤ e → stretch_of s e xs ≡ stretch_of s mid xs ++ stretch_of mid e xs
@@ -130,3 +151,18 @@ one_merged s e gs h l =
     let k : length (map (in_cluster m) middle) ≡ e - s = length-map middle (in_cluster m) ∙ length-stretch_of s e gs h l in
     let stretch : stretch_of s e (merged s e gs) ≡ map (in_cluster m) middle = ap (λ l. take (e - s) (drop s l)) (merged_is s e gs h) ∙ ap (take (e - s)) (drop_at before (map (in_cluster m) middle ++ behind) s n) ∙ take_at (map (in_cluster m) middle) behind (e - s) k in
     ap in_one_cluster stretch ∙ one_after_map m middle
+
+-- where nothing is new, or the level doesn't merge, a merge changes nothing
+pub nothing_further : (level : BufferClusterLevel) (s mid e : ℕ) (gs : List hb_glyph_info_t) → s < mid → mid ≤ e → e ≤ length gs → (merges level ≡ true → in_one_cluster (stretch_of s mid gs) ≡ true) → (merges level ≡ true → e ≤ mid) → gs ≡ merge level s e gs
+nothing_further level s mid e gs h to l one end = elim (cases_Bool (merges level)) [
+  | inr off ↦ rw off refl
+  | inl on ↦
+      let same : mid ≡ e = let le = end on in omega arith in
+      let there : in_one_cluster (stretch_of s e gs) ≡ true = ap (λ n. in_one_cluster (stretch_of s n gs)) (sym same) ∙ one on in
+      let some : 0 < length (stretch_of s e gs) = omega (arith, length-stretch_of s e gs (omega arith) l) in
+      let all : merged s e gs ≡ gs = merged_is s e gs (omega arith) ∙ one_stays (take s gs) (stretch_of s e gs) (drop e gs) some there ∙ three_parts s e gs (omega arith) in
+      rw on (elim (cases_Bool (not (nat_lt (e - s) 2))) [
+        | inl two ↦ rw two (sym all)
+        | inr few ↦ rw few refl
+      ])
+]

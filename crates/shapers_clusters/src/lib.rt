@@ -1,5 +1,5 @@
-//! The laws of clusters and glyph flags: what merges and moves do to any list of glyphs. Each law is the
-//! contract of a function without a body.
+//! The laws of clusters and glyph flags: what merges and moves do to any list of glyphs. Each law
+//! is the contract of a function without a body.
 #![tactic(auto)]
 
 ghost use Rattle.shapers_clusters.specs.Laws.{ViewLaw, FlagCallsLaw, MergeLaw, ExactCutsLaw, StepsLaw, PermutedLaw, ClustersLaw, MergedStepsLaw, ClustersReorderedLaw, SeenStepsLaw, ReorderedLaw, WidenedLaw, AlongLaw, HalvesLaw, MadeLaw, MovedSourcesLaw};
@@ -9,7 +9,8 @@ pub fn view_law()
     ensures { ViewLaw }
 {}
 
-/// Flag calls of all three kinds, one after another, change nothing but glyph flags and take none away.
+/// Flag calls of all three kinds, one after another, change nothing but glyph flags and take none
+/// away.
 pub fn flag_calls_law()
     ensures { FlagCallsLaw }
 {}
@@ -19,8 +20,8 @@ pub fn merge_law()
     ensures { MergeLaw }
 {}
 
-/// Exact cuts: where clusters never decrease, or never increase, merges leave exactly the cuts that no
-/// merged stretch holds, and each place gets the least cluster of its block.
+/// Exact cuts: where clusters never decrease, or never increase, merges leave exactly the cuts that
+/// no merged stretch holds, and each place gets the least cluster of its block.
 pub fn exact_cuts_law()
     ensures { ExactCutsLaw }
 {}
@@ -40,12 +41,14 @@ pub fn clusters_law()
     ensures { ClustersLaw }
 {}
 
-/// Moves inside merged stretches leave the merged clusters in place: the cluster law and exact cuts.
+/// Moves inside merged stretches leave the merged clusters in place: the cluster law and exact
+/// cuts.
 pub fn merged_steps_law()
     ensures { MergedStepsLaw }
 {}
 
-/// What a hook that reorders makes of the clusters: none is new, labels, exact cuts and the cluster law.
+/// What a hook that reorders makes of the clusters: none is new, labels, exact cuts and the cluster
+/// law.
 pub fn clusters_reordered_law()
     ensures { ClustersReorderedLaw }
 {}
@@ -55,8 +58,8 @@ pub fn seen_steps_law()
     ensures { SeenStepsLaw }
 {}
 
-/// What a hook that reorders promises, whatever else it changes: no glyph is lost, flags, clusters, exact
-/// cuts and the cluster law.
+/// What a hook that reorders promises, whatever else it changes: no glyph is lost, flags, clusters,
+/// exact cuts and the cluster law.
 pub fn reordered_law()
     ensures { ReorderedLaw }
 {}

@@ -52,12 +52,12 @@ pub fn override_features(planner: &mut hb_ot_shape_planner_t) -> Result<(), Shap
     planner.add_requests(&OVERRIDES)
 }
 
-/// Rewrites a Hangul text before its characters become glyphs, unit by unit: jamo that combine become
-/// one syllable character where the font has it, else they are marked for the features of jamo; so
-/// are the jamo of a syllable character that the font lacks. A tone moves before the syllable that it
-/// follows, unless it has advance 0; without one it gets a dotted circle. What a break would tear
-/// apart is flagged. Refuses as a growth to the length of the result does. (The Unicode Standard,
-/// "Conjoining Jamo Behavior"; OpenType's notes on Hangul.)
+/// Rewrites a Hangul text before its characters become glyphs, unit by unit: jamo that combine
+/// become one syllable character where the font has it, else they are marked for the features of
+/// jamo; so are the jamo of a syllable character that the font lacks. A tone moves before the
+/// syllable that it follows, unless it has advance 0; without one it gets a dotted circle. What a
+/// break would tear apart is flagged. Refuses as a growth to the length of the result does. (The
+/// Unicode Standard, "Conjoining Jamo Behavior"; OpenType's notes on Hangul.)
 pub fn preprocess_text<F: hb_font_t>(
     plan: &hb_ot_shape_plan_t,
     face: &F,
@@ -74,14 +74,14 @@ pub fn preprocess_text<F: hb_font_t>(
     rewrite(face, buffer)
 }
 
-/// What the rewriting makes of clusters: each glyph is its source where that stood, joined with what
-/// belongs to it; no cluster rises, none is new; the cluster law of tones, and exact cuts.
+/// What the rewriting makes of clusters: each glyph is its source where that stood, joined with
+/// what belongs to it; no cluster rises, none is new; the cluster law of tones, and exact cuts.
 pub fn rewriting_law()
     ensures { RewrittenLaw }
 {}
 
-/// What a unit becomes spells what it takes, syllable characters by their jamo; so the result spells
-/// the text, tones and circles apart.
+/// What a unit becomes spells what it takes, syllable characters by their jamo; so the result
+/// spells the text, tones and circles apart.
 pub fn spelling_law()
     ensures { SpellingLaw }
 {}
@@ -121,8 +121,8 @@ impl GlyphChange for JamoMasks {
     }
 }
 
-/// Gives each glyph, besides its own mask, the one of the feature in its auxiliary byte: none for 0,
-/// then those of leading, vowel and trailing jamo. It takes no memory.
+/// Gives each glyph, besides its own mask, the one of the feature in its auxiliary byte: none for
+/// 0, then those of leading, vowel and trailing jamo. It takes no memory.
 pub fn setup_masks(plan: &hb_ot_shape_plan_t, buffer: &mut hb_buffer_t)
     requires { is_hangul_data plan.now.plan_data ≡ true }
     ensures { buffer.new ≡ with_jamo_masks plan.now.plan_data buffer.old }

@@ -87,8 +87,9 @@ pub fn override_features(planner: &mut hb_ot_shape_planner_t) -> Result<(), Shap
     planner.add_requests(&OVERRIDES)
 }
 
-/// The composition of two characters: Bengali YYA, which Unicode excludes from composition, else the
-/// table's. A mark composes with nothing behind it, so that a split vowel isn't put together again.
+/// The composition of two characters: Bengali YYA, which Unicode excludes from composition, else
+/// the table's. A mark composes with nothing behind it, so that a split vowel isn't put together
+/// again.
 pub fn compose<T: Tables>(tables: &T, a: char, b: char) -> Option<char>
     ensures { result ≡ composed_in_indic (T.tables tables.now) a b }
 {
@@ -112,7 +113,8 @@ pub fn decompose<T: Tables>(tables: &T, ab: char) -> Option<(char, char)>
 /// Gives each glyph its category and its position in the syllable by the table; the masks wait for
 /// the reordering. It takes no memory.
 pub fn setup_masks<T: Tables>(tables: &T, buffer: &mut hb_buffer_t)
-    ensures { let changed = map (with_category_and_position (T.tables tables.now)) buffer.old.glyphs in
+    ensures { let changed = map (with_category_and_position (T.tables tables.now))
+        buffer.old.glyphs in
         buffer.new ≡ record buffer.old { glyphs = changed } }
 {
     ot_shaper_syllabic::set_categories_and_positions(tables, buffer);

@@ -7,13 +7,14 @@ pub mod FinalLaws
 pub mod FinalLawsAt
 pub mod FinalLinks
 mod FinalMatraRows
+pub mod FinalMeanings
 pub mod FinalMoves
 pub mod FinalOpened
 mod FinalOpeningRows
 pub mod FinalParting
 pub mod FinalPlaces
-pub mod FinalPlain
 pub mod FinalPlacing
+pub mod FinalPlain
 mod FinalPrefRows
 pub mod FinalReads
 mod FinalReorderingRows

@@ -3,6 +3,7 @@ pub mod KhmerCases
 pub mod KhmerLaws
 pub mod KhmerListing
 pub mod KhmerMasks
+pub mod KhmerMerged
 pub mod KhmerMoverMasks
 pub mod KhmerMoverMerges
 pub mod KhmerMovers

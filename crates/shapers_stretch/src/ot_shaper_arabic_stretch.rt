@@ -12,8 +12,8 @@ mod recording;
 pub use postprocessing::postprocess_glyphs;
 pub use recording::record_stch;
 
-/// The law of widths: what is laid for a run is as wide as the numbers of the run say; and where its
-/// repeating tiles have a width and fit into what the fixed ones leave of the word, that is the
+/// The law of widths: what is laid for a run is as wide as the numbers of the run say; and where
+/// its repeating tiles have a width and fit into what the fixed ones leave of the word, that is the
 /// width of the word, or more by less than one unit for each added copy.
 pub fn widths_law()
     ensures { WidthsHold }

@@ -35,7 +35,7 @@ kept_pieces meaning steps laws (piece ∷ pieces) =
     (subst (IsPermutation (seen carried piece ++ seen carried xs)) (sym (map-append f (meaning piece) ys))
     (IsPermutation-append (seen carried piece) (seen carried (meaning piece)) (seen carried xs) (seen carried ys) (kept_syllable meaning steps laws piece) (kept_pieces meaning steps laws pieces)))
 
-numbers-seen : (gs : List hb_glyph_info_t) → map (λ g. g.glyph_id) (seen carried gs) ≡ map (λ g. g.glyph_id) gs
+pub numbers-seen : (gs : List hb_glyph_info_t) → map (λ g. g.glyph_id) (seen carried gs) ≡ map (λ g. g.glyph_id) gs
 numbers-seen [] = refl
 numbers-seen (g ∷ gs) = ap (λ l. g.glyph_id ∷ l) (numbers-seen gs)
 

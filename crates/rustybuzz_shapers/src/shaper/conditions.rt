@@ -69,8 +69,8 @@ impl hb_ot_shaper_t {
         }
     }
 
-    /// Whether `postprocess_glyphs` takes the plan and the buffer's glyphs: for Arabic, a plan with its
-    /// data and glyph numbers of a font.
+    /// Whether `postprocess_glyphs` takes the plan and the buffer's glyphs: for Arabic, a plan with
+    /// its data and glyph numbers of a font.
     pub fn postprocess_fits(self, plan: &hb_ot_shape_plan_t, buffer: &hb_buffer_t) -> bool
         ensures { IsTrue result ↔ PostprocessFits self plan.now buffer.now.glyphs }
     {

@@ -26,8 +26,8 @@ const DEFAULT: IndicConfig = IndicConfig {
     blwf_mode: PreAndPost,
 };
 
-// Script, whether there is an older specification, virama, where a reph goes, how it is written, and
-// where below-base forms apply. (OpenType, development of Indic scripts.)
+// Script, whether there is an older specification, virama, where a reph goes, how it is written,
+// and where below-base forms apply. (OpenType, development of Indic scripts.)
 static INDIC_CONFIGS: [IndicConfig; 10] = [
     IndicConfig {
         script: Some(Script(*b"Deva")),

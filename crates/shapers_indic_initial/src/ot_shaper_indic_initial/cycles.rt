@@ -1,4 +1,5 @@
-//! What merges once a syllable is in its new order: the cycles of the order, or all from the base on.
+//! What merges once a syllable is in its new order: the cycles of the order, or all from the base
+//! on.
 ghost use Rattle.std.specs.Prelude.{◌≡◌, ◌<◌, ◌≤◌, ◌-◌, ◌||◌, nat_lt, length, fold, max, min, slice_index, slice_set};
 ghost use Rattle.shapers_buffer.specs.Clusters.{merge_all};
 ghost use Rattle.shapers_clusters.specs.Steps.{shifted};
@@ -30,8 +31,8 @@ fn spend_place(buffer: &mut hb_buffer_t, start: usize, end: usize, i: usize)
     buffer.set_place(start + i, start + i);
 }
 
-// Walks along the cycle of place `p` and spends each of its places as it passes. Answers the least and
-// the greatest.
+// Walks along the cycle of place `p` and spends each of its places as it passes. Answers the least
+// and the greatest.
 fn spend_cycle(buffer: &mut hb_buffer_t, start: usize, end: usize, p: usize) -> (usize, usize)
     requires in_order { start ≤ end }
     requires in_range { end ≤ length buffer.old.glyphs }
@@ -62,8 +63,8 @@ fn spend_cycle(buffer: &mut hb_buffer_t, start: usize, end: usize, p: usize) -> 
     (least, greatest)
 }
 
-// Each cycle with a place from `base` on merges, from its least place, or `base` if that is greater, to
-// its greatest. `base` counts from `start`.
+// Each cycle with a place from `base` on merges, from its least place, or `base` if that is
+// greater, to its greatest. `base` counts from `start`.
 fn merge_cycles(buffer: &mut hb_buffer_t, start: usize, end: usize, base: usize)
     requires in_order { start ≤ end }
     requires in_range { end ≤ length buffer.old.glyphs }
@@ -84,8 +85,8 @@ fn merge_cycles(buffer: &mut hb_buffer_t, start: usize, end: usize, base: usize)
     }
 }
 
-/// Whether all from the base on merges, and no cycles: in the older specification, and in a syllable of
-/// more than 127 glyphs.
+/// Whether all from the base on merges, and no cycles: in the older specification, and in a
+/// syllable of more than 127 glyphs.
 pub(super) fn merges_all(old_spec: bool, len: usize) -> bool
     ensures { result ≡ (old_spec || nat_lt 127 len) }
 {
@@ -93,8 +94,8 @@ pub(super) fn merges_all(old_spec: bool, len: usize) -> bool
 }
 
 /// What merges once the glyphs from `start` to `end` are in their new order: in the older
-/// specification, and in a syllable of more than 127 glyphs, all from the base on, else each cycle of
-/// the order. `base` counts from `start`. It takes no memory.
+/// specification, and in a syllable of more than 127 glyphs, all from the base on, else each cycle
+/// of the order. `base` counts from `start`. It takes no memory.
 pub(super) fn merge_ordered(
     buffer: &mut hb_buffer_t,
     start: usize,

@@ -7,14 +7,14 @@ pub fn initial_reorder_laws()
     ensures { InitialReorderLaws }
 {}
 
-/// What a syllable becomes hangs on the kind in its bytes and not on their serials, so that pauses can
-/// be cut between any two spans.
+/// What a syllable becomes hangs on the kind in its bytes and not on their serials, so that pauses
+/// can be cut between any two spans.
 pub fn initial_reads_no_serials()
     ensures { InitialReadsNoSerials }
 {}
 
-/// After the pause no glyph is lost, no cluster rises, glyph flags stay unless it fell, and labels that
-/// clusters and merged stretches respect are still respected.
+/// After the pause no glyph is lost, no cluster rises, glyph flags stay unless it fell, and labels
+/// that clusters and merged stretches respect are still respected.
 pub fn initial_text_reordered()
     ensures { InitialTextReordered }
 {}

@@ -1,5 +1,5 @@
-//! The masks of a syllable in its new order. (OpenType, development of Indic scripts: which features
-//! apply where.)
+//! The masks of a syllable in its new order. (OpenType, development of Indic scripts: which
+//! features apply where.)
 ghost use Rattle.std.specs.Prelude.{◌≡◌, ◌+◌, ◌<◌, ◌≤◌, ◌^◌, ◌&&◌, ◌||◌, ◌∷◌, [], if◌then◌else◌, length, map, MatchOption, not, slice_index};
 ghost use Rattle.std.specs.List.{enumerate_from, prefix_len};
 ghost use Rattle.shapers_buffer.specs.Clusters.{with_stretch};
@@ -218,7 +218,8 @@ fn pref_pair<F: hb_font_t>(
     glyphs: &[hb_glyph_info_t],
 ) -> Option<usize>
     requires { base ≤ length glyphs.now }
-    ensures pair { result ≡ pref_pair (rules_of (F.font face.now) map.now plan.now) base glyphs.now }
+    ensures pair { result ≡ pref_pair (rules_of (F.font face.now) map.now plan.now) base
+        glyphs.now }
     ensures within { MatchOption result (Unit {0}) (λ place. place + 2 ≤ length glyphs.now) }
 {
     if plan.mask_array[PREF] == 0 || base + 2 >= glyphs.len() {
@@ -233,7 +234,8 @@ fn pref_pair<F: hb_font_t>(
     None
 }
 
-// A ZWNJ takes mask bits from the glyphs before it back to the nearest consonant, that one included.
+// A ZWNJ takes mask bits from the glyphs before it back to the nearest consonant, that one
+// included.
 fn clear_half(bits: u32, glyphs: &mut [hb_glyph_info_t])
     ensures { glyphs.new ≡ without_half bits glyphs.old }
 {

@@ -12,9 +12,9 @@ use super::font_positions::virama_glyph;
 use super::reordering::InitialOrder;
 use shapers_base::buffer::{ShaperError, hb_buffer_t};
 use shapers_base::font::hb_font_t;
+use shapers_base::plan::hb_ot_shape_plan_t;
 use shapers_base::plan::ot_category_t::{OT_DOTTEDCIRCLE, OT_Repha};
 use shapers_base::plan::ot_position_t::POS_END;
-use shapers_base::plan::hb_ot_shape_plan_t;
 use shapers_indic::ot_shaper_indic::indic_in;
 use shapers_syllabic::ot_shaper_syllabic::indic_syllable::{BROKEN_CLUSTER, NON_INDIC_CLUSTER};
 use shapers_syllabic::ot_shaper_syllabic::{CircleSort, reorder_pause};
@@ -28,10 +28,10 @@ const CIRCLES: CircleSort = CircleSort {
 };
 
 /// Gives consonants positions by the font and broken syllables their dotted circles, and then
-/// reorders each syllable: its base, what goes with which glyph, the order by positions, the masks of
-/// the basic features. Answers whether circles were wanted. Refuses with `UnknownSyllable`, before
-/// anything changes; with `TooLong`; and with `Memory`, but not where no circle opens. (OpenType,
-/// development of Indic scripts.)
+/// reorders each syllable: its base, what goes with which glyph, the order by positions, the masks
+/// of the basic features. Answers whether circles were wanted. Refuses with `UnknownSyllable`,
+/// before anything changes; with `TooLong`; and with `Memory`, but not where no circle opens.
+/// (OpenType, development of Indic scripts.)
 pub fn initial_reordering<F: hb_font_t>(
     plan: &hb_ot_shape_plan_t,
     face: &F,
@@ -50,7 +50,8 @@ pub fn initial_reordering<F: hb_font_t>(
         (steps_by_font font plan.now.ot_map kept buffer.old.script) buffer.old buffer.new) }
     ensures laws { let font = F.font face.now in
         let rules = rules_of font plan.now.ot_map (indic_in plan.now) in
-        let opened = with_positions_and_circles font plan.now.ot_map (indic_in plan.now) buffer.old in
+        let opened = with_positions_and_circles font plan.now.ot_map (indic_in plan.now)
+        buffer.old in
         OnOk result (TextReordered (initial_steps rules buffer.old.script) opened buffer.new) }
     ensures refusal { let circles = initial_circles (F.font face.now) buffer.old in
         let opened = circled circles buffer.old.glyphs in

@@ -1,5 +1,5 @@
-//! The reph that opens a syllable, and the limit of the search for its base. (OpenType, development of
-//! Indic scripts.)
+//! The reph that opens a syllable, and the limit of the search for its base. (OpenType, development
+//! of Indic scripts.)
 ghost use Rattle.std.specs.Prelude.{◌≡◌, ◌≤◌, length};
 ghost use Rattle.std.specs.List.{prefix_len};
 ghost use Rattle.shapers_indic_initial.specs.InitialBase.{font_decides_reph, limit_behind, opens_with_repha, reph_is_formed, reph_len, third_lets_reph};
@@ -14,7 +14,8 @@ use shapers_base::plan::{RephMode, indic_shape_plan_t};
 use shapers_indic::ot_shaper_indic::glyphs::{is_joiner, number};
 use shapers_indic::ot_shaper_indic::indic_feature::RPHF;
 
-/// How many glyphs the reph that opens a syllable has, without joiners behind it; 0 if there is none.
+/// How many glyphs the reph that opens a syllable has, without joiners behind it; 0 if there is
+/// none.
 pub(crate) fn reph_len<F: hb_font_t>(
     plan: &indic_shape_plan_t,
     map: &hb_ot_map_t,
@@ -38,8 +39,8 @@ pub(crate) fn reph_len<F: hb_font_t>(
     }
 }
 
-/// Where the search for the base ends, if no ZWJ ends it before: behind the reph and the joiners that
-/// follow it, or at the start.
+/// Where the search for the base ends, if no ZWJ ends it before: behind the reph and the joiners
+/// that follow it, or at the start.
 pub(crate) fn limit(reph_len: usize, glyphs: &[hb_glyph_info_t]) -> usize
     requires { reph_len ≤ length glyphs.now }
     ensures limit { result ≡ limit_behind reph_len glyphs.now }
@@ -92,7 +93,8 @@ fn is_formed<F: hb_font_t>(
     }
 }
 
-// Whether the syllable opens with a reph that is a character of its own, in a script that writes it so.
+// Whether the syllable opens with a reph that is a character of its own, in a script that writes it
+// so.
 fn opens_with_repha(mode: RephMode, glyphs: &[hb_glyph_info_t]) -> bool
     ensures { result ≡ opens_with_repha mode glyphs.now }
 {

@@ -23,7 +23,8 @@ pub(super) fn count_added<F: hb_font_t>(
 ) -> Option<u128>
     requires both { length glyphs.now ≡ length positions.now }
     requires numbers { AllByRecursion (λ g. g.glyph_id ≤ 65535) glyphs.now }
-    ensures { let how : Laying = record { font = F.font face.now; choice = choice; right_to_left = right_to_left } in
+    ensures { let how : Laying =
+        record { font = F.font face.now; choice = choice; right_to_left = right_to_left } in
         CountsAdded how (zip glyphs.now positions.now) result }
 {
     let mut added = 0;
@@ -60,9 +61,11 @@ fn count_last<F: hb_font_t>(
     requires some { 0 < length glyphs.now }
     requires both { length glyphs.now ≡ length positions.now }
     requires numbers { AllByRecursion (λ g. g.glyph_id ≤ 65535) glyphs.now }
-    ensures { let how : Laying = record { font = F.font face.now; choice = choice; right_to_left = right_to_left } in
+    ensures { let how : Laying =
+        record { font = F.font face.now; choice = choice; right_to_left = right_to_left } in
         let cs = zip glyphs.now positions.now in
-        MatchOption result (overflows how cs ≡ true) (λ c. IsCounted how cs c.start c.added × (c.start < length glyphs.now) × (c.added < 2 ^ 31)) }
+        MatchOption result (overflows how cs ≡ true) (λ c. IsCounted how cs c.start c.added
+        × (c.start < length glyphs.now) × (c.added < 2 ^ 31)) }
 {
     let part = last_part(glyphs);
     let start = part.start;
@@ -106,7 +109,8 @@ fn offsets_fit<F: hb_font_t>(
 ) -> bool
     requires lay { IsLay lay }
     requires numbers { AllByRecursion (λ g. g.glyph_id ≤ 65535) tiles.now }
-    ensures { result ≡ offsets_fit right_to_left lay.start (run_moves (F.font face.now) lay tiles.now) }
+    ensures { result ≡ offsets_fit right_to_left lay.start
+        (run_moves (F.font face.now) lay tiles.now) }
 {
     let mut pen = lay.start;
     let mut left = tiles.len();
@@ -178,7 +182,8 @@ fn ends_fit(right_to_left: bool, pen: i128, behind: i128, step: i128) -> bool
     requires high { step ≤ℤ pos (2 ^ 67) }
     requires behind_low { negsuc (2 ^ 100) ≤ℤ behind }
     requires behind_high { behind ≤ℤ pos (2 ^ 100) }
-    ensures { result ≡ (fits_i32 (stands_at right_to_left pen step) && fits_i32 (last_at right_to_left behind step)) }
+    ensures { result ≡ (fits_i32 (stands_at right_to_left pen step)
+        && fits_i32 (last_at right_to_left behind step)) }
 {
     if right_to_left {
         fits_i32(pen - step) && fits_i32(behind)

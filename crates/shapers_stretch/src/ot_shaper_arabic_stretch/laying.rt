@@ -62,7 +62,8 @@ pub(super) fn lay_all<F: hb_font_t>(
     positions: &mut [GlyphPosition],
     len: usize,
 )
-    requires { HasRoom (laying_by (F.font face.now) choice right_to_left) glyphs.old positions.old len }
+    requires { HasRoom (laying_by (F.font face.now) choice right_to_left)
+        glyphs.old positions.old len }
     ensures glyphs { let how = laying_by (F.font face.now) choice right_to_left in
         glyphs.new ≡ glyphs_of (stretched how (text_of len glyphs.old positions.old)) }
     ensures positions { let how = laying_by (F.font face.now) choice right_to_left in
@@ -94,7 +95,8 @@ fn lay_last<F: hb_font_t>(
     unlaid: Unlaid,
 ) -> Unlaid
     requires some { 0 < unlaid.end }
-    requires unlaid { IsUnlaid (laying_by (F.font face.now) choice right_to_left) glyphs.old positions.old unlaid.end unlaid.place }
+    requires unlaid { IsUnlaid (laying_by (F.font face.now) choice right_to_left)
+        glyphs.old positions.old unlaid.end unlaid.place }
     ensures laid { let how = laying_by (F.font face.now) choice right_to_left in
         let whole = whole_of how glyphs.old positions.old unlaid.end unlaid.place in
         IsLaidFrom how whole glyphs.new positions.new result.end result.place }
@@ -164,14 +166,16 @@ fn lay_run<F: hb_font_t>(
     ensures flagged { let old = zip glyphs.old positions.old in
         let word = stretch_of part.word part.tiles old in
         let whole = unbroken (word ++ stretch_of part.tiles unlaid.end old) in
-        take part.tiles (zip glyphs.new positions.new) ≡ take part.word old ++ take (length word) whole }
+        take part.tiles (zip glyphs.new positions.new) ≡ take part.word old
+        ++ take (length word) whole }
     ensures laid { let how = laying_by (F.font face.now) choice right_to_left in
         let old = zip glyphs.old positions.old in
         let word = stretch_of part.word part.tiles old in
         let tiles = stretch_of part.tiles unlaid.end old in
         let z = measured how.font (positions_of word) (glyphs_of tiles) in
         let run = drop (length word) (unbroken (word ++ tiles)) in
-        drop result (zip glyphs.new positions.new) ≡ reverse (laid_run how z run) ++ drop unlaid.place old }
+        drop result (zip glyphs.new positions.new) ≡ reverse (laid_run how z run)
+        ++ drop unlaid.place old }
     ensures place { let old = zip glyphs.old positions.old in
         let word = stretch_of part.word part.tiles old in
         let tiles = stretch_of part.tiles unlaid.end old in
@@ -282,7 +286,8 @@ fn lay_tile<F: hb_font_t>(
     ensures near { IsNumber result.at }
     ensures lays { let cell : Cell = (tile.glyph, tile.position) in
         let laid = copies_of (F.font face.now) run cell in
-        Lays right_to_left laid pen result (zip glyphs.old positions.old) (zip glyphs.new positions.new) }
+        Lays right_to_left laid pen result
+        (zip glyphs.old positions.old) (zip glyphs.new positions.new) }
 {
     let width = i128::from(advance_of(face, &tile.glyph));
     let pen = lay_copies(right_to_left, width, 1, glyphs, positions, tile, pen);
@@ -315,7 +320,8 @@ fn lay_copies(
     ensures near { IsNumber result.at }
     ensures lays { let cell : Cell = (tile.glyph, tile.position) in
         let copy : Copy = record { tile = cell; move = step } in
-        Lays right_to_left (replicate count copy) pen result (zip glyphs.old positions.old) (zip glyphs.new positions.new) }
+        Lays right_to_left (replicate count copy) pen result
+        (zip glyphs.old positions.old) (zip glyphs.new positions.new) }
 {
     let mut pen = pen;
     for _ in 0..count {
@@ -344,7 +350,8 @@ fn lay_copy(
     ensures near { IsNumber result.at }
     ensures lays { let cell : Cell = (tile.glyph, tile.position) in
         let copy : Copy = record { tile = cell; move = step } in
-        Lays right_to_left (copy ∷ []) pen result (zip glyphs.old positions.old) (zip glyphs.new positions.new) }
+        Lays right_to_left (copy ∷ []) pen result
+        (zip glyphs.old positions.old) (zip glyphs.new positions.new) }
 {
     let place = pen.place - 1;
     glyphs[place] = tile.glyph;

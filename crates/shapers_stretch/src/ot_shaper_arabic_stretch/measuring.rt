@@ -114,7 +114,8 @@ pub(super) fn lay_of(choice: StretchStart, right_to_left: bool, run: Run) -> Opt
 
 // Whether what a run measures fits 32 bits, and what its fixed tiles leave of the word.
 fn run_fits(run: Run) -> bool
-    ensures value { result ≡ list_all fits_i32 (run.word ∷ run.fixed ∷ run.repeating ∷ left run ∷ []) }
+    ensures value { result ≡ list_all fits_i32 (run.word ∷ run.fixed ∷ run.repeating
+        ∷ left run ∷ []) }
     ensures fits { IsTrue result → RunFits run }
 {
     fits_i32(run.word)
@@ -199,7 +200,8 @@ fn copies(run: Run, added: usize) -> i128
 fn added_fits(run: Run, added: usize) -> bool
     requires fits { RunFits run }
     requires bound { added ≤ 2 ^ 31 }
-    ensures value { result ≡ list_all fits_i32 (reach run added ∷ pos (added * run.repeaters) ∷ []) }
+    ensures value { result ≡ list_all fits_i32 (reach run added ∷ pos (added * run.repeaters)
+        ∷ []) }
 {
     fits_i32(reach(run, added)) && fits_i32(copies(run, added))
 }

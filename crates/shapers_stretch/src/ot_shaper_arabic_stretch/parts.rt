@@ -18,7 +18,8 @@ pub(super) struct LastPart {
 pub(super) fn last_part(glyphs: &[hb_glyph_info_t]) -> LastPart
     ensures tiles { result.tiles + suffix_len is_tile glyphs.now ≡ length glyphs.now }
     ensures word { result.word + suffix_len in_word (take result.tiles glyphs.now) ≡ result.tiles }
-    ensures start { result.start + suffix_len (λ g. not (is_tile g)) (take result.word glyphs.now) ≡ result.word }
+    ensures start { result.start + suffix_len (λ g. not (is_tile g)) (take result.word glyphs.now)
+        ≡ result.word }
 {
     let tiles = glyphs.len() - count_last_tiles(glyphs);
     let word = tiles - count_last_in_word(&glyphs[..tiles]);

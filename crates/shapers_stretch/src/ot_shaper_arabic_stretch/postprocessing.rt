@@ -14,10 +14,10 @@ use shapers_base::buffer::{Direction, ShaperError, hb_buffer_t};
 use shapers_base::font::hb_font_t;
 use shapers_base::plan::{PlanData, StretchStart, hb_ot_shape_plan_t};
 
-/// Stretches marks: where the buffer is marked to have some, the tiles of each run of them are laid,
-/// and laid again, over the word before it, and no break is left inside. Refuses with
-/// `StretchOverflow` where a number of a run doesn't fit 32 bits, and then as a growth to the length
-/// of the result does; what is laid is as wide as `widths_law` says. (OpenType `stch`.)
+/// Stretches marks: where the buffer is marked to have some, the tiles of each run of them are
+/// laid, and laid again, over the word before it, and no break is left inside. Refuses with
+/// `StretchOverflow` where a number of a run doesn't fit 32 bits, and then as a growth to the
+/// length of the result does; what is laid is as wide as `widths_law` says. (OpenType `stch`.)
 pub fn postprocess_glyphs<F: hb_font_t>(
     plan: &hb_ot_shape_plan_t,
     face: &F,
@@ -26,10 +26,12 @@ pub fn postprocess_glyphs<F: hb_font_t>(
     requires kind { IsArabic plan.now.plan_data }
     requires positions { length buffer.old.positions ≡ length buffer.old.glyphs }
     requires numbers { All (λ g. g.glyph_id ≤ 65535) buffer.old.glyphs }
-    ensures ok { OnOk result (buffer.new ≡ marks_stretched (F.font face.now) (start_of plan.now.plan_data) buffer.old) }
+    ensures ok { OnOk result (buffer.new ≡ marks_stretched (F.font face.now)
+        (start_of plan.now.plan_data) buffer.old) }
     ensures refusal { let choice = start_of plan.now.plan_data in
         let after = marks_stretched (F.font face.now) choice buffer.old in
-        Refuses (stretch_refusal (F.font face.now) choice buffer.old) buffer.old.max_len (length after.glyphs) result }
+        Refuses (stretch_refusal (F.font face.now) choice buffer.old) buffer.old.max_len
+        (length after.glyphs) result }
     ensures err { OnErr result (buffer.new ≡ buffer.old) }
     ensures unmarked { buffer.old.stch ≡ false → IsOk result }
 {
@@ -49,7 +51,8 @@ fn stretch_marks<F: hb_font_t>(
     requires numbers { All (λ g. g.glyph_id ≤ 65535) buffer.old.glyphs }
     ensures ok { OnOk result (buffer.new ≡ marks_stretched (F.font face.now) choice buffer.old) }
     ensures refusal { let after = marks_stretched (F.font face.now) choice buffer.old in
-        Refuses (stretch_refusal (F.font face.now) choice buffer.old) buffer.old.max_len (length after.glyphs) result }
+        Refuses (stretch_refusal (F.font face.now) choice buffer.old) buffer.old.max_len
+        (length after.glyphs) result }
     ensures err { OnErr result (buffer.new ≡ buffer.old) }
     ensures unmarked { buffer.old.stch ≡ false → IsOk result }
 {
@@ -72,7 +75,8 @@ fn stretch_backwards<F: hb_font_t>(
     requires positions { length buffer.old.positions ≡ length buffer.old.glyphs }
     requires numbers { All (λ g. g.glyph_id ≤ 65535) buffer.old.glyphs }
     ensures ok { let how = laying_by (F.font face.now) choice false in
-        OnOk result (buffer.new ≡ with_cells (reverse (stretched how (reverse (cells buffer.old)))) buffer.old) }
+        OnOk result (buffer.new ≡ with_cells (reverse (stretched how
+        (reverse (cells buffer.old)))) buffer.old) }
     ensures refusal { let how = laying_by (F.font face.now) choice false in
         let cs = reverse (cells buffer.old) in
         Refuses (text_refusal how cs) buffer.old.max_len (length (stretched how cs)) result }

@@ -9,9 +9,9 @@ use shapers_arabic::ot_shaper_arabic::arabic_action_t::{STRETCHING_FIXED, STRETC
 use shapers_base::buffer::{GlyphWalk, hb_buffer_t, hb_glyph_info_t};
 use shapers_base::plan::{PlanData, hb_ot_shape_plan_t};
 
-/// Where the font stretches marks, gives each multiplied glyph the action of its tile, which repeats
-/// if the glyph's component is odd, and marks the buffer if there is one. It can't refuse and takes
-/// no memory. (OpenType `stch`.)
+/// Where the font stretches marks, gives each multiplied glyph the action of its tile, which
+/// repeats if the glyph's component is odd, and marks the buffer if there is one. It can't refuse
+/// and takes no memory. (OpenType `stch`.)
 pub fn record_stch(plan: &hb_ot_shape_plan_t, buffer: &mut hb_buffer_t)
     requires { IsArabic plan.now.plan_data }
     ensures { buffer.new ≡ tiles_recorded plan.now.plan_data buffer.old }
@@ -51,7 +51,8 @@ impl GlyphWalk for TileRecorder {
 
     ghost can_walk = { λ _ _. ⊤ };
 
-    ghost walks = { λ v w gs hs. (hs ≡ map recorded gs) × (w.has_stch ≡ list_any (λ g. is_multiplied g.marks) gs) };
+    ghost walks = { λ v w gs hs. (hs ≡ map recorded gs) × (w.has_stch ≡ list_any
+        (λ g. is_multiplied g.marks) gs) };
 
     fn walk(&mut self, glyphs: &mut [hb_glyph_info_t]) {
         self.has_stch = record_all(glyphs);

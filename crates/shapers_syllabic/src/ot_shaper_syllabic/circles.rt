@@ -186,8 +186,8 @@ impl DottedCircles {
         }
     }
 
-    // Opens the last broken syllable of the first `read` glyphs, which move up, from it on, by as many
-    // places as they have broken syllables. Answers where it starts.
+    // Opens the last broken syllable of the first `read` glyphs, which move up, from it on, by as
+    // many places as they have broken syllables. Answers where it starts.
     fn open_last(&self, glyphs: &mut [hb_glyph_info_t], read: usize, left: usize) -> usize
         requires some { 0 < left }
         requires in_range { read + left ≤ length glyphs.old }
@@ -293,11 +293,12 @@ fn unbroken_end(glyphs: &[hb_glyph_info_t], kind: u8) -> usize
     ensures len { result ≡ suffix_len (is_of_other_kind kind) glyphs.now }
     ensures within { result ≤ length glyphs.now }
 {
-    glyphs
-        .iter()
-        .rev()
-        .take_while(|glyph| glyph.syllable % 16 != kind)
-        .count()
+    for i in (0..glyphs.len()).rev() {
+        if glyphs[i].syllable % 16 == kind {
+            return glyphs.len() - 1 - i;
+        }
+    }
+    glyphs.len()
 }
 
 // How many glyphs at the end have this byte of a syllable.
@@ -328,10 +329,12 @@ fn unbroken_len(glyphs: &[hb_glyph_info_t], kind: u8) -> usize
     ensures len { result ≡ prefix_len (is_of_other_kind kind) glyphs.now }
     ensures within { result ≤ length glyphs.now }
 {
-    glyphs
-        .iter()
-        .take_while(|glyph| glyph.syllable % 16 != kind)
-        .count()
+    for (i, glyph) in glyphs.iter().enumerate() {
+        if glyph.syllable % 16 == kind {
+            return i;
+        }
+    }
+    glyphs.len()
 }
 
 // The circle of a syllable, which takes cluster, mask and syllable byte from the first glyph.
