@@ -24,4 +24,5 @@ pub mod FinalSteps
 pub mod FinalSyllable
 pub mod FinalTargets
 pub mod FinalText
+pub mod FinalTextWalk
 pub mod FinalWords

@@ -7,9 +7,12 @@ pub mod laws;
 mod matras;
 mod moves;
 mod opening;
+mod pause;
 mod placing;
 mod pref;
 mod reordering;
 mod reph;
 pub mod rules;
 mod viramas;
+
+pub use pause::final_reordering;

@@ -1,17 +1,35 @@
-//! The final reordering of one syllable.
+//! The final reordering of one syllable, and of a text.
 ghost use Rattle.std.specs.Prelude.{◌%◌, ◌≡◌, ◌≤◌, length};
+ghost use Rattle.shapers_indic_final.specs.FinalOpening.{FinallyReordered};
 ghost use Rattle.shapers_indic_final.specs.FinalReordering.{final_order, final_steps};
 ghost use Rattle.shapers_syllabic.specs.Reordering.{SyllableReordered};
 
 use super::base::settle_base;
+use super::opening::open_syllable;
 use super::placing::{place_matras, place_pref, place_reph};
 use super::rules::Rules;
 use super::viramas::recover_viramas;
 use shapers_base::buffer::{Script, hb_buffer_t};
 
+// Reorders each syllable of the text and opens it, from left to right.
+pub(super) fn reorder_text(rules: &Rules, script: Option<Script>, buffer: &mut hb_buffer_t)
+    requires of_buffer { script ≡ buffer.old.script }
+    requires pref { rules.now.pref % 8 ≡ 0 }
+    requires init { rules.now.init % 8 ≡ 0 }
+    ensures { FinallyReordered rules.now buffer.old buffer.new }
+{
+    let mut start = 0;
+    while start < buffer.len() {
+        let end = buffer.next_syllable(start);
+        reorder_syllable(rules, script, buffer, start, end);
+        open_syllable(rules.init, buffer, start);
+        start = end;
+    }
+}
+
 // Reorders the syllable from `s` to `e`: its viramas, its base, its left matras, its reph, and a
 // glyph that `pref` formed.
-pub(super) fn reorder_syllable(
+fn reorder_syllable(
     rules: &Rules,
     script: Option<Script>,
     buffer: &mut hb_buffer_t,

@@ -1,0 +1,26 @@
+//! The pause of the final reordering.
+ghost use Rattle.std.specs.Prelude.{◌≡◌, true};
+ghost use Rattle.shapers_indic.specs.Plan.{indic_in, is_indic_data};
+ghost use Rattle.shapers_indic_final.specs.FinalOpening.{FinallyReordered};
+ghost use Rattle.shapers_indic_final.specs.FinalRules.{rules_of};
+
+use super::reordering::reorder_text;
+use super::rules::Rules;
+use shapers_base::buffer::hb_buffer_t;
+use shapers_base::font::hb_font_t;
+use shapers_base::plan::hb_ot_shape_plan_t;
+use shapers_indic::ot_shaper_indic::indic_in;
+
+/// Reorders each syllable again, now that the basic features formed its glyphs: its base, its left
+/// matras, its reph and a glyph that `pref` formed; and gives a left matra at the start of a word
+/// `init`. It refuses nothing and takes no memory. (OpenType, development of Indic scripts: "Final
+/// reordering".)
+pub fn final_reordering<F: hb_font_t>(plan: &hb_ot_shape_plan_t, face: &F, buffer: &mut hb_buffer_t)
+    requires kept { is_indic_data plan.now.plan_data ≡ true }
+    ensures reordered { let rules = rules_of (F.font face.now) (indic_in plan.now) in
+        FinallyReordered rules buffer.old buffer.new }
+{
+    let rules = Rules::new(indic_in(plan), face);
+    let script = buffer.script();
+    reorder_text(&rules, script, buffer);
+}
