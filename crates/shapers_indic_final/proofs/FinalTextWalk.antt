@@ -1,14 +1,14 @@
 -- The walk that reorders and opens syllable by syllable: what it still has to do.
-use Rattle.std.proofs.Common.{ℕ, suc, ◌+◌, ◌-◌, ◌%◌, ◌/◌, ◌^◌, ◌<◌, ◌≤◌, ◌≡◌, ◌==◌, ◌&&◌, not, Bool, true, false, cond, if◌then◌else◌, List, [], ◌∷◌, ◌++◌, map, length, take, drop, refl, sym, ◌∙◌, ap, subst, arith, append_assoc, append-nil, length-append, length-take-le, length-drop, Option, None, Some, take_all, take-append-drop}
+use Rattle.std.proofs.Common.{ℕ, ◌+◌, ◌-◌, ◌%◌, ◌/◌, ◌<◌, ◌≤◌, ◌≡◌, ◌==◌, ◌&&◌, not, Bool, true, false, if◌then◌else◌, List, [], ◌∷◌, ◌++◌, map, length, take, drop, refl, sym, ◌∙◌, ap, arith, append_assoc, length-append, length-take-le, length-drop, Option, None, Some, take-append-drop}
 use Rattle.std.specs.Prelude.{bit_or}
 use Rattle.std.specs.Int.Bits.{or_zero_r}
 use Rattle.std.proofs.lemmas.Nat.{or_mod, or_shr}
-use Rattle.std.proofs.lemmas.List.{drop_all, drop-map, length-map, map-append, take-map, take_at, drop_at, drop-drop}
+use Rattle.std.proofs.lemmas.List.{drop-map, length-map, map-append, take-map, take_at, drop_at, drop-drop}
 use Rattle.shapers_buffer.specs.declared.buffer.glyph.hb_glyph_info_t.{hb_glyph_info_t}
 use Rattle.shapers_buffer.specs.declared.buffer.level.BufferClusterLevel.{BufferClusterLevel}
 use Rattle.shapers_buffer.specs.declared.buffer.tag.Script.{Script}
 use Rattle.shapers_buffer.specs.Buffer.{Buffer, but_places}
-use Rattle.shapers_buffer.specs.Clusters.{least, stretch_of, with_stretch}
+use Rattle.shapers_buffer.specs.Clusters.{least, stretch_of}
 use Rattle.shapers_buffer.specs.Glyph.{clusters, order_view, plain, without_flags}
 use Rattle.shapers_buffer.specs.GlyphFlags.{flagged, unsafe_inside, with_bits, with_bits_off}
 use Rattle.shapers_buffer.specs.Marks.{no_marks}
@@ -17,7 +17,7 @@ use Rattle.shapers_clusters.specs.Steps.{Step, run_steps, widened}
 use Rattle.shapers_clusters.proofs.FlagCalls.{map-unsafe_inside, plain-with_bits}
 use Rattle.shapers_clusters.proofs.Through.{length-same}
 use Rattle.shapers_indic_final.specs.FinalMatras.{is_left}
-use Rattle.shapers_indic_final.specs.FinalOpening.{FinallyReordered, before_place, bound_at, final_text, in_word, is_bound, last_or, opened, syllable_run, text_run, with_init, with_inits}
+use Rattle.shapers_indic_final.specs.FinalOpening.{before_place, bound_at, final_text, in_word, is_bound, last_or, opened, syllable_run, text_run, with_init, with_inits}
 use Rattle.shapers_indic_final.specs.FinalReordering.{final_order, final_steps}
 use Rattle.shapers_indic_final.specs.declared.ot_shaper_indic_final.rules.Rules.{Rules}
 use Rattle.shapers_indic_final.proofs.FinalLaws.{final_laws}

@@ -1,4 +1,4 @@
-use Rattle.std.proofs.Common.{arith, sym, subst}
+use Rattle.std.proofs.Common.{arith, subst}
 use Rattle.shapers_indic_final.specs.FinalReordering.{final_order, final_steps}
 use Rattle.shapers_indic_final.proofs.FinalTextWalk.{FinishedNext, finished_next}
 use Rattle.shapers_syllabic.specs.Reordering.{SyllableReordered}
