@@ -58,7 +58,7 @@ parting_at gs p e l other ends =
     (subst (λ xs. LawsAt xs (filter is_other a ++ (x ∷ (filter is_left a ++ c))) steps) start (all_at gs (length gs) e p p 0 (x ∷ []) c (omega arith) ends parts (omega arith)))
 
 -- or stay
-merging_at : (gs : List hb_glyph_info_t) (e : ℕ) (o : Option ℕ) → e ≤ length gs → LawsAt gs gs (merging_step (length gs) e o)
+pub merging_at : (gs : List hb_glyph_info_t) (e : ℕ) (o : Option ℕ) → e ≤ length gs → LawsAt gs gs (merging_step (length gs) e o)
 merging_at gs e None l = same_at gs gs refl
 merging_at gs e (Some i) l =
     let n = length gs in
@@ -83,18 +83,18 @@ nearest_within p gs =
 before_within : (base : ℕ) (gs : List hb_glyph_info_t) → place_before base gs ≤ base - 1
 before_within base gs = elim (base == length gs) as (λ b. (if b then base - 2 else base - 1) ≤ base - 1) [ true ↦ omega arith | false ↦ omega arith ]
 
-target_within : (script : Option Script) (base : ℕ) (gs : List hb_glyph_info_t) → matra_target script base gs ≤ base - 1
+pub target_within : (script : Option Script) (base : ℕ) (gs : List hb_glyph_info_t) → matra_target script base gs ≤ base - 1
 target_within script base gs =
     let p = place_before base gs in
     let low = before_within base gs in
     let near = nearest_within p gs in
     elim (has_no_half_forms script) as (λ b. (if b then p else nearest_halant p gs) ≤ base - 1) [ true ↦ low | false ↦ omega arith ]
 
-negated : (b : Bool) → not b ≡ true → b ≡ false
+pub negated : (b : Bool) → not b ≡ true → b ≡ false
 negated true h = sym h
 negated false h = refl
 
-matras_at : (script : Option Script) (base : ℕ) (gs : List hb_glyph_info_t) → base ≤ length gs → LawsAt gs (with_matras script base gs) (matra_steps script base gs)
+pub matras_at : (script : Option Script) (base : ℕ) (gs : List hb_glyph_info_t) → base ≤ length gs → LawsAt gs (with_matras script base gs) (matra_steps script base gs)
 matras_at script base gs l =
     let p = matra_target script base gs in
     let e = end_of_base base gs in
@@ -113,7 +113,7 @@ matras_at script base gs l =
     ]
 
 -- the reph
-reph_at : (position : RephPosition) (base : ℕ) (gs : List hb_glyph_info_t) → LawsAt gs (with_reph position base gs) (reph_steps position base gs)
+pub reph_at : (position : RephPosition) (base : ℕ) (gs : List hb_glyph_info_t) → LawsAt gs (with_reph position base gs) (reph_steps position base gs)
 reph_at position base gs =
     let j = reph_target position base gs in
     elim (cases_Bool (opens_with_reph gs)) [
@@ -137,7 +137,7 @@ moved_at gs j s (Some i) l within =
 pref_at : (pref : ℕ) (script : Option Script) (base : ℕ) (gs : List hb_glyph_info_t) → LawsAt gs (with_pref pref script base gs) (pref_steps pref script base gs)
 pref_at pref script base gs = moved_at gs (pref_target script base gs) (base + 1) (formed_pref pref base gs) (pref_target_within script base gs) (formed_pref_within pref base gs)
 
-tried_at : (r : Rules) (script : Option Script) (b : Based) → LawsAt b.glyphs (after_pref r script b) (steps_of_pref r script b)
+pub tried_at : (r : Rules) (script : Option Script) (b : Based) → LawsAt b.glyphs (after_pref r script b) (steps_of_pref r script b)
 tried_at r script b = elim b.tries_pref as (λ t. LawsAt b.glyphs (if t then with_pref r.pref script b.base b.glyphs else b.glyphs) (if t then pref_steps r.pref script b.base b.glyphs else [])) [
   | true ↦ pref_at r.pref script b.base b.glyphs
   | false ↦ same_at b.glyphs b.glyphs refl

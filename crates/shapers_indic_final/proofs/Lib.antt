@@ -1,4 +1,5 @@
 mod FinalBaseRows
+pub mod FinalClusters
 pub mod FinalElsewhere
 pub mod FinalFlags
 pub mod FinalHidden
@@ -20,3 +21,4 @@ pub mod FinalSteps
 pub mod FinalTargets
 pub mod FinalText
 pub mod FinalWords
+pub mod StaysMerged
