@@ -61,7 +61,7 @@ parting_at gs p e l other ends =
     (subst (λ xs. LawsAt xs (filter is_other a ++ (x ∷ (filter is_left a ++ c))) steps) start (all_at gs (length gs) e p p 0 (x ∷ []) c (omega arith) ends parts (omega arith)))
 
 -- or stay
-merging_at : (gs : List hb_glyph_info_t) (e : ℕ) (o : Option ℕ) → e ≤ length gs → LawsAt gs gs (merging_step (length gs) e o)
+pub merging_at : (gs : List hb_glyph_info_t) (e : ℕ) (o : Option ℕ) → e ≤ length gs → LawsAt gs gs (merging_step (length gs) e o)
 merging_at gs e None l = same_at gs gs refl
 merging_at gs e (Some i) l =
     let n = length gs in
@@ -86,14 +86,14 @@ nearest_within p gs =
 before_within : (base : ℕ) (gs : List hb_glyph_info_t) → place_before base gs ≤ base - 1
 before_within base gs = elim (base == length gs) as (λ b. (if b then base - 2 else base - 1) ≤ base - 1) [ true ↦ omega arith | false ↦ omega arith ]
 
-target_within : (script : Option Script) (base : ℕ) (gs : List hb_glyph_info_t) → matra_target script base gs ≤ base - 1
+pub target_within : (script : Option Script) (base : ℕ) (gs : List hb_glyph_info_t) → matra_target script base gs ≤ base - 1
 target_within script base gs =
     let p = place_before base gs in
     let low = before_within base gs in
     let near = nearest_within p gs in
     elim (has_no_half_forms script) as (λ b. (if b then p else nearest_halant p gs) ≤ base - 1) [ true ↦ low | false ↦ omega arith ]
 
-negated : (b : Bool) → not b ≡ true → b ≡ false
+pub negated : (b : Bool) → not b ≡ true → b ≡ false
 negated true h = sym h
 negated false h = refl
 

@@ -26,7 +26,7 @@ lefts m gs = reverse (filter (passes is_left gs) (places 0 m))
 abbrev pub steps_of : ℕ → ℕ → ℕ → ℕ → List ℕ → List Step
 steps_of n e p k qs = map (λ t. matra_step n e t.1 (p - t.0)) (enumerate_from k qs)
 
-lefts_yes : (m : ℕ) (gs : List hb_glyph_info_t) → passes is_left gs m ≡ true → lefts (m + 1) gs ≡ m ∷ lefts m gs
+pub lefts_yes : (m : ℕ) (gs : List hb_glyph_info_t) → passes is_left gs m ≡ true → lefts (m + 1) gs ≡ m ∷ lefts m gs
 lefts_yes m gs holds =
     let test = passes is_left gs in
     ap (λ qs. reverse (filter test qs)) (places_last 0 m (omega arith))
@@ -34,7 +34,7 @@ lefts_yes m gs holds =
     ∙ ap (λ b. reverse (filter test (places 0 m) ++ cond b (m ∷ []) [])) holds
     ∙ reverse-append (filter test (places 0 m)) (m ∷ [])
 
-lefts_no : (m : ℕ) (gs : List hb_glyph_info_t) → passes is_left gs m ≡ false → lefts (m + 1) gs ≡ lefts m gs
+pub lefts_no : (m : ℕ) (gs : List hb_glyph_info_t) → passes is_left gs m ≡ false → lefts (m + 1) gs ≡ lefts m gs
 lefts_no m gs fails =
     let test = passes is_left gs in
     ap (λ qs. reverse (filter test qs)) (places_last 0 m (omega arith))

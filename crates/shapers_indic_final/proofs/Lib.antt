@@ -1,4 +1,5 @@
 mod FinalBaseRows
+pub mod FinalClusters
 pub mod FinalElsewhere
 pub mod FinalFlags
 pub mod FinalHidden
@@ -26,3 +27,4 @@ pub mod FinalTargets
 pub mod FinalText
 pub mod FinalTextWalk
 pub mod FinalWords
+pub mod StaysMerged

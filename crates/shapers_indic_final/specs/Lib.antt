@@ -1,4 +1,5 @@
 pub mod FinalBase
+pub mod FinalClusters
 pub mod FinalGlyphs
 pub mod FinalLaws
 pub mod FinalMatras

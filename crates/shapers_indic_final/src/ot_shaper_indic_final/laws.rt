@@ -1,4 +1,5 @@
 //! Laws of the final reordering, each the contract of a function without a body.
+ghost use Rattle.shapers_indic_final.specs.FinalClusters.{FinalMergesLaw};
 ghost use Rattle.shapers_indic_final.specs.FinalLaws.{FinalReadsNoSerials, FinalReorderLaws, FinalTextLaws};
 
 /// The steps of a syllable take each of its places once and lead to its final order.
@@ -17,4 +18,10 @@ pub fn final_reads_no_serials()
 /// still respected.
 pub fn final_text_laws()
     ensures { FinalTextLaws }
+{}
+
+/// At the levels that merge, each stretch of places that the steps of a syllable merge is in one cluster
+/// when they are done.
+pub fn final_merges()
+    ensures { FinalMergesLaw }
 {}

@@ -1,0 +1,211 @@
+-- What the steps of a syllable merge stays in one cluster.
+use Rattle.std.proofs.Common.{List, None, Option, Some, [], ap, arith, drop, false, get_or, if◌then◌else◌, inl, inr, length, length-drop, refl, subst, suc, sym, take, true, zero, ℕ, ◌++◌, ◌+◌, ◌-◌, ◌<◌, ◌∙◌, ◌∷◌, ◌≡◌, ◌≤◌}
+use Rattle.std.specs.List.{AllByRecursion, range_with_len}
+use Rattle.std.specs.List.Sorted.{IsPermutation}
+use Rattle.std.proofs.lemmas.Bool.{and_parts, cases_Bool, cases_lt}
+use Rattle.std.proofs.lemmas.Bool.Decides.{nat_tests}
+use Rattle.std.proofs.lemmas.List.{get_or-append_right, get_or-drop, get_or-take, get_or_append_left, length-drop, length-take-le}
+use Rattle.std.proofs.lemmas.List.Elements.{All-from_recursion, recursion_from_All}
+use Rattle.std.proofs.lemmas.List.FromFn.{get_or-range_with_len, length-range_with_len}
+use Rattle.std.proofs.lemmas.List.Sorted.{All-permutation, length_permutation}
+use Rattle.shapers_buffer.specs.declared.buffer.glyph.hb_glyph_info_t.{hb_glyph_info_t}
+use Rattle.shapers_buffer.specs.declared.buffer.tag.Script.{Script}
+use Rattle.shapers_buffer.specs.Clusters.{stretch_of, with_stretch}
+use Rattle.shapers_buffer.proofs.MappedLists.{all-append}
+use Rattle.shapers_clusters.specs.Steps.{FitsStep, HeldBetween, MovesInside, MovesMerged, Step}
+use Rattle.shapers_clusters.proofs.Moves.{held_by}
+use Rattle.shapers_indic.specs.Glyphs.{least_place, passes, places}
+use Rattle.shapers_indic_final.specs.FinalClusters.{FinalMergesLaw}
+use Rattle.shapers_indic_final.specs.FinalGlyphs.{first_goes_last, last_goes_first}
+use Rattle.shapers_indic_final.specs.FinalMatras.{end_of_base, has_room, is_left, matra_step, matra_steps, matra_target, matras_go, merging_step}
+use Rattle.shapers_indic_final.proofs.FinalMoves.{permutes_first_last, permutes_last_first, picks_first_last, picks_last_first}
+use Rattle.shapers_indic_final.proofs.FinalParting.{lefts, lefts_no, lefts_yes, steps_of}
+use Rattle.shapers_indic_final.proofs.StaysMerged.{SpareMerged, Spares, StaysAt, merged_stay, spare_moves, spare_then}
+use Rattle.std.specs.Prelude.{nat_lt}
+use Rattle.shapers_base.specs.declared.plan.indic.RephPosition.{RephPosition}
+use Rattle.shapers_indic_final.specs.FinalBase.{Based, with_viramas}
+use Rattle.shapers_indic_final.specs.FinalPref.{formed_pref, pref_move, pref_step, pref_steps, pref_target}
+use Rattle.shapers_indic_final.specs.FinalReordering.{after_matras, after_reph, based, final_steps, steps_of_pref}
+use Rattle.shapers_indic_final.specs.FinalReph.{opens_with_reph, reph_step, reph_steps, reph_target}
+use Rattle.shapers_indic_final.specs.declared.ot_shaper_indic_final.rules.Rules.{Rules}
+use Rattle.shapers_indic_final.proofs.FinalHidden.{base_within, hidden-based, hidden-viramas}
+use Rattle.shapers_indic_final.proofs.FinalLawsAt.{length_at, same_at, stretch_at}
+use Rattle.shapers_indic_final.proofs.FinalTargets.{PlaceWithin, formed_pref_within, opens_some, pref_target_within, reph_target_within}
+use Rattle.shapers_indic_final.proofs.FinalLaws.{final_laws, matras_at, merging_at, reph_at, target_within}
+
+-- what holds of all holds of each
+at_place : {X : Type 0} (P : X → Type 0) (xs : List X) → AllByRecursion P xs → (k : ℕ) (d : X) → k < length xs → P (get_or xs k d)
+at_place P [] h k d l = absurd (omega arith)
+at_place P (x ∷ xs) h zero d l = h.0
+at_place P (x ∷ xs) h (suc k) d l = at_place P xs h.1 k d (omega arith)
+
+all_by_place : (P : ℕ → Type 0) (xs : List ℕ) (d : ℕ) → ((k : ℕ) → k < length xs → P (get_or xs k d)) → AllByRecursion P xs
+all_by_place P [] d h = tt
+all_by_place P (x ∷ xs) d h = (h 0 (omega arith), all_by_place P xs d (λ k l. h (suc k) (omega arith)))
+
+-- a stretch of places changed: those around it stay, those inside come from inside
+pub record ChangedWithin (i k n : ℕ) (ps : List ℕ) : Type 0 where
+  pub before : (p : ℕ) → p < i → get_or ps p 0 ≡ p
+  pub behind : (p : ℕ) → k ≤ p → p < n → get_or ps p 0 ≡ p
+  pub from : (p : ℕ) → i ≤ p → p < k → i ≤ get_or ps p 0
+  pub to : (p : ℕ) → i ≤ p → p < k → get_or ps p 0 < k
+
+pub record Inside (i k q : ℕ) : Type 0 where
+  pub low : i ≤ q
+  pub high : q < k
+
+pub changed_within : (f : List ℕ → List ℕ) → ((ps : List ℕ) → IsPermutation ps (f ps)) → (i k n : ℕ) → i ≤ k → k ≤ n → ChangedWithin i k n (with_stretch i k f (places 0 n))
+changed_within f permutes i k n l m =
+    let ps = range_with_len 0 n in
+    let part = stretch_of i k ps in
+    let xs = take i ps in
+    let ys = f part in
+    let zs = drop k ps in
+    let long = length-range_with_len 0 n in
+    let xn : length xs ≡ i = length-take-le i ps (omega arith) in
+    let pn : length part ≡ k - i = length-take-le (k - i) (drop i ps) (omega (arith, length-drop i ps)) in
+    let yn : length ys ≡ k - i = length_permutation part ys (permutes part) ∙ pn in
+    let each : (p : ℕ) → p < k - i → get_or part p 0 ≡ i + p = λ p a. get_or-take (k - i) (drop i ps) p 0 a ∙ get_or-drop i ps p 0 ∙ get_or-range_with_len 0 n (i + p) 0 (omega arith) ∙ omega arith in
+    let all_part : AllByRecursion (Inside i k) part = all_by_place (Inside i k) part 0 (λ p a. subst (Inside i k) (sym (each p (omega arith))) (record { low = omega arith; high = omega arith })) in
+    let all_ys : AllByRecursion (Inside i k) ys = recursion_from_All (Inside i k) ys (All-permutation (Inside i k) part ys (permutes part) (All-from_recursion (Inside i k) part all_part)) in
+    let there : (p : ℕ) → i ≤ p → p < k → Inside i k (get_or (xs ++ (ys ++ zs)) p 0) = λ p a b.
+    subst (Inside i k) (sym (get_or-append_right xs (ys ++ zs) i p 0 xn a ∙ get_or_append_left ys zs 0 (p - i) (omega arith))) (at_place (Inside i k) ys all_ys (p - i) 0 (omega arith)) in
+    let all : n - 0 ≡ n = omega arith in
+    subst (λ m. ChangedWithin i k n (with_stretch i k f (range_with_len 0 m))) (sym all) (record {
+      before = λ p a. get_or_append_left xs (ys ++ zs) 0 p (omega arith) ∙ get_or-take i ps p 0 a ∙ get_or-range_with_len 0 n p 0 (omega arith) ∙ omega arith;
+      behind = λ p a b. get_or-append_right xs (ys ++ zs) i p 0 xn (omega arith) ∙ get_or-append_right ys zs (k - i) (p - i) 0 yn (omega arith) ∙ get_or-drop k ps (p - i - (k - i)) 0 ∙ get_or-range_with_len 0 n (k + (p - i - (k - i))) 0 (omega arith) ∙ omega arith;
+      from = λ p a b. (let t = there p a b in t.low);
+      to = λ p a b. (let t = there p a b in t.high);
+    })
+
+-- a step that merges such a stretch first moves inside it
+pub change_moves : (f : List ℕ → List ℕ) → ((ps : List ℕ) → IsPermutation ps (f ps)) → (i k n : ℕ) → i ≤ k → k ≤ n → (step : Step) → step.merged_first ≡ (i, k) ∷ [] → step.places ≡ with_stretch i k f (places 0 n) → step.merged_then ≡ [] → FitsStep n step → MovesMerged n step
+change_moves f permutes i k n l m step first is none fits =
+    let ps = with_stretch i k f (places 0 n) in
+    let sts : List (ℕ × ℕ) = (i, k) ∷ [] in
+    let c = changed_within f permutes i k n l m in
+    let many : length ps ≡ n = sym (ap length is) ∙ fits.as_many in
+    let same : (p : ℕ) → get_or ps p 0 ≡ p → HeldBetween sts p (get_or ps p 0) = λ p e r a b. absurd (omega arith) in
+    let inside : MovesInside sts ps = λ p pl. elim (cases_lt p i) [
+      | inl a ↦ same p (c.before p a)
+      | inr a ↦ elim (cases_lt p k) [
+        | inl b ↦ held_by sts 0 (i, k) (omega arith) p (get_or ps p 0) a b (c.from p a b) (c.to p a b)
+        | inr b ↦ same p (c.behind p b (omega arith))
+      ]
+    ] in
+    record {
+      fits = fits;
+      inside = subst (λ xs. MovesInside xs step.places) (sym first) (subst (MovesInside sts) (sym is) inside);
+      nothing_then = none;
+    }
+
+-- the steps of left matras: what one merged, the next leave
+later_stay : (gs : List hb_glyph_info_t) (n e p m k : ℕ) (st : ℕ × ℕ) → m + k ≤ p → p < n → p - k < st.0 → st.1 ≤ n → m ≤ length gs → AllByRecursion (Spares n st) (steps_of n e p k (lefts m gs))
+later_stay gs n e p zero k st l h a b c = tt
+later_stay gs n e p (suc m) k st l h a b c =
+    let i : suc m ≡ m + 1 = omega arith in
+    elim (cases_Bool (passes is_left gs m)) [
+      | inl holds ↦
+          let j = p - k in
+          let w = changed_within first_goes_last permutes_first_last m (j + 1) n (omega arith) (omega arith) in
+          let one : StaysAt st (matra_step n e m j) = λ q x y. w.behind q (omega arith) (omega arith) in
+          let rest = later_stay gs n e p m (k + 1) st (omega arith) h (omega arith) b (omega arith) in
+          subst (λ qs. AllByRecursion (Spares n st) (steps_of n e p k qs)) (sym (ap (λ q. lefts q gs) i ∙ lefts_yes m gs holds)) (inl one, rest)
+      | inr fails ↦ subst (λ qs. AllByRecursion (Spares n st) (steps_of n e p k qs)) (sym (ap (λ q. lefts q gs) i ∙ lefts_no m gs fails)) (later_stay gs n e p m k st (omega arith) h a b (omega arith))
+    ]
+
+spare_lefts : (gs : List hb_glyph_info_t) (n e p m k : ℕ) → m + k ≤ p → p < n → e ≤ n → m ≤ length gs → SpareMerged n (steps_of n e p k (lefts m gs))
+spare_lefts gs n e p zero k l h b c = tt
+spare_lefts gs n e p (suc m) k l h b c =
+    let i : suc m ≡ m + 1 = omega arith in
+    elim (cases_Bool (passes is_left gs m)) [
+      | inl holds ↦
+          let j = p - k in
+          let later = later_stay gs n e p m (k + 1) (j, e) (omega arith) h (omega arith) b (omega arith) in
+          subst (λ qs. SpareMerged n (steps_of n e p k qs)) (sym (ap (λ q. lefts q gs) i ∙ lefts_yes m gs holds)) (inl refl, (later, tt), spare_lefts gs n e p m (k + 1) (omega arith) h b (omega arith))
+      | inr fails ↦ subst (λ qs. SpareMerged n (steps_of n e p k qs)) (sym (ap (λ q. lefts q gs) i ∙ lefts_no m gs fails)) (spare_lefts gs n e p m k (omega arith) h b (omega arith))
+    ]
+
+-- or they stay and merge
+still_moves : (n e i : ℕ) → FitsStep n (record { merged_first = (i, e) ∷ []; places = places 0 n; merged_then = [] }) → MovesMerged n (record { merged_first = (i, e) ∷ []; places = places 0 n; merged_then = [] })
+still_moves n e i fits = record {
+  fits = fits;
+  inside = λ p l r a b. (let at = get_or-range_with_len 0 (n - 0) p 0 (omega (arith, length-range_with_len 0 (n - 0))) in absurd (omega arith));
+  nothing_then = refl;
+}
+
+moves_merging : (gs : List hb_glyph_info_t) (e : ℕ) (o : Option ℕ) → e ≤ length gs → AllByRecursion (MovesMerged (length gs)) (merging_step (length gs) e o)
+moves_merging gs e None l = tt
+moves_merging gs e (Some i) l = (let at = merging_at gs e (Some i) l in let fits = at.fits in (still_moves (length gs) e i fits.0, tt))
+
+spare_matras : (script : Option Script) (base : ℕ) (gs : List hb_glyph_info_t) → base ≤ length gs → SpareMerged (length gs) (matra_steps script base gs)
+spare_matras script base gs l =
+    let p = matra_target script base gs in
+    let e = end_of_base base gs in
+    let ends : e ≤ length gs = omega arith in
+    let low = target_within script base gs in
+    elim (cases_Bool (has_room base gs)) [
+      | inl room ↦ rw room (elim (cases_Bool (matras_go p gs)) [
+        | inl go ↦ rw go (
+            let some = (and_parts (nat_lt 1 (length gs)) (nat_lt 0 base) room).1 in
+            let within : p < length gs = (let some_base : 0 < base = grind (arith, nat_tests) in omega arith) in
+            spare_lefts gs (length gs) e p p 0 (omega arith) within ends (omega arith))
+        | inr stay ↦ rw stay (spare_moves (length gs) (merging_step (length gs) e (least_place (passes is_left gs) 0 base)) (moves_merging gs e (least_place (passes is_left gs) 0 base) ends))
+      ])
+      | inr none ↦ rw none tt
+    ]
+
+-- the reph, and the pref glyph
+moves_reph : (position : RephPosition) (base : ℕ) (gs : List hb_glyph_info_t) → AllByRecursion (MovesMerged (length gs)) (reph_steps position base gs)
+moves_reph position base gs =
+    let j = reph_target position base gs in
+    elim (cases_Bool (opens_with_reph gs)) [
+      | inl on ↦ rw on (
+          let high : j < length gs = reph_target_within position base gs (opens_some gs on) in
+          let ends : j + 1 ≤ length gs = omega arith in
+          let at = stretch_at first_goes_last first_goes_last picks_first_last permutes_first_last 0 (j + 1) (reph_step (length gs) j) gs (omega arith) ends refl (ends, tt) tt in
+          let fits = at.fits in
+          (change_moves first_goes_last permutes_first_last 0 (j + 1) (length gs) (omega arith) ends (reph_step (length gs) j) refl refl refl fits.0, tt))
+      | inr off ↦ rw off tt
+    ]
+
+moves_pref : (gs : List hb_glyph_info_t) (j s : ℕ) (o : Option ℕ) → j ≤ s → ((i : ℕ) → o ≡ Some i → PlaceWithin s (length gs) i) → AllByRecursion (MovesMerged (length gs)) (pref_step (length gs) j o)
+moves_pref gs j s None l within = tt
+moves_pref gs j s (Some i) l within =
+    let k = within i refl in
+    let low = k.low in
+    let high = k.high in
+    let ends : i + 1 ≤ length gs = omega arith in
+    let at = stretch_at last_goes_first last_goes_first picks_last_first permutes_last_first j (i + 1) (pref_move (length gs) j i) gs (omega arith) ends refl (ends, tt) tt in
+    let fits = at.fits in
+    (change_moves last_goes_first permutes_last_first j (i + 1) (length gs) (omega arith) ends (pref_move (length gs) j i) refl refl refl fits.0, tt)
+
+moves_tried : (r : Rules) (script : Option Script) (b : Based) → AllByRecursion (MovesMerged (length b.glyphs)) (steps_of_pref r script b)
+moves_tried r script b = elim b.tries_pref as (λ t. AllByRecursion (MovesMerged (length b.glyphs)) (if t then pref_steps r.pref script b.base b.glyphs else [])) [
+  | true ↦ moves_pref b.glyphs (pref_target script b.base b.glyphs) (b.base + 1) (formed_pref r.pref b.base b.glyphs) (pref_target_within script b.base b.glyphs) (formed_pref_within r.pref b.base b.glyphs)
+  | false ↦ tt
+]
+
+-- all of them
+pub spare_final : (r : Rules) (script : Option Script) (gs : List hb_glyph_info_t) → SpareMerged (length gs) (final_steps r script gs)
+spare_final r script gs =
+    let b = based r script gs in
+    let p = after_matras r script b in
+    let q = after_reph r p in
+    let ms = matra_steps script b.base b.glyphs in
+    let rs = reph_steps r.reph_pos p.base p.glyphs in
+    let ps = steps_of_pref r script q in
+    let low = base_within r script (with_viramas r gs) in
+    let bn : length b.glyphs ≡ length gs = length_at gs b.glyphs [] (same_at gs b.glyphs (hidden-based r script (with_viramas r gs) ∙ hidden-viramas r gs)) in
+    let pn : length p.glyphs ≡ length gs = length_at b.glyphs p.glyphs ms (matras_at script b.base b.glyphs low) ∙ bn in
+    let qn : length q.glyphs ≡ length gs = length_at p.glyphs q.glyphs rs (reph_at r.reph_pos p.base p.glyphs) ∙ pn in
+    let n = length gs in
+    let one : SpareMerged n ms = subst (λ k. SpareMerged k ms) bn (spare_matras script b.base b.glyphs low) in
+    let two : AllByRecursion (MovesMerged n) rs = subst (λ k. AllByRecursion (MovesMerged k) rs) pn (moves_reph r.reph_pos p.base p.glyphs) in
+    let three : AllByRecursion (MovesMerged n) ps = subst (λ k. AllByRecursion (MovesMerged k) ps) qn (moves_tried r script q) in
+    spare_then n ms (rs ++ ps) one (all-append (MovesMerged n) rs ps two three)
+
+pub final_merges : FinalMergesLaw
+final_merges r script level gs cs m long =
+    let laws = final_laws r script in
+    merged_stay level m (length gs) (final_steps r script gs) cs long (laws.fits gs) (spare_final r script gs)
