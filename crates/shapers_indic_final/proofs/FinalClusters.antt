@@ -1,4 +1,6 @@
 -- What the steps of a syllable merge stays in one cluster.
+use Rattle.shapers_clusters.proofs.Through.{length-same}
+use Rattle.shapers_syllabic.specs.Reordering.{carried}
 use Rattle.std.proofs.Common.{List, None, Option, Some, [], ap, arith, drop, false, get_or, if◌then◌else◌, inl, inr, length, length-drop, refl, subst, suc, sym, take, true, zero, ℕ, ◌++◌, ◌+◌, ◌-◌, ◌<◌, ◌∙◌, ◌∷◌, ◌≡◌, ◌≤◌}
 use Rattle.std.specs.List.{AllByRecursion, range_with_len}
 use Rattle.std.specs.List.Sorted.{IsPermutation}
@@ -29,7 +31,7 @@ use Rattle.shapers_indic_final.specs.FinalReordering.{after_matras, after_reph, 
 use Rattle.shapers_indic_final.specs.FinalReph.{opens_with_reph, reph_step, reph_steps, reph_target}
 use Rattle.shapers_indic_final.specs.declared.ot_shaper_indic_final.rules.Rules.{Rules}
 use Rattle.shapers_indic_final.proofs.FinalHidden.{base_within, hidden-based, hidden-viramas}
-use Rattle.shapers_indic_final.proofs.FinalLawsAt.{length_at, same_at, stretch_at}
+use Rattle.shapers_indic_final.proofs.FinalLawsAt.{length_at, stretch_at}
 use Rattle.shapers_indic_final.proofs.FinalTargets.{PlaceWithin, formed_pref_within, opens_some, pref_target_within, reph_target_within}
 use Rattle.shapers_indic_final.proofs.FinalLaws.{final_laws, matras_at, merging_at, reph_at, target_within}
 
@@ -196,7 +198,7 @@ spare_final r script gs =
     let rs = reph_steps r.reph_pos p.base p.glyphs in
     let ps = steps_of_pref r script q in
     let low = base_within r script (with_viramas r gs) in
-    let bn : length b.glyphs ≡ length gs = length_at gs b.glyphs [] (same_at gs b.glyphs (hidden-based r script (with_viramas r gs) ∙ hidden-viramas r gs)) in
+    let bn : length b.glyphs ≡ length gs = length-same carried b.glyphs gs (hidden-based r script (with_viramas r gs) ∙ hidden-viramas r gs) in
     let pn : length p.glyphs ≡ length gs = length_at b.glyphs p.glyphs ms (matras_at script b.base b.glyphs low) ∙ bn in
     let qn : length q.glyphs ≡ length gs = length_at p.glyphs q.glyphs rs (reph_at r.reph_pos p.base p.glyphs) ∙ pn in
     let n = length gs in
