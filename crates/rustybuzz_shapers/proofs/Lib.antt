@@ -2,3 +2,4 @@ mod HookRows
 mod PauseRows
 mod RecordRows
 mod StandingRows
+mod Regrouped

@@ -2,6 +2,7 @@ pub mod Hooks
 pub mod Pauses
 pub mod Records
 pub mod Standing
+pub mod Regrouped
 -- what the public clauses cite of the crates below
 pub use Rattle.shapers_arabic.specs.JoinedText
 pub use Rattle.shapers_arabic.specs.Marks

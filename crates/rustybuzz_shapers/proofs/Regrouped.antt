@@ -1,0 +1,51 @@
+-- Each pause that reorders regroups each syllable by itself.
+use Rattle.std.proofs.Common.{◌≡◌, true, false, List, map, subst}
+use Rattle.std.specs.List.Sorted.{IsPermutation}
+use Rattle.std.proofs.lemmas.List.Sorted.{IsPermutation-map}
+use Rattle.std.proofs.lemmas.Bool.{true≢false}
+use Rattle.shapers_buffer.specs.declared.buffer.glyph.hb_glyph_info_t.{hb_glyph_info_t}
+use Rattle.shapers_buffer.specs.Buffer.{Buffer}
+use Rattle.shapers_buffer.specs.Glyph.{order_view}
+use Rattle.shapers_base.specs.declared.plan.pause.Pause.TheVariants.{SetupSyllablesIndic, SetupSyllablesKhmer, SetupSyllablesMyanmar, SetupSyllablesUse, InitialReordering, ReorderKhmer, ReorderMyanmar, ReorderUse, FinalReordering, RecordStch, RecordRphf, RecordPref, SyllabicClearVar, ClearSubstitutionFlags, ArabicFallbackShape}
+use Rattle.shapers_clusters.specs.Flags.{seen}
+use Rattle.shapers_clusters.specs.Steps.{Step}
+use Rattle.shapers_syllabic.specs.Reordering.{SyllablesReordered, carried, text_order}
+use Rattle.shapers_syllabic.specs.ReorderingLaws.{ReorderLaws}
+use Rattle.shapers_syllabic.proofs.ReorderingLaws.{numbers-seen, text_reordered}
+use Rattle.shapers_indic.specs.Plan.{indic_in}
+use Rattle.shapers_indic_final.proofs.FinalKept.{finally_kept}
+use Rattle.shapers_indic_final.specs.FinalRules.{rules_of as final_rules}
+use Rattle.shapers_indic_initial.specs.InitialRules.{rules_of as initial_rules}
+use Rattle.shapers_indic_initial.proofs.InitialLaws.{initial_laws}
+use Rattle.shapers_khmer.specs.Khmer.{order_in}
+use Rattle.shapers_khmer.proofs.KhmerLaws.{khmer_laws}
+use Rattle.shapers_myanmar.proofs.MyanmarLaws.{myanmar_laws}
+use Rattle.shapers_universal.proofs.UniversalView.{universal_laws}
+use Rattle.rustybuzz_shapers.specs.Regrouped.{RegroupsSyllables, SyllablesRegrouped}
+
+numbers_kept : (gs hs : List hb_glyph_info_t) → IsPermutation (seen carried gs) (seen carried hs) → IsPermutation (map (λ g. g.glyph_id) gs) (map (λ g. g.glyph_id) hs)
+numbers_kept gs hs kept =
+    let number = λ (g : hb_glyph_info_t). g.glyph_id in
+    subst (λ ns. IsPermutation ns (map number hs)) (numbers-seen gs)
+    (subst (IsPermutation (map number (seen carried gs))) (numbers-seen hs) (IsPermutation-map number (seen carried gs) (seen carried hs) kept))
+
+numbers_by : (meaning : List hb_glyph_info_t → List hb_glyph_info_t) (steps : List hb_glyph_info_t → List Step) (old new : Buffer) → ReorderLaws meaning steps → SyllablesReordered meaning steps old new → IsPermutation (map (λ g. g.glyph_id) old.glyphs) (map (λ g. g.glyph_id) new.glyphs)
+numbers_by meaning steps old new laws done = numbers_kept old.glyphs new.glyphs (text_reordered meaning steps old new laws done).kept
+
+pub syllables_regrouped : SyllablesRegrouped
+syllables_regrouped InitialReordering plan font spans old new is done =
+    record { order = done.order; numbers = numbers_by _ _ _ new (initial_laws (initial_rules font plan.ot_map (indic_in plan)) old.script) done }
+syllables_regrouped ReorderKhmer plan font spans old new is done = record { order = done.order; numbers = numbers_by _ _ _ new (khmer_laws (order_in plan.plan_data)) done }
+syllables_regrouped ReorderMyanmar plan font spans old new is done = record { order = done.order; numbers = numbers_by _ _ _ new myanmar_laws done }
+syllables_regrouped ReorderUse plan font spans old new is done = record { order = done.order; numbers = numbers_by _ _ _ new universal_laws done }
+syllables_regrouped FinalReordering plan font spans old new is done = record { order = done.order; numbers = (finally_kept (final_rules font (indic_in plan)) old new done).numbers }
+syllables_regrouped SetupSyllablesIndic plan font spans old new is done = absurd (true≢false (sym is))
+syllables_regrouped SetupSyllablesKhmer plan font spans old new is done = absurd (true≢false (sym is))
+syllables_regrouped SetupSyllablesMyanmar plan font spans old new is done = absurd (true≢false (sym is))
+syllables_regrouped SetupSyllablesUse plan font spans old new is done = absurd (true≢false (sym is))
+syllables_regrouped RecordStch plan font spans old new is done = absurd (true≢false (sym is))
+syllables_regrouped RecordRphf plan font spans old new is done = absurd (true≢false (sym is))
+syllables_regrouped RecordPref plan font spans old new is done = absurd (true≢false (sym is))
+syllables_regrouped SyllabicClearVar plan font spans old new is done = absurd (true≢false (sym is))
+syllables_regrouped ClearSubstitutionFlags plan font spans old new is done = absurd (true≢false (sym is))
+syllables_regrouped ArabicFallbackShape plan font spans old new is done = absurd (true≢false (sym is))
