@@ -1,6 +1,7 @@
 //! The pause of the final reordering.
 ghost use Rattle.std.specs.Prelude.{◌≡◌, true};
 ghost use Rattle.shapers_indic.specs.Plan.{indic_in, is_indic_data};
+ghost use Rattle.shapers_indic_final.specs.FinalLaws.{FinallyKept};
 ghost use Rattle.shapers_indic_final.specs.FinalOpening.{FinallyReordered};
 ghost use Rattle.shapers_indic_final.specs.FinalRules.{rules_of};
 
@@ -19,6 +20,8 @@ pub fn final_reordering<F: hb_font_t>(plan: &hb_ot_shape_plan_t, face: &F, buffe
     requires kept { is_indic_data plan.now.plan_data ≡ true }
     ensures reordered { let rules = rules_of (F.font face.now) (indic_in plan.now) in
         FinallyReordered rules buffer.old buffer.new }
+    ensures laws { let rules = rules_of (F.font face.now) (indic_in plan.now) in
+        FinallyKept rules buffer.old buffer.new }
 {
     let rules = Rules::new(indic_in(plan), face);
     let script = buffer.script();
