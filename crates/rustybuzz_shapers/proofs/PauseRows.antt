@@ -1,4 +1,4 @@
--- The pauses, computed: which are built, and what those that are do to a small buffer.
+-- The pauses, computed: what they do to a small buffer.
 use Rattle.std.specs.Prelude.{◌≡◌, ℕ, ◌+◌, true, false, List, [], ◌∷◌, map, Result, Err, IsOk, refl}
 use Rattle.shapers_buffer.specs.declared.buffer.category.hb_unicode_general_category_t.TheVariants.{Mn}
 use Rattle.shapers_buffer.specs.declared.buffer.glyph.hb_glyph_info_t.{hb_glyph_info_t}
@@ -11,12 +11,7 @@ use Rattle.shapers_base.specs.declared.plan.pause.Pause.TheVariants.{SetupSyllab
 use Rattle.shapers_buffer.specs.Buffer.{Buffer, new_buffer}
 use Rattle.shapers_base.specs.Font.{Font}
 use Rattle.shapers_buffer.specs.Glyph.{default_glyph}
-use Rattle.rustybuzz_shapers.specs.Pauses.{PauseAnswers, Paused, RefusesPause, circles_of, opened, pause_standing}
-use Rattle.rustybuzz_shapers.specs.declared.shaper.standing.Standing.TheVariants.{Has, WillHave}
-
--- each of the fifteen
-built : map pause_standing (SetupSyllablesIndic ∷ SetupSyllablesKhmer ∷ SetupSyllablesMyanmar ∷ SetupSyllablesUse ∷ InitialReordering ∷ ReorderKhmer ∷ ReorderMyanmar ∷ ReorderUse ∷ FinalReordering ∷ RecordStch ∷ RecordRphf ∷ RecordPref ∷ SyllabicClearVar ∷ ClearSubstitutionFlags ∷ ArabicFallbackShape ∷ []) ≡ Has ∷ Has ∷ Has ∷ Has ∷ Has ∷ Has ∷ Has ∷ Has ∷ WillHave ∷ Has ∷ Has ∷ Has ∷ Has ∷ Has ∷ Has ∷ []
-built = refl
+use Rattle.rustybuzz_shapers.specs.Pauses.{PauseAnswers, Paused, RefusesPause, circles_of, opened}
 
 -- three glyphs, each with its cluster, byte and mask
 abbrev glyph : ℕ → ℕ → ℕ → hb_glyph_info_t
@@ -89,5 +84,5 @@ known : (font : Font) → (r : Result (Unit {0}) ShaperError) → RefusesPause R
 known font r h stays = h.1 refl stays
 
 -- none of them answers that circles were wanted
-answered : (font : Font) → PauseAnswers SetupSyllablesIndic font text false × PauseAnswers SetupSyllablesKhmer font text false × PauseAnswers SetupSyllablesMyanmar font text false × PauseAnswers SetupSyllablesUse font text false × PauseAnswers RecordStch font text false × PauseAnswers RecordRphf font text false × PauseAnswers RecordPref font text false × PauseAnswers SyllabicClearVar font text false × PauseAnswers ClearSubstitutionFlags font text false × PauseAnswers ArabicFallbackShape font text false
-answered font = (refl, refl, refl, refl, refl, refl, refl, refl, refl, refl)
+answered : (font : Font) → PauseAnswers SetupSyllablesIndic font text false × PauseAnswers SetupSyllablesKhmer font text false × PauseAnswers SetupSyllablesMyanmar font text false × PauseAnswers SetupSyllablesUse font text false × PauseAnswers FinalReordering font text false × PauseAnswers RecordStch font text false × PauseAnswers RecordRphf font text false × PauseAnswers RecordPref font text false × PauseAnswers SyllabicClearVar font text false × PauseAnswers ClearSubstitutionFlags font text false × PauseAnswers ArabicFallbackShape font text false
+answered font = (refl, refl, refl, refl, refl, refl, refl, refl, refl, refl, refl)

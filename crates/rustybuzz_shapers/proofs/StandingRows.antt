@@ -1,12 +1,12 @@
 -- Which shaper has which hook, computed: the whole table.
 use Rattle.std.specs.Prelude.{◌≡◌, true, false, List, [], ◌∷◌, map, refl}
-use Rattle.rustybuzz_shapers.specs.Standing.{is_settled, is_there, standing}
+use Rattle.rustybuzz_shapers.specs.Standing.{is_there, standing}
 use Rattle.rustybuzz_shapers.specs.declared.shaper.hb_ot_shaper_t.{hb_ot_shaper_t}
 use Rattle.rustybuzz_shapers.specs.declared.shaper.hb_ot_shaper_t.TheVariants.{Arabic, Hangul, Hebrew, Indic, Khmer, Myanmar, MyanmarZawgyi, Thai, Universal}
 use Rattle.rustybuzz_shapers.specs.declared.shaper.standing.Hook.{Hook}
 use Rattle.rustybuzz_shapers.specs.declared.shaper.standing.Hook.TheVariants.{CollectFeatures, OverrideFeatures, CreateData, PreprocessText, PostprocessGlyphs, Compose, Decompose, SetupMasks, ReorderMarks}
 use Rattle.rustybuzz_shapers.specs.declared.shaper.standing.Standing.{Standing}
-use Rattle.rustybuzz_shapers.specs.declared.shaper.standing.Standing.TheVariants.{Lacks, Has, WillHave}
+use Rattle.rustybuzz_shapers.specs.declared.shaper.standing.Standing.TheVariants.{Lacks, Has}
 
 -- the nine hooks; each list below has a value for each of them
 abbrev nine : List Hook
@@ -42,9 +42,6 @@ row_of_thai = refl
 row_of_universal : row Universal ≡ Has ∷ Lacks ∷ Has ∷ Has ∷ Lacks ∷ Has ∷ Lacks ∷ Has ∷ Lacks ∷ []
 row_of_universal = refl
 
--- a hook may be asked unless it is to come, and is there only if it is built
-settled : map is_settled (Lacks ∷ Has ∷ WillHave ∷ []) ≡ true ∷ true ∷ false ∷ []
-settled = refl
-
-there : map is_there (Lacks ∷ Has ∷ WillHave ∷ []) ≡ false ∷ true ∷ false ∷ []
+-- it is there, or it isn't
+there : map is_there (Lacks ∷ Has ∷ []) ≡ false ∷ true ∷ []
 there = refl

@@ -8,6 +8,8 @@ use Rattle.shapers_clusters.specs.Steps.{Step}
 use Rattle.shapers_base.specs.Map.{Map}
 use Rattle.shapers_base.specs.declared.plan.indic.indic_shape_plan_t.{indic_shape_plan_t}
 use Rattle.shapers_indic.specs.Plan.{indic_in, is_indic_data}
+use Rattle.shapers_indic_final.specs.FinalOpening.{FinallyReordered}
+use Rattle.shapers_indic_final.specs.FinalRules as final
 use Rattle.shapers_indic_initial.specs.InitialPause.{InitiallyReordered, initial_circles, initial_refusal, order_by_font, steps_by_font, with_positions_and_circles}
 use Rattle.shapers_indic_initial.specs.InitialReordering.{initial_steps}
 use Rattle.shapers_indic_initial.specs.InitialRules.{rules_of}
@@ -35,32 +37,6 @@ use Rattle.shapers_buffer.specs.declared.buffer.syllables.Span.{Span}
 use Rattle.shapers_base.specs.declared.plan.hb_ot_shape_plan_t.{hb_ot_shape_plan_t}
 use Rattle.shapers_base.specs.declared.plan.pause.Pause.{Pause}
 use Rattle.shapers_base.specs.declared.plan.pause.Pause.TheVariants.{SetupSyllablesIndic, SetupSyllablesKhmer, SetupSyllablesMyanmar, SetupSyllablesUse, InitialReordering, ReorderKhmer, ReorderMyanmar, ReorderUse, FinalReordering, RecordStch, RecordRphf, RecordPref, SyllabicClearVar, ClearSubstitutionFlags, ArabicFallbackShape}
-use Rattle.rustybuzz_shapers.specs.declared.shaper.standing.Standing.{Standing}
-use Rattle.rustybuzz_shapers.specs.declared.shaper.standing.Standing.TheVariants.{Has, WillHave}
-use Rattle.rustybuzz_shapers.specs.Hooks.{Unbuilt}
-use Rattle.rustybuzz_shapers.specs.Standing.{is_settled}
-
--- which pauses are built
-abbrev pub pause_standing : Pause → Standing
-pause_standing SetupSyllablesIndic = Has
-pause_standing SetupSyllablesKhmer = Has
-pause_standing SetupSyllablesMyanmar = Has
-pause_standing SetupSyllablesUse = Has
-pause_standing InitialReordering = Has
-pause_standing ReorderKhmer = Has
-pause_standing ReorderMyanmar = Has
-pause_standing ReorderUse = Has
-pause_standing FinalReordering = WillHave
-pause_standing RecordStch = Has
-pause_standing RecordRphf = Has
-pause_standing RecordPref = Has
-pause_standing SyllabicClearVar = Has
-pause_standing ClearSubstitutionFlags = Has
-pause_standing ArabicFallbackShape = Has
-
--- whether the pause may be run
-abbrev pub CanPause : Pause → Type 0
-CanPause pause = is_settled (pause_standing pause) ≡ true
 
 -- the plan's data are of the kind that the pause reads
 abbrev pub PauseFits : Pause → hb_ot_shape_plan_t → Type 0
@@ -72,7 +48,7 @@ PauseFits InitialReordering plan = is_indic_data plan.plan_data ≡ true
 PauseFits ReorderKhmer plan = is_khmer_data plan.plan_data ≡ true
 PauseFits ReorderMyanmar plan = Unit {0}
 PauseFits ReorderUse plan = Unit {0}
-PauseFits FinalReordering plan = Unit {0}
+PauseFits FinalReordering plan = is_indic_data plan.plan_data ≡ true
 PauseFits RecordStch plan = IsArabic plan.plan_data
 PauseFits RecordRphf plan = is_universal plan.plan_data ≡ true
 PauseFits RecordPref plan = Unit {0}
@@ -102,7 +78,7 @@ Paused InitialReordering plan font spans old new = InitiallyReordered font plan.
 Paused ReorderKhmer plan font spans old new = PauseReordered (circles_of ReorderKhmer font old) (khmer_order (order_in plan.plan_data)) khmer_steps old new
 Paused ReorderMyanmar plan font spans old new = PauseReordered (circles_of ReorderMyanmar font old) myanmar_order myanmar_steps old new
 Paused ReorderUse plan font spans old new = PauseReordered (circles_of ReorderUse font old) universal_order universal_steps old new
-Paused FinalReordering plan font spans old new = Unbuilt
+Paused FinalReordering plan font spans old new = FinallyReordered (final.rules_of font (indic_in plan)) old new
 Paused RecordStch plan font spans old new = new ≡ tiles_recorded plan.plan_data old
 Paused RecordRphf plan font spans old new = new ≡ with_rphf_recorded (rphf_of plan.plan_data) old
 Paused RecordPref plan font spans old new = new ≡ with_pref_recorded old
@@ -128,7 +104,7 @@ PauseKeeps InitialReordering plan font spans old new = InitialKeeps font plan.ot
 PauseKeeps ReorderKhmer plan font spans old new = ReorderingKeeps (circles_of ReorderKhmer font old) (khmer_order (order_in plan.plan_data)) khmer_steps old new
 PauseKeeps ReorderMyanmar plan font spans old new = ReorderingKeeps (circles_of ReorderMyanmar font old) myanmar_order myanmar_steps old new
 PauseKeeps ReorderUse plan font spans old new = ReorderingKeeps (circles_of ReorderUse font old) universal_order universal_steps old new
-PauseKeeps FinalReordering plan font spans old new = Unbuilt
+PauseKeeps FinalReordering plan font spans old new = Unit {0}
 PauseKeeps RecordStch plan font spans old new = Unit {0}
 PauseKeeps RecordRphf plan font spans old new = Unit {0}
 PauseKeeps RecordPref plan font spans old new = Unit {0}
@@ -146,7 +122,7 @@ PauseAnswers InitialReordering font old answer = answer ≡ is_some (circles_of 
 PauseAnswers ReorderKhmer font old answer = answer ≡ is_some (circles_of ReorderKhmer font old)
 PauseAnswers ReorderMyanmar font old answer = answer ≡ is_some (circles_of ReorderMyanmar font old)
 PauseAnswers ReorderUse font old answer = answer ≡ is_some (circles_of ReorderUse font old)
-PauseAnswers FinalReordering font old answer = Unbuilt
+PauseAnswers FinalReordering font old answer = answer ≡ false
 PauseAnswers RecordStch font old answer = answer ≡ false
 PauseAnswers RecordRphf font old answer = answer ≡ false
 PauseAnswers RecordPref font old answer = answer ≡ false
@@ -168,7 +144,7 @@ RefusesPause InitialReordering font spans old r = RefusesReordering (initial_ref
 RefusesPause ReorderKhmer font spans old r = RefusesReordering (unknown_refusal 2 old.glyphs) (circles_of ReorderKhmer font old) old r
 RefusesPause ReorderMyanmar font spans old r = RefusesReordering (unknown_refusal 3 old.glyphs) (circles_of ReorderMyanmar font old) old r
 RefusesPause ReorderUse font spans old r = RefusesReordering None (circles_of ReorderUse font old) old r
-RefusesPause FinalReordering font spans old r = Unbuilt
+RefusesPause FinalReordering font spans old r = IsOk r
 RefusesPause RecordStch font spans old r = IsOk r
 RefusesPause RecordRphf font spans old r = IsOk r
 RefusesPause RecordPref font spans old r = IsOk r

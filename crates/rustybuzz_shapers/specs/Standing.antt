@@ -6,7 +6,7 @@ use Rattle.rustybuzz_shapers.specs.declared.shaper.standing.Hook.{Hook}
 use Rattle.rustybuzz_shapers.specs.declared.shaper.standing.Hook.TheVariants.{CollectFeatures, OverrideFeatures, CreateData, PreprocessText, PostprocessGlyphs, Compose, Decompose, SetupMasks, ReorderMarks}
 use Rattle.rustybuzz_shapers.specs.declared.shaper.standing.Hooks.{Hooks}
 use Rattle.rustybuzz_shapers.specs.declared.shaper.standing.Standing.{Standing}
-use Rattle.rustybuzz_shapers.specs.declared.shaper.standing.Standing.TheVariants.{Lacks, Has, WillHave}
+use Rattle.rustybuzz_shapers.specs.declared.shaper.standing.Standing.TheVariants.{Lacks, Has}
 
 -- a row of the table: features, overrides, data, before normalization, after positioning, pairs to one, one to pairs, masks, marks
 abbrev pub row : Standing → Standing → Standing → Standing → Standing → Standing → Standing → Standing → Standing → Hooks
@@ -39,14 +39,7 @@ column hooks ReorderMarks = hooks.reorder_marks
 abbrev pub standing : hb_ot_shaper_t → Hook → Standing
 standing shaper hook = column (hooks_of shaper) hook
 
--- whether a hook may be asked: the shaper has it, or lacks it and says so
-abbrev pub is_settled : Standing → Bool
-is_settled Lacks = true
-is_settled Has = true
-is_settled WillHave = false
-
 -- whether the shaper has it
 abbrev pub is_there : Standing → Bool
 is_there Lacks = false
 is_there Has = true
-is_there WillHave = false

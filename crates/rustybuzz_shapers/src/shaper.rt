@@ -3,7 +3,7 @@
 ghost use Rattle.std.specs.Prelude.{◌≡◌, ◌≤◌, [], length, IfOk, IsOk, IsNone, is_some, IsOkUnless, OnOk, OnErr};
 ghost use Rattle.shapers_buffer.specs.declared.buffer.refusal.ShaperError.TheVariants.{Memory};
 ghost use Rattle.shapers_arabic.specs.Requests.{rclt};
-ghost use Rattle.rustybuzz_shapers.specs.Hooks.{CanAsk, Composed, DataCreated, Decomposed, GlyphsFit, MasksSet, MarksFit, MarksKeep, MarksReordered, PlanFits, PostprocessFits, Postprocessed, Preprocessed, PreprocessKeeps, preprocess_answer, RefusesPostprocess, RefusesPreprocess};
+ghost use Rattle.rustybuzz_shapers.specs.Hooks.{Composed, DataCreated, Decomposed, GlyphsFit, MasksSet, MarksFit, MarksKeep, MarksReordered, PlanFits, PostprocessFits, Postprocessed, Preprocessed, PreprocessKeeps, preprocess_answer, RefusesPostprocess, RefusesPreprocess};
 ghost use Rattle.rustybuzz_shapers.specs.Records.{asked, collected, if_there, normalizes, overridden, places_marks, wants_gpos_script, zeroes_marks};
 ghost use Rattle.rustybuzz_shapers.specs.Standing.{is_there, standing};
 
@@ -16,7 +16,7 @@ mod pauses;
 mod standing;
 
 pub use conditions::pause_fits;
-pub use pauses::{pause_standing, run_pause};
+pub use pauses::run_pause;
 use shapers_arabic::ot_shaper_arabic;
 pub use shapers_base::plan::{NormalizationMode, Pause, PlanData, Preprocess, ZeroWidthMarks};
 use shapers_hangul::ot_shaper_hangul;
@@ -170,7 +170,6 @@ impl hb_ot_shaper_t {
 
     /// What the shaper keeps in the plan.
     pub fn create_data(self, plan: &hb_ot_shape_plan_t) -> Option<PlanData>
-        requires { CanAsk self Hook.CreateData }
         ensures { DataCreated self plan.now result }
     {
         match self {
@@ -195,7 +194,6 @@ impl hb_ot_shaper_t {
         buffer: &mut hb_buffer_t,
     ) -> Result<Option<Preprocess>, ShaperError>
         requires without_positions { buffer.old.positions ≡ [] }
-        requires settled { CanAsk self Hook.PreprocessText }
         ensures answer { IfOk result (λ answer. answer ≡ preprocess_answer self) }
         ensures ok { let font = F.font face.now in
             OnOk result (Preprocessed self plan.now font buffer.old buffer.new) }
@@ -229,7 +227,6 @@ impl hb_ot_shaper_t {
         buffer: &mut hb_buffer_t,
     ) -> Result<Option<()>, ShaperError>
         requires with_positions { length buffer.old.positions ≡ length buffer.old.glyphs }
-        requires settled { CanAsk self Hook.PostprocessGlyphs }
         requires fits { PostprocessFits self plan.now buffer.old.glyphs }
         ensures answer { let standing = standing self Hook.PostprocessGlyphs in
             IfOk result (λ answer. is_some answer ≡ is_there standing) }
@@ -264,7 +261,6 @@ impl hb_ot_shaper_t {
         a: char,
         b: char,
     ) -> Option<Option<char>>
-        requires { CanAsk self Hook.Compose }
         ensures { Composed self plan.now (T.tables tables.now) a b result }
     {
         match self {
@@ -284,7 +280,6 @@ impl hb_ot_shaper_t {
         tables: &T,
         ab: char,
     ) -> Option<Option<(char, char)>>
-        requires { CanAsk self Hook.Decompose }
         ensures { Decomposed self plan.now (T.tables tables.now) ab result }
     {
         match self {
@@ -312,7 +307,6 @@ impl hb_ot_shaper_t {
         buffer: &mut hb_buffer_t,
     ) -> Option<()>
         requires without_positions { buffer.old.positions ≡ [] }
-        requires settled { CanAsk self Hook.SetupMasks }
         requires data { PlanFits self plan.now }
         requires glyphs { GlyphsFit self plan.now buffer.old.glyphs }
         ensures answer { is_some result ≡ is_there (standing self Hook.SetupMasks) }
@@ -342,7 +336,6 @@ impl hb_ot_shaper_t {
         requires without_positions { buffer.old.positions ≡ [] }
         requires in_order { start ≤ end }
         requires in_range { end ≤ length buffer.old.glyphs }
-        requires settled { CanAsk self Hook.ReorderMarks }
         requires few { MarksFit self start end }
         ensures answer { is_some result ≡ is_there (standing self Hook.ReorderMarks) }
         ensures marks { MarksReordered self start end buffer.old buffer.new }

@@ -93,7 +93,9 @@ pub fn pause_fits(pause: Pause, plan: &hb_ot_shape_plan_t) -> bool
     ensures { IsTrue result ↔ PauseFits pause plan.now }
 {
     match pause {
-        Pause::InitialReordering => matches!(plan.plan_data, PlanData::Indic(_)),
+        Pause::InitialReordering | Pause::FinalReordering => {
+            matches!(plan.plan_data, PlanData::Indic(_))
+        }
         Pause::ReorderKhmer => matches!(plan.plan_data, PlanData::Khmer(_)),
         Pause::SetupSyllablesUse | Pause::RecordRphf => {
             matches!(plan.plan_data, PlanData::Universal(_))
@@ -104,7 +106,6 @@ pub fn pause_fits(pause: Pause, plan: &hb_ot_shape_plan_t) -> bool
         | Pause::SetupSyllablesMyanmar
         | Pause::ReorderMyanmar
         | Pause::ReorderUse
-        | Pause::FinalReordering
         | Pause::RecordPref
         | Pause::SyllabicClearVar
         | Pause::ClearSubstitutionFlags

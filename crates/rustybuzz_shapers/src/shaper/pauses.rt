@@ -1,11 +1,11 @@
 //! The pauses behind one dispatcher.
 ghost use Rattle.std.specs.Prelude.{◌≡◌, ◌≤◌, [], All, IfOk, OnOk, OnErr};
-ghost use Rattle.rustybuzz_shapers.specs.Pauses.{CanPause, PauseAnswers, PauseFits, PauseKeeps, Paused, pause_standing, RefusesPause};
+ghost use Rattle.rustybuzz_shapers.specs.Pauses.{PauseAnswers, PauseFits, PauseKeeps, Paused, RefusesPause};
 
-use super::standing::Standing;
 use shapers_base::buffer::{ShaperError, Span, hb_buffer_t};
 use shapers_base::font::hb_font_t;
 use shapers_base::plan::{Pause, hb_ot_shape_plan_t};
+use shapers_indic_final::ot_shaper_indic_final;
 use shapers_indic_initial::ot_shaper_indic_initial;
 use shapers_khmer::ot_shaper_khmer;
 use shapers_myanmar::ot_shaper_myanmar;
@@ -15,29 +15,6 @@ use shapers_syllabic::ot_shaper_syllabic::{
     set_up_syllables,
 };
 use shapers_universal::ot_shaper_use;
-
-/// Whether a pause is built.
-pub fn pause_standing(pause: Pause) -> Standing
-    ensures { result ≡ pause_standing pause }
-{
-    match pause {
-        Pause::SetupSyllablesIndic
-        | Pause::SetupSyllablesKhmer
-        | Pause::SetupSyllablesMyanmar
-        | Pause::SetupSyllablesUse
-        | Pause::InitialReordering
-        | Pause::ReorderKhmer
-        | Pause::ReorderMyanmar
-        | Pause::ReorderUse
-        | Pause::RecordStch
-        | Pause::RecordRphf
-        | Pause::RecordPref
-        | Pause::SyllabicClearVar
-        | Pause::ClearSubstitutionFlags
-        | Pause::ArabicFallbackShape => Standing::Has,
-        Pause::FinalReordering => Standing::WillHave,
-    }
-}
 
 /// Does what a shaper does between two stages of substitution, and answers whether dotted circles
 /// were wanted. Spans are read by the pauses that set syllables alone: those refuse with
@@ -53,7 +30,6 @@ pub fn run_pause<F: hb_font_t>(
 ) -> Result<bool, ShaperError>
     requires without_positions { buffer.old.positions ≡ [] }
     requires kinds { All (λ span. span.kind ≤ 15) spans.now }
-    requires settled { CanPause pause }
     requires data { PauseFits pause plan.now }
     ensures answer { IfOk result (PauseAnswers pause (F.font face.now) buffer.old) }
     ensures ok { let font = F.font face.now in
@@ -80,13 +56,13 @@ pub fn run_pause<F: hb_font_t>(
         Pause::ReorderKhmer => return ot_shaper_khmer::reorder_khmer(plan, face, buffer),
         Pause::ReorderMyanmar => return ot_shaper_myanmar::reorder_myanmar(face, buffer),
         Pause::ReorderUse => return ot_shaper_use::reorder_use(face, buffer),
+        Pause::FinalReordering => ot_shaper_indic_final::final_reordering(plan, face, buffer),
         Pause::RecordStch => ot_shaper_arabic_stretch::record_stch(plan, buffer),
         Pause::RecordRphf => ot_shaper_use::record_rphf(plan, buffer),
         Pause::RecordPref => ot_shaper_use::record_pref(buffer),
         Pause::SyllabicClearVar => clear_syllables(buffer),
         Pause::ClearSubstitutionFlags => clear_substitution_flags(buffer),
         Pause::ArabicFallbackShape => {}
-        Pause::FinalReordering => unreachable!(),
     }
     Ok(false)
 }

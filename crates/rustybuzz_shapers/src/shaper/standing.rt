@@ -2,7 +2,7 @@
 ghost use Rattle.std.specs.Prelude.{◌≡◌};
 
 use super::hb_ot_shaper_t;
-use Standing::{Has, Lacks, WillHave};
+use Standing::{Has, Lacks};
 
 /// A hook of the shapers.
 #[derive(Clone, Copy, Debug, PartialEq, Eq)]
@@ -25,8 +25,6 @@ pub enum Standing {
     Lacks,
     /// It has it.
     Has,
-    /// It will have it; until then the hook can't be asked.
-    WillHave,
 }
 
 /// How a shaper stands to each hook.
@@ -41,20 +39,6 @@ pub struct Hooks {
     pub decompose: Standing,
     pub setup_masks: Standing,
     pub reorder_marks: Standing,
-}
-
-impl Standing {
-    ghost use Rattle.rustybuzz_shapers.specs.Standing.{is_settled};
-
-    /// Whether the hook may be asked: it is there, or lacks for good.
-    pub fn is_settled(self) -> bool
-        ensures { result ≡ is_settled self }
-    {
-        match self {
-            Lacks | Has => true,
-            WillHave => false,
-        }
-    }
 }
 
 impl hb_ot_shaper_t {
