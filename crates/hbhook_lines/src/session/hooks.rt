@@ -1,19 +1,15 @@
 //! The lines `run NAME ..`: the conditions of a call are asked before the call is made.
 ghost use Rattle.std.specs.Prelude.{◌≡◌, ◌≤◌, ◌↔◌, [], is_ok, All, IsTrue, OnOk};
-ghost use Rattle.rustybuzz_shapers.specs.Hooks.{CanAsk};
-ghost use Rattle.rustybuzz_shapers.specs.Pauses.{CanPause};
 
 use super::Session;
 use crate::command::HookCall;
 use crate::fault::LineFault;
 use rustybuzz_shapers::buffer::Span;
-use rustybuzz_shapers::shaper::{
-    Hook, Pause, Preprocess, hb_ot_shaper_t, pause_fits, pause_standing, run_pause,
-};
+use rustybuzz_shapers::shaper::{Pause, Preprocess, hb_ot_shaper_t, pause_fits, run_pause};
 
 impl Session {
-    /// Asks a hook of the shaper. Without a shaper, where the call's conditions fail and where the
-    /// hook isn't built yet, the line doesn't read.
+    /// Asks a hook of the shaper. Without a shaper, and where the call's conditions fail, the line
+    /// doesn't read.
     pub fn run(&mut self, call: HookCall) -> Result<(), LineFault> {
         let shaper = self.settings.shaper.ok_or(LineFault::Unreadable)?;
         match call {
@@ -30,7 +26,6 @@ impl Session {
     // The hook before normalization.
     fn preprocess(&mut self, shaper: hb_ot_shaper_t) -> Result<(), LineFault> {
         self.check_no_positions()?;
-        check_hook(shaper, Hook::PreprocessText)?;
         let plan = shaper.with_data(self.settings.plan()?);
         let answer = shaper.preprocess_text(&plan, &self.settings.font, &mut self.buffer)?;
         match answer {
@@ -43,7 +38,6 @@ impl Session {
     // The hook that sets masks.
     fn set_masks(&mut self, shaper: hb_ot_shaper_t) -> Result<(), LineFault> {
         self.check_no_positions()?;
-        check_hook(shaper, Hook::SetupMasks)?;
         let plan = shaper.with_data(self.settings.plan()?);
         check(shaper.glyphs_fit(&plan, &self.buffer))?;
         let (font, tables) = (&self.settings.font, &self.settings.tables);
@@ -54,7 +48,6 @@ impl Session {
     // The hook after positioning.
     fn postprocess(&mut self, shaper: hb_ot_shaper_t) -> Result<(), LineFault> {
         check(self.buffer.positions_len() == self.buffer.len())?;
-        check_hook(shaper, Hook::PostprocessGlyphs)?;
         let plan = shaper.with_data(self.settings.plan()?);
         check(shaper.postprocess_fits(&plan, &self.buffer))?;
         let answer = shaper.postprocess_glyphs(&plan, &self.settings.font, &mut self.buffer)?;
@@ -70,7 +63,6 @@ impl Session {
     ) -> Result<(), LineFault> {
         self.check_no_positions()?;
         check(start <= end && end <= self.buffer.len())?;
-        check_hook(shaper, Hook::ReorderMarks)?;
         check(shaper.marks_fit(start, end))?;
         let plan = shaper.with_data(self.settings.plan()?);
         let answer = shaper.reorder_marks(&plan, &mut self.buffer, start, end);
@@ -79,7 +71,6 @@ impl Session {
 
     // The hook that composes two characters.
     fn compose(&mut self, shaper: hb_ot_shaper_t, a: char, b: char) -> Result<(), LineFault> {
-        check_hook(shaper, Hook::Compose)?;
         let plan = shaper.with_data(self.settings.plan()?);
         match shaper.compose(&plan, &self.settings.tables, a, b) {
             Some(Some(ab)) => Ok(writeln!(self.answers, "{:04x}", u32::from(ab))?),
@@ -90,7 +81,6 @@ impl Session {
 
     // The hook that decomposes a character.
     fn decompose(&mut self, shaper: hb_ot_shaper_t, ab: char) -> Result<(), LineFault> {
-        check_hook(shaper, Hook::Decompose)?;
         let plan = shaper.with_data(self.settings.plan()?);
         match shaper.decompose(&plan, &self.settings.tables, ab) {
             Some(Some((a, b))) => {
@@ -105,7 +95,6 @@ impl Session {
     // A pause, which reads the spans so far, with what the shaper keeps in the plan.
     fn pause(&mut self, shaper: hb_ot_shaper_t, pause: Pause) -> Result<(), LineFault> {
         self.check_no_positions()?;
-        check_pause(pause)?;
         check(kinds_fit(self.settings.spans.as_slice()))?;
         let plan = shaper.with_data(self.settings.plan()?);
         check(pause_fits(pause, &plan))?;
@@ -145,20 +134,6 @@ fn check(holds: bool) -> Result<(), LineFault>
     } else {
         Err(LineFault::Unreadable)
     }
-}
-
-// That a hook may be asked: a line that needs one that isn't built yet doesn't read.
-fn check_hook(shaper: hb_ot_shaper_t, hook: Hook) -> Result<(), LineFault>
-    ensures { OnOk result (CanAsk shaper hook) }
-{
-    check(shaper.standing(hook).is_settled())
-}
-
-// That a pause may be run.
-fn check_pause(pause: Pause) -> Result<(), LineFault>
-    ensures { OnOk result (CanPause pause) }
-{
-    check(pause_standing(pause).is_settled())
 }
 
 // Whether the kind of each span fits the four bits that it has.
