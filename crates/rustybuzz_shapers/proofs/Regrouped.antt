@@ -1,15 +1,14 @@
 -- Each pause that reorders regroups each syllable by itself.
-use Rattle.std.proofs.Common.{◌≡◌, true, false, List, map, subst}
+use Rattle.std.proofs.Common.{sym, List, map, subst}
 use Rattle.std.specs.List.Sorted.{IsPermutation}
 use Rattle.std.proofs.lemmas.List.Sorted.{IsPermutation-map}
 use Rattle.std.proofs.lemmas.Bool.{true≢false}
 use Rattle.shapers_buffer.specs.declared.buffer.glyph.hb_glyph_info_t.{hb_glyph_info_t}
 use Rattle.shapers_buffer.specs.Buffer.{Buffer}
-use Rattle.shapers_buffer.specs.Glyph.{order_view}
 use Rattle.shapers_base.specs.declared.plan.pause.Pause.TheVariants.{SetupSyllablesIndic, SetupSyllablesKhmer, SetupSyllablesMyanmar, SetupSyllablesUse, InitialReordering, ReorderKhmer, ReorderMyanmar, ReorderUse, FinalReordering, RecordStch, RecordRphf, RecordPref, SyllabicClearVar, ClearSubstitutionFlags, ArabicFallbackShape}
 use Rattle.shapers_clusters.specs.Flags.{seen}
 use Rattle.shapers_clusters.specs.Steps.{Step}
-use Rattle.shapers_syllabic.specs.Reordering.{SyllablesReordered, carried, text_order}
+use Rattle.shapers_syllabic.specs.Reordering.{SyllablesReordered, carried}
 use Rattle.shapers_syllabic.specs.ReorderingLaws.{ReorderLaws}
 use Rattle.shapers_syllabic.proofs.ReorderingLaws.{numbers-seen, text_reordered}
 use Rattle.shapers_indic.specs.Plan.{indic_in}
@@ -21,7 +20,7 @@ use Rattle.shapers_khmer.specs.Khmer.{order_in}
 use Rattle.shapers_khmer.proofs.KhmerLaws.{khmer_laws}
 use Rattle.shapers_myanmar.proofs.MyanmarLaws.{myanmar_laws}
 use Rattle.shapers_universal.proofs.UniversalView.{universal_laws}
-use Rattle.rustybuzz_shapers.specs.Regrouped.{RegroupsSyllables, SyllablesRegrouped}
+use Rattle.rustybuzz_shapers.specs.Regrouped.{SyllablesRegrouped}
 
 numbers_kept : (gs hs : List hb_glyph_info_t) → IsPermutation (seen carried gs) (seen carried hs) → IsPermutation (map (λ g. g.glyph_id) gs) (map (λ g. g.glyph_id) hs)
 numbers_kept gs hs kept =

@@ -35,10 +35,8 @@ use Rattle.shapers_text.specs.Hebrew.{composed_in_hebrew, mark_step}
 use Rattle.shapers_text.specs.Thai.{characters, is_sara_am, glyphs_in_two}
 use Rattle.shapers_text.specs.ThaiForms.{asks_for_forms, preprocessed_in_thai}
 use Rattle.shapers_text.specs.ThaiLaws.{ClustersInTwo, KeptInTwo}
-use Rattle.rustybuzz_shapers.specs.Standing.{standing}
 use Rattle.rustybuzz_shapers.specs.declared.shaper.hb_ot_shaper_t.{hb_ot_shaper_t}
 use Rattle.rustybuzz_shapers.specs.declared.shaper.hb_ot_shaper_t.TheVariants.{Arabic, Hangul, Hebrew, Indic, Khmer, Myanmar, MyanmarZawgyi, Thai, Universal}
-use Rattle.rustybuzz_shapers.specs.declared.shaper.standing.Hook.{Hook}
 
 -- what the shaper keeps in the plan
 abbrev pub DataCreated : hb_ot_shaper_t → hb_ot_shape_plan_t → Option PlanData → Type 0
