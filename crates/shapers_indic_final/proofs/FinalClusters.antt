@@ -15,7 +15,18 @@ use Rattle.shapers_buffer.proofs.MappedLists.{all-append}
 use Rattle.shapers_clusters.specs.Steps.{FitsStep, HeldBetween, MovesInside, MovesMerged, Step}
 use Rattle.shapers_clusters.proofs.Moves.{held_by}
 use Rattle.shapers_indic.specs.Glyphs.{least_place, passes, places}
-use Rattle.shapers_indic_final.specs.FinalClusters.{FinalMergesLaw}
+use Rattle.std.proofs.lemmas.List.{length-map}
+use Rattle.std.specs.List.{sum_by}
+use Rattle.shapers_buffer.specs.declared.buffer.level.BufferClusterLevel.{BufferClusterLevel}
+use Rattle.shapers_buffer.specs.Clusters.{merges}
+use Rattle.shapers_buffer.specs.Glyph.{clusters, order_view, plain}
+use Rattle.shapers_buffer.specs.Syllables.{syllables}
+use Rattle.shapers_indic_final.specs.FinalLaws.{final_text_steps}
+use Rattle.shapers_indic_final.proofs.FinalText.{text_fits}
+use Rattle.shapers_indic_final.proofs.StaysAlong.{spare_along}
+use Rattle.shapers_syllabic.proofs.ReorderingLaws.{each_piece, sum-syllables, text_steps-long}
+use Rattle.shapers_syllabic.proofs.ReorderingWalk.{pieces_of}
+use Rattle.shapers_indic_final.specs.FinalClusters.{MergedStay, FinalMergesLaw}
 use Rattle.shapers_indic_final.specs.FinalGlyphs.{first_goes_last, last_goes_first}
 use Rattle.shapers_indic_final.specs.FinalMatras.{end_of_base, has_room, is_left, matra_step, matra_steps, matra_target, matras_go, merging_step}
 use Rattle.shapers_indic_final.proofs.FinalMoves.{permutes_first_last, permutes_last_first, picks_first_last, picks_last_first}
@@ -209,3 +220,18 @@ pub final_merges : FinalMergesLaw
 final_merges r script level gs cs m long =
     let laws = final_laws r script in
     merged_stay level m (length gs) (final_steps r script gs) cs long (laws.fits gs) (spare_final r script gs)
+
+-- the whole text
+spare_pieces : (r : Rules) (script : Option Script) (syls : List (List hb_glyph_info_t)) → AllByRecursion (λ piece. SpareMerged piece.0 piece.1) (pieces_of (final_steps r script) syls)
+spare_pieces r script [] = tt
+spare_pieces r script (syl ∷ syls) = (spare_final r script syl, spare_pieces r script syls)
+
+pub text_merges : (r : Rules) (script : Option Script) (level : BufferClusterLevel) (gs : List hb_glyph_info_t) → merges level ≡ true → MergedStay level (final_text_steps r script gs) (clusters gs)
+text_merges r script level gs m =
+    let xs = order_view gs in
+    let steps = final_steps r script in
+    let laws = final_laws r script in
+    let ps = pieces_of steps (syllables xs) in
+    let sum : 0 + sum_by (λ piece. piece.0) ps ≤ length gs = omega (arith, sum-syllables steps xs, length-map gs plain) in
+    let spare = spare_along (length gs) 0 ps sum (each_piece FitsStep steps laws.fits (syllables xs)) (spare_pieces r script (syllables xs)) in
+    merged_stay level m (length gs) (final_text_steps r script gs) (clusters gs) (length-map gs (λ g. g.cluster)) (text_fits r script level gs) (subst (SpareMerged (length gs)) (sym (text_steps-long steps gs)) spare)

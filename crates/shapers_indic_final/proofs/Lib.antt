@@ -21,4 +21,5 @@ pub mod FinalSteps
 pub mod FinalTargets
 pub mod FinalText
 pub mod FinalWords
+pub mod StaysAlong
 pub mod StaysMerged
