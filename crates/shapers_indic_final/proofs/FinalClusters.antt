@@ -145,7 +145,7 @@ still_moves n e i fits = record {
   nothing_then = refl;
 }
 
-moves_merging : (gs : List hb_glyph_info_t) (e : ℕ) (o : Option ℕ) → e ≤ length gs → AllByRecursion (MovesMerged (length gs)) (merging_step (length gs) e o)
+pub moves_merging : (gs : List hb_glyph_info_t) (e : ℕ) (o : Option ℕ) → e ≤ length gs → AllByRecursion (MovesMerged (length gs)) (merging_step (length gs) e o)
 moves_merging gs e None l = tt
 moves_merging gs e (Some i) l = (let at = merging_at gs e (Some i) l in let fits = at.fits in (still_moves (length gs) e i fits.0, tt))
 
@@ -167,7 +167,7 @@ spare_matras script base gs l =
     ]
 
 -- the reph, and the pref glyph
-moves_reph : (position : RephPosition) (base : ℕ) (gs : List hb_glyph_info_t) → AllByRecursion (MovesMerged (length gs)) (reph_steps position base gs)
+pub moves_reph : (position : RephPosition) (base : ℕ) (gs : List hb_glyph_info_t) → AllByRecursion (MovesMerged (length gs)) (reph_steps position base gs)
 moves_reph position base gs =
     let j = reph_target position base gs in
     elim (cases_Bool (opens_with_reph gs)) [
@@ -191,7 +191,7 @@ moves_pref gs j s (Some i) l within =
     let fits = at.fits in
     (change_moves last_goes_first permutes_last_first j (i + 1) (length gs) (omega arith) ends (pref_move (length gs) j i) refl refl refl fits.0, tt)
 
-moves_tried : (r : Rules) (script : Option Script) (b : Based) → AllByRecursion (MovesMerged (length b.glyphs)) (steps_of_pref r script b)
+pub moves_tried : (r : Rules) (script : Option Script) (b : Based) → AllByRecursion (MovesMerged (length b.glyphs)) (steps_of_pref r script b)
 moves_tried r script b = elim b.tries_pref as (λ t. AllByRecursion (MovesMerged (length b.glyphs)) (if t then pref_steps r.pref script b.base b.glyphs else [])) [
   | true ↦ moves_pref b.glyphs (pref_target script b.base b.glyphs) (b.base + 1) (formed_pref r.pref b.base b.glyphs) (pref_target_within script b.base b.glyphs) (formed_pref_within r.pref b.base b.glyphs)
   | false ↦ tt

@@ -1,5 +1,7 @@
+pub mod FinalApart
 mod FinalBaseRows
 pub mod FinalClusters
+pub mod FinalCuts
 pub mod FinalElsewhere
 pub mod FinalFlags
 pub mod FinalHidden
