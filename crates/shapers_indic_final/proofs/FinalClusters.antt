@@ -17,7 +17,18 @@ use Rattle.shapers_buffer.proofs.MappedLists.{all-append}
 use Rattle.shapers_clusters.specs.Steps.{FitsStep, HeldBetween, MovesInside, MovesMerged, Step}
 use Rattle.shapers_clusters.proofs.Moves.{held_by}
 use Rattle.shapers_indic.specs.Glyphs.{least_place, passes, places}
-use Rattle.shapers_indic_final.specs.FinalClusters.{FinalMergesLaw}
+use Rattle.std.proofs.lemmas.List.{length-map}
+use Rattle.std.specs.List.{sum_by}
+use Rattle.shapers_buffer.specs.declared.buffer.level.BufferClusterLevel.{BufferClusterLevel}
+use Rattle.shapers_buffer.specs.Clusters.{merges}
+use Rattle.shapers_buffer.specs.Glyph.{clusters, order_view, plain}
+use Rattle.shapers_buffer.specs.Syllables.{syllables}
+use Rattle.shapers_indic_final.specs.FinalLaws.{final_text_steps}
+use Rattle.shapers_indic_final.proofs.FinalText.{text_fits}
+use Rattle.shapers_indic_final.proofs.StaysAlong.{spare_along}
+use Rattle.shapers_syllabic.proofs.ReorderingLaws.{each_piece, sum-syllables, text_steps-long}
+use Rattle.shapers_syllabic.proofs.ReorderingWalk.{pieces_of}
+use Rattle.shapers_indic_final.specs.FinalClusters.{MergedStay, FinalMergesLaw}
 use Rattle.shapers_indic_final.specs.FinalGlyphs.{first_goes_last, last_goes_first}
 use Rattle.shapers_indic_final.specs.FinalMatras.{end_of_base, has_room, is_left, matra_step, matra_steps, matra_target, matras_go, merging_step}
 use Rattle.shapers_indic_final.proofs.FinalMoves.{permutes_first_last, permutes_last_first, picks_first_last, picks_last_first}
@@ -136,7 +147,7 @@ still_moves n e i fits = record {
   nothing_then = refl;
 }
 
-moves_merging : (gs : List hb_glyph_info_t) (e : ℕ) (o : Option ℕ) → e ≤ length gs → AllByRecursion (MovesMerged (length gs)) (merging_step (length gs) e o)
+pub moves_merging : (gs : List hb_glyph_info_t) (e : ℕ) (o : Option ℕ) → e ≤ length gs → AllByRecursion (MovesMerged (length gs)) (merging_step (length gs) e o)
 moves_merging gs e None l = tt
 moves_merging gs e (Some i) l = (let at = merging_at gs e (Some i) l in let fits = at.fits in (still_moves (length gs) e i fits.0, tt))
 
@@ -158,7 +169,7 @@ spare_matras script base gs l =
     ]
 
 -- the reph, and the pref glyph
-moves_reph : (position : RephPosition) (base : ℕ) (gs : List hb_glyph_info_t) → AllByRecursion (MovesMerged (length gs)) (reph_steps position base gs)
+pub moves_reph : (position : RephPosition) (base : ℕ) (gs : List hb_glyph_info_t) → AllByRecursion (MovesMerged (length gs)) (reph_steps position base gs)
 moves_reph position base gs =
     let j = reph_target position base gs in
     elim (cases_Bool (opens_with_reph gs)) [
@@ -182,7 +193,7 @@ moves_pref gs j s (Some i) l within =
     let fits = at.fits in
     (change_moves last_goes_first permutes_last_first j (i + 1) (length gs) (omega arith) ends (pref_move (length gs) j i) refl refl refl fits.0, tt)
 
-moves_tried : (r : Rules) (script : Option Script) (b : Based) → AllByRecursion (MovesMerged (length b.glyphs)) (steps_of_pref r script b)
+pub moves_tried : (r : Rules) (script : Option Script) (b : Based) → AllByRecursion (MovesMerged (length b.glyphs)) (steps_of_pref r script b)
 moves_tried r script b = elim b.tries_pref as (λ t. AllByRecursion (MovesMerged (length b.glyphs)) (if t then pref_steps r.pref script b.base b.glyphs else [])) [
   | true ↦ moves_pref b.glyphs (pref_target script b.base b.glyphs) (b.base + 1) (formed_pref r.pref b.base b.glyphs) (pref_target_within script b.base b.glyphs) (formed_pref_within r.pref b.base b.glyphs)
   | false ↦ tt
@@ -211,3 +222,18 @@ pub final_merges : FinalMergesLaw
 final_merges r script level gs cs m long =
     let laws = final_laws r script in
     merged_stay level m (length gs) (final_steps r script gs) cs long (laws.fits gs) (spare_final r script gs)
+
+-- the whole text
+spare_pieces : (r : Rules) (script : Option Script) (syls : List (List hb_glyph_info_t)) → AllByRecursion (λ piece. SpareMerged piece.0 piece.1) (pieces_of (final_steps r script) syls)
+spare_pieces r script [] = tt
+spare_pieces r script (syl ∷ syls) = (spare_final r script syl, spare_pieces r script syls)
+
+pub text_merges : (r : Rules) (script : Option Script) (level : BufferClusterLevel) (gs : List hb_glyph_info_t) → merges level ≡ true → MergedStay level (final_text_steps r script gs) (clusters gs)
+text_merges r script level gs m =
+    let xs = order_view gs in
+    let steps = final_steps r script in
+    let laws = final_laws r script in
+    let ps = pieces_of steps (syllables xs) in
+    let sum : 0 + sum_by (λ piece. piece.0) ps ≤ length gs = omega (arith, sum-syllables steps xs, length-map gs plain) in
+    let spare = spare_along (length gs) 0 ps sum (each_piece FitsStep steps laws.fits (syllables xs)) (spare_pieces r script (syllables xs)) in
+    merged_stay level m (length gs) (final_text_steps r script gs) (clusters gs) (length-map gs (λ g. g.cluster)) (text_fits r script level gs) (subst (SpareMerged (length gs)) (sym (text_steps-long steps gs)) spare)

@@ -1,5 +1,7 @@
+pub mod FinalApart
 mod FinalBaseRows
 pub mod FinalClusters
+pub mod FinalCuts
 pub mod FinalElsewhere
 pub mod FinalFlags
 pub mod FinalHidden
@@ -27,4 +29,5 @@ pub mod FinalTargets
 pub mod FinalText
 pub mod FinalTextWalk
 pub mod FinalWords
+pub mod StaysAlong
 pub mod StaysMerged

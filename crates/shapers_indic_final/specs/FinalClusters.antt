@@ -1,6 +1,8 @@
 -- What the steps of a syllable merge, as a statement.
-use Rattle.std.specs.Prelude.{ℕ, ◌≡◌, true, List, ◌++◌, length, Option}
-use Rattle.std.specs.List.{AllByRecursion, flat_map}
+use Rattle.std.specs.Prelude.{ℕ, ◌-◌, ◌<◌, ◌≡◌, true, false, List, ◌++◌, length, slice_index, Option}
+use Rattle.std.proofs.Common.{◌≢◌}
+use Rattle.shapers_clusters.specs.Cuts.{held}
+use Rattle.std.specs.List.{AllByRecursion, AllPairs, flat_map}
 use Rattle.shapers_buffer.specs.declared.buffer.glyph.hb_glyph_info_t.{hb_glyph_info_t}
 use Rattle.shapers_buffer.specs.declared.buffer.level.BufferClusterLevel.{BufferClusterLevel}
 use Rattle.shapers_buffer.specs.declared.buffer.tag.Script.{Script}
@@ -23,3 +25,10 @@ abbrev pub FinalMergesLaw : Type 0
 FinalMergesLaw = (r : Rules) (script : Option Script) (level : BufferClusterLevel) (gs : List hb_glyph_info_t) (cs : List ℕ) →
     merges level ≡ true → length cs ≡ length gs →
     MergedStay level (final_steps r script gs) cs
+
+-- and where all clusters are different no more is merged: neighbours share one then only if such a stretch holds both
+abbrev pub FinalCutsLaw : Type 0
+FinalCutsLaw = (r : Rules) (script : Option Script) (level : BufferClusterLevel) (gs : List hb_glyph_info_t) (cs : List ℕ) →
+    merges level ≡ true → length cs ≡ length gs → AllPairs (λ a b. a ≢ b) cs →
+    (p : ℕ) → 0 < p → p < length cs → held (all_merged (final_steps r script gs)) p ≡ false →
+    slice_index (joined_steps level (final_steps r script gs) cs) (p - 1) ≢ slice_index (joined_steps level (final_steps r script gs) cs) p

@@ -1,6 +1,6 @@
 -- The laws of the final reordering of a text, as statements.
-use Rattle.std.specs.Prelude.{ℕ, Bool, ◌+◌, ◌==◌, ◌&&◌, ◌||◌, ◌%◌, ◌≡◌, ◌≤◌, ◌<◌, ◌⊎◌, bit_or, false, List, [], ◌∷◌, ◌++◌, length, map, drop, get_or, Option, None}
-use Rattle.std.specs.List.{AllZip}
+use Rattle.std.specs.Prelude.{ℕ, Bool, ◌+◌, ◌==◌, ◌&&◌, ◌||◌, ◌%◌, ◌≡◌, ◌≤◌, ◌<◌, ◌⊎◌, bit_or, false, true, List, [], ◌∷◌, ◌++◌, length, map, drop, get_or, Option, None}
+use Rattle.std.specs.List.{AllByRecursion, AllZip}
 use Rattle.std.specs.List.Sorted.{IsPermutation}
 use Rattle.shapers_buffer.specs.declared.buffer.glyph.hb_glyph_info_t.{hb_glyph_info_t}
 use Rattle.shapers_buffer.specs.declared.buffer.level.BufferClusterLevel.{BufferClusterLevel}
@@ -11,6 +11,9 @@ use Rattle.shapers_buffer.specs.Places.{pick}
 use Rattle.shapers_buffer.specs.Syllables.{syllables}
 use Rattle.shapers_clusters.specs.Cuts.{ShareNone}
 use Rattle.shapers_clusters.specs.Flags.{FlagsFall, seen}
+use Rattle.shapers_buffer.specs.Clusters.{merges}
+use Rattle.shapers_clusters.specs.Labels.{OneLabel}
+use Rattle.shapers_indic_final.specs.FinalClusters.{all_merged}
 use Rattle.shapers_clusters.specs.Laws.{ClustersHold, SeenStepsHold}
 use Rattle.shapers_clusters.specs.Steps.{Step, joined_steps, old_places}
 use Rattle.shapers_indic_final.specs.FinalOpening.{FinallyReordered, final_text, is_bound, last_or, with_inits}
@@ -84,6 +87,7 @@ pub record FinallyKept (r : Rules) (old new : Buffer) : Type 0 where
   pub moved_view : seen carried new.glyphs ≡ pick (old_places (length old.glyphs) (final_text_steps r old.script old.glyphs)) (seen carried old.glyphs)
   pub clusters_are : clusters new.glyphs ≡ final_clusters r old.script old.level old.glyphs
   pub in_clusters : ClustersHold old.level (final_text_steps r old.script old.glyphs) (clusters old.glyphs) (clusters new.glyphs)
+  pub merged : merges old.level ≡ true → AllByRecursion (OneLabel (clusters new.glyphs)) (all_merged (final_text_steps r old.script old.glyphs))
   pub none_rises : AllZip (λ a b. b ≤ a) (pick (old_places (length old.glyphs) (final_text_steps r old.script old.glyphs)) (clusters old.glyphs)) (clusters new.glyphs)
   pub flags : AllZip FlagsFallButBreaks (pick (old_places (length old.glyphs) (final_text_steps r old.script old.glyphs)) old.glyphs) new.glyphs
   pub flags_elsewhere : (i : ℕ) →

@@ -1,5 +1,5 @@
 //! Laws of the final reordering, each the contract of a function without a body.
-ghost use Rattle.shapers_indic_final.specs.FinalClusters.{FinalMergesLaw};
+ghost use Rattle.shapers_indic_final.specs.FinalClusters.{FinalCutsLaw, FinalMergesLaw};
 ghost use Rattle.shapers_indic_final.specs.FinalLaws.{FinalReadsNoSerials, FinalReorderLaws, FinalTextLaws};
 
 /// The steps of a syllable take each of its places once and lead to its final order.
@@ -24,4 +24,10 @@ pub fn final_text_laws()
 /// when they are done.
 pub fn final_merges()
     ensures { FinalMergesLaw }
+{}
+
+/// No more is merged where all clusters are different: neighbours share one then only if such a stretch
+/// holds both.
+pub fn final_cuts()
+    ensures { FinalCutsLaw }
 {}
