@@ -24,7 +24,7 @@ use Rattle.shapers_indic_final.specs.declared.ot_shaper_indic_final.rules.Rules.
 use Rattle.shapers_indic_final.proofs.FinalHidden.{base_within, hidden-based, hidden-viramas}
 use Rattle.shapers_indic_final.proofs.FinalLaws.{matras_at, pref_at, reph_at}
 use Rattle.shapers_indic_final.proofs.FinalLawsAt.{LawsAt, length_at}
-use Rattle.shapers_indic_final.proofs.FinalPlain.{TouchesNoFlag, base_after_reph_plain, base_glyphs_plain, base_place_plain, base_tries_plain, matra_steps_plain, pref_steps_plain, reph_steps_plain}
+use Rattle.shapers_indic_final.proofs.FinalPlain.{TouchesNoFlag, base_after_reph_plain, base_glyphs_plain, base_place_plain, base_tries_plain, matra_steps_plain, pref_steps_plain, reph_steps_plain, viramas_plain}
 use Rattle.shapers_syllabic.specs.Reordering.{SyllableReordered, carried}
 use Rattle.shapers_syllabic.proofs.SyllableThen.{changed_parts, syllable_as, syllable_changed, syllable_mapped, syllable_still, syllable_then}
 
@@ -115,17 +115,13 @@ recovered-plain virama g =
     (elim (is_lost_virama virama g) as (λ b. plain (if b then recovered_one g else g) ≡ (if b then recovered_one (plain g) else plain g)) [ true ↦ refl | false ↦ refl ])
     ∙ ap (λ b. if b then recovered_one (plain g) else plain g) (sym (lost-plain virama g))
 
-viewed-viramas : (r : Rules) (gs : List hb_glyph_info_t) → order_view (with_viramas r gs) ≡ with_viramas r (order_view gs)
-viewed-viramas r [] = refl
-viewed-viramas r (g ∷ gs) = ap (λ x. x ∷ order_view (with_viramas r gs)) (recovered-plain r.virama g) ∙ ap (λ xs. recovered r.virama (plain g) ∷ xs) (viewed-viramas r gs)
-
 -- a syllable of the order view with its viramas
 recovered-stretch : (r : Rules) (s e : ℕ) (gs : List hb_glyph_info_t) → s ≤ e → e ≤ length gs → order_view (stretch_of s e (with_stretch s e (map (recovered r.virama)) gs)) ≡ with_viramas r (stretch_of s e (order_view gs))
 recovered-stretch r s e gs h l =
     let part = stretch_of s e gs in
     let k : length part ≡ e - s = length-take-le (e - s) (drop s gs) (omega (arith, length-drop s gs)) in
     let parts = changed_parts s e (take s gs) (map (recovered r.virama) part) (drop e gs) (with_stretch s e (map (recovered r.virama)) gs) h (length-take-le s gs (omega arith)) (length-map part (recovered r.virama) ∙ k) refl in
-    ap order_view parts.stretch ∙ viewed-viramas r part ∙ ap (with_viramas r) (view_stretch s e gs)
+    ap order_view parts.stretch ∙ sym (viramas_plain r part) ∙ ap (with_viramas r) (view_stretch s e gs)
 
 -- where the base settles
 pub settled_part : (r : Rules) (script : Option Script) (s e : ℕ) (b0 b1 b2 : Buffer) → ((gs : List hb_glyph_info_t) → Viewed r script gs) → s ≤ e → e ≤ length b0.glyphs → b1 ≡ record b0 { glyphs = with_stretch s e (map (recovered r.virama)) b0.glyphs } → b2 ≡ record b1 { glyphs = with_stretch s e (settled r script) b1.glyphs } → SyllableReordered (λ gs. (based r script gs).glyphs) (λ _. []) s e b0 b2

@@ -10,7 +10,6 @@ pub mod FinalLaws
 pub mod FinalLawsAt
 pub mod FinalLinks
 mod FinalMatraRows
-pub mod FinalMeanings
 pub mod FinalMoves
 pub mod FinalOpened
 mod FinalOpeningRows
