@@ -14,12 +14,13 @@ use std::alloc::{AllocError, Global};
 use std::{fs, io};
 
 /// The files of rows.
-const FILES: [&str; 13] = [
+const FILES: [&str; 14] = [
     "arabic.rows",
     "hangul.rows",
     "hebrew.rows",
     "hooks.rows",
     "indic.rows",
+    "indic_final.rows",
     "indic_initial.rows",
     "khmer.rows",
     "lines.rows",

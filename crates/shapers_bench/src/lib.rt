@@ -10,6 +10,8 @@ mod circles;
 #[cfg(test)]
 mod feature_lists;
 #[cfg(test)]
+mod indic;
+#[cfg(test)]
 mod joining;
 #[cfg(test)]
 mod marks;
