@@ -3,6 +3,8 @@ use Rattle.std.proofs.Common.{List, Option, [], ap, arith, false, inl, inr, leng
 use Rattle.std.specs.List.{AllByRecursion}
 use Rattle.std.proofs.lemmas.Bool.{and_parts, cases_Bool}
 use Rattle.std.proofs.lemmas.Bool.Decides.{nat_tests}
+use Rattle.shapers_clusters.proofs.Through.{length-same}
+use Rattle.shapers_syllabic.specs.Reordering.{carried}
 use Rattle.shapers_buffer.specs.declared.buffer.glyph.hb_glyph_info_t.{hb_glyph_info_t}
 use Rattle.shapers_buffer.specs.declared.buffer.tag.Script.{Script}
 use Rattle.shapers_buffer.proofs.MappedLists.{all-append}
@@ -17,7 +19,7 @@ use Rattle.shapers_indic_final.specs.FinalReordering.{after_matras, after_reph, 
 use Rattle.shapers_indic_final.specs.FinalReph.{reph_steps}
 use Rattle.shapers_indic_final.specs.declared.ot_shaper_indic_final.rules.Rules.{Rules}
 use Rattle.shapers_indic_final.proofs.FinalHidden.{base_within, hidden-based, hidden-viramas}
-use Rattle.shapers_indic_final.proofs.FinalLawsAt.{length_at, same_at}
+use Rattle.shapers_indic_final.proofs.FinalLawsAt.{length_at}
 use Rattle.shapers_indic_final.proofs.FinalLaws.{final_laws, matras_at, reph_at, target_within}
 use Rattle.std.specs.Prelude.{◌||◌, ◌&&◌}
 use Rattle.std.proofs.Common.{append_assoc}
@@ -95,7 +97,7 @@ apart_final r script level m gs cs t long lone across =
     let rs = reph_steps r.reph_pos p.base p.glyphs in
     let ps = steps_of_pref r script q in
     let low = base_within r script (with_viramas r gs) in
-    let bn : length b.glyphs ≡ length gs = length_at gs b.glyphs [] (same_at gs b.glyphs (hidden-based r script (with_viramas r gs) ∙ hidden-viramas r gs)) in
+    let bn : length b.glyphs ≡ length gs = length-same carried b.glyphs gs (hidden-based r script (with_viramas r gs) ∙ hidden-viramas r gs) in
     let laws = matras_at script b.base b.glyphs low in
     let pn : length p.glyphs ≡ length gs = length_at b.glyphs p.glyphs ms laws ∙ bn in
     let qn : length q.glyphs ≡ length gs = length_at p.glyphs q.glyphs rs (reph_at r.reph_pos p.base p.glyphs) ∙ pn in
