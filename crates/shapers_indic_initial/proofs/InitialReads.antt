@@ -3,7 +3,7 @@ use mathlib.Core.Path.{fun_ext}
 use Rattle.std.proofs.Common.{ℕ, zero, suc, ◌+◌, ◌-◌, ◌%◌, ◌≡◌, ◌==◌, ◌&&◌, ◌||◌, min, not, Bool, cond, if◌then◌else◌, List, [], ◌∷◌, map, length, take, drop, Option, Some, refl, ◌∙◌, ap}
 use Rattle.std.specs.Prelude.{nat_le, nat_lt, unwrap_or}
 use Rattle.std.specs.List.{list_any, prefix_len}
-use Rattle.std.specs.Option.{option_map_or}
+use Rattle.std.specs.Option.{option_map_or, option_or}
 use Rattle.std.proofs.lemmas.List.{drop-map, length-map, take-map}
 use Rattle.shapers_buffer.specs.declared.buffer.glyph.hb_glyph_info_t.{hb_glyph_info_t}
 use Rattle.shapers_buffer.specs.declared.buffer.tag.Script.{Script}
@@ -144,7 +144,7 @@ is_base_stays f k gs =
 
 base_from_stays : (f : hb_glyph_info_t → hb_glyph_info_t) → KeepsRead f → (start otherwise : ℕ) (gs : List hb_glyph_info_t) → base_from start otherwise (map f gs) ≡ base_from start otherwise gs
 base_from_stays f k start otherwise gs =
-    same_three (λ (b m : ℕ → Bool) (n : ℕ). unwrap_or (greatest_place b start n) (unwrap_or (least_place m start n) otherwise)) (is_base_stays f k gs) (may_stays f k gs) (length-map gs f)
+    same_three (λ (b m : ℕ → Bool) (n : ℕ). unwrap_or (option_or (greatest_place b start n) (least_place m start n)) otherwise) (is_base_stays f k gs) (may_stays f k gs) (length-map gs f)
 
 pub base_stays : (f : hb_glyph_info_t → hb_glyph_info_t) → KeepsRead f → (r : Rules) (gs : List hb_glyph_info_t) → base_place r (map f gs) ≡ base_place r gs
 base_stays f k r gs =

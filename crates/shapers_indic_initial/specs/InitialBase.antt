@@ -99,7 +99,7 @@ last_or_first start gs = option_or (greatest_place (is_base gs) start (length gs
 
 -- the base: that one, else the reph, else none
 abbrev pub base_from : ℕ → ℕ → List hb_glyph_info_t → ℕ
-base_from start otherwise gs = unwrap_or (greatest_place (is_base gs) start (length gs)) (unwrap_or (least_place (may_be_base gs) start (length gs)) otherwise)
+base_from start otherwise gs = unwrap_or (last_or_first start gs) otherwise
 
 abbrev pub base_place : Rules → List hb_glyph_info_t → ℕ
 base_place r gs = base_from (search_start r gs) (if reph_len r gs == 0 then length gs else 0) gs
