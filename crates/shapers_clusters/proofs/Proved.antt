@@ -25,7 +25,7 @@ use Rattle.shapers_clusters.proofs.Views.{whole_hides, seen-same, seen-run_steps
 use Rattle.shapers_clusters.proofs.Made.{Made, AreMade, are_made, same_clusters, held_in_stretch}
 use Rattle.shapers_clusters.proofs.Moves.{clusters-merge_all, clusters-run_steps, order_view-run_steps, falls-run_steps, joined-merged_steps, share-moved, merge-unmerged, merge_all-unmerged, joined_all-unmerged, run_steps-unmerged, joined_steps-unmerged, end_within-all_first, merged_fits, all-joined, all-picked, all-joined_steps}
 use Rattle.shapers_clusters.specs.Labels.{IsLabelled}
-use Rattle.shapers_clusters.proofs.Labels.{joined-labelled, joined_steps-labelled}
+use Rattle.shapers_clusters.proofs.Labels.{joined-labelled, joined_steps-labels}
 use Rattle.shapers_clusters.proofs.Sources.{exact_cuts_by, sources_share, clusters-moved_sources, clusters-picked, falls-picked}
 use Rattle.shapers_clusters.proofs.Widened.{fits-widened, moves-widened, all_fit-widened, all_moves-widened, order_view-widened, all_along, order_view-along}
 use Rattle.shapers_clusters.proofs.Halves.{halves_along}
@@ -94,7 +94,7 @@ permuted_hold level steps gs f h = order_view-permuted level steps gs f h
 pub clusters_hold : ClustersLaw
 clusters_hold level steps cs f =
     let all = all-joined_steps (Contains cs) level (length cs) steps cs refl f (All-contains_itself cs) in
-    record { same_length = all.0; old_clusters = all.1; labels = λ ls i o. joined_steps-labelled level steps cs ls f i o; unmerged = λ m. joined_steps-unmerged level m steps cs }
+    record { same_length = all.0; old_clusters = all.1; labels = λ ls i o. (joined_steps-labels level steps cs ls f i o).respected; of_labels = λ ls i o. (joined_steps-labels level steps cs ls f i o).of_old; unmerged = λ m. joined_steps-unmerged level m steps cs }
 
 pub merged_steps_hold : MergedStepsLaw
 merged_steps_hold level steps cs m f =

@@ -15,6 +15,12 @@ pub record IsLabelled (cs ls : List ℕ) : Type 0 where
 abbrev pub OneLabel : List ℕ → ℕ × ℕ → Type 0
 OneLabel ls st = (p q : ℕ) → st.0 ≤ p → p < st.1 → st.0 ≤ q → q < st.1 → slice_index ls p ≡ slice_index ls q
 
+-- each place has the cluster and the label of one and the same old place
+abbrev pub OfOldPlaces : List ℕ → List ℕ → List ℕ → List ℕ → Type 0
+OfOldPlaces cs ls js ms = (p : ℕ) →
+    p < length js →
+    (q : ℕ) × (q < length cs) × (slice_index js p ≡ slice_index cs q) × (slice_index ms p ≡ slice_index ls q)
+
 -- each stretch has one label as it merges; the labels move with the glyphs
 abbrev pub OneLabelEach : List Step → List ℕ → Type 0
 OneLabelEach [] ls = Unit {0}

@@ -13,7 +13,7 @@ use Rattle.shapers_buffer.specs.Places.{pick}
 use Rattle.shapers_clusters.specs.Steps.{Step, run_steps, joined_steps, old_places, FitSteps, MovesMerged, all_first, widened, steps_along, reordered_along, Permutes}
 use Rattle.shapers_clusters.specs.Flags.{FallsTo, FlagsFall, FlagsAlone, InOrder, ShowsClusters, HidesFields, seen}
 use Rattle.shapers_clusters.specs.Made.{ExactCutsBy, HeldAlong, MovesInsideOf}
-use Rattle.shapers_clusters.specs.Labels.{IsLabelled, OneLabel, OneLabelEach}
+use Rattle.shapers_clusters.specs.Labels.{IsLabelled, OfOldPlaces, OneLabel, OneLabelEach}
 
 -- Merges of any stretch at any level leave the order view of the glyphs gs; the three flag calls, whatever the buffer asks for,
 -- change nothing but glyph flags, and take none away.
@@ -86,11 +86,13 @@ PermutedLaw = (level : BufferClusterLevel) (steps : List Step) (gs : List hb_gly
     IsPermutation (order_view gs) (order_view (run_steps level steps gs))
 
 -- What any steps make of the clusters cs: js. Every cluster is one that was there. Labels that each stretch respects as it merges
--- are respected in the end. Where the level merges nothing, clusters only move.
+-- are respected in the end, and each cluster is then that of an old place with the same label. Where the level merges nothing,
+-- clusters only move.
 pub record ClustersHold (level : BufferClusterLevel) (steps : List Step) (cs js : List ℕ) : Type 0 where
   pub same_length : length js ≡ length cs
   pub old_clusters : All (Contains cs) js
   pub labels : (ls : List ℕ) → IsLabelled cs ls → OneLabelEach steps ls → IsLabelled js (pick (old_places (length cs) steps) ls)
+  pub of_labels : (ls : List ℕ) → IsLabelled cs ls → OneLabelEach steps ls → OfOldPlaces cs ls js (pick (old_places (length cs) steps) ls)
   pub unmerged : merges level ≡ false → js ≡ pick (old_places (length cs) steps) cs
 
 abbrev pub ClustersLaw : Type 0
