@@ -1,4 +1,3 @@
-mod Rows
 pub mod Appended
 pub mod Bounds
 pub mod Cuts
@@ -8,6 +7,7 @@ pub mod Flagging
 pub mod Halves
 pub mod Joined
 pub mod Labels
+pub mod LabelsAsMerged
 pub mod Made
 pub mod Merging
 pub mod Moves
@@ -15,8 +15,12 @@ pub mod Neighbours
 pub mod Permuted
 pub mod Picks
 pub mod Proved
+mod Rows
 pub mod Sources
+pub mod SparedCuts
 pub mod Spread
+pub mod StaysAlong
+pub mod StaysMerged
 pub mod Swaps
 pub mod Through
 pub mod Views

@@ -180,6 +180,18 @@ lt_both a b r h i = grind (arith, nat_tests)
 pub held_by : (sts : List (ℕ × ℕ)) (k : ℕ) (d : ℕ × ℕ) → k < length sts → (p q : ℕ) → (get_or sts k d).0 ≤ p → p < (get_or sts k d).1 → (get_or sts k d).0 ≤ q → q < (get_or sts k d).1 → HeldBetween sts p q
 held_by sts k d l p q a b c e r x y = list_any_at (λ st. nat_lt st.0 r && nat_lt r st.1) sts k d l (lt_both (get_or sts k d).0 (get_or sts k d).1 r (omega arith) (omega arith))
 
+-- all neighbours within a stretch are held; so they are in each of the stretches
+abbrev pub HeldIn : List (ℕ × ℕ) → ℕ × ℕ → Type 0
+HeldIn sts st = (i : ℕ) → st.0 < i → i < st.1 → held sts i ≡ true
+
+more_held : (st : ℕ × ℕ) (sts xs : List (ℕ × ℕ)) → AllByRecursion (HeldIn sts) xs → AllByRecursion (HeldIn (st ∷ sts)) xs
+more_held st sts [] h = tt
+more_held st sts (x ∷ xs) h = (λ i a b. or_right (nat_lt st.0 i && nat_lt i st.1) (held sts i) (h.0 i a b), more_held st sts xs h.1)
+
+pub all_held : (sts : List (ℕ × ℕ)) → AllByRecursion (HeldIn sts) sts
+all_held [] = tt
+all_held (st ∷ sts) = (λ i a b. or_left (nat_lt st.0 i && nat_lt i st.1) (held sts i) (lt_both st.0 st.1 i a b), more_held st sts sts (all_held sts))
+
 -- a step that merges all its places first may move as it likes
 pub moves_anywhere : (n : ℕ) (places : List ℕ) → length places ≡ n → AllByRecursion (λ p. p < n) places → MovesMerged n (record { merged_first = (0, n) ∷ []; places = places; merged_then = [] })
 moves_anywhere n places e w = record {
@@ -223,7 +235,7 @@ pub merged_fits : (n : ℕ) (steps : List Step) → AllByRecursion (MovesMerged 
 merged_fits n [] f = tt
 merged_fits n (step ∷ steps) f = (f.0.fits, merged_fits n steps f.1)
 
-end_within-append : (n : ℕ) (xs ys : List (ℕ × ℕ)) → EndWithin n xs → EndWithin n ys → EndWithin n (xs ++ ys)
+pub end_within-append : (n : ℕ) (xs ys : List (ℕ × ℕ)) → EndWithin n xs → EndWithin n ys → EndWithin n (xs ++ ys)
 end_within-append n [] ys h i = i
 end_within-append n (x ∷ xs) ys h i = (h.0, end_within-append n xs ys h.1 i)
 

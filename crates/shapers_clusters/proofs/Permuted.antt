@@ -27,7 +27,7 @@ pick-permuted ps qs xs v w h = elim (some_element xs) [
 ]
 
 -- the places after the steps
-moved-permuted : (n : ℕ) (steps : List Step) (olds : List ℕ) → length olds ≡ n → FitSteps n steps → AllByRecursion (Permutes n) steps → IsPermutation olds (moved_on steps olds)
+pub moved-permuted : (n : ℕ) (steps : List Step) (olds : List ℕ) → length olds ≡ n → FitSteps n steps → AllByRecursion (Permutes n) steps → IsPermutation olds (moved_on steps olds)
 moved-permuted n [] olds e f h = IsPermutation-refl olds
 moved-permuted n (step ∷ steps) olds e f h =
     let P : ℕ → Type 0 = λ k. AllByRecursion (λ p. p < k) step.places in

@@ -29,9 +29,11 @@ use Rattle.shapers_clusters.proofs.Labels.{joined-labelled, joined_steps-labels}
 use Rattle.shapers_clusters.proofs.Sources.{exact_cuts_by, sources_share, clusters-moved_sources, clusters-picked, falls-picked}
 use Rattle.shapers_clusters.proofs.Widened.{fits-widened, moves-widened, all_fit-widened, all_moves-widened, order_view-widened, all_along, order_view-along}
 use Rattle.shapers_clusters.proofs.Halves.{halves_along}
+use Rattle.shapers_clusters.proofs.SparedCuts.{exact_spared}
+use Rattle.shapers_clusters.proofs.StaysMerged.{merged_stay}
 use Rattle.shapers_clusters.proofs.Permuted.{order_view-permuted, permutes-widened, all_permute-widened}
 use Rattle.shapers_clusters.proofs.FlagCalls.{unsafe_inside-alone, unsafe_to_concat_in-alone, tatweel_inside-alone, flags_called-alone}
-use Rattle.shapers_clusters.specs.Laws.{ViewLaw, FlagCallsLaw, HalvesLaw, MergeLaw, ExactCutsLaw, StepsLaw, PermutedLaw, ClustersLaw, MergedStepsLaw, WidenedLaw, AlongLaw, ClustersHold, ClustersReordered, ClustersReorderedLaw, SeenStepsLaw, ReorderedHold, ReorderedLaw, ClustersMade, MadeHold, MadeLaw, MovedSourcesLaw}
+use Rattle.shapers_clusters.specs.Laws.{ViewLaw, FlagCallsLaw, HalvesLaw, MergeLaw, ExactCutsLaw, StepsLaw, PermutedLaw, ClustersLaw, MergedStepsLaw, WidenedLaw, AlongLaw, ClustersHold, ClustersReordered, ClustersReorderedLaw, SeenStepsLaw, ReorderedHold, ReorderedLaw, SparedStepsLaw, ClustersMade, MadeHold, MadeLaw, MovedSourcesLaw}
 
 -- stretches end within the clusters if they do within the glyphs
 ends : (sts : List (ℕ × ℕ)) (gs : List hb_glyph_info_t) → EndWithin (length gs) sts → EndWithin (length (clusters gs)) sts
@@ -105,6 +107,12 @@ merged_steps_hold level steps cs m f =
       cluster_law = λ p l. share-moved level m steps cs f p l;
       exact = λ mono. subst P (sym is) (exact_cuts level m (all_first steps) cs (end_within-all_first (length cs) steps f) mono);
     }
+
+pub spared_steps_hold : SparedStepsLaw
+spared_steps_hold level steps cs m f permutes spare = record {
+  merged = merged_stay level m (length cs) steps cs refl f spare;
+  exact = λ different. exact_spared level m (length cs) steps cs refl f permutes spare different;
+}
 
 pub clusters_reordered : ClustersReorderedLaw
 clusters_reordered level steps cs moves = record { at_all_levels = clusters_hold level steps cs (merged_fits (length cs) steps moves); where_merging = λ m. merged_steps_hold level steps cs m moves }

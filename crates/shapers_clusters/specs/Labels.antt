@@ -1,8 +1,9 @@
 -- Labels: what glyphs of one cluster have in common.
 use Rattle.std.proofs.Common.{ℕ, ◌<◌, ◌≤◌, ◌≡◌, List, [], ◌∷◌, length, slice_index}
 use Rattle.std.specs.List.{AllByRecursion}
+use Rattle.shapers_buffer.specs.declared.buffer.level.BufferClusterLevel.{BufferClusterLevel}
 use Rattle.shapers_buffer.specs.Places.{pick}
-use Rattle.shapers_clusters.specs.Steps.{Step}
+use Rattle.shapers_clusters.specs.Steps.{Step, all_merged, joined_steps}
 
 -- labels, one a place, where places of equal cluster have equal labels
 pub record IsLabelled (cs ls : List ℕ) : Type 0 where
@@ -25,3 +26,7 @@ OfOldPlaces cs ls js ms = (p : ℕ) →
 abbrev pub OneLabelEach : List Step → List ℕ → Type 0
 OneLabelEach [] ls = Unit {0}
 OneLabelEach (step ∷ steps) ls = AllByRecursion (OneLabel ls) step.merged_first × AllByRecursion (OneLabel (pick step.places ls)) step.merged_then × OneLabelEach steps (pick step.places ls)
+
+-- each stretch of places that these steps merge is in one cluster when all are done
+abbrev pub MergedStay : BufferClusterLevel → List Step → List ℕ → Type 0
+MergedStay level steps cs = AllByRecursion (OneLabel (joined_steps level steps cs)) (all_merged steps)

@@ -1,7 +1,7 @@
 -- The laws of clusters and glyph flags, as statements.
-use Rattle.std.proofs.Common.{ℕ, ◌+◌, ◌++◌, ◌-◌, ◌<◌, ◌≤◌, ◌≡◌, Bool, true, false, List, map, length, slice_index, take, drop}
+use Rattle.std.proofs.Common.{ℕ, ◌+◌, ◌++◌, ◌-◌, ◌<◌, ◌≤◌, ◌≡◌, ◌≢◌, Bool, true, false, List, map, length, slice_index, take, drop}
 use Rattle.std.specs.List.Sorted.{IsPermutation}
-use Rattle.std.specs.List.{sum_by, All, AllByRecursion, AllZip, Contains}
+use Rattle.std.specs.List.{sum_by, All, AllByRecursion, AllPairs, AllZip, Contains}
 use Rattle.shapers_buffer.specs.declared.buffer.glyph.hb_glyph_info_t.{hb_glyph_info_t}
 use Rattle.shapers_buffer.specs.declared.buffer.level.BufferClusterLevel.{BufferClusterLevel}
 use Rattle.shapers_buffer.specs.Glyph.{clusters, order_view}
@@ -10,7 +10,7 @@ use Rattle.shapers_buffer.specs.GlyphFlags.{unsafe_inside, unsafe_to_concat_in, 
 use Rattle.shapers_clusters.specs.Joined.{joined_all}
 use Rattle.shapers_clusters.specs.Cuts.{EndWithin, ShareCluster, IsMonotone, ExactCuts, ShareNone}
 use Rattle.shapers_buffer.specs.Places.{pick}
-use Rattle.shapers_clusters.specs.Steps.{Step, run_steps, joined_steps, old_places, FitSteps, MovesMerged, all_first, widened, steps_along, reordered_along, Permutes}
+use Rattle.shapers_clusters.specs.Steps.{Step, run_steps, joined_steps, old_places, FitSteps, MovesMerged, all_first, all_merged, SpareMerged, widened, steps_along, reordered_along, Permutes}
 use Rattle.shapers_clusters.specs.Flags.{FallsTo, FlagsFall, FlagsAlone, InOrder, ShowsClusters, HidesFields, seen}
 use Rattle.shapers_clusters.specs.Made.{ExactCutsBy, HeldAlong, MovesInsideOf}
 use Rattle.shapers_clusters.specs.Labels.{IsLabelled, OfOldPlaces, OneLabel, OneLabelEach}
@@ -111,6 +111,18 @@ abbrev pub MergedStepsLaw : Type 0
 MergedStepsLaw = (level : BufferClusterLevel) (steps : List Step) (cs : List ℕ) →
     merges level ≡ true → AllByRecursion (MovesMerged (length cs)) steps →
     MergedStepsHold level steps cs (joined_steps level steps cs)
+
+-- What steps that take each place once and spare what those before them merged make of the clusters cs, at the levels that merge: js.
+-- Each stretch that they merge is in one cluster in the end. Where all clusters are different no more is merged: the cuts are exact,
+-- and each run so joined has the least cluster that the glyphs now in it had.
+pub record SparedStepsHold (steps : List Step) (cs js : List ℕ) : Type 0 where
+  pub merged : AllByRecursion (OneLabel js) (all_merged steps)
+  pub exact : AllPairs (λ a b. a ≢ b) cs → ExactCuts (pick (old_places (length cs) steps) cs) (all_merged steps) js
+
+abbrev pub SparedStepsLaw : Type 0
+SparedStepsLaw = (level : BufferClusterLevel) (steps : List Step) (cs : List ℕ) →
+    merges level ≡ true → FitSteps (length cs) steps → AllByRecursion (Permutes (length cs)) steps → SpareMerged (length cs) steps →
+    SparedStepsHold steps cs (joined_steps level steps cs)
 
 -- What steps that move only inside what they merged first make of the clusters, at every level. Of a hook of which only the
 -- clusters are known, this is the law.

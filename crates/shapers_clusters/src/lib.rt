@@ -2,7 +2,7 @@
 //! is the contract of a function without a body.
 #![tactic(auto)]
 
-ghost use Rattle.shapers_clusters.specs.Laws.{ViewLaw, FlagCallsLaw, MergeLaw, ExactCutsLaw, StepsLaw, PermutedLaw, ClustersLaw, MergedStepsLaw, ClustersReorderedLaw, SeenStepsLaw, ReorderedLaw, WidenedLaw, AlongLaw, HalvesLaw, MadeLaw, MovedSourcesLaw};
+ghost use Rattle.shapers_clusters.specs.Laws.{ViewLaw, FlagCallsLaw, MergeLaw, ExactCutsLaw, StepsLaw, PermutedLaw, ClustersLaw, MergedStepsLaw, SparedStepsLaw, ClustersReorderedLaw, SeenStepsLaw, ReorderedLaw, WidenedLaw, AlongLaw, HalvesLaw, MadeLaw, MovedSourcesLaw};
 
 /// Merges leave the order view; the three flag calls change nothing but glyph flags.
 pub fn view_law()
@@ -45,6 +45,12 @@ pub fn clusters_law()
 /// cuts.
 pub fn merged_steps_law()
     ensures { MergedStepsLaw }
+{}
+
+/// Moves that leave what merged before them, or move inside what they merge: each merged stretch is
+/// in one cluster in the end, and exact cuts where all clusters are different.
+pub fn spared_steps_law()
+    ensures { SparedStepsLaw }
 {}
 
 /// What a hook that reorders makes of the clusters: none is new, labels, exact cuts and the cluster

@@ -25,15 +25,18 @@ use Rattle.shapers_buffer.specs.Glyph.{clusters, order_view, plain}
 use Rattle.shapers_buffer.specs.Syllables.{syllables}
 use Rattle.shapers_indic_final.specs.FinalLaws.{final_text_steps}
 use Rattle.shapers_indic_final.proofs.FinalText.{text_fits}
-use Rattle.shapers_indic_final.proofs.StaysAlong.{spare_along}
+use Rattle.shapers_clusters.proofs.StaysAlong.{spare_along}
 use Rattle.shapers_syllabic.proofs.ReorderingLaws.{each_piece, sum-syllables, text_steps-long}
 use Rattle.shapers_syllabic.proofs.ReorderingWalk.{pieces_of}
-use Rattle.shapers_indic_final.specs.FinalClusters.{MergedStay, FinalMergesLaw}
+use Rattle.shapers_clusters.specs.Labels.{MergedStay}
+use Rattle.shapers_indic_final.specs.FinalClusters.{FinalCutsLaw, FinalMergesLaw}
+use Rattle.shapers_clusters.proofs.SparedCuts.{exact_spared}
 use Rattle.shapers_indic_final.specs.FinalGlyphs.{first_goes_last, last_goes_first}
 use Rattle.shapers_indic_final.specs.FinalMatras.{end_of_base, has_room, is_left, matra_step, matra_steps, matra_target, matras_go, merging_step}
 use Rattle.shapers_indic_final.proofs.FinalMoves.{permutes_first_last, permutes_last_first, picks_first_last, picks_last_first}
 use Rattle.shapers_indic_final.proofs.FinalParting.{lefts, lefts_no, lefts_yes, steps_of}
-use Rattle.shapers_indic_final.proofs.StaysMerged.{SpareMerged, Spares, StaysAt, merged_stay, spare_moves, spare_then}
+use Rattle.shapers_clusters.specs.Steps.{SpareMerged, Spares, StaysAt}
+use Rattle.shapers_clusters.proofs.StaysMerged.{merged_stay, spare_moves, spare_then}
 use Rattle.std.specs.Prelude.{nat_lt}
 use Rattle.shapers_base.specs.declared.plan.indic.RephPosition.{RephPosition}
 use Rattle.shapers_indic_final.specs.FinalBase.{Based, with_viramas}
@@ -222,6 +225,11 @@ pub final_merges : FinalMergesLaw
 final_merges r script level gs cs m long =
     let laws = final_laws r script in
     merged_stay level m (length gs) (final_steps r script gs) cs long (laws.fits gs) (spare_final r script gs)
+
+pub final_cuts : FinalCutsLaw
+final_cuts r script level gs cs m long different =
+    let laws = final_laws r script in
+    exact_spared level m (length gs) (final_steps r script gs) cs long (laws.fits gs) (laws.permutes gs) (spare_final r script gs) different
 
 -- the whole text
 spare_pieces : (r : Rules) (script : Option Script) (syls : List (List hb_glyph_info_t)) → AllByRecursion (λ piece. SpareMerged piece.0 piece.1) (pieces_of (final_steps r script) syls)

@@ -10,10 +10,9 @@ use Rattle.shapers_buffer.specs.Places.{pick}
 use Rattle.shapers_buffer.specs.Syllables.{syllables}
 use Rattle.shapers_clusters.specs.Flags.{FlagsFall, seen}
 use Rattle.shapers_clusters.specs.Labels.{OneLabel}
-use Rattle.shapers_indic_final.specs.FinalClusters.{all_merged}
 use Rattle.shapers_indic_final.proofs.FinalClusters.{text_merges}
 use Rattle.shapers_clusters.specs.Laws.{ClustersHold}
-use Rattle.shapers_clusters.specs.Steps.{FitSteps, old_places, run_steps}
+use Rattle.shapers_clusters.specs.Steps.{FitSteps, all_merged, old_places, run_steps}
 use Rattle.shapers_clusters.proofs.Moves.{clusters-run_steps}
 use Rattle.shapers_clusters.proofs.Picks.{pick-map}
 use Rattle.shapers_clusters.proofs.Proved.{clusters_hold, seen_steps_hold, steps_hold}

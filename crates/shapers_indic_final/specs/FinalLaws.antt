@@ -13,9 +13,8 @@ use Rattle.shapers_clusters.specs.Cuts.{ShareNone}
 use Rattle.shapers_clusters.specs.Flags.{FlagsFall, seen}
 use Rattle.shapers_buffer.specs.Clusters.{merges}
 use Rattle.shapers_clusters.specs.Labels.{OneLabel}
-use Rattle.shapers_indic_final.specs.FinalClusters.{all_merged}
 use Rattle.shapers_clusters.specs.Laws.{ClustersHold, SeenStepsHold}
-use Rattle.shapers_clusters.specs.Steps.{Step, joined_steps, old_places}
+use Rattle.shapers_clusters.specs.Steps.{Step, all_merged, joined_steps, old_places}
 use Rattle.shapers_indic_final.specs.FinalOpening.{FinallyReordered, final_text, is_bound, last_or, with_inits}
 use Rattle.shapers_indic_final.specs.FinalReordering.{final_order, final_steps}
 use Rattle.shapers_indic_final.specs.declared.ot_shaper_indic_final.rules.Rules.{Rules}

@@ -6,9 +6,8 @@ use Rattle.std.proofs.lemmas.List.FromFn.{get_or-range_with_len, length-range_wi
 use Rattle.std.proofs.lemmas.List.Sums.{sum_by-cons}
 use Rattle.shapers_buffer.proofs.MappedLists.{all-append, all-mapped}
 use Rattle.shapers_clusters.specs.Cuts.{EndWithin}
-use Rattle.shapers_clusters.specs.Steps.{FitSteps, FitsStep, MovesMerged, Step, shifted, steps_along, widened}
+use Rattle.shapers_clusters.specs.Steps.{FitSteps, FitsStep, MovesMerged, SpareMerged, Spares, Step, shifted, steps_along, widened}
 use Rattle.shapers_clusters.proofs.Widened.{fits-widened, moves-widened}
-use Rattle.shapers_indic_final.proofs.StaysMerged.{SpareMerged, Spares}
 
 -- the places of a widened step
 before_widened : (s e n : ℕ) (step : Step) (p : ℕ) → p < s → get_or (widened s e n step).places p 0 ≡ p
