@@ -1,9 +1,12 @@
+pub mod Alone
 pub mod Appended
 pub mod Bounds
 pub mod Cuts
+pub mod Elsewhere
 pub mod Falls
 pub mod FlagCalls
 pub mod Flagging
+pub mod GatheredCuts
 pub mod Halves
 pub mod Joined
 pub mod Labels

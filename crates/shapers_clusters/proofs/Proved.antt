@@ -29,11 +29,12 @@ use Rattle.shapers_clusters.proofs.Labels.{joined-labelled, joined_steps-labels}
 use Rattle.shapers_clusters.proofs.Sources.{exact_cuts_by, sources_share, clusters-moved_sources, clusters-picked, falls-picked}
 use Rattle.shapers_clusters.proofs.Widened.{fits-widened, moves-widened, all_fit-widened, all_moves-widened, order_view-widened, all_along, order_view-along}
 use Rattle.shapers_clusters.proofs.Halves.{halves_along}
+use Rattle.shapers_clusters.proofs.Alone.{alone_in_text}
 use Rattle.shapers_clusters.proofs.SparedCuts.{exact_spared}
 use Rattle.shapers_clusters.proofs.StaysMerged.{merged_stay}
 use Rattle.shapers_clusters.proofs.Permuted.{order_view-permuted, permutes-widened, all_permute-widened}
 use Rattle.shapers_clusters.proofs.FlagCalls.{unsafe_inside-alone, unsafe_to_concat_in-alone, tatweel_inside-alone, flags_called-alone}
-use Rattle.shapers_clusters.specs.Laws.{ViewLaw, FlagCallsLaw, HalvesLaw, MergeLaw, ExactCutsLaw, StepsLaw, PermutedLaw, ClustersLaw, MergedStepsLaw, WidenedLaw, AlongLaw, ClustersHold, ClustersReordered, ClustersReorderedLaw, SeenStepsLaw, ReorderedHold, ReorderedLaw, SparedStepsLaw, ClustersMade, MadeHold, MadeLaw, MovedSourcesLaw}
+use Rattle.shapers_clusters.specs.Laws.{ViewLaw, FlagCallsLaw, HalvesLaw, MergeLaw, ExactCutsLaw, StepsLaw, PermutedLaw, ClustersLaw, MergedStepsLaw, WidenedLaw, AlongLaw, ClustersHold, ClustersReordered, ClustersReorderedLaw, SeenStepsLaw, ReorderedHold, ReorderedLaw, SparedStepsLaw, ClustersMade, MadeHold, MadeLaw, MovedSourcesLaw, AloneLaw}
 
 -- stretches end within the clusters if they do within the glyphs
 ends : (sts : List (ℕ × ℕ)) (gs : List hb_glyph_info_t) → EndWithin (length gs) sts → EndWithin (length (clusters gs)) sts
@@ -224,3 +225,6 @@ moved_sources_hold level sts standing places gs m w s n v h =
 
 pub halves_hold : HalvesLaw
 halves_hold level ps qs gs hs a b f g h = halves_along level ps qs gs hs a b f g h
+
+pub alone_holds : AloneLaw
+alone_holds level before behind piece cs l f g h apart = alone_in_text level before behind piece cs l f g h apart

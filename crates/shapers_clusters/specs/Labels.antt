@@ -3,6 +3,7 @@ use Rattle.std.proofs.Common.{ℕ, ◌<◌, ◌≤◌, ◌≡◌, List, [], ◌�
 use Rattle.std.specs.List.{AllByRecursion}
 use Rattle.shapers_buffer.specs.declared.buffer.level.BufferClusterLevel.{BufferClusterLevel}
 use Rattle.shapers_buffer.specs.Places.{pick}
+use Rattle.shapers_clusters.specs.Cuts.{InOneCluster}
 use Rattle.shapers_clusters.specs.Steps.{Step, all_merged, joined_steps}
 
 -- labels, one a place, where places of equal cluster have equal labels
@@ -29,4 +30,4 @@ OneLabelEach (step ∷ steps) ls = AllByRecursion (OneLabel ls) step.merged_firs
 
 -- each stretch of places that these steps merge is in one cluster when all are done
 abbrev pub MergedStay : BufferClusterLevel → List Step → List ℕ → Type 0
-MergedStay level steps cs = AllByRecursion (OneLabel (joined_steps level steps cs)) (all_merged steps)
+MergedStay level steps cs = AllByRecursion (InOneCluster (joined_steps level steps cs)) (all_merged steps)

@@ -1,5 +1,5 @@
 -- The laws of clusters and glyph flags, as statements.
-use Rattle.std.proofs.Common.{ℕ, ◌+◌, ◌++◌, ◌-◌, ◌<◌, ◌≤◌, ◌≡◌, ◌≢◌, Bool, true, false, List, map, length, slice_index, take, drop}
+use Rattle.std.proofs.Common.{ℕ, ◌+◌, ◌++◌, ◌-◌, ◌<◌, ◌≤◌, ◌≡◌, ◌≢◌, Bool, true, false, List, ◌∷◌, map, length, slice_index, take, drop}
 use Rattle.std.specs.List.Sorted.{IsPermutation}
 use Rattle.std.specs.List.{sum_by, All, AllByRecursion, AllPairs, AllZip, Contains}
 use Rattle.shapers_buffer.specs.declared.buffer.glyph.hb_glyph_info_t.{hb_glyph_info_t}
@@ -8,7 +8,7 @@ use Rattle.shapers_buffer.specs.Glyph.{clusters, order_view}
 use Rattle.shapers_buffer.specs.Clusters.{least, low, high, merge, merge_all, merges, stretch_of}
 use Rattle.shapers_buffer.specs.GlyphFlags.{unsafe_inside, unsafe_to_concat_in, tatweel_inside, FlagCall, flags_called}
 use Rattle.shapers_clusters.specs.Joined.{joined_all}
-use Rattle.shapers_clusters.specs.Cuts.{EndWithin, ShareCluster, IsMonotone, ExactCuts, ShareNone}
+use Rattle.shapers_clusters.specs.Cuts.{EndWithin, ShareCluster, IsMonotone, ExactCuts, InOneCluster, ShareNone, StandsApart}
 use Rattle.shapers_buffer.specs.Places.{pick}
 use Rattle.shapers_clusters.specs.Steps.{Step, run_steps, joined_steps, old_places, FitSteps, MovesMerged, all_first, all_merged, SpareMerged, widened, steps_along, reordered_along, Permutes}
 use Rattle.shapers_clusters.specs.Flags.{FallsTo, FlagsFall, FlagsAlone, InOrder, ShowsClusters, HidesFields, seen}
@@ -116,7 +116,7 @@ MergedStepsLaw = (level : BufferClusterLevel) (steps : List Step) (cs : List ℕ
 -- Each stretch that they merge is in one cluster in the end. Where all clusters are different no more is merged: the cuts are exact,
 -- and each run so joined has the least cluster that the glyphs now in it had.
 pub record SparedStepsHold (steps : List Step) (cs js : List ℕ) : Type 0 where
-  pub merged : AllByRecursion (OneLabel js) (all_merged steps)
+  pub merged : AllByRecursion (InOneCluster js) (all_merged steps)
   pub exact : AllPairs (λ a b. a ≢ b) cs → ExactCuts (pick (old_places (length cs) steps) cs) (all_merged steps) js
 
 abbrev pub SparedStepsLaw : Type 0
@@ -242,3 +242,14 @@ HalvesLaw = (level : BufferClusterLevel) (ps qs : List (ℕ × List Step)) (gs h
     AllByRecursion (λ piece. FitSteps piece.0 piece.1) ps → AllByRecursion (λ piece. FitSteps piece.0 piece.1) qs →
     ShareNone gs hs →
     run_steps level (steps_along (length gs + length hs) 0 (ps ++ qs)) (gs ++ hs) ≡ run_steps level (steps_along (length gs) 0 ps) gs ++ run_steps level (steps_along (length hs) 0 qs) hs
+
+-- A stretch of a text whose clusters no place elsewhere has: the steps of the text, one stretch after another, make of its clusters
+-- what its own steps make of them alone.
+abbrev pub AloneLaw : Type 0
+AloneLaw = (level : BufferClusterLevel) (before behind : List (ℕ × List Step)) (piece : ℕ × List Step) (cs : List ℕ) →
+    let s = sum_by (λ piece. piece.0) before in
+    let e = s + piece.0 in
+    e + sum_by (λ piece. piece.0) behind ≤ length cs →
+    AllByRecursion (λ piece. FitSteps piece.0 piece.1) before → FitSteps piece.0 piece.1 → AllByRecursion (λ piece. FitSteps piece.0 piece.1) behind →
+    StandsApart s e cs →
+    stretch_of s e (joined_steps level (steps_along (length cs) 0 (before ++ piece ∷ behind)) cs) ≡ joined_steps level piece.1 (stretch_of s e cs)

@@ -14,7 +14,7 @@ use Rattle.shapers_buffer.specs.declared.buffer.glyph.hb_glyph_info_t.{hb_glyph_
 use Rattle.shapers_buffer.specs.declared.buffer.tag.Script.{Script}
 use Rattle.shapers_buffer.specs.Clusters.{stretch_of, with_stretch}
 use Rattle.shapers_buffer.proofs.MappedLists.{all-append}
-use Rattle.shapers_clusters.specs.Steps.{FitsStep, HeldBetween, MovesInside, MovesMerged, Step}
+use Rattle.shapers_clusters.specs.Steps.{all_merged, joined_steps, old_places, FitsStep, HeldBetween, MovesInside, MovesMerged, Step}
 use Rattle.shapers_clusters.proofs.Moves.{held_by}
 use Rattle.shapers_indic.specs.Glyphs.{least_place, passes, places}
 use Rattle.std.proofs.lemmas.List.{length-map}
@@ -26,10 +26,15 @@ use Rattle.shapers_buffer.specs.Syllables.{syllables}
 use Rattle.shapers_indic_final.specs.FinalLaws.{final_text_steps}
 use Rattle.shapers_indic_final.proofs.FinalText.{text_fits}
 use Rattle.shapers_clusters.proofs.StaysAlong.{spare_along}
+use Rattle.shapers_clusters.proofs.Spread.{length-stretch}
+use Rattle.shapers_syllabic.specs.Reordering.{glyphs_before}
+use Rattle.shapers_syllabic.proofs.SyllableAlone.{glyphs_cut, syllable_alone}
+use Rattle.shapers_clusters.specs.Cuts.{ExactCuts}
+use Rattle.shapers_buffer.specs.Places.{pick}
 use Rattle.shapers_syllabic.proofs.ReorderingLaws.{each_piece, sum-syllables, text_steps-long}
 use Rattle.shapers_syllabic.proofs.ReorderingWalk.{pieces_of}
 use Rattle.shapers_clusters.specs.Labels.{MergedStay}
-use Rattle.shapers_indic_final.specs.FinalClusters.{FinalCutsLaw, FinalMergesLaw}
+use Rattle.shapers_indic_final.specs.FinalClusters.{EachSyllableCuts, FinalCutsLaw, FinalMergesLaw}
 use Rattle.shapers_clusters.proofs.SparedCuts.{exact_spared}
 use Rattle.shapers_indic_final.specs.FinalGlyphs.{first_goes_last, last_goes_first}
 use Rattle.shapers_indic_final.specs.FinalMatras.{end_of_base, has_room, is_left, matra_step, matra_steps, matra_target, matras_go, merging_step}
@@ -245,3 +250,18 @@ text_merges r script level gs m =
     let sum : 0 + sum_by (λ piece. piece.0) ps ≤ length gs = omega (arith, sum-syllables steps xs, length-map gs plain) in
     let spare = spare_along (length gs) 0 ps sum (each_piece FitsStep steps laws.fits (syllables xs)) (spare_pieces r script (syllables xs)) in
     merged_stay level m (length gs) (final_text_steps r script gs) (clusters gs) (length-map gs (λ g. g.cluster)) (text_fits r script level gs) (subst (SpareMerged (length gs)) (sym (text_steps-long steps gs)) spare)
+
+pub text_cuts : (r : Rules) (script : Option Script) (level : BufferClusterLevel) (gs : List hb_glyph_info_t) → merges level ≡ true → EachSyllableCuts r script (order_view gs) (clusters gs) (joined_steps level (final_text_steps r script gs) (clusters gs))
+text_cuts r script level gs m before behind syl cut own =
+    let xs = order_view gs in
+    let cs = clusters gs in
+    let s = glyphs_before before in
+    let e = s + length syl in
+    let steps = final_steps r script syl in
+    let laws = final_laws r script in
+    let all = glyphs_cut xs before behind syl cut in
+    let xn : length xs ≡ length gs = length-map gs plain in
+    let cn : length cs ≡ length gs = length-map gs (λ g. g.cluster) in
+    let long : length (stretch_of s e cs) ≡ length syl = length-stretch s e cs (omega arith) ∙ omega arith in
+    let alone = syllable_alone (final_steps r script) laws.fits level xs cs (cn ∙ sym xn) before behind syl cut own.others in
+    subst (ExactCuts (pick (old_places (length syl) steps) (stretch_of s e cs)) (all_merged steps)) (sym alone) (final_cuts r script level syl (stretch_of s e cs) m long own.different)

@@ -9,20 +9,21 @@ use Rattle.shapers_buffer.specs.declared.buffer.level.BufferClusterLevel.{Buffer
 use Rattle.shapers_buffer.specs.Clusters.{merges}
 use Rattle.shapers_buffer.specs.Places.{pick}
 use Rattle.shapers_buffer.proofs.MappedLists.{all-mapped, all-range}
-use Rattle.shapers_clusters.specs.Cuts.{EndWithin, ExactCuts, held, linked}
+use Rattle.shapers_clusters.specs.Cuts.{EndWithin, ExactCuts, InOneCluster, held, linked}
 use Rattle.shapers_clusters.specs.Joined.{joined_all}
+use Rattle.shapers_clusters.proofs.Moves.{HeldIn, all_held}
 use Rattle.shapers_clusters.proofs.Neighbours.{joined_all-linked, share_all}
 use Rattle.shapers_clusters.proofs.Picks.{get_or-pick, length-pick}
 use Rattle.shapers_indic.specs.Glyphs.{places}
 use Rattle.shapers_indic_initial.specs.CycleWalk.{EachOnce}
-use Rattle.shapers_indic_initial.specs.InitialClusters.{InOneCluster, OrderMergesLaw, all_ways, kept_together, way_of}
+use Rattle.shapers_indic_initial.specs.InitialClusters.{OrderMergesLaw, all_ways, kept_together, way_of}
 use Rattle.shapers_indic_initial.specs.InitialOrder.{cycle_stretches, ordered_base, ordered_places, ordered_stretches}
 use Rattle.shapers_indic_initial.specs.InitialReordering.{in_order}
 use Rattle.shapers_indic_initial.specs.InitialRules.{Rules}
 use Rattle.shapers_indic_initial.proofs.CycleSteps.{once_range}
 use Rattle.shapers_indic_initial.proofs.CycleWays.{held_by_ways}
 use Rattle.shapers_indic_initial.proofs.Cycles.{once-swap}
-use Rattle.shapers_indic_initial.proofs.GatheredCuts.{Gathered, exact_gathered}
+use Rattle.shapers_clusters.proofs.GatheredCuts.{Gathered, exact_gathered}
 use Rattle.shapers_indic_initial.proofs.InitialSteps.{length_permuted, stretches_end, within_permuted}
 use Rattle.shapers_indic_initial.proofs.OrderedPlaces.{ordered_permutes}
 
@@ -56,17 +57,6 @@ or_true false = refl
 pub all_by_two : {X : Type 0} (P Q R : X → Type 0) → ((x : X) → P x → Q x → R x) → (xs : List X) → AllByRecursion P xs → AllByRecursion Q xs → AllByRecursion R xs
 all_by_two P Q R each [] h i = tt
 all_by_two P Q R each (x ∷ xs) h i = (each x h.0 i.0, all_by_two P Q R each xs h.1 i.1)
-
-abbrev pub HeldIn : List (ℕ × ℕ) → ℕ × ℕ → Type 0
-HeldIn sts st = (i : ℕ) → st.0 < i → i < st.1 → held sts i ≡ true
-
-more_held : (st : ℕ × ℕ) (sts xs : List (ℕ × ℕ)) → AllByRecursion (HeldIn sts) xs → AllByRecursion (HeldIn (st ∷ sts)) xs
-more_held st sts [] h = tt
-more_held st sts (x ∷ xs) h = (λ i a b. ap (λ c. nat_lt st.0 i && nat_lt i st.1 || c) (h.0 i a b) ∙ or_true (nat_lt st.0 i && nat_lt i st.1), more_held st sts xs h.1)
-
-pub all_held : (sts : List (ℕ × ℕ)) → AllByRecursion (HeldIn sts) sts
-all_held [] = tt
-all_held (st ∷ sts) = (λ i a b. (let t : (nat_lt st.0 i && nat_lt i st.1) ≡ true = grind (arith, nat_tests) in ap (λ c. c || held sts i) t), more_held st sts sts (all_held sts))
 
 -- nothing before the base is held
 record Behind (base i : ℕ) : Type 0 where
