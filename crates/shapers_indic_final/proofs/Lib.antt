@@ -1,4 +1,5 @@
 mod FinalBaseRows
+mod FinalClusterRows
 pub mod FinalClusters
 pub mod FinalElsewhere
 pub mod FinalFlags
