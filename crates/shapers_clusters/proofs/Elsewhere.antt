@@ -14,8 +14,7 @@ use Rattle.shapers_clusters.specs.Joined.{joined_all}
 use Rattle.shapers_clusters.specs.Labels.{IsLabelled, OneLabel, OneLabelEach}
 use Rattle.shapers_clusters.specs.Steps.{FitSteps, FitsStep, Step, joined_step, joined_steps, moved_on, old_places, shifted, steps_along, widened}
 use Rattle.shapers_clusters.proofs.Labels.{Labelled, joined_steps-labels}
-use Rattle.shapers_clusters.proofs.LabelsAsMerged.{moved_labels}
-use Rattle.shapers_clusters.proofs.Moves.{all-joined_steps, stepped}
+use Rattle.shapers_clusters.proofs.Moves.{all-joined_steps, moved_by_old_places, stepped}
 use Rattle.shapers_clusters.proofs.Neighbours.{joined_all-neighbours, length-joined_all}
 use Rattle.shapers_clusters.proofs.Picks.{get_or-pick, length-pick, within_at}
 use Rattle.shapers_clusters.proofs.Widened.{widened_before, widened_behind, fits-widened, widened_inside}
@@ -157,7 +156,7 @@ leaves_apart s e level steps cs end h apart =
     let js = joined_steps level steps cs in
     let ms = marks s e cs in
     let fits = fits_elsewhere s e n steps h in
-    let stay : pick (old_places n steps) ms ≡ ms = moved_labels n steps ms (length-marks s e cs) fits ∙ marks_stay_all s e cs steps h in
+    let stay : pick (old_places n steps) ms ≡ ms = sym (moved_by_old_places n steps ms (length-marks s e cs)) ∙ marks_stay_all s e cs steps h in
     let done : Labelled cs ms js ms = subst (Labelled cs ms js) stay (joined_steps-labels level steps cs ms fits (marked s e cs apart) (marked_each s e cs steps h)) in
     let jl : length js ≡ n = sym done.respected.as_many ∙ length-marks s e cs in (
       jl,

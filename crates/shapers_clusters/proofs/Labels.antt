@@ -55,11 +55,6 @@ spread-labelled s e cs js ls f h i o = record {
 pub joined-labelled : (level : BufferClusterLevel) (s e : ℕ) (cs ls : List ℕ) → e ≤ length cs → IsLabelled cs ls → OneLabel ls (s, e) → IsLabelled (joined level s e cs) ls
 joined-labelled level s e cs ls w i o = joined_cases (λ js. IsLabelled js ls) level s e cs w (λ _. i) (λ js _ h f. spread-labelled s e cs js ls f (omega arith) i o)
 
-pub joined_all-labelled : (level : BufferClusterLevel) (sts : List (ℕ × ℕ)) (cs ls : List ℕ) → EndWithin (length cs) sts → IsLabelled cs ls → AllByRecursion (OneLabel ls) sts → IsLabelled (joined_all level sts cs) ls
-joined_all-labelled level [] cs ls w i o = i
-joined_all-labelled level (st ∷ sts) cs ls w i o =
-    joined_all-labelled level sts (joined level st.0 st.1 cs) ls (end_within_joined level st.0 st.1 cs sts w.0 w.1) (joined-labelled level st.0 st.1 cs ls w.0 i o.0) o.1
-
 -- a place that a merge reached has the cluster and the label of the stretch's least place
 spread-of_old : (s e : ℕ) (ds ks cs js ls : List ℕ) → Spread s e cs js → s + 1 < e → IsLabelled cs ls → OneLabel ls (s, e) → OfOldPlaces ds ks cs ls → OfOldPlaces ds ks js ls
 spread-of_old s e ds ks cs js ls f h i o old p l =

@@ -10,8 +10,7 @@ use Rattle.shapers_buffer.specs.Places.{pick}
 use Rattle.shapers_buffer.proofs.MappedLists.{all-append}
 use Rattle.shapers_clusters.specs.Cuts.{held}
 use Rattle.shapers_clusters.specs.Labels.{OneLabel, OneLabelEach}
-use Rattle.shapers_clusters.specs.Steps.{FitSteps, FitsStep, HeldBetween, MovesMerged, Permutes, SpareMerged, Spares, Step, all_merged, moved_on, old_places}
-use Rattle.shapers_clusters.proofs.Moves.{followed_all}
+use Rattle.shapers_clusters.specs.Steps.{FitSteps, HeldBetween, MovesMerged, Permutes, SpareMerged, Spares, Step, all_merged, moved_on}
 use Rattle.shapers_clusters.proofs.Neighbours.{in_stretch, share_all}
 use Rattle.shapers_clusters.proofs.Picks.{get_or-pick, length-pick}
 
@@ -39,10 +38,6 @@ taken_once n ps perm q l =
     let (p, inside, found) = all q 0 (omega (arith, length-range_with_len 0 n)) in
     let is : get_or range q 0 ≡ q = get_or-range_with_len 0 n q 0 l ∙ omega arith in
     (p, inside, get_or_default ps p 0 (get_or range q 0) inside ∙ found ∙ is)
-
--- labels move with the steps as old places do
-pub moved_labels : (n : ℕ) (steps : List Step) (ls : List ℕ) → length ls ≡ n → FitSteps n steps → pick (old_places n steps) ls ≡ moved_on steps ls
-moved_labels n steps ls long fits = followed_all (λ xs ys. xs ≡ ys) (λ ys step. pick step.places ys) (FitsStep n) (λ step xs ys _ e. ap (pick step.places) e) n ls steps ls long fits refl
 
 -- the labels of a stretch stay through steps that spare it
 label_stays : (n : ℕ) (steps : List Step) (ls : List ℕ) → length ls ≡ n → FitSteps n steps → OneLabelEach steps ls → (st : ℕ × ℕ) → st.1 ≤ n → AllByRecursion (Spares n st) steps → (p : ℕ) → st.0 ≤ p → p < st.1 → get_or (moved_on steps ls) p 0 ≡ get_or ls p 0

@@ -9,6 +9,7 @@ pub mod Flagging
 pub mod GatheredCuts
 pub mod Halves
 pub mod Joined
+pub mod KeptPlaces
 pub mod Labels
 pub mod LabelsAsMerged
 pub mod Made

@@ -16,6 +16,7 @@ use Rattle.shapers_clusters.proofs.Joined.{clusters-merge, clusters-of_clusters}
 use Rattle.shapers_clusters.proofs.Merging.{order_view-merge_all, length-merge_all}
 use Rattle.shapers_clusters.specs.Cuts.{EndWithin, held, ShareCluster}
 use Rattle.shapers_clusters.proofs.Neighbours.{length-joined_all, joined_all-linked, joined_all-reached, share_all}
+use Rattle.std.proofs.lemmas.List.Sums.{fold-append}
 use Rattle.shapers_buffer.specs.Places.{pick}
 use Rattle.shapers_clusters.specs.Steps.{Step, run_step, run_steps, joined_step, joined_steps, moved_on, old_places, FitsStep, FitSteps, HeldBetween, MovesMerged, all_first}
 use Rattle.shapers_clusters.proofs.Picks.{length-pick, get_or-pick, pick-map, AllZip-pick, pick-all, pick-pick, within_picked, within_range, within_at}
@@ -230,6 +231,15 @@ within-old_places n steps = kept (λ ps. AllByRecursion (λ p. p < n) ps) (λ ps
 pub length-old_places : (n : ℕ) (steps : List Step) → FitSteps n steps → length (old_places n steps) ≡ n
 length-old_places n steps f = kept (λ ps. length ps ≡ n) (λ ps step. pick step.places ps) (FitsStep n)
     (λ step ps g e. let P : ℕ → Type 0 = λ n. AllByRecursion (λ p. p < n) step.places in length-pick step.places ps (subst P (sym e) g.within) ∙ g.as_many) steps (range_with_len 0 n) f (length-range_with_len 0 n)
+
+-- the old places after more steps are those of the further steps, picked of those before
+pub moved_by_old_places : (n : ℕ) (steps : List Step) (places : List ℕ) → length places ≡ n → moved_on steps places ≡ pick (old_places n steps) places
+moved_by_old_places n steps places long =
+    followed_all (λ (xs s : List ℕ). s ≡ xs) (λ s step. pick step.places s) (λ _. Unit {0}) (λ step xs s _ e. ap (pick step.places) e) n places steps places long (any_steps steps) refl
+
+pub old_places_then : (n : ℕ) (steps more : List Step) → FitSteps n steps → old_places n (steps ++ more) ≡ pick (old_places n more) (old_places n steps)
+old_places_then n steps more fits =
+    fold-append (λ places step. pick step.places places) (range_with_len 0 n) steps more ∙ moved_by_old_places n more (old_places n steps) (length-old_places n steps fits)
 
 pub merged_fits : (n : ℕ) (steps : List Step) → AllByRecursion (MovesMerged n) steps → FitSteps n steps
 merged_fits n [] f = tt

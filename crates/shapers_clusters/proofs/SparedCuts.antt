@@ -17,8 +17,8 @@ use Rattle.shapers_clusters.specs.Joined.{joined_all}
 use Rattle.shapers_clusters.specs.Labels.{IsLabelled, OneLabel}
 use Rattle.shapers_clusters.specs.Steps.{FitSteps, FitsStep, Permutes, SpareMerged, Step, all_merged, joined_step, joined_steps, moved_on, old_places}
 use Rattle.shapers_clusters.proofs.Labels.{Labelled, joined_steps-labels}
-use Rattle.shapers_clusters.proofs.LabelsAsMerged.{held_label, labels_as_merged, moved_labels, taken_once}
-use Rattle.shapers_clusters.proofs.Moves.{HeldIn, all_held, end_within-append, length-old_places, stepped, within-old_places}
+use Rattle.shapers_clusters.proofs.LabelsAsMerged.{held_label, labels_as_merged, taken_once}
+use Rattle.shapers_clusters.proofs.Moves.{HeldIn, all_held, end_within-append, length-old_places, moved_by_old_places, stepped, within-old_places}
 use Rattle.shapers_clusters.proofs.Neighbours.{joined_all-falls, share_all}
 use Rattle.shapers_clusters.proofs.Permuted.{moved-permuted, pick-permuted}
 use Rattle.shapers_clusters.proofs.Picks.{get_or-pick, length-pick, pick-all, within_at, within_range}
@@ -200,56 +200,69 @@ record Numbered (sts : List (ℕ × ℕ)) (n : ℕ) (ds js : List ℕ) : Type 0 
   pub of_block : (p : ℕ) → p < n → (q : ℕ) × (q < n) × (number_of sts p ≡ number_of sts q) × (get_or js p 0 ≡ get_or ds q 0)
   pub falls : (p : ℕ) → p < n → get_or js p 0 ≤ get_or ds p 0
 
-numbered : (level : BufferClusterLevel) → merges level ≡ true → (n : ℕ) (steps : List Step) (cs : List ℕ) → length cs ≡ n → FitSteps n steps → AllByRecursion (Permutes n) steps → SpareMerged n steps → AllDifferent cs → Numbered (all_merged steps) n (pick (old_places n steps) cs) (joined_steps level steps cs)
-numbered level m n steps cs long fits perm spare different =
-    let olds = old_places n steps in
-    let sts = all_merged steps in
+numbered_by : (sts : List (ℕ × ℕ)) (n : ℕ) (olds cs ls js : List ℕ) → length cs ≡ n → length olds ≡ n → length ls ≡ n → IsPermutation (range_with_len 0 n) olds → AllByRecursion (λ p. p < n) olds → AllDifferent cs → pick olds ls ≡ numbers sts n → Labelled cs ls js (pick olds ls) → ((p : ℕ) → 0 < p → p < n → held sts p ≡ true → get_or js (p - 1) 0 ≡ get_or js p 0) → ((p : ℕ) → p < n → get_or js p 0 ≤ get_or (pick olds cs) p 0) → Numbered sts n (pick olds cs) js
+numbered_by sts n olds cs ls js long ol ll order within different picked result shared falls =
     let range = range_with_len 0 n in
-    let js = joined_steps level steps cs in
     let ds = pick olds cs in
-    let within : AllByRecursion (λ p. p < n) olds = within-old_places n steps in
     let here : AllByRecursion (λ p. p < length cs) olds = subst (λ k. AllByRecursion (λ p. p < k) olds) (sym long) within in
-    let ol : length olds ≡ n = length-old_places n steps fits in
-    let dl : length ds ≡ n = length-pick olds cs here ∙ ol in
-    let order : IsPermutation range olds = moved-permuted n steps range (length-range_with_len 0 n) fits perm in
-    let all_olds : AllDifferent olds = different_permuted range olds order (different_range n) in
-    let new : IsPermutation cs ds = subst (λ xs. IsPermutation xs ds) (pick-all n cs long) (pick-permuted range olds cs (within_range 0 n (length cs) (omega arith)) here order) in
-    let ms = numbers sts n in
-    let ls = labels_before n olds ms in
-    let ll : length ls ≡ n = length-labels_before n olds ms in
     let there : AllByRecursion (λ p. p < length ls) olds = subst (λ k. AllByRecursion (λ p. p < k) olds) (sym ll) within in
-    let read : (p : ℕ) → p < n → get_or (pick olds ls) p 0 ≡ get_or ms p 0 = λ p l. get_or-pick 0 olds ls there p (omega arith) ∙ label_before n olds ms ol all_olds within p l in
-    let picked : pick olds ls ≡ ms = ext_get_or 0 (pick olds ls) ms (length-pick olds ls there ∙ ol ∙ sym (length-numbers sts n)) (λ p l. read p (omega (arith, length-pick olds ls there))) in
-    let moved : moved_on steps ls ≡ ms = sym (moved_labels n steps ls ll fits) ∙ picked in
-    let ends : EndWithin n sts = end_within-all_merged n steps fits in
-    let one : AllByRecursion (OneLabel (moved_on steps ls)) sts = subst (λ xs. AllByRecursion (OneLabel xs) sts) (sym moved) (one_each sts n sts ends (all_held sts)) in
-    let each = labels_as_merged n steps ls ll fits perm spare one in
-    let labelled : IsLabelled cs ls = record { as_many = ll ∙ sym long; agree = λ p q pl ql same. ap (λ k. get_or ls k 0) (one_place cs different p q pl ql same) } in
-    let fit : FitSteps (length cs) steps = subst (λ k. FitSteps k steps) (sym long) fits in
-    let result = subst (λ k. Labelled cs ls js (pick (old_places k steps) ls)) long (joined_steps-labels level steps cs ls fit labelled each) in
+    let new : IsPermutation cs ds = subst (λ xs. IsPermutation xs ds) (pick-all n cs long) (pick-permuted range olds cs (within_range 0 n (length cs) (omega arith)) here order) in
     let jl : length js ≡ n = sym result.respected.as_many ∙ ap length picked ∙ length-numbers sts n in
-    let number : (p : ℕ) → p < n → get_or (pick olds ls) p 0 ≡ number_of sts p = λ p l. read p l ∙ number_at sts n p l in
-    let stay = merged_stay level m n steps cs long fits spare in
+    let number : (p : ℕ) → p < n → get_or (pick olds ls) p 0 ≡ number_of sts p = λ p l. ap (λ ms. get_or ms p 0) picked ∙ number_at sts n p l in
     record {
-      long = dl;
+      long = length-pick olds cs here ∙ ol;
       same_length = jl;
       different = different_permuted cs ds new different;
-      shared = λ p z l h. held_label sts js stay p h;
+      shared = shared;
       apart = λ p q pl ql same. sym (number p pl) ∙ result.respected.agree p q (omega arith) (omega arith) same ∙ number q ql;
       of_block = λ p l.
           let (q, ql, cluster, label) = result.of_old p (omega arith) in
           let (x, xl, at) = taken_once n olds order q (omega arith) in
           let xn : x < n = omega arith in
           (x, xn, sym (number p l) ∙ label ∙ ap (λ k. get_or ls k 0) (sym at) ∙ sym (get_or-pick 0 olds ls there x xl) ∙ number x xn, cluster ∙ ap (λ k. get_or cs k 0) (sym at) ∙ sym (get_or-pick 0 olds cs here x xl));
-      falls = λ p l. subst (λ xs. get_or js p 0 ≤ get_or xs p 0) (sym (moved_labels n steps cs long fits)) (falls_steps n level steps cs cs long long fits (λ p l. omega arith) p l);
+      falls = falls;
     }
+
+-- the labels of old places that lead to the numbers
+numbers_before : (sts : List (ℕ × ℕ)) (n : ℕ) (olds : List ℕ) → length olds ≡ n → AllDifferent olds → AllByRecursion (λ p. p < n) olds → pick olds (labels_before n olds (numbers sts n)) ≡ numbers sts n
+numbers_before sts n olds ol different within =
+    let ms = numbers sts n in
+    let ls = labels_before n olds ms in
+    let there : AllByRecursion (λ p. p < length ls) olds = subst (λ k. AllByRecursion (λ p. p < k) olds) (sym (length-labels_before n olds ms)) within in
+    ext_get_or 0 (pick olds ls) ms (length-pick olds ls there ∙ ol ∙ sym (length-numbers sts n)) (λ p l.
+    let pn : p < n = omega (arith, length-pick olds ls there) in
+    get_or-pick 0 olds ls there p (omega arith) ∙ label_before n olds ms ol different within p pn)
+
+-- labels with which the stretches end, where all clusters are different
+labelled_by : (level : BufferClusterLevel) (n : ℕ) (steps : List Step) (cs ls ms : List ℕ) → length cs ≡ n → length ls ≡ n → FitSteps n steps → AllByRecursion (Permutes n) steps → SpareMerged n steps → AllDifferent cs → pick (old_places n steps) ls ≡ ms → AllByRecursion (OneLabel ms) (all_merged steps) → Labelled cs ls (joined_steps level steps cs) (pick (old_places n steps) ls)
+labelled_by level n steps cs ls ms long ll fits perm spare different picked one =
+    let moved : moved_on steps ls ≡ ms = moved_by_old_places n steps ls ll ∙ picked in
+    let each = labels_as_merged n steps ls ll fits perm spare (subst (λ xs. AllByRecursion (OneLabel xs) (all_merged steps)) (sym moved) one) in
+    let labelled : IsLabelled cs ls = record { as_many = ll ∙ sym long; agree = λ p q pl ql same. ap (λ k. get_or ls k 0) (one_place cs different p q pl ql same) } in
+    let fit : FitSteps (length cs) steps = subst (λ k. FitSteps k steps) (sym long) fits in
+    subst (λ k. Labelled cs ls (joined_steps level steps cs) (pick (old_places k steps) ls)) long (joined_steps-labels level steps cs ls fit labelled each)
+
+numbered : (level : BufferClusterLevel) → merges level ≡ true → (n : ℕ) (steps : List Step) (cs : List ℕ) → length cs ≡ n → FitSteps n steps → AllByRecursion (Permutes n) steps → SpareMerged n steps → AllDifferent cs → Numbered (all_merged steps) n (pick (old_places n steps) cs) (joined_steps level steps cs)
+numbered level m n steps cs long fits perm spare different =
+    let olds = old_places n steps in
+    let sts = all_merged steps in
+    let js = joined_steps level steps cs in
+    let ms = numbers sts n in
+    let ls = labels_before n olds ms in
+    let ll = length-labels_before n olds ms in
+    let ol = length-old_places n steps fits in
+    let within = within-old_places n steps in
+    let order = moved-permuted n steps (range_with_len 0 n) (length-range_with_len 0 n) fits perm in
+    let picked = numbers_before sts n olds ol (different_permuted (range_with_len 0 n) olds order (different_range n)) within in
+    let one = one_each sts n sts (end_within-all_merged n steps fits) (all_held sts) in
+    numbered_by sts n olds cs ls js long ol ll order within different picked
+    (labelled_by level n steps cs ls ms long ll fits perm spare different picked one)
+    (λ p z l h. held_label sts js (merged_stay level m n steps cs long fits spare) p h)
+    (λ p l. subst (λ xs. get_or js p 0 ≤ get_or xs p 0) (moved_by_old_places n steps cs long) (falls_steps n level steps cs cs long long fits (λ p l. omega arith) p l))
 
 -- so the cuts are exact
 not_equal : (a b : ℕ) → a ≢ b → (a == b) ≡ false
 not_equal a b ne = grind (arith, nat_tests)
-
-or_false : (a b : Bool) → a ≡ false → b ≡ false → (a || b) ≡ false
-or_false a b h i = ap (λ c. c || b) h ∙ i
 
 exact_numbered : (sts : List (ℕ × ℕ)) (n : ℕ) (ds js : List ℕ) → Numbered sts n ds js → ExactCuts ds sts js
 exact_numbered sts n ds js f =
