@@ -1,10 +1,9 @@
 -- Exact cuts where each cluster's places stand together, in whatever order: so where all clusters are different.
 use Rattle.std.proofs.Common.{ℕ, suc, ◌+◌, ◌-◌, ◌<◌, ◌≤◌, ◌≡◌, ◌≢◌, ◌==◌, true, false, nat_lt, ◌&&◌, inl, inr, List, [], ◌∷◌, length, get_or, slice_index, sym, ◌∙◌, ap, subst, arith}
-use Rattle.std.specs.List.{AllPairs}
 use Rattle.std.proofs.lemmas.Bool.{cases_Bool, cases_lt, eqb-false}
 use Rattle.shapers_buffer.specs.declared.buffer.level.BufferClusterLevel.{BufferClusterLevel}
 use Rattle.shapers_buffer.specs.Clusters.{merges}
-use Rattle.shapers_clusters.specs.Cuts.{EndWithin, ExactCuts, held, linked}
+use Rattle.shapers_clusters.specs.Cuts.{AllDifferent, EndWithin, ExactCuts, held, linked}
 use Rattle.shapers_clusters.specs.Joined.{joined, joined_all}
 use Rattle.shapers_clusters.proofs.Cuts.{block_shares, not_in, or_none}
 use Rattle.shapers_clusters.proofs.Neighbours.{end_within_joined, joined_all-falls, joined_all-linked, joined_all-reached, left_to, length-joined, length-joined_all, right_from}
@@ -14,7 +13,7 @@ use Rattle.shapers_clusters.proofs.Spread.{Spread, joined_cases}
 abbrev pub Gathered : List ℕ → Type 0
 Gathered cs = (a b c : ℕ) → a ≤ b → b ≤ c → c < length cs → get_or cs a 0 ≡ get_or cs c 0 → get_or cs b 0 ≡ get_or cs a 0
 
-pub different_gathered : (cs : List ℕ) → AllPairs (λ a b. a ≢ b) cs → Gathered cs
+pub different_gathered : (cs : List ℕ) → AllDifferent cs → Gathered cs
 different_gathered cs h a b c x y l e = elim (cases_lt a c) [
   | inl k ↦ absurd (h a c 0 k l e)
   | inr k ↦ let same : b ≡ a = omega arith in ap (λ k. get_or cs k 0) same

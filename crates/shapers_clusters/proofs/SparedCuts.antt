@@ -1,6 +1,6 @@
 -- Exact cuts after steps that spare what merged, where all clusters are different.
 use Rattle.std.proofs.Common.{ℕ, zero, suc, ◌+◌, ◌-◌, ◌==◌, ◌<◌, ◌≤◌, ◌≡◌, ◌≢◌, Bool, true, false, not, ◌||◌, if◌then◌else◌, inl, inr, List, [], ◌∷◌, ◌++◌, map, length, get_or, slice_index, eqb, min, max, refl, sym, ◌∙◌, ap, subst, arith}
-use Rattle.std.specs.List.{AllByRecursion, AllPairs, prefix_len, range_with_len}
+use Rattle.std.specs.List.{AllByRecursion, prefix_len, range_with_len}
 use Rattle.std.specs.List.Sorted.{IsPermutation}
 use Rattle.std.proofs.lemmas.Bool.{cases_Bool, cases_lt}
 use Rattle.std.proofs.lemmas.Bool.Decides.{Decides-eqb, nat_tests}
@@ -12,7 +12,7 @@ use Rattle.std.proofs.lemmas.Map.Made.{AllPairs-from_IsDistinct, IsDistinct-from
 use Rattle.shapers_buffer.specs.declared.buffer.level.BufferClusterLevel.{BufferClusterLevel}
 use Rattle.shapers_buffer.specs.Clusters.{merges}
 use Rattle.shapers_buffer.specs.Places.{pick}
-use Rattle.shapers_clusters.specs.Cuts.{EndWithin, ExactCuts, held, linked}
+use Rattle.shapers_clusters.specs.Cuts.{AllDifferent, EndWithin, ExactCuts, held, linked}
 use Rattle.shapers_clusters.specs.Joined.{joined_all}
 use Rattle.shapers_clusters.specs.Labels.{IsLabelled, OneLabel}
 use Rattle.shapers_clusters.specs.Steps.{FitSteps, FitsStep, Permutes, SpareMerged, Step, all_merged, joined_step, joined_steps, moved_on, old_places}
@@ -20,14 +20,11 @@ use Rattle.shapers_clusters.proofs.Labels.{Labelled, joined_steps-labels}
 use Rattle.shapers_clusters.proofs.LabelsAsMerged.{held_label, labels_as_merged, taken_once}
 use Rattle.shapers_clusters.proofs.Moves.{HeldIn, all_held, end_within-append, length-old_places, moved_by_old_places, stepped, within-old_places}
 use Rattle.shapers_clusters.proofs.Neighbours.{joined_all-falls, share_all}
-use Rattle.shapers_clusters.proofs.Permuted.{moved-permuted, pick-permuted}
-use Rattle.shapers_clusters.proofs.Picks.{get_or-pick, length-pick, pick-all, within_at, within_range}
+use Rattle.shapers_clusters.proofs.Permuted.{moved-permuted, picked-permuted}
+use Rattle.shapers_clusters.proofs.Picks.{get_or-pick, length-pick, within_at}
 use Rattle.shapers_clusters.proofs.StaysMerged.{merged_stay}
 
 -- numbers that differ still do in another order
-abbrev pub AllDifferent : List ℕ → Type 0
-AllDifferent xs = AllPairs (λ a b. a ≢ b) xs
-
 eqb_flips : (a b : ℕ) → eqb a b ≡ eqb b a
 eqb_flips a b = grind (arith, nat_tests)
 
@@ -202,11 +199,10 @@ record Numbered (sts : List (ℕ × ℕ)) (n : ℕ) (ds js : List ℕ) : Type 0 
 
 numbered_by : (sts : List (ℕ × ℕ)) (n : ℕ) (olds cs ls js : List ℕ) → length cs ≡ n → length olds ≡ n → length ls ≡ n → IsPermutation (range_with_len 0 n) olds → AllByRecursion (λ p. p < n) olds → AllDifferent cs → pick olds ls ≡ numbers sts n → Labelled cs ls js (pick olds ls) → ((p : ℕ) → 0 < p → p < n → held sts p ≡ true → get_or js (p - 1) 0 ≡ get_or js p 0) → ((p : ℕ) → p < n → get_or js p 0 ≤ get_or (pick olds cs) p 0) → Numbered sts n (pick olds cs) js
 numbered_by sts n olds cs ls js long ol ll order within different picked result shared falls =
-    let range = range_with_len 0 n in
     let ds = pick olds cs in
     let here : AllByRecursion (λ p. p < length cs) olds = subst (λ k. AllByRecursion (λ p. p < k) olds) (sym long) within in
     let there : AllByRecursion (λ p. p < length ls) olds = subst (λ k. AllByRecursion (λ p. p < k) olds) (sym ll) within in
-    let new : IsPermutation cs ds = subst (λ xs. IsPermutation xs ds) (pick-all n cs long) (pick-permuted range olds cs (within_range 0 n (length cs) (omega arith)) here order) in
+    let new : IsPermutation cs ds = picked-permuted n olds cs long here order in
     let jl : length js ≡ n = sym result.respected.as_many ∙ ap length picked ∙ length-numbers sts n in
     let number : (p : ℕ) → p < n → get_or (pick olds ls) p 0 ≡ number_of sts p = λ p l. ap (λ ms. get_or ms p 0) picked ∙ number_at sts n p l in
     record {

@@ -57,7 +57,11 @@ InOneCluster cs st = (p q : ℕ) → st.0 ≤ p → p < st.1 → st.0 ≤ q → 
 abbrev pub StandsApart : ℕ → ℕ → List ℕ → Type 0
 StandsApart s e cs = (i j : ℕ) → s ≤ i → i < e → j < length cs → (j < s) ⊎ (e ≤ j) → slice_index cs i ≢ slice_index cs j
 
+-- all are different
+abbrev pub AllDifferent : List ℕ → Type 0
+AllDifferent cs = AllPairs (λ a b. a ≢ b) cs
+
 -- the clusters from s to e are all different, and no place elsewhere has one of them
 pub record OwnClusters (s e : ℕ) (cs : List ℕ) : Type 0 where
-  pub different : AllPairs (λ a b. a ≢ b) (stretch_of s e cs)
+  pub different : AllDifferent (stretch_of s e cs)
   pub others : StandsApart s e cs

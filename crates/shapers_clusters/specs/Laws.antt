@@ -1,14 +1,14 @@
 -- The laws of clusters and glyph flags, as statements.
-use Rattle.std.proofs.Common.{ℕ, ◌+◌, ◌++◌, ◌-◌, ◌<◌, ◌≤◌, ◌≡◌, ◌≢◌, Bool, true, false, List, ◌∷◌, map, length, slice_index, take, drop}
+use Rattle.std.proofs.Common.{ℕ, ◌+◌, ◌++◌, ◌-◌, ◌<◌, ◌≤◌, ◌≡◌, Bool, true, false, List, ◌∷◌, map, length, slice_index, take, drop}
 use Rattle.std.specs.List.Sorted.{IsPermutation}
-use Rattle.std.specs.List.{sum_by, All, AllByRecursion, AllPairs, AllZip, Contains}
+use Rattle.std.specs.List.{sum_by, All, AllByRecursion, AllZip, Contains}
 use Rattle.shapers_buffer.specs.declared.buffer.glyph.hb_glyph_info_t.{hb_glyph_info_t}
 use Rattle.shapers_buffer.specs.declared.buffer.level.BufferClusterLevel.{BufferClusterLevel}
 use Rattle.shapers_buffer.specs.Glyph.{clusters, order_view}
 use Rattle.shapers_buffer.specs.Clusters.{least, low, high, merge, merge_all, merges, stretch_of}
 use Rattle.shapers_buffer.specs.GlyphFlags.{unsafe_inside, unsafe_to_concat_in, tatweel_inside, FlagCall, flags_called}
 use Rattle.shapers_clusters.specs.Joined.{joined_all}
-use Rattle.shapers_clusters.specs.Cuts.{EndWithin, ShareCluster, IsMonotone, ExactCuts, InOneCluster, ShareNone, StandsApart}
+use Rattle.shapers_clusters.specs.Cuts.{AllDifferent, EndWithin, ShareCluster, IsMonotone, ExactCuts, InOneCluster, ShareNone, StandsApart}
 use Rattle.shapers_buffer.specs.Places.{pick}
 use Rattle.shapers_clusters.specs.Steps.{Step, run_steps, joined_steps, old_places, FitSteps, MovesMerged, all_first, all_merged, SpareMerged, widened, steps_along, reordered_along, Permutes}
 use Rattle.shapers_clusters.specs.Flags.{FallsTo, FlagsFall, FlagsAlone, InOrder, ShowsClusters, HidesFields, seen}
@@ -117,7 +117,7 @@ MergedStepsLaw = (level : BufferClusterLevel) (steps : List Step) (cs : List ℕ
 -- and each run so joined has the least cluster that the glyphs now in it had.
 pub record SparedStepsHold (steps : List Step) (cs js : List ℕ) : Type 0 where
   pub merged : AllByRecursion (InOneCluster js) (all_merged steps)
-  pub exact : AllPairs (λ a b. a ≢ b) cs → ExactCuts (pick (old_places (length cs) steps) cs) (all_merged steps) js
+  pub exact : AllDifferent cs → ExactCuts (pick (old_places (length cs) steps) cs) (all_merged steps) js
 
 abbrev pub SparedStepsLaw : Type 0
 SparedStepsLaw = (level : BufferClusterLevel) (steps : List Step) (cs : List ℕ) →

@@ -2,12 +2,12 @@
 use Rattle.shapers_clusters.proofs.Through.{length-same}
 use Rattle.shapers_syllabic.specs.Reordering.{carried}
 use Rattle.std.proofs.Common.{List, None, Option, Some, [], ap, arith, drop, false, get_or, if◌then◌else◌, inl, inr, length, length-drop, refl, subst, suc, sym, take, true, zero, ℕ, ◌++◌, ◌+◌, ◌-◌, ◌<◌, ◌∙◌, ◌∷◌, ◌≡◌, ◌≤◌}
-use Rattle.std.specs.List.{AllByRecursion, range_with_len}
+use Rattle.std.specs.List.{All, AllByRecursion, range_with_len}
 use Rattle.std.specs.List.Sorted.{IsPermutation}
 use Rattle.std.proofs.lemmas.Bool.{and_parts, cases_Bool, cases_lt}
 use Rattle.std.proofs.lemmas.Bool.Decides.{nat_tests}
 use Rattle.std.proofs.lemmas.List.{get_or-append_right, get_or-drop, get_or-take, get_or_append_left, length-drop, length-take-le}
-use Rattle.std.proofs.lemmas.List.Elements.{All-from_recursion, recursion_from_All}
+use Rattle.std.proofs.lemmas.List.Elements.{All-from_get_or}
 use Rattle.std.proofs.lemmas.List.FromFn.{get_or-range_with_len, length-range_with_len}
 use Rattle.std.proofs.lemmas.List.Sorted.{All-permutation, length_permutation}
 use Rattle.shapers_buffer.specs.declared.buffer.glyph.hb_glyph_info_t.{hb_glyph_info_t}
@@ -54,16 +54,6 @@ use Rattle.shapers_indic_final.proofs.FinalLawsAt.{length_at, stretch_at}
 use Rattle.shapers_indic_final.proofs.FinalTargets.{PlaceWithin, formed_pref_within, opens_some, pref_target_within, reph_target_within}
 use Rattle.shapers_indic_final.proofs.FinalLaws.{final_laws, matras_at, merging_at, reph_at, target_within}
 
--- what holds of all holds of each
-at_place : {X : Type 0} (P : X → Type 0) (xs : List X) → AllByRecursion P xs → (k : ℕ) (d : X) → k < length xs → P (get_or xs k d)
-at_place P [] h k d l = absurd (omega arith)
-at_place P (x ∷ xs) h zero d l = h.0
-at_place P (x ∷ xs) h (suc k) d l = at_place P xs h.1 k d (omega arith)
-
-all_by_place : (P : ℕ → Type 0) (xs : List ℕ) (d : ℕ) → ((k : ℕ) → k < length xs → P (get_or xs k d)) → AllByRecursion P xs
-all_by_place P [] d h = tt
-all_by_place P (x ∷ xs) d h = (h 0 (omega arith), all_by_place P xs d (λ k l. h (suc k) (omega arith)))
-
 -- a stretch of places changed: those around it stay, those inside come from inside
 pub record ChangedWithin (i k n : ℕ) (ps : List ℕ) : Type 0 where
   pub before : (p : ℕ) → p < i → get_or ps p 0 ≡ p
@@ -87,10 +77,10 @@ changed_within f permutes i k n l m =
     let pn : length part ≡ k - i = length-take-le (k - i) (drop i ps) (omega (arith, length-drop i ps)) in
     let yn : length ys ≡ k - i = length_permutation part ys (permutes part) ∙ pn in
     let each : (p : ℕ) → p < k - i → get_or part p 0 ≡ i + p = λ p a. get_or-take (k - i) (drop i ps) p 0 a ∙ get_or-drop i ps p 0 ∙ get_or-range_with_len 0 n (i + p) 0 (omega arith) ∙ omega arith in
-    let all_part : AllByRecursion (Inside i k) part = all_by_place (Inside i k) part 0 (λ p a. subst (Inside i k) (sym (each p (omega arith))) (record { low = omega arith; high = omega arith })) in
-    let all_ys : AllByRecursion (Inside i k) ys = recursion_from_All (Inside i k) ys (All-permutation (Inside i k) part ys (permutes part) (All-from_recursion (Inside i k) part all_part)) in
+    let all_part : All (Inside i k) part = All-from_get_or (Inside i k) part 0 (λ p a. subst (Inside i k) (sym (each p (omega arith))) (record { low = omega arith; high = omega arith })) in
+    let all_ys : All (Inside i k) ys = All-permutation (Inside i k) part ys (permutes part) all_part in
     let there : (p : ℕ) → i ≤ p → p < k → Inside i k (get_or (xs ++ (ys ++ zs)) p 0) = λ p a b.
-    subst (Inside i k) (sym (get_or-append_right xs (ys ++ zs) i p 0 xn a ∙ get_or_append_left ys zs 0 (p - i) (omega arith))) (at_place (Inside i k) ys all_ys (p - i) 0 (omega arith)) in
+    subst (Inside i k) (sym (get_or-append_right xs (ys ++ zs) i p 0 xn a ∙ get_or_append_left ys zs 0 (p - i) (omega arith))) (all_ys (p - i) 0 (omega arith)) in
     let all : n - 0 ≡ n = omega arith in
     subst (λ m. ChangedWithin i k n (with_stretch i k f (range_with_len 0 m))) (sym all) (record {
       before = λ p a. get_or_append_left xs (ys ++ zs) 0 p (omega arith) ∙ get_or-take i ps p 0 a ∙ get_or-range_with_len 0 n p 0 (omega arith) ∙ omega arith;

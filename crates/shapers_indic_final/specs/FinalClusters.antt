@@ -1,8 +1,6 @@
 -- What the steps of a syllable merge, as a statement.
 use Rattle.std.specs.Prelude.{ℕ, ◌+◌, ◌≡◌, ◌++◌, ◌∷◌, true, List, length, Option}
-use Rattle.std.proofs.Common.{◌≢◌}
-use Rattle.shapers_clusters.specs.Cuts.{ExactCuts, OwnClusters}
-use Rattle.std.specs.List.{AllPairs}
+use Rattle.shapers_clusters.specs.Cuts.{AllDifferent, ExactCuts, OwnClusters}
 use Rattle.shapers_buffer.specs.declared.buffer.glyph.hb_glyph_info_t.{hb_glyph_info_t}
 use Rattle.shapers_buffer.specs.declared.buffer.level.BufferClusterLevel.{BufferClusterLevel}
 use Rattle.shapers_buffer.specs.declared.buffer.tag.Script.{Script}
@@ -25,7 +23,7 @@ FinalMergesLaw = (r : Rules) (script : Option Script) (level : BufferClusterLeve
 -- joined has the least that its glyphs had
 abbrev pub FinalCutsLaw : Type 0
 FinalCutsLaw = (r : Rules) (script : Option Script) (level : BufferClusterLevel) (gs : List hb_glyph_info_t) (cs : List ℕ) →
-    merges level ≡ true → length cs ≡ length gs → AllPairs (λ a b. a ≢ b) cs →
+    merges level ≡ true → length cs ≡ length gs → AllDifferent cs →
     let steps = final_steps r script gs in
     ExactCuts (pick (old_places (length gs) steps) cs) (all_merged steps) (joined_steps level steps cs)
 

@@ -1,14 +1,13 @@
 -- What the order of a syllable makes of its clusters, without cycles, as a statement.
 use Rattle.std.specs.Prelude.{ℕ, suc, ◌+◌, ◌<◌, ◌≡◌, ◌||◌, max, min, nat_lt, true, List, [], ◌∷◌, ◌++◌, length, map, take, Option, slice_index, if◌then◌else◌}
-use Rattle.std.proofs.Common.{◌≢◌}
-use Rattle.std.specs.List.{AllByRecursion, AllPairs}
+use Rattle.std.specs.List.{AllByRecursion}
 use Rattle.shapers_buffer.specs.declared.buffer.glyph.hb_glyph_info_t.{hb_glyph_info_t}
 use Rattle.shapers_buffer.specs.declared.buffer.level.BufferClusterLevel.{BufferClusterLevel}
 use Rattle.shapers_buffer.specs.Clusters.{merges, stretch_of}
 use Rattle.shapers_buffer.specs.declared.buffer.tag.Script.{Script}
 use Rattle.shapers_buffer.specs.Syllables.{syllables}
 use Rattle.shapers_buffer.specs.Places.{pick}
-use Rattle.shapers_clusters.specs.Cuts.{ExactCuts, InOneCluster, OwnClusters}
+use Rattle.shapers_clusters.specs.Cuts.{AllDifferent, ExactCuts, InOneCluster, OwnClusters}
 use Rattle.shapers_clusters.specs.Steps.{joined_step, joined_steps, shifted, steps_along, widened}
 use Rattle.shapers_indic.specs.Glyphs.{places}
 use Rattle.shapers_indic_initial.specs.InitialOrder.{ordered_base, ordered_places}
@@ -32,8 +31,8 @@ kept_together r from base = if r.old || nat_lt 127 (length from) then (base, len
 -- glyphs had, and each glyph before the base keeps its own.
 pub record OrderMerges (base : ℕ) (sts : List (ℕ × ℕ)) (from cs js : List ℕ) : Type 0 where
   pub together : AllByRecursion (InOneCluster js) sts
-  pub exact : AllPairs (λ a b. a ≢ b) cs → ExactCuts (pick from cs) sts js
-  pub before : AllPairs (λ a b. a ≢ b) cs →
+  pub exact : AllDifferent cs → ExactCuts (pick from cs) sts js
+  pub before : AllDifferent cs →
       (p : ℕ) → p < base → p < length cs →
       slice_index js p ≡ slice_index (pick from cs) p
 
