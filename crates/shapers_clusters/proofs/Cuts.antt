@@ -101,11 +101,11 @@ joined_all-ordered R o level [] cs w h = h
 joined_all-ordered R o level (st ∷ sts) cs w h =
     joined_all-ordered R o level sts (joined level st.0 st.1 cs) (end_within_joined level st.0 st.1 cs sts w.0 w.1) (joined-ordered R o level st.0 st.1 cs w.0 h)
 
-or_none : (a b : Bool) → (a || b) ≡ false → (a ≡ false) × (b ≡ false)
+pub or_none : (a b : Bool) → (a || b) ≡ false → (a ≡ false) × (b ≡ false)
 or_none true b h = (cc, cc)
 or_none false b h = (refl, h)
 
-not_in : (s e p : ℕ) → (nat_lt s p && nat_lt p e) ≡ false → s < p → p < e → ⊥
+pub not_in : (s e p : ℕ) → (nat_lt s p && nat_lt p e) ≡ false → s < p → p < e → ⊥
 not_in s e p h a b = grind (arith, nat_tests)
 
 joined_all-cut : (R : ℕ → ℕ → Type 0) → IsOrder R → (level : BufferClusterLevel) (sts : List (ℕ × ℕ)) (cs : List ℕ) → EndWithin (length cs) sts → InOrder R cs → (p : ℕ) → suc p < length cs → get_or cs p 0 ≢ get_or cs (suc p) 0 → held sts (suc p) ≡ false → get_or (joined_all level sts cs) p 0 ≢ get_or (joined_all level sts cs) (suc p) 0

@@ -18,6 +18,20 @@ without_flags-or m bits low =
     let same : bit_or m bits / 8 ≡ m / 8 = or_shr m bits 3 ∙ ap (bit_or (m / 8)) low ∙ or_zero_r (m / 8) in
     omega (arith, same)
 
+-- bits from 8 on leave them, and show as they are
+pub flags-or : (a m : ℕ) → m % 8 ≡ 0 → bit_or a m % 8 ≡ a % 8
+flags-or a m off = or_mod a m 3 ∙ ap (bit_or (a % 8)) off ∙ or_zero_r (a % 8)
+
+pub plain-or : (a m : ℕ) → m % 8 ≡ 0 → without_flags (bit_or a m) ≡ bit_or (without_flags a) m
+plain-or a m off =
+    let x = bit_or a m in
+    let y = bit_or (without_flags a) m in
+    let low : x % 8 ≡ a % 8 = flags-or a m off in
+    let none : y % 8 ≡ 0 = flags-or (without_flags a) m off ∙ (let z : without_flags a % 8 ≡ 0 = omega arith in z) in
+    let front : without_flags a / 8 ≡ a / 8 = omega arith in
+    let same : x / 8 ≡ y / 8 = or_shr a m 3 ∙ ap (λ n. bit_or n (m / 8)) (sym front) ∙ sym (or_shr (without_flags a) m 3) in
+    omega arith
+
 pub plain-with_bits : (bits : ℕ) (g : hb_glyph_info_t) → bits / 8 ≡ 0 → plain (with_bits bits g) ≡ plain g
 plain-with_bits bits g low = ap (λ (m : ℕ). record g { cluster = 0; mask = m }) (without_flags-or g.mask bits low)
 

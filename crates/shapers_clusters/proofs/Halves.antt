@@ -278,7 +278,7 @@ along-widened a b n s (piece ∷ rest) l i j =
     ∙ ap (λ l. l ++ map (widened a b n) (steps_along (b - a) (s + piece.0) rest)) (map-widened a b n s piece.0 piece.1 (omega arith) i j)
     ∙ ap (λ l. map (widened (a + s) (a + s + piece.0) n) piece.1 ++ l) (along-widened a b n (s + piece.0) rest (omega arith) i j ∙ ap (λ x. steps_along n x rest) e)
 
-along-append : (n s : ℕ) (ps qs : List (ℕ × List Step)) → steps_along n s (ps ++ qs) ≡ steps_along n s ps ++ steps_along n (s + sum_by (λ piece. piece.0) ps) qs
+pub along-append : (n s : ℕ) (ps qs : List (ℕ × List Step)) → steps_along n s (ps ++ qs) ≡ steps_along n s ps ++ steps_along n (s + sum_by (λ piece. piece.0) ps) qs
 along-append n s [] qs = let i : s ≡ s + 0 = omega arith in ap (λ x. steps_along n x qs) i
 along-append n s (p ∷ ps) qs =
     let k = sum_by-cons (λ piece. piece.0) p ps in

@@ -1,13 +1,17 @@
-mod Rows
+pub mod Alone
 pub mod Appended
 pub mod Bounds
 pub mod Cuts
+pub mod Elsewhere
 pub mod Falls
 pub mod FlagCalls
 pub mod Flagging
+pub mod GatheredCuts
 pub mod Halves
 pub mod Joined
+pub mod KeptPlaces
 pub mod Labels
+pub mod LabelsAsMerged
 pub mod Made
 pub mod Merging
 pub mod Moves
@@ -15,8 +19,12 @@ pub mod Neighbours
 pub mod Permuted
 pub mod Picks
 pub mod Proved
+mod Rows
 pub mod Sources
+pub mod SparedCuts
 pub mod Spread
+pub mod StaysAlong
+pub mod StaysMerged
 pub mod Swaps
 pub mod Through
 pub mod Views

@@ -16,6 +16,7 @@ use Rattle.shapers_clusters.proofs.Joined.{clusters-merge, clusters-of_clusters}
 use Rattle.shapers_clusters.proofs.Merging.{order_view-merge_all, length-merge_all}
 use Rattle.shapers_clusters.specs.Cuts.{EndWithin, held, ShareCluster}
 use Rattle.shapers_clusters.proofs.Neighbours.{length-joined_all, joined_all-linked, joined_all-reached, share_all}
+use Rattle.std.proofs.lemmas.List.Sums.{fold-append}
 use Rattle.shapers_buffer.specs.Places.{pick}
 use Rattle.shapers_clusters.specs.Steps.{Step, run_step, run_steps, joined_step, joined_steps, moved_on, old_places, FitsStep, FitSteps, HeldBetween, MovesMerged, all_first}
 use Rattle.shapers_clusters.proofs.Picks.{length-pick, get_or-pick, pick-map, AllZip-pick, pick-all, pick-pick, within_picked, within_range, within_at}
@@ -180,6 +181,18 @@ lt_both a b r h i = grind (arith, nat_tests)
 pub held_by : (sts : List (ℕ × ℕ)) (k : ℕ) (d : ℕ × ℕ) → k < length sts → (p q : ℕ) → (get_or sts k d).0 ≤ p → p < (get_or sts k d).1 → (get_or sts k d).0 ≤ q → q < (get_or sts k d).1 → HeldBetween sts p q
 held_by sts k d l p q a b c e r x y = list_any_at (λ st. nat_lt st.0 r && nat_lt r st.1) sts k d l (lt_both (get_or sts k d).0 (get_or sts k d).1 r (omega arith) (omega arith))
 
+-- all neighbours within a stretch are held; so they are in each of the stretches
+abbrev pub HeldIn : List (ℕ × ℕ) → ℕ × ℕ → Type 0
+HeldIn sts st = (i : ℕ) → st.0 < i → i < st.1 → held sts i ≡ true
+
+more_held : (st : ℕ × ℕ) (sts xs : List (ℕ × ℕ)) → AllByRecursion (HeldIn sts) xs → AllByRecursion (HeldIn (st ∷ sts)) xs
+more_held st sts [] h = tt
+more_held st sts (x ∷ xs) h = (λ i a b. or_right (nat_lt st.0 i && nat_lt i st.1) (held sts i) (h.0 i a b), more_held st sts xs h.1)
+
+pub all_held : (sts : List (ℕ × ℕ)) → AllByRecursion (HeldIn sts) sts
+all_held [] = tt
+all_held (st ∷ sts) = (λ i a b. or_left (nat_lt st.0 i && nat_lt i st.1) (held sts i) (lt_both st.0 st.1 i a b), more_held st sts sts (all_held sts))
+
 -- a step that merges all its places first may move as it likes
 pub moves_anywhere : (n : ℕ) (places : List ℕ) → length places ≡ n → AllByRecursion (λ p. p < n) places → MovesMerged n (record { merged_first = (0, n) ∷ []; places = places; merged_then = [] })
 moves_anywhere n places e w = record {
@@ -219,11 +232,20 @@ pub length-old_places : (n : ℕ) (steps : List Step) → FitSteps n steps → l
 length-old_places n steps f = kept (λ ps. length ps ≡ n) (λ ps step. pick step.places ps) (FitsStep n)
     (λ step ps g e. let P : ℕ → Type 0 = λ n. AllByRecursion (λ p. p < n) step.places in length-pick step.places ps (subst P (sym e) g.within) ∙ g.as_many) steps (range_with_len 0 n) f (length-range_with_len 0 n)
 
+-- the old places after more steps are those of the further steps, picked of those before
+pub moved_by_old_places : (n : ℕ) (steps : List Step) (places : List ℕ) → length places ≡ n → moved_on steps places ≡ pick (old_places n steps) places
+moved_by_old_places n steps places long =
+    followed_all (λ (xs s : List ℕ). s ≡ xs) (λ s step. pick step.places s) (λ _. Unit {0}) (λ step xs s _ e. ap (pick step.places) e) n places steps places long (any_steps steps) refl
+
+pub old_places_then : (n : ℕ) (steps more : List Step) → FitSteps n steps → old_places n (steps ++ more) ≡ pick (old_places n more) (old_places n steps)
+old_places_then n steps more fits =
+    fold-append (λ places step. pick step.places places) (range_with_len 0 n) steps more ∙ moved_by_old_places n more (old_places n steps) (length-old_places n steps fits)
+
 pub merged_fits : (n : ℕ) (steps : List Step) → AllByRecursion (MovesMerged n) steps → FitSteps n steps
 merged_fits n [] f = tt
 merged_fits n (step ∷ steps) f = (f.0.fits, merged_fits n steps f.1)
 
-end_within-append : (n : ℕ) (xs ys : List (ℕ × ℕ)) → EndWithin n xs → EndWithin n ys → EndWithin n (xs ++ ys)
+pub end_within-append : (n : ℕ) (xs ys : List (ℕ × ℕ)) → EndWithin n xs → EndWithin n ys → EndWithin n (xs ++ ys)
 end_within-append n [] ys h i = i
 end_within-append n (x ∷ xs) ys h i = (h.0, end_within-append n xs ys h.1 i)
 

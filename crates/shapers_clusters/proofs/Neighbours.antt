@@ -107,7 +107,7 @@ and_both : (a b : Bool) → (a && b) ≡ true → (a ≡ true) × (b ≡ true)
 and_both true b h = (refl, h)
 and_both false b h = (cc, cc)
 
-in_stretch : (s e p : ℕ) (rest : Bool) → (nat_lt s p && nat_lt p e || rest) ≡ true → ((s < p) × (p < e)) ⊎ (rest ≡ true)
+pub in_stretch : (s e p : ℕ) (rest : Bool) → (nat_lt s p && nat_lt p e || rest) ≡ true → ((s < p) × (p < e)) ⊎ (rest ≡ true)
 in_stretch s e p rest h = elim (or_cases (nat_lt s p && nat_lt p e) rest h) [
   | inl i ↦ let b = and_both (nat_lt s p) (nat_lt p e) i in inl (ltb-true s p b.0, ltb-true p e b.1)
   | inr r ↦ inr r

@@ -26,14 +26,19 @@ pick-permuted ps qs xs v w h = elim (some_element xs) [
   | inr d ↦ subst (IsPermutation (pick ps xs)) (sym (pick-read d qs xs w)) (subst (λ ys. IsPermutation ys (map (λ p. get_or xs p d) qs)) (sym (pick-read d ps xs v)) (IsPermutation-map (λ p. get_or xs p d) ps qs h))
 ]
 
+-- a list picked at each of its places once, in some order
+pub picked-permuted : {X : Type 0} (n : ℕ) (ps : List ℕ) (xs : List X) → length xs ≡ n → AllByRecursion (λ p. p < length xs) ps → IsPermutation (range_with_len 0 n) ps → IsPermutation xs (pick ps xs)
+picked-permuted n ps xs long within order =
+    subst (λ ys. IsPermutation ys (pick ps xs)) (pick-all n xs long) (pick-permuted (range_with_len 0 n) ps xs (within_range 0 n (length xs) (omega arith)) within order)
+
 -- the places after the steps
-moved-permuted : (n : ℕ) (steps : List Step) (olds : List ℕ) → length olds ≡ n → FitSteps n steps → AllByRecursion (Permutes n) steps → IsPermutation olds (moved_on steps olds)
+pub moved-permuted : (n : ℕ) (steps : List Step) (olds : List ℕ) → length olds ≡ n → FitSteps n steps → AllByRecursion (Permutes n) steps → IsPermutation olds (moved_on steps olds)
 moved-permuted n [] olds e f h = IsPermutation-refl olds
 moved-permuted n (step ∷ steps) olds e f h =
     let P : ℕ → Type 0 = λ k. AllByRecursion (λ p. p < k) step.places in
     let v = subst P (sym e) f.0.within in
     let next = pick step.places olds in
-    let one : IsPermutation olds next = subst (λ xs. IsPermutation xs next) (pick-all n olds e) (pick-permuted (range_with_len 0 n) step.places olds (within_range 0 n (length olds) (omega arith)) v h.0) in
+    let one : IsPermutation olds next = picked-permuted n step.places olds e v h.0 in
     IsPermutation-trans olds next (moved_on steps next) one (moved-permuted n steps next (length-pick step.places olds v ∙ f.0.as_many) f.1 h.1)
 
 -- the order view after the steps
@@ -45,8 +50,7 @@ order_view-permuted level steps gs f h =
     let P : ℕ → Type 0 = λ k. AllByRecursion (λ p. p < k) (old_places n steps) in
     let old = subst P (sym long) (within-old_places n steps) in
     let places = moved-permuted n steps (range_with_len 0 n) (length-range_with_len 0 n) f h in
-    let picked = pick-permuted (range_with_len 0 n) (old_places n steps) view (within_range 0 n (length view) (omega arith)) old places in
-    subst (IsPermutation view) (sym (order_view-run_steps level steps gs)) (subst (λ xs. IsPermutation xs (pick (old_places n steps) view)) (pick-all n view long) picked)
+    subst (IsPermutation view) (sym (order_view-run_steps level steps gs)) (picked-permuted n (old_places n steps) view long old places)
 
 -- widened steps, and the smallest
 pub permutes-widened : (s e n : ℕ) (step : Step) → s ≤ e → e ≤ n → Permutes (e - s) step → Permutes n (widened s e n step)

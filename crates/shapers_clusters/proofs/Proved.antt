@@ -25,13 +25,16 @@ use Rattle.shapers_clusters.proofs.Views.{whole_hides, seen-same, seen-run_steps
 use Rattle.shapers_clusters.proofs.Made.{Made, AreMade, are_made, same_clusters, held_in_stretch}
 use Rattle.shapers_clusters.proofs.Moves.{clusters-merge_all, clusters-run_steps, order_view-run_steps, falls-run_steps, joined-merged_steps, share-moved, merge-unmerged, merge_all-unmerged, joined_all-unmerged, run_steps-unmerged, joined_steps-unmerged, end_within-all_first, merged_fits, all-joined, all-picked, all-joined_steps}
 use Rattle.shapers_clusters.specs.Labels.{IsLabelled}
-use Rattle.shapers_clusters.proofs.Labels.{joined-labelled, joined_steps-labelled}
+use Rattle.shapers_clusters.proofs.Labels.{joined-labelled, joined_steps-labels}
 use Rattle.shapers_clusters.proofs.Sources.{exact_cuts_by, sources_share, clusters-moved_sources, clusters-picked, falls-picked}
 use Rattle.shapers_clusters.proofs.Widened.{fits-widened, moves-widened, all_fit-widened, all_moves-widened, order_view-widened, all_along, order_view-along}
 use Rattle.shapers_clusters.proofs.Halves.{halves_along}
+use Rattle.shapers_clusters.proofs.Alone.{alone_in_text}
+use Rattle.shapers_clusters.proofs.SparedCuts.{exact_spared}
+use Rattle.shapers_clusters.proofs.StaysMerged.{merged_stay}
 use Rattle.shapers_clusters.proofs.Permuted.{order_view-permuted, permutes-widened, all_permute-widened}
 use Rattle.shapers_clusters.proofs.FlagCalls.{unsafe_inside-alone, unsafe_to_concat_in-alone, tatweel_inside-alone, flags_called-alone}
-use Rattle.shapers_clusters.specs.Laws.{ViewLaw, FlagCallsLaw, HalvesLaw, MergeLaw, ExactCutsLaw, StepsLaw, PermutedLaw, ClustersLaw, MergedStepsLaw, WidenedLaw, AlongLaw, ClustersHold, ClustersReordered, ClustersReorderedLaw, SeenStepsLaw, ReorderedHold, ReorderedLaw, ClustersMade, MadeHold, MadeLaw, MovedSourcesLaw}
+use Rattle.shapers_clusters.specs.Laws.{ViewLaw, FlagCallsLaw, HalvesLaw, MergeLaw, ExactCutsLaw, StepsLaw, PermutedLaw, ClustersLaw, MergedStepsLaw, WidenedLaw, AlongLaw, ClustersHold, ClustersReordered, ClustersReorderedLaw, SeenStepsLaw, ReorderedHold, ReorderedLaw, SparedStepsLaw, ClustersMade, MadeHold, MadeLaw, MovedSourcesLaw, AloneLaw}
 
 -- stretches end within the clusters if they do within the glyphs
 ends : (sts : List (ℕ × ℕ)) (gs : List hb_glyph_info_t) → EndWithin (length gs) sts → EndWithin (length (clusters gs)) sts
@@ -94,7 +97,7 @@ permuted_hold level steps gs f h = order_view-permuted level steps gs f h
 pub clusters_hold : ClustersLaw
 clusters_hold level steps cs f =
     let all = all-joined_steps (Contains cs) level (length cs) steps cs refl f (All-contains_itself cs) in
-    record { same_length = all.0; old_clusters = all.1; labels = λ ls i o. joined_steps-labelled level steps cs ls f i o; unmerged = λ m. joined_steps-unmerged level m steps cs }
+    record { same_length = all.0; old_clusters = all.1; labels = λ ls i o. (joined_steps-labels level steps cs ls f i o).respected; of_labels = λ ls i o. (joined_steps-labels level steps cs ls f i o).of_old; unmerged = λ m. joined_steps-unmerged level m steps cs }
 
 pub merged_steps_hold : MergedStepsLaw
 merged_steps_hold level steps cs m f =
@@ -105,6 +108,12 @@ merged_steps_hold level steps cs m f =
       cluster_law = λ p l. share-moved level m steps cs f p l;
       exact = λ mono. subst P (sym is) (exact_cuts level m (all_first steps) cs (end_within-all_first (length cs) steps f) mono);
     }
+
+pub spared_steps_hold : SparedStepsLaw
+spared_steps_hold level steps cs m f permutes spare = record {
+  merged = merged_stay level m (length cs) steps cs refl f spare;
+  exact = λ different. exact_spared level m (length cs) steps cs refl f permutes spare different;
+}
 
 pub clusters_reordered : ClustersReorderedLaw
 clusters_reordered level steps cs moves = record { at_all_levels = clusters_hold level steps cs (merged_fits (length cs) steps moves); where_merging = λ m. merged_steps_hold level steps cs m moves }
@@ -216,3 +225,6 @@ moved_sources_hold level sts standing places gs m w s n v h =
 
 pub halves_hold : HalvesLaw
 halves_hold level ps qs gs hs a b f g h = halves_along level ps qs gs hs a b f g h
+
+pub alone_holds : AloneLaw
+alone_holds level before behind piece cs l f g h apart = alone_in_text level before behind piece cs l f g h apart

@@ -8,7 +8,7 @@ use Rattle.shapers_clusters.specs.Cuts.{held, linked}
 use Rattle.shapers_clusters.specs.Flags.{HidesFields, bit_at, seen, whole}
 use Rattle.shapers_clusters.specs.Joined.{joined, joined_all}
 use Rattle.shapers_buffer.specs.Places.{pick}
-use Rattle.shapers_clusters.specs.Steps.{Step, joined_steps, old_places, MovesMerged, all_first, shifted, widened, still_step, swap_step, steps_along, reordered_along}
+use Rattle.shapers_clusters.specs.Steps.{Step, joined_steps, old_places, MovesMerged, all_first, all_merged, shifted, widened, still_step, swap_step, steps_along, reordered_along}
 use Rattle.shapers_clusters.proofs.Merging.{without_flags-twice}
 use Rattle.shapers_clusters.proofs.Moves.{moves_anywhere}
 use Rattle.shapers_clusters.proofs.Widened.{moves-widened}
@@ -89,6 +89,9 @@ row_reordered = refl
 
 row_first : all_first (swap_step 4 1 ∷ still_step 4 ∷ swap_step 4 0 ∷ []) ≡ (1, 3) ∷ (0, 2) ∷ []
 row_first = refl
+
+row_merged : all_merged (swap_step 4 1 ∷ record { merged_first = (2, 4) ∷ []; places = 0 ∷ 1 ∷ 3 ∷ 2 ∷ []; merged_then = (0, 2) ∷ (1, 3) ∷ [] } ∷ still_step 4 ∷ []) ≡ (1, 3) ∷ (2, 4) ∷ (0, 2) ∷ (1, 3) ∷ []
+row_merged = refl
 
 -- bits of a mask, from the lowest on
 row_bits : map (λ k. bit_at k 13) (0 ∷ 1 ∷ 2 ∷ 3 ∷ 4 ∷ []) ≡ 1 ∷ 0 ∷ 1 ∷ 1 ∷ 0 ∷ []

@@ -113,10 +113,10 @@ map-constant m [] p h = absurd (omega arith)
 map-constant m (x ∷ xs) zero h = refl
 map-constant m (x ∷ xs) (suc p) h = map-constant m xs p (omega arith)
 
-stretch-at : (s e : ℕ) (cs : List ℕ) (k : ℕ) → k < e - s → get_or (stretch_of s e cs) k 0 ≡ get_or cs (s + k) 0
+pub stretch-at : (s e : ℕ) (cs : List ℕ) (k : ℕ) → k < e - s → get_or (stretch_of s e cs) k 0 ≡ get_or cs (s + k) 0
 stretch-at s e cs k h = get_or-take (e - s) (drop s cs) k 0 h ∙ get_or-drop s cs k 0
 
-length-stretch : (s e : ℕ) (cs : List ℕ) → e ≤ length cs → length (stretch_of s e cs) ≡ e - s
+pub length-stretch : (s e : ℕ) (cs : List ℕ) → e ≤ length cs → length (stretch_of s e cs) ≡ e - s
 length-stretch s e cs h = omega (arith, length-take (e - s) (drop s cs), length-drop s cs)
 
 spread_from : (m s e : ℕ) (cs middle ls rs : List ℕ) (at : ℕ) → s < e → e ≤ length cs → length middle ≡ e - s → s ≤ at → at < e → get_or cs at 0 ≡ m → ((p : ℕ) → s ≤ p → p < e → m ≤ get_or cs p 0) → Left (get_or cs s 0) m s cs ls → Right (get_or cs (e - 1) 0) m e cs rs → Spread s e cs (ls ++ (map (λ _. m) middle ++ rs))

@@ -29,7 +29,7 @@ seen-of_view view (g ∷ gs) = ap (λ l. plain (view g) ∷ l) (seen-of_view vie
 pub seen-same : (view : hb_glyph_info_t → hb_glyph_info_t) (xs ys : List hb_glyph_info_t) → map view xs ≡ map view ys → seen view xs ≡ seen view ys
 seen-same view xs ys same = seen-of_view view xs ∙ ap order_view same ∙ sym (seen-of_view view ys)
 
-seen-order_view : (view : hb_glyph_info_t → hb_glyph_info_t) → HidesFields view → (gs : List hb_glyph_info_t) → seen view (order_view gs) ≡ seen view gs
+pub seen-order_view : (view : hb_glyph_info_t → hb_glyph_info_t) → HidesFields view → (gs : List hb_glyph_info_t) → seen view (order_view gs) ≡ seen view gs
 seen-order_view view hides [] = refl
 seen-order_view view hides (g ∷ gs) = ap (λ x. x ∷ seen view (order_view gs)) (hides.apart g) ∙ ap (λ l. plain (view g) ∷ l) (seen-order_view view hides gs)
 

@@ -56,35 +56,50 @@ fits-widened s e n step h l f = record {
   then_within = end_within-shifted s e n step.merged_then h l f.then_within;
 }
 
+-- the places of a widened step
+pub widened_before : (s e n : ℕ) (step : Step) (p : ℕ) → p < s → get_or (widened s e n step).places p 0 ≡ p
+widened_before s e n step p l = get_or_append_left (range_with_len 0 s) (map (λ p. s + p) step.places ++ range_with_len e (n - e)) 0 p (omega (arith, length-range_with_len 0 s)) ∙ get_or-range_with_len 0 s p 0 l ∙ omega arith
+
+pub widened_inside : (s e n : ℕ) (step : Step) → FitsStep (e - s) step → (p : ℕ) → s ≤ p → p < e → get_or (widened s e n step).places p 0 ≡ s + get_or step.places (p - s) 0
+widened_inside s e n step fits p l h =
+    let middle = map (λ p. s + p) step.places in
+    let rest = range_with_len e (n - e) in
+    let many = fits.as_many in
+    get_or-append_right (range_with_len 0 s) (middle ++ rest) s p 0 (length-range_with_len 0 s) l
+    ∙ get_or_append_left middle rest 0 (p - s) (omega (arith, length-map step.places (λ p. s + p)))
+    ∙ get_or-map (λ p. s + p) step.places (p - s) 0 0 (omega arith)
+
+pub widened_behind : (s e n : ℕ) (step : Step) → s ≤ e → FitsStep (e - s) step → (p : ℕ) → e ≤ p → p < n → get_or (widened s e n step).places p 0 ≡ p
+widened_behind s e n step h fits p l k =
+    let middle = map (λ p. s + p) step.places in
+    let rest = range_with_len e (n - e) in
+    let many : length middle ≡ e - s = length-map step.places (λ p. s + p) ∙ fits.as_many in
+    get_or-append_right (range_with_len 0 s) (middle ++ rest) s p 0 (length-range_with_len 0 s) (omega arith)
+    ∙ get_or-append_right middle rest (e - s) (p - s) 0 many (omega arith)
+    ∙ get_or-range_with_len e (n - e) (p - s - (e - s)) 0 (omega arith)
+    ∙ omega arith
+
 lt-shifted : (s a b : ℕ) → nat_lt (s + a) (s + b) ≡ nat_lt a b
 lt-shifted s a b = grind (arith, nat_tests)
 
-held-shifted : (s r : ℕ) (sts : List (ℕ × ℕ)) → held (shifted s sts) (s + r) ≡ held sts r
+pub held-shifted : (s r : ℕ) (sts : List (ℕ × ℕ)) → held (shifted s sts) (s + r) ≡ held sts r
 held-shifted s r [] = refl
 held-shifted s r (st ∷ sts) = let a = lt-shifted s st.0 r in let b = lt-shifted s r st.1 in let i = held-shifted s r sts in cc
 
 inside-widened : (s e n : ℕ) (step : Step) → s ≤ e → e ≤ n → FitsStep (e - s) step → MovesInside step.merged_first step.places → MovesInside (shifted s step.merged_first) (widened s e n step).places
 inside-widened s e n step h l f i p pl r x y =
-    let middle = map (λ p. s + p) step.places in
-    let rest = range_with_len e (n - e) in
-    let many = f.as_many in
-    let an : length (range_with_len 0 s) ≡ s = length-range_with_len 0 s in
-    let bn : length middle ≡ e - s = length-map step.places (λ p. s + p) ∙ many in
-    let cn : length rest ≡ n - e = length-range_with_len e (n - e) in
-    let all = range_with_len 0 s ++ (middle ++ rest) in
-    let alln : length all ≡ n = length-append (range_with_len 0 s) (middle ++ rest) ∙ omega (arith, length-append middle rest) in
+    let wide = fits-widened s e n step h l f in
+    let many = wide.as_many in
+    let own = f.as_many in
     elim (cases_lt p s) [
-      | inl a ↦ let z : get_or all p 0 ≡ p = get_or_append_left (range_with_len 0 s) (middle ++ rest) 0 p (omega arith) ∙ get_or-range_with_len 0 s p 0 a ∙ omega arith in absurd (omega arith)
-      | inr a ↦
-          let u : get_or all p 0 ≡ get_or (middle ++ rest) (p - s) 0 = get_or-append_right (range_with_len 0 s) (middle ++ rest) s p 0 an a in
-          elim (cases_lt p e) [
-            | inl b ↦
-                let z : get_or all p 0 ≡ s + get_or step.places (p - s) 0 = u ∙ get_or_append_left middle rest 0 (p - s) (omega arith) ∙ get_or-map (λ p. s + p) step.places (p - s) 0 0 (omega arith) in
-                let k : s + (r - s) ≡ r = omega arith in
-                ap (held (shifted s step.merged_first)) (sym k) ∙ held-shifted s (r - s) step.merged_first ∙ i (p - s) (omega arith) (r - s) (omega arith) (omega arith)
-            | inr b ↦
-                let z : get_or all p 0 ≡ p = u ∙ get_or-append_right middle rest (e - s) (p - s) 0 bn (omega arith) ∙ get_or-range_with_len e (n - e) (p - s - (e - s)) 0 (omega arith) ∙ omega arith in absurd (omega arith)
-          ]
+      | inl a ↦ (let at = widened_before s e n step p a in absurd (omega arith))
+      | inr a ↦ elim (cases_lt p e) [
+        | inl b ↦ (
+            let at = widened_inside s e n step f p a b in
+            let k : s + (r - s) ≡ r = omega arith in
+            ap (held (shifted s step.merged_first)) (sym k) ∙ held-shifted s (r - s) step.merged_first ∙ i (p - s) (omega arith) (r - s) (omega arith) (omega arith))
+        | inr b ↦ (let at = widened_behind s e n step h f p b (omega arith) in absurd (omega arith))
+      ]
     ]
 
 -- a step that moves only inside what it merged first does so widened

@@ -2,6 +2,7 @@
 use Rattle.std.proofs.Common.{ℕ, ◌-◌, ◌<◌, ◌≤◌, ◌≡◌, ◌==◌, min, max, Bool, true, false, ◌||◌, nat_lt, ◌&&◌, ◌⊎◌, List, length, slice_index, ◌≢◌, ◌↔◌}
 use Rattle.std.specs.List.{AllByRecursion, list_any, AllPairs}
 use Rattle.shapers_buffer.specs.declared.buffer.glyph.hb_glyph_info_t.{hb_glyph_info_t}
+use Rattle.shapers_buffer.specs.Clusters.{stretch_of}
 use Rattle.shapers_buffer.specs.Glyph.{clusters}
 
 -- stretches that end within n places
@@ -47,3 +48,20 @@ pub record ExactCuts (cs : List ℕ) (sts : List (ℕ × ℕ)) (after : List ℕ
 -- no glyph of the one list has a cluster of the other
 abbrev pub ShareNone : List hb_glyph_info_t → List hb_glyph_info_t → Type 0
 ShareNone gs hs = (i j : ℕ) → i < length gs → j < length hs → slice_index (clusters gs) i ≢ slice_index (clusters hs) j
+
+-- all places of a stretch share one cluster
+abbrev pub InOneCluster : List ℕ → ℕ × ℕ → Type 0
+InOneCluster cs st = (p q : ℕ) → st.0 ≤ p → p < st.1 → st.0 ≤ q → q < st.1 → slice_index cs p ≡ slice_index cs q
+
+-- no place outside s..e has a cluster of it
+abbrev pub StandsApart : ℕ → ℕ → List ℕ → Type 0
+StandsApart s e cs = (i j : ℕ) → s ≤ i → i < e → j < length cs → (j < s) ⊎ (e ≤ j) → slice_index cs i ≢ slice_index cs j
+
+-- all are different
+abbrev pub AllDifferent : List ℕ → Type 0
+AllDifferent cs = AllPairs (λ a b. a ≢ b) cs
+
+-- the clusters from s to e are all different, and no place elsewhere has one of them
+pub record OwnClusters (s e : ℕ) (cs : List ℕ) : Type 0 where
+  pub different : AllDifferent (stretch_of s e cs)
+  pub others : StandsApart s e cs

@@ -1,5 +1,5 @@
 -- The laws of clusters and glyph flags, as statements.
-use Rattle.std.proofs.Common.{ℕ, ◌+◌, ◌++◌, ◌-◌, ◌<◌, ◌≤◌, ◌≡◌, Bool, true, false, List, map, length, slice_index, take, drop}
+use Rattle.std.proofs.Common.{ℕ, ◌+◌, ◌++◌, ◌-◌, ◌<◌, ◌≤◌, ◌≡◌, Bool, true, false, List, ◌∷◌, map, length, slice_index, take, drop}
 use Rattle.std.specs.List.Sorted.{IsPermutation}
 use Rattle.std.specs.List.{sum_by, All, AllByRecursion, AllZip, Contains}
 use Rattle.shapers_buffer.specs.declared.buffer.glyph.hb_glyph_info_t.{hb_glyph_info_t}
@@ -8,12 +8,12 @@ use Rattle.shapers_buffer.specs.Glyph.{clusters, order_view}
 use Rattle.shapers_buffer.specs.Clusters.{least, low, high, merge, merge_all, merges, stretch_of}
 use Rattle.shapers_buffer.specs.GlyphFlags.{unsafe_inside, unsafe_to_concat_in, tatweel_inside, FlagCall, flags_called}
 use Rattle.shapers_clusters.specs.Joined.{joined_all}
-use Rattle.shapers_clusters.specs.Cuts.{EndWithin, ShareCluster, IsMonotone, ExactCuts, ShareNone}
+use Rattle.shapers_clusters.specs.Cuts.{AllDifferent, EndWithin, ShareCluster, IsMonotone, ExactCuts, InOneCluster, ShareNone, StandsApart}
 use Rattle.shapers_buffer.specs.Places.{pick}
-use Rattle.shapers_clusters.specs.Steps.{Step, run_steps, joined_steps, old_places, FitSteps, MovesMerged, all_first, widened, steps_along, reordered_along, Permutes}
+use Rattle.shapers_clusters.specs.Steps.{Step, run_steps, joined_steps, old_places, FitSteps, MovesMerged, all_first, all_merged, SpareMerged, widened, steps_along, reordered_along, Permutes}
 use Rattle.shapers_clusters.specs.Flags.{FallsTo, FlagsFall, FlagsAlone, InOrder, ShowsClusters, HidesFields, seen}
 use Rattle.shapers_clusters.specs.Made.{ExactCutsBy, HeldAlong, MovesInsideOf}
-use Rattle.shapers_clusters.specs.Labels.{IsLabelled, OneLabel, OneLabelEach}
+use Rattle.shapers_clusters.specs.Labels.{IsLabelled, OfOldPlaces, OneLabel, OneLabelEach}
 
 -- Merges of any stretch at any level leave the order view of the glyphs gs; the three flag calls, whatever the buffer asks for,
 -- change nothing but glyph flags, and take none away.
@@ -86,11 +86,13 @@ PermutedLaw = (level : BufferClusterLevel) (steps : List Step) (gs : List hb_gly
     IsPermutation (order_view gs) (order_view (run_steps level steps gs))
 
 -- What any steps make of the clusters cs: js. Every cluster is one that was there. Labels that each stretch respects as it merges
--- are respected in the end. Where the level merges nothing, clusters only move.
+-- are respected in the end, and each cluster is then that of an old place with the same label. Where the level merges nothing,
+-- clusters only move.
 pub record ClustersHold (level : BufferClusterLevel) (steps : List Step) (cs js : List ℕ) : Type 0 where
   pub same_length : length js ≡ length cs
   pub old_clusters : All (Contains cs) js
   pub labels : (ls : List ℕ) → IsLabelled cs ls → OneLabelEach steps ls → IsLabelled js (pick (old_places (length cs) steps) ls)
+  pub of_labels : (ls : List ℕ) → IsLabelled cs ls → OneLabelEach steps ls → OfOldPlaces cs ls js (pick (old_places (length cs) steps) ls)
   pub unmerged : merges level ≡ false → js ≡ pick (old_places (length cs) steps) cs
 
 abbrev pub ClustersLaw : Type 0
@@ -109,6 +111,18 @@ abbrev pub MergedStepsLaw : Type 0
 MergedStepsLaw = (level : BufferClusterLevel) (steps : List Step) (cs : List ℕ) →
     merges level ≡ true → AllByRecursion (MovesMerged (length cs)) steps →
     MergedStepsHold level steps cs (joined_steps level steps cs)
+
+-- What steps that take each place once and spare what those before them merged make of the clusters cs, at the levels that merge: js.
+-- Each stretch that they merge is in one cluster in the end. Where all clusters are different no more is merged: the cuts are exact,
+-- and each run so joined has the least cluster that the glyphs now in it had.
+pub record SparedStepsHold (steps : List Step) (cs js : List ℕ) : Type 0 where
+  pub merged : AllByRecursion (InOneCluster js) (all_merged steps)
+  pub exact : AllDifferent cs → ExactCuts (pick (old_places (length cs) steps) cs) (all_merged steps) js
+
+abbrev pub SparedStepsLaw : Type 0
+SparedStepsLaw = (level : BufferClusterLevel) (steps : List Step) (cs : List ℕ) →
+    merges level ≡ true → FitSteps (length cs) steps → AllByRecursion (Permutes (length cs)) steps → SpareMerged (length cs) steps →
+    SparedStepsHold steps cs (joined_steps level steps cs)
 
 -- What steps that move only inside what they merged first make of the clusters, at every level. Of a hook of which only the
 -- clusters are known, this is the law.
@@ -228,3 +242,14 @@ HalvesLaw = (level : BufferClusterLevel) (ps qs : List (ℕ × List Step)) (gs h
     AllByRecursion (λ piece. FitSteps piece.0 piece.1) ps → AllByRecursion (λ piece. FitSteps piece.0 piece.1) qs →
     ShareNone gs hs →
     run_steps level (steps_along (length gs + length hs) 0 (ps ++ qs)) (gs ++ hs) ≡ run_steps level (steps_along (length gs) 0 ps) gs ++ run_steps level (steps_along (length hs) 0 qs) hs
+
+-- A stretch of a text whose clusters no place elsewhere has: the steps of the text, one stretch after another, make of its clusters
+-- what its own steps make of them alone.
+abbrev pub AloneLaw : Type 0
+AloneLaw = (level : BufferClusterLevel) (before behind : List (ℕ × List Step)) (piece : ℕ × List Step) (cs : List ℕ) →
+    let s = sum_by (λ piece. piece.0) before in
+    let e = s + piece.0 in
+    e + sum_by (λ piece. piece.0) behind ≤ length cs →
+    AllByRecursion (λ piece. FitSteps piece.0 piece.1) before → FitSteps piece.0 piece.1 → AllByRecursion (λ piece. FitSteps piece.0 piece.1) behind →
+    StandsApart s e cs →
+    stretch_of s e (joined_steps level (steps_along (length cs) 0 (before ++ piece ∷ behind)) cs) ≡ joined_steps level piece.1 (stretch_of s e cs)

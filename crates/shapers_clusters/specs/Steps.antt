@@ -1,5 +1,5 @@
 -- Steps: merges and moves of places.
-use Rattle.std.proofs.Common.{ℕ, ◌+◌, ◌-◌, ◌<◌, ◌≤◌, ◌≡◌, ◌++◌, min, max, true, List, [], map, length, slice_index, ◌∷◌, take, drop}
+use Rattle.std.proofs.Common.{ℕ, ◌+◌, ◌-◌, ◌<◌, ◌≤◌, ◌≡◌, ◌++◌, ◌⊎◌, min, max, true, List, [], map, length, slice_index, ◌∷◌, take, drop}
 use Rattle.std.specs.List.{fold, AllByRecursion, flat_map, range_with_len}
 use Rattle.shapers_buffer.specs.declared.buffer.glyph.hb_glyph_info_t.{hb_glyph_info_t}
 use Rattle.shapers_buffer.specs.declared.buffer.level.BufferClusterLevel.{BufferClusterLevel}
@@ -65,6 +65,23 @@ pub record MovesMerged (n : ℕ) (step : Step) : Type 0 where
 -- all stretches that the steps merge first, one after another
 abbrev pub all_first : List Step → List (ℕ × ℕ)
 all_first steps = flat_map (λ step. step.merged_first) steps
+
+-- all stretches that steps merge, one after another
+abbrev pub all_merged : List Step → List (ℕ × ℕ)
+all_merged steps = flat_map (λ step. step.merged_first ++ step.merged_then) steps
+
+-- the step leaves each place of a stretch; or it moves inside what it merged first
+abbrev pub StaysAt : ℕ × ℕ → Step → Type 0
+StaysAt st step = (p : ℕ) → st.0 ≤ p → p < st.1 → slice_index step.places p ≡ p
+
+abbrev pub Spares : ℕ → ℕ × ℕ → Step → Type 0
+Spares n st step = StaysAt st step ⊎ MovesMerged n step
+
+-- Steps of n places that spare what those before them merged; each merges only behind its moves, or moves inside what it merged first.
+abbrev pub SpareMerged : ℕ → List Step → Type 0
+SpareMerged n [] = Unit {0}
+SpareMerged n (step ∷ steps) =
+    ((step.merged_first ≡ []) ⊎ MovesMerged n step) × AllByRecursion (λ st. AllByRecursion (Spares n st) steps) (step.merged_first ++ step.merged_then) × SpareMerged n steps
 
 -- stretches and steps over the places s..e of n places, of which they number the first by 0
 abbrev pub shifted : ℕ → List (ℕ × ℕ) → List (ℕ × ℕ)

@@ -2,7 +2,7 @@
 //! is the contract of a function without a body.
 #![tactic(auto)]
 
-ghost use Rattle.shapers_clusters.specs.Laws.{ViewLaw, FlagCallsLaw, MergeLaw, ExactCutsLaw, StepsLaw, PermutedLaw, ClustersLaw, MergedStepsLaw, ClustersReorderedLaw, SeenStepsLaw, ReorderedLaw, WidenedLaw, AlongLaw, HalvesLaw, MadeLaw, MovedSourcesLaw};
+ghost use Rattle.shapers_clusters.specs.Laws.{ViewLaw, FlagCallsLaw, MergeLaw, ExactCutsLaw, StepsLaw, PermutedLaw, ClustersLaw, MergedStepsLaw, SparedStepsLaw, ClustersReorderedLaw, SeenStepsLaw, ReorderedLaw, WidenedLaw, AlongLaw, HalvesLaw, AloneLaw, MadeLaw, MovedSourcesLaw};
 
 /// Merges leave the order view; the three flag calls change nothing but glyph flags.
 pub fn view_law()
@@ -47,6 +47,12 @@ pub fn merged_steps_law()
     ensures { MergedStepsLaw }
 {}
 
+/// Moves that leave what merged before them, or move inside what they merge: each merged stretch is
+/// in one cluster in the end, and exact cuts where all clusters are different.
+pub fn spared_steps_law()
+    ensures { SparedStepsLaw }
+{}
+
 /// What a hook that reorders makes of the clusters: none is new, labels, exact cuts and the cluster
 /// law.
 pub fn clusters_reordered_law()
@@ -77,6 +83,11 @@ pub fn along_law()
 /// Two halves of a text that share no cluster merge and move each for itself.
 pub fn halves_law()
     ensures { HalvesLaw }
+{}
+
+/// A stretch of a text whose clusters no place elsewhere has merges and moves as by itself.
+pub fn alone_law()
+    ensures { AloneLaw }
 {}
 
 /// Made and dropped glyphs: exact cuts, flags and old clusters seen through each glyph's source.

@@ -2,19 +2,19 @@
 use Rattle.shapers_clusters.proofs.Through.{length-same}
 use Rattle.shapers_syllabic.specs.Reordering.{carried}
 use Rattle.std.proofs.Common.{List, None, Option, Some, [], ap, arith, drop, false, get_or, if◌then◌else◌, inl, inr, length, length-drop, refl, subst, suc, sym, take, true, zero, ℕ, ◌++◌, ◌+◌, ◌-◌, ◌<◌, ◌∙◌, ◌∷◌, ◌≡◌, ◌≤◌}
-use Rattle.std.specs.List.{AllByRecursion, range_with_len}
+use Rattle.std.specs.List.{All, AllByRecursion, range_with_len}
 use Rattle.std.specs.List.Sorted.{IsPermutation}
 use Rattle.std.proofs.lemmas.Bool.{and_parts, cases_Bool, cases_lt}
 use Rattle.std.proofs.lemmas.Bool.Decides.{nat_tests}
 use Rattle.std.proofs.lemmas.List.{get_or-append_right, get_or-drop, get_or-take, get_or_append_left, length-drop, length-take-le}
-use Rattle.std.proofs.lemmas.List.Elements.{All-from_recursion, recursion_from_All}
+use Rattle.std.proofs.lemmas.List.Elements.{All-from_get_or}
 use Rattle.std.proofs.lemmas.List.FromFn.{get_or-range_with_len, length-range_with_len}
 use Rattle.std.proofs.lemmas.List.Sorted.{All-permutation, length_permutation}
 use Rattle.shapers_buffer.specs.declared.buffer.glyph.hb_glyph_info_t.{hb_glyph_info_t}
 use Rattle.shapers_buffer.specs.declared.buffer.tag.Script.{Script}
 use Rattle.shapers_buffer.specs.Clusters.{stretch_of, with_stretch}
 use Rattle.shapers_buffer.proofs.MappedLists.{all-append}
-use Rattle.shapers_clusters.specs.Steps.{FitsStep, HeldBetween, MovesInside, MovesMerged, Step}
+use Rattle.shapers_clusters.specs.Steps.{all_merged, joined_steps, old_places, FitsStep, HeldBetween, MovesInside, MovesMerged, Step}
 use Rattle.shapers_clusters.proofs.Moves.{held_by}
 use Rattle.shapers_indic.specs.Glyphs.{least_place, passes, places}
 use Rattle.std.proofs.lemmas.List.{length-map}
@@ -25,15 +25,23 @@ use Rattle.shapers_buffer.specs.Glyph.{clusters, order_view, plain}
 use Rattle.shapers_buffer.specs.Syllables.{syllables}
 use Rattle.shapers_indic_final.specs.FinalLaws.{final_text_steps}
 use Rattle.shapers_indic_final.proofs.FinalText.{text_fits}
-use Rattle.shapers_indic_final.proofs.StaysAlong.{spare_along}
+use Rattle.shapers_clusters.proofs.StaysAlong.{spare_along}
+use Rattle.shapers_clusters.proofs.Spread.{length-stretch}
+use Rattle.shapers_syllabic.specs.Reordering.{glyphs_before}
+use Rattle.shapers_syllabic.proofs.SyllableAlone.{glyphs_cut, syllable_alone}
+use Rattle.shapers_clusters.specs.Cuts.{ExactCuts}
+use Rattle.shapers_buffer.specs.Places.{pick}
 use Rattle.shapers_syllabic.proofs.ReorderingLaws.{each_piece, sum-syllables, text_steps-long}
 use Rattle.shapers_syllabic.proofs.ReorderingWalk.{pieces_of}
-use Rattle.shapers_indic_final.specs.FinalClusters.{MergedStay, FinalMergesLaw}
+use Rattle.shapers_clusters.specs.Labels.{MergedStay}
+use Rattle.shapers_indic_final.specs.FinalClusters.{EachSyllableCuts, FinalCutsLaw, FinalMergesLaw}
+use Rattle.shapers_clusters.proofs.SparedCuts.{exact_spared}
 use Rattle.shapers_indic_final.specs.FinalGlyphs.{first_goes_last, last_goes_first}
 use Rattle.shapers_indic_final.specs.FinalMatras.{end_of_base, has_room, is_left, matra_step, matra_steps, matra_target, matras_go, merging_step}
 use Rattle.shapers_indic_final.proofs.FinalMoves.{permutes_first_last, permutes_last_first, picks_first_last, picks_last_first}
 use Rattle.shapers_indic_final.proofs.FinalParting.{lefts, lefts_no, lefts_yes, steps_of}
-use Rattle.shapers_indic_final.proofs.StaysMerged.{SpareMerged, Spares, StaysAt, merged_stay, spare_moves, spare_then}
+use Rattle.shapers_clusters.specs.Steps.{SpareMerged, Spares, StaysAt}
+use Rattle.shapers_clusters.proofs.StaysMerged.{merged_stay, spare_moves, spare_then}
 use Rattle.std.specs.Prelude.{nat_lt}
 use Rattle.shapers_base.specs.declared.plan.indic.RephPosition.{RephPosition}
 use Rattle.shapers_indic_final.specs.FinalBase.{Based, with_viramas}
@@ -45,16 +53,6 @@ use Rattle.shapers_indic_final.proofs.FinalHidden.{base_within, hidden-based, hi
 use Rattle.shapers_indic_final.proofs.FinalLawsAt.{length_at, stretch_at}
 use Rattle.shapers_indic_final.proofs.FinalTargets.{PlaceWithin, formed_pref_within, opens_some, pref_target_within, reph_target_within}
 use Rattle.shapers_indic_final.proofs.FinalLaws.{final_laws, matras_at, merging_at, reph_at, target_within}
-
--- what holds of all holds of each
-at_place : {X : Type 0} (P : X → Type 0) (xs : List X) → AllByRecursion P xs → (k : ℕ) (d : X) → k < length xs → P (get_or xs k d)
-at_place P [] h k d l = absurd (omega arith)
-at_place P (x ∷ xs) h zero d l = h.0
-at_place P (x ∷ xs) h (suc k) d l = at_place P xs h.1 k d (omega arith)
-
-all_by_place : (P : ℕ → Type 0) (xs : List ℕ) (d : ℕ) → ((k : ℕ) → k < length xs → P (get_or xs k d)) → AllByRecursion P xs
-all_by_place P [] d h = tt
-all_by_place P (x ∷ xs) d h = (h 0 (omega arith), all_by_place P xs d (λ k l. h (suc k) (omega arith)))
 
 -- a stretch of places changed: those around it stay, those inside come from inside
 pub record ChangedWithin (i k n : ℕ) (ps : List ℕ) : Type 0 where
@@ -79,10 +77,10 @@ changed_within f permutes i k n l m =
     let pn : length part ≡ k - i = length-take-le (k - i) (drop i ps) (omega (arith, length-drop i ps)) in
     let yn : length ys ≡ k - i = length_permutation part ys (permutes part) ∙ pn in
     let each : (p : ℕ) → p < k - i → get_or part p 0 ≡ i + p = λ p a. get_or-take (k - i) (drop i ps) p 0 a ∙ get_or-drop i ps p 0 ∙ get_or-range_with_len 0 n (i + p) 0 (omega arith) ∙ omega arith in
-    let all_part : AllByRecursion (Inside i k) part = all_by_place (Inside i k) part 0 (λ p a. subst (Inside i k) (sym (each p (omega arith))) (record { low = omega arith; high = omega arith })) in
-    let all_ys : AllByRecursion (Inside i k) ys = recursion_from_All (Inside i k) ys (All-permutation (Inside i k) part ys (permutes part) (All-from_recursion (Inside i k) part all_part)) in
+    let all_part : All (Inside i k) part = All-from_get_or (Inside i k) part 0 (λ p a. subst (Inside i k) (sym (each p (omega arith))) (record { low = omega arith; high = omega arith })) in
+    let all_ys : All (Inside i k) ys = All-permutation (Inside i k) part ys (permutes part) all_part in
     let there : (p : ℕ) → i ≤ p → p < k → Inside i k (get_or (xs ++ (ys ++ zs)) p 0) = λ p a b.
-    subst (Inside i k) (sym (get_or-append_right xs (ys ++ zs) i p 0 xn a ∙ get_or_append_left ys zs 0 (p - i) (omega arith))) (at_place (Inside i k) ys all_ys (p - i) 0 (omega arith)) in
+    subst (Inside i k) (sym (get_or-append_right xs (ys ++ zs) i p 0 xn a ∙ get_or_append_left ys zs 0 (p - i) (omega arith))) (all_ys (p - i) 0 (omega arith)) in
     let all : n - 0 ≡ n = omega arith in
     subst (λ m. ChangedWithin i k n (with_stretch i k f (range_with_len 0 m))) (sym all) (record {
       before = λ p a. get_or_append_left xs (ys ++ zs) 0 p (omega arith) ∙ get_or-take i ps p 0 a ∙ get_or-range_with_len 0 n p 0 (omega arith) ∙ omega arith;
@@ -223,6 +221,11 @@ final_merges r script level gs cs m long =
     let laws = final_laws r script in
     merged_stay level m (length gs) (final_steps r script gs) cs long (laws.fits gs) (spare_final r script gs)
 
+pub final_cuts : FinalCutsLaw
+final_cuts r script level gs cs m long different =
+    let laws = final_laws r script in
+    exact_spared level m (length gs) (final_steps r script gs) cs long (laws.fits gs) (laws.permutes gs) (spare_final r script gs) different
+
 -- the whole text
 spare_pieces : (r : Rules) (script : Option Script) (syls : List (List hb_glyph_info_t)) → AllByRecursion (λ piece. SpareMerged piece.0 piece.1) (pieces_of (final_steps r script) syls)
 spare_pieces r script [] = tt
@@ -237,3 +240,18 @@ text_merges r script level gs m =
     let sum : 0 + sum_by (λ piece. piece.0) ps ≤ length gs = omega (arith, sum-syllables steps xs, length-map gs plain) in
     let spare = spare_along (length gs) 0 ps sum (each_piece FitsStep steps laws.fits (syllables xs)) (spare_pieces r script (syllables xs)) in
     merged_stay level m (length gs) (final_text_steps r script gs) (clusters gs) (length-map gs (λ g. g.cluster)) (text_fits r script level gs) (subst (SpareMerged (length gs)) (sym (text_steps-long steps gs)) spare)
+
+pub text_cuts : (r : Rules) (script : Option Script) (level : BufferClusterLevel) (gs : List hb_glyph_info_t) → merges level ≡ true → EachSyllableCuts r script (order_view gs) (clusters gs) (joined_steps level (final_text_steps r script gs) (clusters gs))
+text_cuts r script level gs m before behind syl cut own =
+    let xs = order_view gs in
+    let cs = clusters gs in
+    let s = glyphs_before before in
+    let e = s + length syl in
+    let steps = final_steps r script syl in
+    let laws = final_laws r script in
+    let all = glyphs_cut xs before behind syl cut in
+    let xn : length xs ≡ length gs = length-map gs plain in
+    let cn : length cs ≡ length gs = length-map gs (λ g. g.cluster) in
+    let long : length (stretch_of s e cs) ≡ length syl = length-stretch s e cs (omega arith) ∙ omega arith in
+    let alone = syllable_alone (final_steps r script) laws.fits level xs cs (cn ∙ sym xn) before behind syl cut own.others in
+    subst (ExactCuts (pick (old_places (length syl) steps) (stretch_of s e cs)) (all_merged steps)) (sym alone) (final_cuts r script level syl (stretch_of s e cs) m long own.different)

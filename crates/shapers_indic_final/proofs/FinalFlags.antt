@@ -25,7 +25,7 @@ use Rattle.shapers_indic_final.specs.FinalReordering.{final_order}
 use Rattle.shapers_indic_final.specs.declared.ot_shaper_indic_final.rules.Rules.{Rules}
 use Rattle.shapers_indic_final.proofs.FinalText.{length-syllable, steps_from, syllable_fits, syllable_steps}
 use Rattle.shapers_syllabic.specs.Reordering.{carried}
-use Rattle.shapers_syllabic.proofs.LawsThen.{old_places_then}
+use Rattle.shapers_clusters.proofs.Moves.{old_places_then}
 
 -- one glyph
 or_three : (m : ℕ) → bit_or m 3 % 8 ≡ bit_or (m % 8) 3

@@ -9,15 +9,15 @@ use Rattle.shapers_buffer.specs.Glyph.{clusters, default_glyph, order_view}
 use Rattle.shapers_buffer.specs.Places.{pick}
 use Rattle.shapers_buffer.specs.Syllables.{syllables}
 use Rattle.shapers_clusters.specs.Flags.{FlagsFall, seen}
-use Rattle.shapers_clusters.specs.Labels.{OneLabel}
-use Rattle.shapers_indic_final.specs.FinalClusters.{all_merged}
-use Rattle.shapers_indic_final.proofs.FinalClusters.{text_merges}
+use Rattle.shapers_clusters.specs.Cuts.{InOneCluster}
+use Rattle.shapers_indic_final.specs.FinalClusters.{EachSyllableCuts}
+use Rattle.shapers_indic_final.proofs.FinalClusters.{text_cuts, text_merges}
 use Rattle.shapers_clusters.specs.Laws.{ClustersHold}
-use Rattle.shapers_clusters.specs.Steps.{FitSteps, old_places, run_steps}
+use Rattle.shapers_clusters.specs.Steps.{FitSteps, all_merged, old_places, run_steps}
 use Rattle.shapers_clusters.proofs.Moves.{clusters-run_steps}
 use Rattle.shapers_clusters.proofs.Picks.{pick-map}
 use Rattle.shapers_clusters.proofs.Proved.{clusters_hold, seen_steps_hold, steps_hold}
-use Rattle.shapers_clusters.proofs.Views.{seen-same}
+use Rattle.shapers_clusters.proofs.Views.{seen-order_view, seen-same}
 use Rattle.shapers_indic_final.specs.FinalLaws.{FlagsFallButBreaks, FinalTextLaws, final_clusters, final_text_steps}
 use Rattle.shapers_indic_final.specs.FinalOpening.{text_run}
 use Rattle.shapers_indic_final.specs.FinalReordering.{final_order, final_steps}
@@ -26,8 +26,8 @@ use Rattle.shapers_indic_final.proofs.FinalFlags.{flags-text, flags-whole}
 use Rattle.shapers_indic_final.proofs.FinalLaws.{final_laws}
 use Rattle.shapers_syllabic.specs.Reordering.{carried, text_order}
 use Rattle.shapers_syllabic.proofs.ReorderingLemmas.{carried_hides}
-use Rattle.shapers_syllabic.proofs.ReorderingLaws.{nothing_lost, text_steps-long}
-use Rattle.shapers_indic_final.proofs.FinalText.{all_syllables, clusters-whole, halves, hidden-inits, none_higher, numbers-seen, seen-order_view, seen-text, steps_from, text_fits, unbroken-text}
+use Rattle.shapers_syllabic.proofs.ReorderingLaws.{nothing_lost, numbers-seen, text_steps-long}
+use Rattle.shapers_indic_final.proofs.FinalText.{all_syllables, clusters-whole, halves, hidden-inits, none_higher, seen-text, steps_from, text_fits, unbroken-text}
 
 -- all laws of the text
 pub finally_kept : FinalTextLaws
@@ -40,9 +40,9 @@ finally_kept r old new done =
     let fits = text_fits r old.script old.level gs in
     let lost = nothing_lost f (final_steps r old.script) (final_laws r old.script) xs in
     let number : hb_glyph_info_t → ℕ = λ g. g.glyph_id in
-    let before : seen carried xs ≡ seen carried gs = seen-order_view gs in
+    let before : seen carried xs ≡ seen carried gs = seen-order_view carried carried_hides gs in
     let after : seen carried (text_order f xs) ≡ seen carried ns =
-    sym (sym (seen-order_view ns) ∙ ap (seen carried) done.order ∙ hidden-inits r.init f None (syllables xs)) in
+    sym (sym (seen-order_view carried carried_hides ns) ∙ ap (seen carried) done.order ∙ hidden-inits r.init f None (syllables xs)) in
     let kept : IsPermutation (seen carried gs) (seen carried ns) = subst (IsPermutation (seen carried gs)) after (subst (λ zs. IsPermutation zs (seen carried (text_order f xs))) before lost.kept) in
     let are : clusters ns ≡ final_clusters r old.script old.level gs = clusters-whole r old.script old.level gs ns done.moved in
     let ran = text_run r old.script old.level 0 None (syllables xs) gs in
@@ -59,7 +59,8 @@ finally_kept r old new done =
           ∙ ap (λ sts. pick (old_places (length gs) sts) (seen carried gs)) (sym is);
       clusters_are = are;
       in_clusters = subst (ClustersHold old.level steps (clusters gs)) (sym are) (clusters_hold old.level steps (clusters gs) (subst (λ n. FitSteps n steps) many fits));
-      merged = λ m. subst (λ js. AllByRecursion (OneLabel js) (all_merged steps)) (sym are) (text_merges r old.script old.level gs m);
+      merged = λ m. subst (λ js. AllByRecursion (InOneCluster js) (all_merged steps)) (sym are) (text_merges r old.script old.level gs m);
+      exact = λ m. subst (EachSyllableCuts r old.script xs (clusters gs)) (sym are) (text_cuts r old.script old.level gs m);
       none_rises = subst (λ js. AllZip (λ a b. b ≤ a) (pick olds (clusters gs)) js) (clusters-run_steps old.level steps gs ∙ sym are)
           (subst (λ cs. AllZip (λ a b. b ≤ a) cs (clusters (run_steps old.level steps gs))) (sym (pick-map (λ g. g.cluster) olds gs)) (none_higher (pick olds gs) (run_steps old.level steps gs) held.falls));
       flags = subst (λ sts. AllZip FlagsFallButBreaks (pick (old_places (length gs) sts) gs) ns) (sym is) (flags-whole (pick (old_places (length gs) (steps_from r old.script (length gs) 0 (syllables xs))) gs) ran ns (flags-text r old.script old.level 0 None (syllables xs) gs (all_syllables gs)) done.moved);

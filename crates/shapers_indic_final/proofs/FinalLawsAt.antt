@@ -19,7 +19,7 @@ use Rattle.shapers_clusters.proofs.Views.{seen-same}
 use Rattle.shapers_indic.specs.Glyphs.{places}
 use Rattle.shapers_indic_final.proofs.FinalSteps.{Picks, all_within, stretch_permutes, stretch_picks}
 use Rattle.shapers_syllabic.specs.Reordering.{carried}
-use Rattle.shapers_syllabic.proofs.LawsThen.{old_places_then}
+use Rattle.shapers_clusters.proofs.Moves.{old_places_then}
 use Rattle.shapers_syllabic.proofs.ReorderingLemmas.{old_places_one}
 
 -- that the syllable gs becomes ms by these steps: they fit it, take each place once, and lead there

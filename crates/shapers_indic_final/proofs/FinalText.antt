@@ -30,7 +30,7 @@ use Rattle.shapers_syllabic.specs.Borders.{MeetAtBorder}
 use Rattle.shapers_syllabic.specs.Reordering.{carried, text_order}
 use Rattle.shapers_syllabic.proofs.Borders.{border-view, syllables-append}
 use Rattle.shapers_syllabic.proofs.CircleLaws.{joined-syllables}
-use Rattle.shapers_syllabic.proofs.LawsThen.{old_places_then}
+use Rattle.shapers_clusters.proofs.Moves.{old_places_then}
 use Rattle.shapers_syllabic.proofs.ReorderingCuts.{steps-halves}
 use Rattle.shapers_syllabic.proofs.ReorderingLaws.{each_piece, sum-syllables, text_steps-long}
 use Rattle.shapers_syllabic.proofs.ReorderingLemmas.{carried_hides}
@@ -59,14 +59,6 @@ hidden-inits bits f before (syl ∷ syls) =
     ∙ ap (λ xs. xs ++ map view rest) (hidden-init bits before (f syl))
     ∙ ap (λ xs. map view (f syl) ++ xs) (hidden-inits bits f (last_or before (f syl)) syls)
     ∙ sym (map-append view (f syl) (flat_map f syls))
-
-pub seen-order_view : (gs : List hb_glyph_info_t) → seen carried (order_view gs) ≡ seen carried gs
-seen-order_view [] = refl
-seen-order_view (g ∷ gs) = ap (λ x. x ∷ seen carried (order_view gs)) (carried_hides.apart g) ∙ ap (λ l. plain (carried g) ∷ l) (seen-order_view gs)
-
-pub numbers-seen : (gs : List hb_glyph_info_t) → map (λ g. g.glyph_id) (seen carried gs) ≡ map (λ g. g.glyph_id) gs
-numbers-seen [] = refl
-numbers-seen (g ∷ gs) = ap (λ l. g.glyph_id ∷ l) (numbers-seen gs)
 
 pub clusters-carried : (gs : List hb_glyph_info_t) → clusters (map carried gs) ≡ clusters gs
 clusters-carried [] = refl

@@ -1,20 +1,19 @@
 -- The walk that reorders and opens syllable by syllable: what it still has to do.
-use Rattle.std.proofs.Common.{ℕ, ◌+◌, ◌-◌, ◌%◌, ◌/◌, ◌<◌, ◌≤◌, ◌≡◌, ◌==◌, ◌&&◌, not, Bool, true, false, if◌then◌else◌, List, [], ◌∷◌, ◌++◌, map, length, take, drop, refl, sym, ◌∙◌, ap, arith, append_assoc, length-append, length-take-le, length-drop, Option, None, Some, take-append-drop}
+use Rattle.std.proofs.Common.{ℕ, ◌+◌, ◌-◌, ◌%◌, ◌<◌, ◌≤◌, ◌≡◌, ◌==◌, ◌&&◌, not, Bool, true, false, if◌then◌else◌, List, [], ◌∷◌, ◌++◌, map, length, take, drop, refl, sym, ◌∙◌, ap, arith, append_assoc, length-append, length-take-le, length-drop, Option, None, Some, take-append-drop}
 use Rattle.std.specs.Prelude.{bit_or}
-use Rattle.std.specs.Int.Bits.{or_zero_r}
-use Rattle.std.proofs.lemmas.Nat.{or_mod, or_shr}
+use Rattle.std.proofs.lemmas.Nat.{or_mod}
 use Rattle.std.proofs.lemmas.List.{drop-map, length-map, map-append, take-map, take_at, drop_at, drop-drop}
 use Rattle.shapers_buffer.specs.declared.buffer.glyph.hb_glyph_info_t.{hb_glyph_info_t}
 use Rattle.shapers_buffer.specs.declared.buffer.level.BufferClusterLevel.{BufferClusterLevel}
 use Rattle.shapers_buffer.specs.declared.buffer.tag.Script.{Script}
 use Rattle.shapers_buffer.specs.Buffer.{Buffer, but_places}
 use Rattle.shapers_buffer.specs.Clusters.{least, stretch_of}
-use Rattle.shapers_buffer.specs.Glyph.{clusters, order_view, plain, without_flags}
+use Rattle.shapers_buffer.specs.Glyph.{clusters, order_view, plain}
 use Rattle.shapers_buffer.specs.GlyphFlags.{flagged, unsafe_inside, with_bits, with_bits_off}
 use Rattle.shapers_buffer.specs.Marks.{no_marks}
 use Rattle.shapers_buffer.specs.Syllables.{first_syllable_len, syllables}
 use Rattle.shapers_clusters.specs.Steps.{Step, run_steps, widened}
-use Rattle.shapers_clusters.proofs.FlagCalls.{map-unsafe_inside, plain-with_bits}
+use Rattle.shapers_clusters.proofs.FlagCalls.{flags-or, map-unsafe_inside, plain-or, plain-with_bits}
 use Rattle.shapers_clusters.proofs.Through.{length-same}
 use Rattle.shapers_indic_final.specs.FinalMatras.{is_left}
 use Rattle.shapers_indic_final.specs.FinalOpening.{before_place, bound_at, final_text, in_word, is_bound, last_or, opened, syllable_run, text_run, with_init, with_inits}
@@ -26,20 +25,7 @@ use Rattle.shapers_syllabic.specs.Reordering.{SyllableReordered, carried}
 use Rattle.shapers_syllabic.proofs.ReorderingLemmas.{run_steps-carried}
 use Rattle.shapers_syllabic.proofs.ReorderingWalk.{first_len-view, first_len-within, length-meaning, opens}
 
--- bits off the flags leave those of a mask, and show as they are
-flags-or : (a m : ℕ) → m % 8 ≡ 0 → bit_or a m % 8 ≡ a % 8
-flags-or a m off = or_mod a m 3 ∙ ap (bit_or (a % 8)) off ∙ or_zero_r (a % 8)
-
-plain-or : (a m : ℕ) → m % 8 ≡ 0 → without_flags (bit_or a m) ≡ bit_or (without_flags a) m
-plain-or a m off =
-    let x = bit_or a m in
-    let y = bit_or (without_flags a) m in
-    let low : x % 8 ≡ a % 8 = flags-or a m off in
-    let none : y % 8 ≡ 0 = flags-or (without_flags a) m off ∙ (let z : without_flags a % 8 ≡ 0 = omega arith in z) in
-    let front : without_flags a / 8 ≡ a / 8 = omega arith in
-    let same : x / 8 ≡ y / 8 = or_shr a m 3 ∙ ap (λ n. bit_or n (m / 8)) (sym front) ∙ sym (or_shr (without_flags a) m 3) in
-    omega arith
-
+-- the mask of init shows as it is, and is not carried along
 init-carried : (bits : ℕ) → bits % 8 ≡ 0 → (before : Option hb_glyph_info_t) (gs : List hb_glyph_info_t) → map carried (with_init bits before gs) ≡ map carried gs
 init-carried bits off before [] = refl
 init-carried bits off before (g ∷ gs) = elim (is_left g && not (in_word before)) as (λ b. map carried (if b then with_bits bits g ∷ gs else g ∷ gs) ≡ map carried (g ∷ gs)) [

@@ -1,7 +1,6 @@
-pub mod FinalApart
 mod FinalBaseRows
+mod FinalClusterRows
 pub mod FinalClusters
-pub mod FinalCuts
 pub mod FinalElsewhere
 pub mod FinalFlags
 pub mod FinalHidden
@@ -28,5 +27,3 @@ pub mod FinalTargets
 pub mod FinalText
 pub mod FinalTextWalk
 pub mod FinalWords
-pub mod StaysAlong
-pub mod StaysMerged

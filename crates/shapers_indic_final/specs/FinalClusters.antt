@@ -1,34 +1,38 @@
 -- What the steps of a syllable merge, as a statement.
-use Rattle.std.specs.Prelude.{ℕ, ◌-◌, ◌<◌, ◌≡◌, true, false, List, ◌++◌, length, slice_index, Option}
-use Rattle.std.proofs.Common.{◌≢◌}
-use Rattle.shapers_clusters.specs.Cuts.{held}
-use Rattle.std.specs.List.{AllByRecursion, AllPairs, flat_map}
+use Rattle.std.specs.Prelude.{ℕ, ◌+◌, ◌≡◌, ◌++◌, ◌∷◌, true, List, length, Option}
+use Rattle.shapers_clusters.specs.Cuts.{AllDifferent, ExactCuts, OwnClusters}
 use Rattle.shapers_buffer.specs.declared.buffer.glyph.hb_glyph_info_t.{hb_glyph_info_t}
 use Rattle.shapers_buffer.specs.declared.buffer.level.BufferClusterLevel.{BufferClusterLevel}
 use Rattle.shapers_buffer.specs.declared.buffer.tag.Script.{Script}
-use Rattle.shapers_buffer.specs.Clusters.{merges}
-use Rattle.shapers_clusters.specs.Labels.{OneLabel}
-use Rattle.shapers_clusters.specs.Steps.{Step, joined_steps}
+use Rattle.shapers_buffer.specs.Clusters.{merges, stretch_of}
+use Rattle.shapers_buffer.specs.Places.{pick}
+use Rattle.shapers_clusters.specs.Labels.{MergedStay}
+use Rattle.shapers_clusters.specs.Steps.{all_merged, joined_steps, old_places}
+use Rattle.shapers_buffer.specs.Syllables.{syllables}
 use Rattle.shapers_indic_final.specs.FinalReordering.{final_steps}
+use Rattle.shapers_syllabic.specs.Reordering.{glyphs_before}
 use Rattle.shapers_indic_final.specs.declared.ot_shaper_indic_final.rules.Rules.{Rules}
 
--- all stretches that steps merge
-abbrev pub all_merged : List Step → List (ℕ × ℕ)
-all_merged steps = flat_map (λ step. step.merged_first ++ step.merged_then) steps
-
--- at the levels that merge, each stretch of places that these steps merge is in one cluster when all are done
-abbrev pub MergedStay : BufferClusterLevel → List Step → List ℕ → Type 0
-MergedStay level steps cs = AllByRecursion (OneLabel (joined_steps level steps cs)) (all_merged steps)
-
--- so of the steps of a syllable
+-- at the levels that merge, each stretch of places that the steps of a syllable merge is in one cluster when all are done
 abbrev pub FinalMergesLaw : Type 0
 FinalMergesLaw = (r : Rules) (script : Option Script) (level : BufferClusterLevel) (gs : List hb_glyph_info_t) (cs : List ℕ) →
     merges level ≡ true → length cs ≡ length gs →
     MergedStay level (final_steps r script gs) cs
 
--- and where all clusters are different no more is merged: neighbours share one then only if such a stretch holds both
+-- and where all clusters are different no more is merged: neighbours share one then only if such a stretch holds both, and each run so
+-- joined has the least that its glyphs had
 abbrev pub FinalCutsLaw : Type 0
 FinalCutsLaw = (r : Rules) (script : Option Script) (level : BufferClusterLevel) (gs : List hb_glyph_info_t) (cs : List ℕ) →
-    merges level ≡ true → length cs ≡ length gs → AllPairs (λ a b. a ≢ b) cs →
-    (p : ℕ) → 0 < p → p < length cs → held (all_merged (final_steps r script gs)) p ≡ false →
-    slice_index (joined_steps level (final_steps r script gs) cs) (p - 1) ≢ slice_index (joined_steps level (final_steps r script gs) cs) p
+    merges level ≡ true → length cs ≡ length gs → AllDifferent cs →
+    let steps = final_steps r script gs in
+    ExactCuts (pick (old_places (length gs) steps) cs) (all_merged steps) (joined_steps level steps cs)
+
+-- so of each syllable of a text gs (its order view) whose clusters are its own: cs are the clusters of the text as the pause begins, and
+-- js those after it
+abbrev pub EachSyllableCuts : Rules → Option Script → List hb_glyph_info_t → List ℕ → List ℕ → Type 0
+EachSyllableCuts r script gs cs js = (before behind : List (List hb_glyph_info_t)) (syl : List hb_glyph_info_t) →
+    syllables gs ≡ before ++ syl ∷ behind →
+    let s = glyphs_before before in
+    let e = s + length syl in
+    let steps = final_steps r script syl in
+    OwnClusters s e cs → ExactCuts (pick (old_places (length syl) steps) (stretch_of s e cs)) (all_merged steps) (stretch_of s e js)

@@ -9,13 +9,12 @@ use Rattle.shapers_buffer.specs.Buffer.{Buffer}
 use Rattle.shapers_buffer.specs.Glyph.{clusters, default_glyph, order_view}
 use Rattle.shapers_buffer.specs.Places.{pick}
 use Rattle.shapers_buffer.specs.Syllables.{syllables}
-use Rattle.shapers_clusters.specs.Cuts.{ShareNone}
+use Rattle.shapers_clusters.specs.Cuts.{InOneCluster, ShareNone}
 use Rattle.shapers_clusters.specs.Flags.{FlagsFall, seen}
 use Rattle.shapers_buffer.specs.Clusters.{merges}
-use Rattle.shapers_clusters.specs.Labels.{OneLabel}
-use Rattle.shapers_indic_final.specs.FinalClusters.{all_merged}
+use Rattle.shapers_indic_final.specs.FinalClusters.{EachSyllableCuts}
 use Rattle.shapers_clusters.specs.Laws.{ClustersHold, SeenStepsHold}
-use Rattle.shapers_clusters.specs.Steps.{Step, joined_steps, old_places}
+use Rattle.shapers_clusters.specs.Steps.{Step, all_merged, joined_steps, old_places}
 use Rattle.shapers_indic_final.specs.FinalOpening.{FinallyReordered, final_text, is_bound, last_or, with_inits}
 use Rattle.shapers_indic_final.specs.FinalReordering.{final_order, final_steps}
 use Rattle.shapers_indic_final.specs.declared.ot_shaper_indic_final.rules.Rules.{Rules}
@@ -79,15 +78,17 @@ pub record FinallyOfHalves (r : Rules) (script : Option Script) (level : BufferC
 -- What holds of any text after the pause. Nothing is lost: what is carried along, clusters and glyph flags apart, and glyph numbers
 -- alone, are those of the text in some order, each from the place that the steps say. The clusters are what the steps of all
 -- syllables make of the old ones, one after another: each is one that was there, labels are respected, at level Characters each
--- glyph keeps its own; none rises. Glyph flags; and where no
--- syllable is opened inside a word, the laws of steps as they are. Cuts at borders of syllables.
+-- glyph keeps its own; none rises. At the levels that merge each stretch that the steps merge is in one cluster, and in a syllable
+-- whose clusters are its own no more is merged. Glyph flags; and where no syllable is opened inside a word, the laws of steps as
+-- they are. Cuts at borders of syllables.
 pub record FinallyKept (r : Rules) (old new : Buffer) : Type 0 where
   pub kept : IsPermutation (seen carried old.glyphs) (seen carried new.glyphs)
   pub numbers : IsPermutation (map (λ g. g.glyph_id) old.glyphs) (map (λ g. g.glyph_id) new.glyphs)
   pub moved_view : seen carried new.glyphs ≡ pick (old_places (length old.glyphs) (final_text_steps r old.script old.glyphs)) (seen carried old.glyphs)
   pub clusters_are : clusters new.glyphs ≡ final_clusters r old.script old.level old.glyphs
   pub in_clusters : ClustersHold old.level (final_text_steps r old.script old.glyphs) (clusters old.glyphs) (clusters new.glyphs)
-  pub merged : merges old.level ≡ true → AllByRecursion (OneLabel (clusters new.glyphs)) (all_merged (final_text_steps r old.script old.glyphs))
+  pub merged : merges old.level ≡ true → AllByRecursion (InOneCluster (clusters new.glyphs)) (all_merged (final_text_steps r old.script old.glyphs))
+  pub exact : merges old.level ≡ true → EachSyllableCuts r old.script (order_view old.glyphs) (clusters old.glyphs) (clusters new.glyphs)
   pub none_rises : AllZip (λ a b. b ≤ a) (pick (old_places (length old.glyphs) (final_text_steps r old.script old.glyphs)) (clusters old.glyphs)) (clusters new.glyphs)
   pub flags : AllZip FlagsFallButBreaks (pick (old_places (length old.glyphs) (final_text_steps r old.script old.glyphs)) old.glyphs) new.glyphs
   pub flags_elsewhere : (i : ℕ) →

@@ -5,8 +5,9 @@ use Rattle.shapers_buffer.specs.declared.buffer.level.BufferClusterLevel.TheVari
 use Rattle.shapers_clusters.specs.Steps.{joined_step}
 use Rattle.shapers_indic.proofs.RowWords.{C, M, of}
 use Rattle.shapers_indic_initial.proofs.InitialWords.{no_masks, rules}
-use Rattle.shapers_indic_initial.specs.InitialClusters.{all_ways, glyphs_before, kept_together}
+use Rattle.shapers_indic_initial.specs.InitialClusters.{all_ways, kept_together}
 use Rattle.shapers_indic_initial.specs.InitialReordering.{order_step}
+use Rattle.shapers_syllabic.specs.Reordering.{glyphs_before}
 
 -- each place with the old place of what stands there: from the start, and from a base behind it
 ways : map (λ from. all_ways from 0) ((0 ∷ 2 ∷ 3 ∷ 1 ∷ []) ∷ (2 ∷ 1 ∷ 0 ∷ []) ∷ [] ∷ []) ≡ ((0, 1) ∷ (1, 3) ∷ (2, 4) ∷ (1, 4) ∷ []) ∷ ((0, 3) ∷ (1, 2) ∷ (0, 3) ∷ []) ∷ [] ∷ []

@@ -5,7 +5,6 @@ pub mod CycleWays
 pub mod Cycles
 mod FontCircles
 mod FontPositions
-pub mod GatheredCuts
 pub mod Groups
 mod InitialBaseRows
 mod InitialClusterRows
@@ -23,7 +22,6 @@ mod InitialSyllable
 pub mod InitialViews
 mod InitialWords
 pub mod InitialWrites
-pub mod LaterSteps
 mod MaskViews
 mod MaskWalks
 pub mod Moves

@@ -1,10 +1,9 @@
 -- What shows of the masks of a syllable: order views carry them along, and what a reordering carries along hides them.
 use Rattle.std.proofs.Common.{◌≡◌, ℕ, ◌+◌, ◌-◌, ◌%◌, ◌/◌, ◌≤◌, ◌&&◌, ◌||◌, ◌==◌, Bool, true, false, not, cond, if◌then◌else◌, List, [], ◌∷◌, length, take, drop, map, refl, sym, ap, ◌∙◌, arith, Option, Some, None}
-use Rattle.std.specs.Prelude.{bit_and, bit_or, find, nat_lt}
+use Rattle.std.specs.Prelude.{bit_and, find, nat_lt}
 use Rattle.std.specs.List.{enumerate_from, prefix_len}
 use Rattle.std.proofs.lemmas.List.{length-map, take-map, drop-map}
-use Rattle.std.proofs.lemmas.Nat.{and_mask, and_mod, and_shr, or_mod, or_shr}
-use Rattle.std.specs.Int.Bits.{or_zero_r}
+use Rattle.std.proofs.lemmas.Nat.{and_mask, and_mod, and_shr}
 use Rattle.shapers_buffer.specs.declared.buffer.glyph.hb_glyph_info_t.{hb_glyph_info_t}
 use Rattle.shapers_buffer.specs.declared.buffer.tag.Script.{Script}
 use Rattle.shapers_buffer.specs.Buffer.{Buffer, but_places}
@@ -14,6 +13,7 @@ use Rattle.shapers_buffer.specs.GlyphFlags.{with_bits}
 use Rattle.shapers_buffer.specs.Marks.{no_marks}
 use Rattle.shapers_base.specs.declared.plan.ot_category_t.TheConstants.{OT_ZWNJ}
 use Rattle.shapers_base.specs.declared.plan.ot_position_t.TheConstants.{POS_BASE_C, POS_RA_TO_BECOME_REPH}
+use Rattle.shapers_clusters.proofs.FlagCalls.{flags-or, plain-or}
 use Rattle.shapers_indic.specs.declared.ot_shaper_indic.indic_feature.TheConstants.{BLWF, HALF, PREF, RPHF}
 use Rattle.shapers_indic.specs.Glyphs.{has_position, is_one_of, least_place, number, numbers, places}
 use Rattle.shapers_indic_initial.specs.InitialMasks.{bits_of, has_eyelash, is_in_eyelash, loses_half, mask_after_base, mask_before_base, pref_pair, with_bits_on_pair, with_eyelash_mask, with_initial_masks, with_masks_around, with_pref_mask, with_reph_mask, without_bits, without_half}
@@ -29,24 +29,11 @@ use Rattle.shapers_syllabic.proofs.ReorderingLemmas.{stretch-viewed}
 use Rattle.shapers_syllabic.proofs.SyllableThen.{syllable_changed}
 
 -- bits that touch no glyph flag leave those of a mask, given or taken
-flags-or : (a m : ℕ) → m % 8 ≡ 0 → bit_or a m % 8 ≡ a % 8
-flags-or a m off = or_mod a m 3 ∙ ap (bit_or (a % 8)) off ∙ or_zero_r (a % 8)
-
 flags-and : (a m : ℕ) → m % 8 ≡ 0 → m ≤ 0xFFFFFFFF → bit_and a (0xFFFFFFFF - m) % 8 ≡ a % 8
 flags-and a m off fits =
     let all : (0xFFFFFFFF - m) % 8 ≡ 7 = omega arith in
     let low : a % 8 % 8 ≡ a % 8 = omega arith in
     and_mod a (0xFFFFFFFF - m) 3 ∙ ap (bit_and (a % 8)) all ∙ and_mask (a % 8) 3 ∙ low
-
-plain-or : (a m : ℕ) → m % 8 ≡ 0 → without_flags (bit_or a m) ≡ bit_or (without_flags a) m
-plain-or a m off =
-    let x = bit_or a m in
-    let y = bit_or (without_flags a) m in
-    let low : x % 8 ≡ a % 8 = flags-or a m off in
-    let none : y % 8 ≡ 0 = flags-or (without_flags a) m off ∙ (let z : without_flags a % 8 ≡ 0 = omega arith in z) in
-    let front : without_flags a / 8 ≡ a / 8 = omega arith in
-    let same : x / 8 ≡ y / 8 = or_shr a m 3 ∙ ap (λ n. bit_or n (m / 8)) (sym front) ∙ sym (or_shr (without_flags a) m 3) in
-    omega arith
 
 plain-and : (a m : ℕ) → m % 8 ≡ 0 → m ≤ 0xFFFFFFFF → without_flags (bit_and a (0xFFFFFFFF - m)) ≡ bit_and (without_flags a) (0xFFFFFFFF - m)
 plain-and a m off fits =

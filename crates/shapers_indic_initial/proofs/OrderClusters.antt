@@ -1,6 +1,6 @@
 -- What the order of a syllable makes of its clusters.
 use Rattle.std.proofs.Common.{ℕ, ◌+◌, ◌-◌, ◌<◌, ◌≤◌, ◌≡◌, ◌≢◌, ◌==◌, inl, inr, Bool, true, false, ◌||◌, ◌&&◌, nat_lt, if◌then◌else◌, List, [], ◌∷◌, length, get_or, slice_index, refl, sym, ◌∙◌, ap, subst, arith}
-use Rattle.std.specs.List.{AllByRecursion, AllPairs, range_with_len}
+use Rattle.std.specs.List.{AllByRecursion, range_with_len}
 use Rattle.std.specs.List.Sorted.{IsPermutation}
 use Rattle.std.proofs.lemmas.Bool.{cases_Bool, cases_lt, eqb-true}
 use Rattle.std.proofs.lemmas.Bool.Decides.{nat_tests}
@@ -9,20 +9,23 @@ use Rattle.shapers_buffer.specs.declared.buffer.level.BufferClusterLevel.{Buffer
 use Rattle.shapers_buffer.specs.Clusters.{merges}
 use Rattle.shapers_buffer.specs.Places.{pick}
 use Rattle.shapers_buffer.proofs.MappedLists.{all-mapped, all-range}
-use Rattle.shapers_clusters.specs.Cuts.{EndWithin, ExactCuts, held, linked}
+use Rattle.shapers_clusters.specs.Cuts.{AllDifferent, EndWithin, ExactCuts, InOneCluster, held, linked}
 use Rattle.shapers_clusters.specs.Joined.{joined_all}
+use Rattle.shapers_clusters.proofs.Moves.{HeldIn, all_held}
 use Rattle.shapers_clusters.proofs.Neighbours.{joined_all-linked, share_all}
-use Rattle.shapers_clusters.proofs.Picks.{get_or-pick, length-pick}
+use Rattle.shapers_clusters.proofs.Permuted.{picked-permuted}
+use Rattle.shapers_clusters.proofs.SparedCuts.{different_permuted}
+use Rattle.shapers_clusters.proofs.Picks.{length-pick}
 use Rattle.shapers_indic.specs.Glyphs.{places}
 use Rattle.shapers_indic_initial.specs.CycleWalk.{EachOnce}
-use Rattle.shapers_indic_initial.specs.InitialClusters.{InOneCluster, OrderMergesLaw, all_ways, kept_together, way_of}
+use Rattle.shapers_indic_initial.specs.InitialClusters.{OrderMergesLaw, all_ways, kept_together, way_of}
 use Rattle.shapers_indic_initial.specs.InitialOrder.{cycle_stretches, ordered_base, ordered_places, ordered_stretches}
 use Rattle.shapers_indic_initial.specs.InitialReordering.{in_order}
 use Rattle.shapers_indic_initial.specs.InitialRules.{Rules}
 use Rattle.shapers_indic_initial.proofs.CycleSteps.{once_range}
 use Rattle.shapers_indic_initial.proofs.CycleWays.{held_by_ways}
 use Rattle.shapers_indic_initial.proofs.Cycles.{once-swap}
-use Rattle.shapers_indic_initial.proofs.GatheredCuts.{Gathered, exact_gathered}
+use Rattle.shapers_clusters.proofs.GatheredCuts.{different_gathered, exact_gathered}
 use Rattle.shapers_indic_initial.proofs.InitialSteps.{length_permuted, stretches_end, within_permuted}
 use Rattle.shapers_indic_initial.proofs.OrderedPlaces.{ordered_permutes}
 
@@ -57,17 +60,6 @@ pub all_by_two : {X : Type 0} (P Q R : X → Type 0) → ((x : X) → P x → Q 
 all_by_two P Q R each [] h i = tt
 all_by_two P Q R each (x ∷ xs) h i = (each x h.0 i.0, all_by_two P Q R each xs h.1 i.1)
 
-abbrev pub HeldIn : List (ℕ × ℕ) → ℕ × ℕ → Type 0
-HeldIn sts st = (i : ℕ) → st.0 < i → i < st.1 → held sts i ≡ true
-
-more_held : (st : ℕ × ℕ) (sts xs : List (ℕ × ℕ)) → AllByRecursion (HeldIn sts) xs → AllByRecursion (HeldIn (st ∷ sts)) xs
-more_held st sts [] h = tt
-more_held st sts (x ∷ xs) h = (λ i a b. ap (λ c. nat_lt st.0 i && nat_lt i st.1 || c) (h.0 i a b) ∙ or_true (nat_lt st.0 i && nat_lt i st.1), more_held st sts xs h.1)
-
-pub all_held : (sts : List (ℕ × ℕ)) → AllByRecursion (HeldIn sts) sts
-all_held [] = tt
-all_held (st ∷ sts) = (λ i a b. (let t : (nat_lt st.0 i && nat_lt i st.1) ≡ true = grind (arith, nat_tests) in ap (λ c. c || held sts i) t), more_held st sts sts (all_held sts))
-
 -- nothing before the base is held
 record Behind (base i : ℕ) : Type 0 where
   pub above : base < i
@@ -77,29 +69,6 @@ held_behind base n [] i all h = absurd (cc h)
 held_behind base n (st ∷ sts) i all h = elim (cases_Bool (nat_lt st.0 i && nat_lt i st.1)) [
   | inl t ↦ (let first = all.0 in let low = first.low in let k : st.0 < i = grind (arith, nat_tests) in record { above = omega arith })
   | inr f ↦ held_behind base n sts i all.1 (sym (ap (λ b. b || held sts i) f) ∙ h)
-]
-
--- different clusters stay different where they are picked
-picked_different : (from cs : List ℕ) → EachOnce from → length from ≡ length cs → AllByRecursion (λ p. p < length cs) from → AllPairs (λ a b. a ≢ b) cs → (a c : ℕ) → a < c → c < length (pick from cs) → get_or (pick from cs) a 0 ≢ get_or (pick from cs) c 0
-picked_different from cs o long within different a c l k e =
-    let n = length-pick from cs within in
-    let i = get_or from a 0 in
-    let j = get_or from c 0 in
-    let il = o.within a (omega arith) in
-    let jl = o.within c (omega arith) in
-    let same : get_or cs i 0 ≡ get_or cs j 0 = sym (get_or-pick 0 from cs within a (omega arith)) ∙ e ∙ get_or-pick 0 from cs within c (omega arith) in
-    elim (cases_lt i j) [
-      | inl m ↦ different i j 0 m (omega arith) same
-      | inr m ↦ elim (cases_lt j i) [
-        | inl m2 ↦ different j i 0 m2 (omega arith) (sym same)
-        | inr m2 ↦ (let at : a ≡ c = o.once a c (omega arith) (omega arith) (omega arith) in absurd (omega arith))
-      ]
-    ]
-
-picked_gathered : (xs : List ℕ) → ((a c : ℕ) → a < c → c < length xs → get_or xs a 0 ≢ get_or xs c 0) → Gathered xs
-picked_gathered xs different a b c x y l e = elim (cases_lt a c) [
-  | inl k ↦ absurd (different a c k l e)
-  | inr k ↦ let same : b ≡ a = omega arith in ap (λ k. get_or xs k 0) same
 ]
 
 -- exact cuts by other stretches that hold the same neighbours
@@ -157,10 +126,10 @@ order_merges r level gs cs m long =
     let lies = together_lies r from base o in
     let same = λ (i : ℕ). held_together r from base i o in
     let js = joined_all level sts xs in
-    let different = λ (h : AllPairs (λ a b. a ≢ b) cs). picked_different from cs o (fl ∙ sym long) within h in
-    let exact = λ (h : AllPairs (λ a b. a ≢ b) cs). exact_by xs sts ways js same (exact_gathered level m sts xs ends (picked_gathered xs (different h))) in
+    let different = λ (h : AllDifferent cs). different_permuted cs xs (picked-permuted n from cs long within perm) h in
+    let exact = λ (h : AllDifferent cs). exact_by xs sts ways js same (exact_gathered level m sts xs ends (different_gathered xs (different h))) in
     record {
       together = all_by_two (Lies base (length from)) (HeldIn ways) (InOneCluster js) (λ st a b. one_cluster level m sts xs ends st (omega (arith, a.high)) (λ i x y. same i ∙ b i x y)) ways lies (all_held ways);
       exact = exact;
-      before = λ h p b l. kept_before base (length from) ways xs js lies (different h) (exact h) p b (omega arith);
+      before = λ h p b l. kept_before base (length from) ways xs js lies (λ a c l k. different h a c 0 l k) (exact h) p b (omega arith);
     }

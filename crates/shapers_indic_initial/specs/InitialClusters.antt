@@ -1,20 +1,19 @@
 -- What the order of a syllable makes of its clusters, without cycles, as a statement.
-use Rattle.std.specs.Prelude.{ℕ, suc, ◌+◌, ◌<◌, ◌≤◌, ◌≡◌, ◌||◌, max, min, nat_lt, true, List, [], ◌∷◌, ◌++◌, length, map, take, Option, slice_index, if◌then◌else◌}
-use Rattle.std.proofs.Common.{◌≢◌, ◌⊎◌}
-use Rattle.std.specs.List.{AllByRecursion, AllPairs, flat_map}
+use Rattle.std.specs.Prelude.{ℕ, suc, ◌+◌, ◌<◌, ◌≡◌, ◌||◌, max, min, nat_lt, true, List, [], ◌∷◌, ◌++◌, length, map, take, Option, slice_index, if◌then◌else◌}
+use Rattle.std.specs.List.{AllByRecursion}
 use Rattle.shapers_buffer.specs.declared.buffer.glyph.hb_glyph_info_t.{hb_glyph_info_t}
 use Rattle.shapers_buffer.specs.declared.buffer.level.BufferClusterLevel.{BufferClusterLevel}
 use Rattle.shapers_buffer.specs.Clusters.{merges, stretch_of}
 use Rattle.shapers_buffer.specs.declared.buffer.tag.Script.{Script}
 use Rattle.shapers_buffer.specs.Syllables.{syllables}
 use Rattle.shapers_buffer.specs.Places.{pick}
-use Rattle.shapers_clusters.specs.Cuts.{ExactCuts}
+use Rattle.shapers_clusters.specs.Cuts.{AllDifferent, ExactCuts, InOneCluster, OwnClusters}
 use Rattle.shapers_clusters.specs.Steps.{joined_step, joined_steps, shifted, steps_along, widened}
 use Rattle.shapers_indic.specs.Glyphs.{places}
 use Rattle.shapers_indic_initial.specs.InitialOrder.{ordered_base, ordered_places}
 use Rattle.shapers_indic_initial.specs.InitialReordering.{in_order, initial_steps, is_reordered, order_step, positioned}
 use Rattle.shapers_indic_initial.specs.InitialRules.{Rules}
-use Rattle.shapers_syllabic.specs.Reordering.{text_steps}
+use Rattle.shapers_syllabic.specs.Reordering.{glyphs_before, text_steps}
 
 -- the places from the base on between place p and the old place of the glyph now at p, both included
 abbrev pub way_of : List ℕ → ℕ → ℕ → ℕ × ℕ
@@ -27,17 +26,13 @@ all_ways from base = map (way_of from base) (places base (length from))
 abbrev pub kept_together : Rules → List ℕ → ℕ → List (ℕ × ℕ)
 kept_together r from base = if r.old || nat_lt 127 (length from) then (base, length from) ∷ [] else all_ways from base
 
--- all places of a stretch share one cluster
-abbrev pub InOneCluster : List ℕ → ℕ × ℕ → Type 0
-InOneCluster cs st = (p q : ℕ) → st.0 ≤ p → p < st.1 → st.0 ≤ q → q < st.1 → slice_index cs p ≡ slice_index cs q
-
 -- From the clusters cs before to the clusters js after: each of these stretches is in one cluster. No more is merged: where all
 -- clusters are different, neighbours share one only if such a stretch holds both, each run so joined has the least that its
 -- glyphs had, and each glyph before the base keeps its own.
 pub record OrderMerges (base : ℕ) (sts : List (ℕ × ℕ)) (from cs js : List ℕ) : Type 0 where
   pub together : AllByRecursion (InOneCluster js) sts
-  pub exact : AllPairs (λ a b. a ≢ b) cs → ExactCuts (pick from cs) sts js
-  pub before : AllPairs (λ a b. a ≢ b) cs →
+  pub exact : AllDifferent cs → ExactCuts (pick from cs) sts js
+  pub before : AllDifferent cs →
       (p : ℕ) → p < base → p < length cs →
       slice_index js p ≡ slice_index (pick from cs) p
 
@@ -48,18 +43,10 @@ OrderMergesLaw = (r : Rules) (level : BufferClusterLevel) (gs : List hb_glyph_in
     OrderMerges (ordered_base (in_order gs)) (kept_together r (ordered_places gs) (ordered_base (in_order gs))) (ordered_places gs) cs (joined_step level (order_step r gs) cs)
 
 -- In a whole text: the clusters as the order of a syllable begins, when those before it are reordered and it has come to its last step.
-abbrev pub glyphs_before : List (List hb_glyph_info_t) → ℕ
-glyphs_before before = length (flat_map (λ piece. piece) before)
-
 abbrev pub as_order_begins : Rules → Option Script → BufferClusterLevel → ℕ → List (List hb_glyph_info_t) → List hb_glyph_info_t → List ℕ → List ℕ
 as_order_begins r script level n before syl cs =
     let s = glyphs_before before in
     joined_steps level (steps_along n 0 (map (λ piece. (length piece, initial_steps r script piece)) before) ++ map (widened s (s + length syl) n) (take 2 (initial_steps r script syl))) cs
-
--- the clusters from s to e are all different, and no glyph elsewhere has one of them
-pub record OwnClusters (s e : ℕ) (cs : List ℕ) : Type 0 where
-  pub different : AllPairs (λ a b. a ≢ b) (stretch_of s e cs)
-  pub others : (i j : ℕ) → s ≤ i → i < e → j < length cs → (j < s) ⊎ (e ≤ j) → slice_index cs i ≢ slice_index cs j
 
 -- From the clusters cs of a text as the order of the syllable from s to e begins, to the clusters js after the pause: each of the
 -- syllable's stretches is in one cluster, and where its clusters are its own, no more is merged.

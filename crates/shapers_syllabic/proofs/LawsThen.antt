@@ -1,34 +1,20 @@
 -- The laws of a reordering that is one and then another, that is done where a test passes, or that has one step.
-use Rattle.std.proofs.Common.{ℕ, ◌<◌, ◌≡◌, Bool, true, false, if◌then◌else◌, List, [], ◌∷◌, ◌++◌, map, length, refl, sym, ◌∙◌, ap, subst}
-use Rattle.std.specs.List.{AllByRecursion, range_with_len}
+use Rattle.std.proofs.Common.{◌<◌, ◌≡◌, Bool, true, false, if◌then◌else◌, List, [], ◌∷◌, ◌++◌, map, length, sym, ◌∙◌, ap, subst}
+use Rattle.std.specs.List.{AllByRecursion}
 use Rattle.std.proofs.lemmas.List.{length-map}
-use Rattle.std.proofs.lemmas.List.Sums.{fold-append}
 use Rattle.shapers_buffer.specs.declared.buffer.glyph.hb_glyph_info_t.{hb_glyph_info_t}
 use Rattle.shapers_buffer.specs.Glyph.{plain}
 use Rattle.shapers_buffer.specs.Places.{pick}
 use Rattle.shapers_buffer.proofs.MappedLists.{all-append}
 use Rattle.shapers_clusters.specs.Flags.{seen}
-use Rattle.shapers_clusters.specs.Steps.{FitSteps, FitsStep, Permutes, Step, moved_on, old_places}
-use Rattle.shapers_clusters.proofs.Moves.{followed_all, length-old_places, within-old_places}
+use Rattle.shapers_clusters.specs.Steps.{FitSteps, FitsStep, Permutes, Step, old_places}
+use Rattle.shapers_clusters.proofs.Moves.{old_places_then, within-old_places}
 use Rattle.shapers_clusters.proofs.Picks.{pick-all, pick-pick}
 use Rattle.shapers_syllabic.specs.Borders.{unnumbered}
 use Rattle.shapers_syllabic.specs.Reordering.{carried}
 use Rattle.shapers_syllabic.specs.ReorderingLaws.{ReadsNoSerials, ReorderLaws}
 use Rattle.shapers_syllabic.proofs.ReorderingLemmas.{agrees_by_places}
 use Rattle.shapers_syllabic.proofs.ReorderingWalk.{length-meaning}
-
--- the old places after more steps are those of the further steps, picked of those before
-any_steps : (steps : List Step) → AllByRecursion (λ _. Unit {0}) steps
-any_steps [] = tt
-any_steps (step ∷ steps) = (tt, any_steps steps)
-
-moved_by_old_places : (n : ℕ) (steps : List Step) (places : List ℕ) → length places ≡ n → moved_on steps places ≡ pick (old_places n steps) places
-moved_by_old_places n steps places long =
-    followed_all (λ (xs s : List ℕ). s ≡ xs) (λ s step. pick step.places s) (λ _. Unit {0}) (λ step xs s _ e. ap (pick step.places) e) n places steps places long (any_steps steps) refl
-
-pub old_places_then : (n : ℕ) (steps more : List Step) → FitSteps n steps → old_places n (steps ++ more) ≡ pick (old_places n more) (old_places n steps)
-old_places_then n steps more fits =
-    fold-append (λ places step. pick step.places places) (range_with_len 0 n) steps more ∙ moved_by_old_places n more (old_places n steps) (length-old_places n steps fits)
 
 -- one reordering, and then another
 pub laws_then : (first next : List hb_glyph_info_t → List hb_glyph_info_t) (steps steps_then : List hb_glyph_info_t → List Step) → ReorderLaws first steps → ReorderLaws next steps_then → ReorderLaws (λ gs. next (first gs)) (λ gs. steps gs ++ steps_then (first gs))

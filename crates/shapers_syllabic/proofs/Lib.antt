@@ -15,4 +15,5 @@ pub mod Serials
 pub mod SpanCuts
 pub mod SyllabicLemmas
 mod SyllabicRows
+pub mod SyllableAlone
 pub mod SyllableThen

@@ -50,7 +50,7 @@ nothing_lost meaning steps laws gs =
     }
 
 -- the pieces of a text add up to it, and what holds of each syllable's steps holds of each piece
-sum-pieces : (steps : List hb_glyph_info_t → List Step) (pieces : List (List hb_glyph_info_t)) → sum_by (λ piece. piece.0) (pieces_of steps pieces) ≡ length (flat_map (λ piece. piece) pieces)
+pub sum-pieces : (steps : List hb_glyph_info_t → List Step) (pieces : List (List hb_glyph_info_t)) → sum_by (λ piece. piece.0) (pieces_of steps pieces) ≡ length (flat_map (λ piece. piece) pieces)
 sum-pieces steps [] = refl
 sum-pieces steps (piece ∷ pieces) =
     sum_by-cons (λ (piece : ℕ × List Step). piece.0) (length piece, steps piece) (pieces_of steps pieces)

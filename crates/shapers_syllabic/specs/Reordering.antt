@@ -27,6 +27,10 @@ text_order meaning gs = flat_map meaning (syllables gs)
 abbrev pub text_steps : (List hb_glyph_info_t → List Step) → List hb_glyph_info_t → List Step
 text_steps steps gs = steps_along (length gs) 0 (map (λ syl. (length syl, steps syl)) (syllables gs))
 
+-- how many glyphs stand in some syllables: where the next one stands
+abbrev pub glyphs_before : List (List hb_glyph_info_t) → ℕ
+glyphs_before before = length (flat_map (λ piece. piece) before)
+
 -- The buffer before and after the syllable from s to e is reordered: its order view becomes what the meaning says, and to the
 -- view of what is carried along, cluster and glyph flags among it, the glyphs are those that the steps lead to.
 pub record SyllableReordered (meaning : List hb_glyph_info_t → List hb_glyph_info_t) (steps : List hb_glyph_info_t → List Step) (s e : ℕ) (old new : Buffer) : Type 0 where

@@ -26,8 +26,8 @@ pub fn final_merges()
     ensures { FinalMergesLaw }
 {}
 
-/// No more is merged where all clusters are different: neighbours share one then only if such a stretch
-/// holds both.
+/// No more is merged where all clusters are different: neighbours share one then only if such a
+/// stretch holds both, and each run so joined has the least cluster that its glyphs had.
 pub fn final_cuts()
     ensures { FinalCutsLaw }
 {}

@@ -1,4 +1,4 @@
-use Rattle.shapers_indic_final.proofs.FinalCuts as proofs
+use Rattle.shapers_indic_final.proofs.FinalClusters as proofs
 use Rattle.shapers_indic_final.proofs.ot_shaper_indic_final.laws.final_cuts.Goals as goal
 
 pub returns : goal.returns

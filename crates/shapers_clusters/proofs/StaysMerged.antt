@@ -7,25 +7,11 @@ use Rattle.shapers_buffer.specs.Places.{pick}
 use Rattle.shapers_buffer.proofs.MappedLists.{all-append}
 use Rattle.shapers_clusters.specs.Cuts.{EndWithin}
 use Rattle.shapers_clusters.specs.Joined.{joined, joined_all}
-use Rattle.shapers_clusters.specs.Labels.{OneLabel}
-use Rattle.shapers_clusters.specs.Steps.{FitSteps, FitsStep, MovesMerged, Step, joined_step, joined_steps}
+use Rattle.shapers_clusters.specs.Labels.{MergedStay, OneLabel}
+use Rattle.shapers_clusters.specs.Steps.{FitSteps, FitsStep, MovesMerged, SpareMerged, Spares, Step, all_merged, joined_step, joined_steps}
 use Rattle.shapers_clusters.proofs.Moves.{joined-merged_steps, stepped}
 use Rattle.shapers_clusters.proofs.Neighbours.{end_within_joined, joined-shares, joined_all-share, length-joined, length-joined_all}
 use Rattle.shapers_clusters.proofs.Picks.{get_or-pick, length-pick}
-use Rattle.shapers_indic_final.specs.FinalClusters.{MergedStay, all_merged}
-
--- the step leaves the places of a stretch, or moves inside what it merged
-abbrev pub StaysAt : ℕ × ℕ → Step → Type 0
-StaysAt st step = (p : ℕ) → st.0 ≤ p → p < st.1 → get_or step.places p 0 ≡ p
-
-abbrev pub Spares : ℕ → ℕ × ℕ → Step → Type 0
-Spares n st step = StaysAt st step ⊎ MovesMerged n step
-
--- steps that spare what those before them merged
-abbrev pub SpareMerged : ℕ → List Step → Type 0
-SpareMerged n [] = Unit {0}
-SpareMerged n (step ∷ steps) =
-    ((step.merged_first ≡ []) ⊎ MovesMerged n step) × AllByRecursion (λ st. AllByRecursion (Spares n st) steps) (step.merged_first ++ step.merged_then) × SpareMerged n steps
 
 -- merges
 keep_joined : (level : BufferClusterLevel) (sts : List (ℕ × ℕ)) (cs : List ℕ) → EndWithin (length cs) sts → (st : ℕ × ℕ) → st.1 ≤ length cs → OneLabel cs st → OneLabel (joined_all level sts cs) st

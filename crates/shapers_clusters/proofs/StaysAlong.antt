@@ -1,27 +1,12 @@
 -- What the steps of neighbouring stretches merge stays in one cluster.
 use Rattle.std.proofs.Common.{ℕ, ◌+◌, ◌-◌, ◌<◌, ◌≤◌, ◌≡◌, inl, inr, ◌⊎◌, List, [], ◌∷◌, ◌++◌, map, get_or, ◌∙◌, ap, subst, arith}
-use Rattle.std.specs.List.{AllByRecursion, range_with_len, sum_by}
-use Rattle.std.proofs.lemmas.List.{get_or-append_right, get_or-map, get_or_append_left, length-map, map-append}
-use Rattle.std.proofs.lemmas.List.FromFn.{get_or-range_with_len, length-range_with_len}
+use Rattle.std.specs.List.{AllByRecursion, sum_by}
+use Rattle.std.proofs.lemmas.List.{map-append}
 use Rattle.std.proofs.lemmas.List.Sums.{sum_by-cons}
 use Rattle.shapers_buffer.proofs.MappedLists.{all-append, all-mapped}
 use Rattle.shapers_clusters.specs.Cuts.{EndWithin}
-use Rattle.shapers_clusters.specs.Steps.{FitSteps, FitsStep, MovesMerged, Step, shifted, steps_along, widened}
-use Rattle.shapers_clusters.proofs.Widened.{fits-widened, moves-widened}
-use Rattle.shapers_indic_final.proofs.StaysMerged.{SpareMerged, Spares}
-
--- the places of a widened step
-before_widened : (s e n : ℕ) (step : Step) (p : ℕ) → p < s → get_or (widened s e n step).places p 0 ≡ p
-before_widened s e n step p l = get_or_append_left (range_with_len 0 s) (map (λ p. s + p) step.places ++ range_with_len e (n - e)) 0 p (omega (arith, length-range_with_len 0 s)) ∙ get_or-range_with_len 0 s p 0 l ∙ omega arith
-
-inside_widened : (s e n : ℕ) (step : Step) → FitsStep (e - s) step → (p : ℕ) → s ≤ p → p < e → get_or (widened s e n step).places p 0 ≡ s + get_or step.places (p - s) 0
-inside_widened s e n step fits p l h =
-    let middle = map (λ p. s + p) step.places in
-    let rest = range_with_len e (n - e) in
-    let many = fits.as_many in
-    get_or-append_right (range_with_len 0 s) (middle ++ rest) s p 0 (length-range_with_len 0 s) l
-    ∙ get_or_append_left middle rest 0 (p - s) (omega (arith, length-map step.places (λ p. s + p)))
-    ∙ get_or-map (λ p. s + p) step.places (p - s) 0 0 (omega arith)
+use Rattle.shapers_clusters.specs.Steps.{FitSteps, FitsStep, MovesMerged, SpareMerged, Spares, Step, shifted, steps_along, widened}
+use Rattle.shapers_clusters.proofs.Widened.{widened_before, fits-widened, widened_inside, moves-widened}
 
 -- one stretch
 abbrev pub moved_by : ℕ → ℕ × ℕ → ℕ × ℕ
@@ -29,7 +14,7 @@ moved_by s st = (s + st.0, s + st.1)
 
 spares_widened : (s e n : ℕ) (step : Step) → s ≤ e → e ≤ n → FitsStep (e - s) step → (st : ℕ × ℕ) → st.1 ≤ e - s → Spares (e - s) st step → Spares n (moved_by s st) (widened s e n step)
 spares_widened s e n step l m fits st w (inr moves) = inr (moves-widened s e n step l m moves)
-spares_widened s e n step l m fits st w (inl stays) = inl (λ p a b. inside_widened s e n step fits p (omega arith) (omega arith) ∙ ap (λ q. s + q) (stays (p - s) (omega arith) (omega arith)) ∙ omega arith)
+spares_widened s e n step l m fits st w (inl stays) = inl (λ p a b. widened_inside s e n step fits p (omega arith) (omega arith) ∙ ap (λ q. s + q) (stays (p - s) (omega arith) (omega arith)) ∙ omega arith)
 
 spares_all : (s e n : ℕ) (steps : List Step) → s ≤ e → e ≤ n → FitSteps (e - s) steps → (st : ℕ × ℕ) → st.1 ≤ e - s → AllByRecursion (Spares (e - s) st) steps → AllByRecursion (Spares n (moved_by s st)) (map (widened s e n) steps)
 spares_all s e n [] l m fits st w h = tt
@@ -70,7 +55,7 @@ spare_widened s e n (step ∷ steps) more l m fits spare behind rest =
 -- all of them
 stay_widened : (t s e n : ℕ) (steps : List Step) → t ≤ s → AllByRecursion (StayBefore t) (map (widened s e n) steps)
 stay_widened t s e n [] l = tt
-stay_widened t s e n (step ∷ steps) l = ((λ p a. before_widened s e n step p (omega arith)), stay_widened t s e n steps l)
+stay_widened t s e n (step ∷ steps) l = ((λ p a. widened_before s e n step p (omega arith)), stay_widened t s e n steps l)
 
 stay_along : (t n s : ℕ) (pieces : List (ℕ × List Step)) → t ≤ s → AllByRecursion (StayBefore t) (steps_along n s pieces)
 stay_along t n s [] l = tt

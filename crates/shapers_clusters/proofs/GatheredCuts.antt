@@ -1,13 +1,11 @@
 -- Exact cuts where each cluster's places stand together, in whatever order: so where all clusters are different.
-use Rattle.std.proofs.Common.{ℕ, suc, ◌+◌, ◌-◌, ◌<◌, ◌≤◌, ◌≡◌, ◌≢◌, ◌==◌, Bool, true, false, ◌||◌, nat_lt, ◌&&◌, inl, inr, List, [], ◌∷◌, length, get_or, slice_index, refl, sym, ◌∙◌, ap, subst, arith}
-use Rattle.std.specs.List.{AllPairs}
+use Rattle.std.proofs.Common.{ℕ, suc, ◌+◌, ◌-◌, ◌<◌, ◌≤◌, ◌≡◌, ◌≢◌, ◌==◌, true, false, nat_lt, ◌&&◌, inl, inr, List, [], ◌∷◌, length, get_or, slice_index, sym, ◌∙◌, ap, subst, arith}
 use Rattle.std.proofs.lemmas.Bool.{cases_Bool, cases_lt, eqb-false}
-use Rattle.std.proofs.lemmas.Bool.Decides.{nat_tests}
 use Rattle.shapers_buffer.specs.declared.buffer.level.BufferClusterLevel.{BufferClusterLevel}
 use Rattle.shapers_buffer.specs.Clusters.{merges}
-use Rattle.shapers_clusters.specs.Cuts.{EndWithin, ExactCuts, held, linked}
+use Rattle.shapers_clusters.specs.Cuts.{AllDifferent, EndWithin, ExactCuts, held, linked}
 use Rattle.shapers_clusters.specs.Joined.{joined, joined_all}
-use Rattle.shapers_clusters.proofs.Cuts.{block_shares}
+use Rattle.shapers_clusters.proofs.Cuts.{block_shares, not_in, or_none}
 use Rattle.shapers_clusters.proofs.Neighbours.{end_within_joined, joined_all-falls, joined_all-linked, joined_all-reached, left_to, length-joined, length-joined_all, right_from}
 use Rattle.shapers_clusters.proofs.Spread.{Spread, joined_cases}
 
@@ -15,7 +13,7 @@ use Rattle.shapers_clusters.proofs.Spread.{Spread, joined_cases}
 abbrev pub Gathered : List ℕ → Type 0
 Gathered cs = (a b c : ℕ) → a ≤ b → b ≤ c → c < length cs → get_or cs a 0 ≡ get_or cs c 0 → get_or cs b 0 ≡ get_or cs a 0
 
-pub different_gathered : (cs : List ℕ) → AllPairs (λ a b. a ≢ b) cs → Gathered cs
+pub different_gathered : (cs : List ℕ) → AllDifferent cs → Gathered cs
 different_gathered cs h a b c x y l e = elim (cases_lt a c) [
   | inl k ↦ absurd (h a c 0 k l e)
   | inr k ↦ let same : b ≡ a = omega arith in ap (λ k. get_or cs k 0) same
@@ -81,13 +79,6 @@ spread_cut s e cs js f h g p l ne out eq = elim (cases_lt (suc p) f.low) [
 
 joined_gathered : (level : BufferClusterLevel) (s e : ℕ) (cs : List ℕ) → e ≤ length cs → Gathered cs → Gathered (joined level s e cs)
 joined_gathered level s e cs w g = joined_cases Gathered level s e cs w (λ _. g) (λ js _ _ f. spread_gathered s e cs js f g)
-
-or_none : (a b : Bool) → (a || b) ≡ false → (a ≡ false) × (b ≡ false)
-or_none true b h = (cc, cc)
-or_none false b h = (refl, h)
-
-not_in : (s e p : ℕ) → (nat_lt s p && nat_lt p e) ≡ false → s < p → p < e → ⊥
-not_in s e p h a b = grind (arith, nat_tests)
 
 joined_all_cut : (level : BufferClusterLevel) (sts : List (ℕ × ℕ)) (cs : List ℕ) → EndWithin (length cs) sts → Gathered cs → (p : ℕ) → suc p < length cs → get_or cs p 0 ≢ get_or cs (suc p) 0 → held sts (suc p) ≡ false → get_or (joined_all level sts cs) p 0 ≢ get_or (joined_all level sts cs) (suc p) 0
 joined_all_cut level [] cs w g p l ne out = ne
