@@ -3,9 +3,9 @@ use Rattle.std.specs.Prelude.{◌≡◌, true, false, [], ◌∷◌, length, map
 use Rattle.std.specs.List.{range_with_len}
 use Rattle.shapers_buffer.specs.declared.buffer.level.BufferClusterLevel.TheVariants.{Characters, MonotoneCharacters, MonotoneGraphemes}
 use Rattle.shapers_clusters.specs.Steps.{joined_step}
-use Rattle.shapers_indic.proofs.RowWords.{C, H, M, Ra, of, script}
+use Rattle.shapers_indic.proofs.RowWords.{C, M, of}
 use Rattle.shapers_indic_initial.proofs.InitialWords.{no_masks, rules}
-use Rattle.shapers_indic_initial.specs.InitialClusters.{all_ways, as_order_begins, glyphs_before, kept_together}
+use Rattle.shapers_indic_initial.specs.InitialClusters.{all_ways, glyphs_before, kept_together}
 use Rattle.shapers_indic_initial.specs.InitialReordering.{order_step}
 
 -- each place with the old place of what stands there: from the start, and from a base behind it
@@ -32,10 +32,6 @@ joined_clusters : joined_step MonotoneGraphemes (order_step (rules "Deva" false 
     ∷ joined_step Characters (order_step (rules "Deva" false no_masks) (of ((C, 4) ∷ (M, 9) ∷ (M, 6) ∷ []))) (0 ∷ 1 ∷ 2 ∷ []) ∷ []
     ≡ (0 ∷ 1 ∷ 1 ∷ []) ∷ (0 ∷ 1 ∷ 1 ∷ 1 ∷ []) ∷ (1 ∷ 0 ∷ 2 ∷ 2 ∷ []) ∷ (0 ∷ 2 ∷ 1 ∷ []) ∷ []
 joined_clusters = refl
-
--- as the order of the second syllable begins: the first is reordered, and in the second the H has moved and nothing has merged
-order_begins : as_order_begins (rules "Deva" true no_masks) (script "Deva") MonotoneGraphemes 7 (of ((C, 4) ∷ (M, 9) ∷ (M, 6) ∷ []) ∷ []) (of ((C, 4) ∷ (H, 4) ∷ (Ra, 8) ∷ (H, 4) ∷ [])) (range_with_len 0 7) ≡ 0 ∷ 0 ∷ 0 ∷ 3 ∷ 5 ∷ 4 ∷ 6 ∷ []
-order_begins = refl
 
 -- where a syllable stands
 standing : map (λ before. glyphs_before before) ([] ∷ (of ((C, 4) ∷ (C, 4) ∷ []) ∷ of ((C, 4) ∷ []) ∷ []) ∷ []) ≡ 0 ∷ 3 ∷ []
