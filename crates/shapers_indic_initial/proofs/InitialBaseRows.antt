@@ -1,16 +1,10 @@
 -- The reph, the limit, where the search ends, and the base, computed case by case.
-use Rattle.std.specs.Prelude.{◌≡◌, ℕ, zero, suc, true, false, List, [], ◌∷◌, map, None, refl}
+use Rattle.std.specs.Prelude.{◌≡◌, ℕ, true, false, List, [], ◌∷◌, map, None, refl}
 use Rattle.shapers_buffer.specs.declared.buffer.glyph.hb_glyph_info_t.{hb_glyph_info_t}
-use Rattle.shapers_indic.proofs.RowWords.{C, H, ZWNJ, ZWJ, M, Repha, Ra, of, plainly, marked, script}
-use Rattle.shapers_indic_initial.proofs.InitialWords.{rules, no_masks, each_mask, with_reph_of}
+use Rattle.shapers_indic.proofs.RowWords.{C, H, ZWNJ, ZWJ, M, Repha, Ra, of, plainly, script}
+use Rattle.shapers_indic_initial.proofs.InitialWords.{rules, no_masks, each_mask, ligated_at, with_reph_of}
 use Rattle.shapers_indic_initial.specs.InitialBase.{base_place, has_reph, joiner_comes_first, limit, reph_len, search_from, search_start}
 use Rattle.shapers_indic_initial.specs.InitialRules.{Rules}
-
--- the glyph at a place put in by a lookup for several
-abbrev ligated_at : ℕ → List hb_glyph_info_t → List hb_glyph_info_t
-ligated_at i [] = []
-ligated_at zero (g ∷ gs) = marked 2 g ∷ gs
-ligated_at (suc i) (g ∷ gs) = g ∷ ligated_at i gs
 
 -- the joiner of Kannada: Ra, H, ZWJ in front, none of them a ligature
 abbrev ra_h_zwj : List hb_glyph_info_t
@@ -46,16 +40,24 @@ explicit_thirds : map (reph_len (with_reph_of (0 ∷ 1 ∷ []) (rules "Sinh" fal
 explicit_thirds = refl
 
 -- a character of its own, whatever the font says
-rephas : map (reph_len (with_reph_of (0 ∷ 1 ∷ []) (rules "Mlym" false each_mask))) (plainly (Repha ∷ C ∷ []) ∷ plainly (Repha ∷ []) ∷ plainly (Ra ∷ H ∷ C ∷ []) ∷ plainly (C ∷ Repha ∷ []) ∷ [] ∷ []) ≡ 1 ∷ 1 ∷ 0 ∷ 0 ∷ 0 ∷ []
+rephas : map (reph_len (with_reph_of (0 ∷ 1 ∷ []) (rules "Mlym" false each_mask))) (plainly (Repha ∷ C ∷ []) ∷ plainly (Repha ∷ []) ∷ plainly (Ra ∷ H ∷ C ∷ []) ∷ plainly (C ∷ Repha ∷ []) ∷ [] ∷ plainly (Repha ∷ C ∷ M ∷ []) ∷ ligated_at 0 (plainly (Repha ∷ C ∷ [])) ∷ []) ≡ 1 ∷ 1 ∷ 0 ∷ 0 ∷ 0 ∷ 1 ∷ 1 ∷ []
 rephas = refl
 
 -- the limit: behind the reph and the joiners after it
 limits : limit implicit (plainly (Ra ∷ H ∷ C ∷ [])) ∷ limit implicit (plainly (Ra ∷ H ∷ ZWJ ∷ C ∷ [])) ∷ limit (with_reph_of (0 ∷ 1 ∷ []) (rules "Telu" false each_mask)) (plainly (Ra ∷ H ∷ ZWJ ∷ ZWNJ ∷ C ∷ ZWJ ∷ [])) ∷ limit (rules "Mlym" false no_masks) (plainly (Repha ∷ ZWJ ∷ C ∷ [])) ∷ limit (rules "Mlym" false no_masks) (plainly (Repha ∷ ZWJ ∷ [])) ∷ [] ≡ 2 ∷ 0 ∷ 4 ∷ 2 ∷ 2 ∷ []
 limits = refl
 
+-- a ligature of a joiner isn't passed, nor are joiners in front where there is no reph
+limits_before_joiners : limit (with_reph_of (0 ∷ 1 ∷ []) (rules "Telu" false each_mask)) (ligated_at 2 (plainly (Ra ∷ H ∷ ZWJ ∷ ZWJ ∷ C ∷ []))) ∷ limit (rules "Deva" false no_masks) (plainly (ZWJ ∷ ZWNJ ∷ C ∷ [])) ∷ [] ≡ 2 ∷ 0 ∷ []
+limits_before_joiners = refl
+
 -- where the search ends: behind the last ZWJ that follows an H
 ends : map (search_from 0) (plainly (C ∷ H ∷ ZWJ ∷ C ∷ []) ∷ plainly (C ∷ ZWJ ∷ C ∷ []) ∷ plainly (C ∷ H ∷ ZWNJ ∷ C ∷ []) ∷ plainly (C ∷ H ∷ ZWJ ∷ C ∷ H ∷ ZWJ ∷ C ∷ []) ∷ plainly (C ∷ H ∷ ZWJ ∷ []) ∷ plainly (ZWJ ∷ C ∷ []) ∷ plainly (H ∷ ZWJ ∷ C ∷ []) ∷ []) ≡ 3 ∷ 0 ∷ 0 ∷ 6 ∷ 3 ∷ 0 ∷ 2 ∷ []
 ends = refl
+
+-- be they ligatures
+ends_with_ligatures : map (search_from 0) (ligated_at 1 (plainly (C ∷ H ∷ ZWJ ∷ C ∷ [])) ∷ ligated_at 2 (plainly (C ∷ H ∷ ZWJ ∷ C ∷ [])) ∷ []) ≡ 3 ∷ 3 ∷ []
+ends_with_ligatures = refl
 
 -- from a limit on: a ZWJ before it doesn't count, one at it does; no further than the last glyph
 from_a_limit : search_from 3 (plainly (Ra ∷ H ∷ ZWJ ∷ C ∷ [])) ∷ search_from 2 (plainly (Ra ∷ H ∷ ZWJ ∷ C ∷ [])) ∷ search_start (rules "Mlym" false no_masks) (plainly (Repha ∷ [])) ∷ search_start (rules "Mlym" false no_masks) (plainly (Repha ∷ ZWJ ∷ [])) ∷ search_start (rules "Mlym" false no_masks) (plainly (Repha ∷ ZWJ ∷ C ∷ [])) ∷ [] ≡ 3 ∷ 3 ∷ 0 ∷ 1 ∷ 2 ∷ []
@@ -67,6 +69,10 @@ base_of ps = base_place (rules "Deva" false no_masks) (of (map (λ p. (C, p)) ps
 
 by_positions : map base_of ((4 ∷ 4 ∷ 4 ∷ []) ∷ (4 ∷ 4 ∷ 8 ∷ []) ∷ (4 ∷ 8 ∷ 8 ∷ []) ∷ (8 ∷ 8 ∷ 8 ∷ []) ∷ (4 ∷ 4 ∷ 11 ∷ []) ∷ (4 ∷ 8 ∷ 11 ∷ []) ∷ (4 ∷ 11 ∷ 8 ∷ []) ∷ (11 ∷ 11 ∷ 8 ∷ []) ∷ (11 ∷ 11 ∷ 11 ∷ []) ∷ (8 ∷ 11 ∷ 11 ∷ []) ∷ (8 ∷ 4 ∷ 8 ∷ []) ∷ (4 ∷ 13 ∷ 8 ∷ []) ∷ []) ≡ 2 ∷ 1 ∷ 0 ∷ 0 ∷ 1 ∷ 0 ∷ 1 ∷ 1 ∷ 0 ∷ 0 ∷ 1 ∷ 1 ∷ []
 by_positions = refl
+
+-- what is no consonant isn't one below, so a post-base one doesn't count before it
+below_alone : map (base_place (rules "Deva" false no_masks)) (of ((C, 4) ∷ (C, 11) ∷ (M, 8) ∷ []) ∷ ligated_at 2 (of ((C, 4) ∷ (C, 11) ∷ (C, 8) ∷ [])) ∷ of ((C, 4) ∷ (C, 11) ∷ (M, 8) ∷ (C, 8) ∷ []) ∷ []) ≡ 0 ∷ 0 ∷ 1 ∷ []
+below_alone = refl
 
 -- which categories may be the base, of a C and one more: those behind it at place 1, C V PLACEHOLDER DOTTEDCIRCLE Ra CS
 by_categories : map (λ c. base_place (rules "Deva" false no_masks) (plainly (C ∷ c ∷ []))) (0 ∷ 1 ∷ 2 ∷ 3 ∷ 4 ∷ 5 ∷ 6 ∷ 7 ∷ 8 ∷ 9 ∷ 10 ∷ 11 ∷ 12 ∷ 13 ∷ 14 ∷ 15 ∷ 16 ∷ 17 ∷ 18 ∷ []) ≡ 0 ∷ 1 ∷ 1 ∷ 0 ∷ 0 ∷ 0 ∷ 0 ∷ 0 ∷ 0 ∷ 0 ∷ 1 ∷ 1 ∷ 0 ∷ 0 ∷ 0 ∷ 1 ∷ 0 ∷ 0 ∷ 1 ∷ []

@@ -4,7 +4,7 @@ use Rattle.shapers_buffer.specs.Glyph.{default_glyph}
 use Rattle.shapers_buffer.specs.GlyphFlags.{with_bits}
 use Rattle.shapers_buffer.specs.declared.buffer.glyph.hb_glyph_info_t.{hb_glyph_info_t}
 use Rattle.shapers_indic.proofs.RowWords.{C, N, H, ZWNJ, ZWJ, Ra, of, plainly, marked, script, masks_of}
-use Rattle.shapers_indic_initial.proofs.InitialWords.{rules, no_masks, each_mask, with_pref_of}
+use Rattle.shapers_indic_initial.proofs.InitialWords.{rules, no_masks, each_mask, ligated_at, with_pref_of}
 use Rattle.shapers_indic_initial.specs.InitialMasks.{with_eyelash_mask, with_initial_masks, with_masks_around, with_pref_mask, with_reph_mask, without_half}
 use Rattle.shapers_indic_initial.specs.InitialRules.{Rules}
 
@@ -38,6 +38,10 @@ eyelashes = refl
 -- a ZWJ behind it forbids it, if it stands before the base
 with_joiner : eyelash 3 (Ra ∷ H ∷ ZWJ ∷ C ∷ []) ∷ eyelash 2 (Ra ∷ H ∷ ZWJ ∷ []) ∷ [] ≡ (0 ∷ 0 ∷ 0 ∷ 0 ∷ []) ∷ (32 ∷ 32 ∷ 0 ∷ []) ∷ []
 with_joiner = refl
+
+-- ligatures count, too: of Ra, of H, of that ZWJ
+with_ligatures : map (λ i. masks_of (with_eyelash_mask old (script "Deva") 3 (ligated_at i (plainly (Ra ∷ H ∷ N ∷ C ∷ []))))) (0 ∷ 1 ∷ []) ∷ map (λ i. masks_of (with_eyelash_mask old (script "Deva") 3 (ligated_at i (plainly (Ra ∷ H ∷ ZWJ ∷ C ∷ []))))) (2 ∷ []) ∷ [] ≡ ((32 ∷ 32 ∷ 0 ∷ 0 ∷ []) ∷ (32 ∷ 32 ∷ 0 ∷ 0 ∷ []) ∷ []) ∷ ((0 ∷ 0 ∷ 0 ∷ 0 ∷ []) ∷ []) ∷ []
+with_ligatures = refl
 
 no_eyelash : eyelash 1 (Ra ∷ H ∷ C ∷ []) ∷ eyelash 0 (Ra ∷ H ∷ []) ∷ eyelash 2 (C ∷ H ∷ C ∷ []) ∷ eyelash 2 (Ra ∷ C ∷ C ∷ []) ∷ masks_of (with_eyelash_mask new (script "Deva") 2 (plainly (Ra ∷ H ∷ C ∷ []))) ∷ masks_of (with_eyelash_mask old (script "Beng") 2 (plainly (Ra ∷ H ∷ C ∷ []))) ∷ [] ≡ (0 ∷ 0 ∷ 0 ∷ []) ∷ (0 ∷ 0 ∷ []) ∷ (0 ∷ 0 ∷ 0 ∷ []) ∷ (0 ∷ 0 ∷ 0 ∷ []) ∷ (0 ∷ 0 ∷ 0 ∷ []) ∷ (0 ∷ 0 ∷ 0 ∷ []) ∷ []
 no_eyelash = refl

@@ -3,7 +3,7 @@ use Rattle.std.specs.Prelude.{◌≡◌, ℕ, true, false, List, [], ◌∷◌, 
 use Rattle.shapers_buffer.specs.Glyph.{default_glyph}
 use Rattle.shapers_buffer.specs.declared.buffer.glyph.hb_glyph_info_t.{hb_glyph_info_t}
 use Rattle.shapers_indic.proofs.RowWords.{C, V, N, H, ZWNJ, ZWJ, M, SM, MPst, CM, of, plainly, marked, script, positions_of}
-use Rattle.shapers_indic_initial.proofs.InitialWords.{rules, no_masks}
+use Rattle.shapers_indic_initial.proofs.InitialWords.{ligated_at, rules, no_masks}
 use Rattle.shapers_indic_initial.specs.InitialPositions.{by_base, halant_places, with_attached, with_signs, with_halants, with_marks_attached, with_owners, with_owners_after}
 
 -- glyphs of positions
@@ -40,6 +40,10 @@ newer_specification = refl
 kannada : map (λ cs. halant_places (rules "Knda" true no_masks) (script "Knda") 0 (plainly cs)) ((C ∷ H ∷ C ∷ H ∷ []) ∷ (C ∷ H ∷ C ∷ []) ∷ (C ∷ H ∷ H ∷ C ∷ []) ∷ (C ∷ H ∷ H ∷ M ∷ []) ∷ []) ≡ (0 ∷ 1 ∷ 2 ∷ 3 ∷ []) ∷ (0 ∷ 2 ∷ 1 ∷ []) ∷ (0 ∷ 2 ∷ 3 ∷ 1 ∷ []) ∷ (0 ∷ 1 ∷ 2 ∷ 3 ∷ []) ∷ []
 kannada = refl
 
+-- a ligature of H moves, and in Kannada forbids it; one of a consonant isn't passed
+ligated_halants : halant_places (rules "Deva" true no_masks) (script "Deva") 0 (ligated_at 1 (plainly (C ∷ H ∷ C ∷ []))) ∷ halant_places (rules "Knda" true no_masks) (script "Knda") 0 (ligated_at 3 (plainly (C ∷ H ∷ C ∷ H ∷ []))) ∷ halant_places (rules "Deva" true no_masks) (script "Deva") 0 (ligated_at 2 (plainly (C ∷ H ∷ C ∷ []))) ∷ [] ≡ (0 ∷ 2 ∷ 1 ∷ []) ∷ (0 ∷ 1 ∷ 2 ∷ 3 ∷ []) ∷ (0 ∷ 1 ∷ 2 ∷ []) ∷ []
+ligated_halants = refl
+
 -- attached glyphs: N, H, ZWNJ, ZWJ, CM and RS take the nearest other position before them, but for that of modifiers; 0 where there is none
 attached : positions_of (with_attached (of ((C, 4) ∷ (N, 14) ∷ (H, 14) ∷ (M, 9) ∷ (ZWNJ, 2) ∷ (CM, 1) ∷ (ZWJ, 14) ∷ (12, 14) ∷ []))) ≡ 4 ∷ 4 ∷ 4 ∷ 9 ∷ 9 ∷ 9 ∷ 9 ∷ 9 ∷ []
 attached = refl
@@ -57,9 +61,21 @@ others_stay = refl
 signs : map (λ ts. positions_of (with_signs (of ts))) (((SM, 13) ∷ (MPst, 9) ∷ []) ∷ ((SM, 13) ∷ (MPst, 13) ∷ []) ∷ ((SM, 6) ∷ (MPst, 13) ∷ []) ∷ ((SM, 13) ∷ (M, 9) ∷ []) ∷ ((SM, 13) ∷ (N, 9) ∷ (MPst, 9) ∷ []) ∷ ((SM, 13) ∷ (SM, 13) ∷ (MPst, 9) ∷ []) ∷ ((SM, 13) ∷ []) ∷ []) ≡ (9 ∷ 9 ∷ []) ∷ (13 ∷ 13 ∷ []) ∷ (6 ∷ 13 ∷ []) ∷ (13 ∷ 9 ∷ []) ∷ (13 ∷ 9 ∷ 9 ∷ []) ∷ (13 ∷ 9 ∷ 9 ∷ []) ∷ (13 ∷ []) ∷ []
 signs = refl
 
+-- nothing but a modifier goes with a matra
+no_signs : map (λ ts. positions_of (with_signs (of ts))) (((C, 4) ∷ (MPst, 9) ∷ []) ∷ ((N, 4) ∷ (MPst, 9) ∷ []) ∷ ((MPst, 6) ∷ (MPst, 9) ∷ []) ∷ []) ≡ (4 ∷ 9 ∷ []) ∷ (4 ∷ 9 ∷ []) ∷ (6 ∷ 9 ∷ []) ∷ []
+no_signs = refl
+
 -- an H at a left matra's position: of the nearest glyph before it with another, if there is one
 halants_behind : map (λ ts. positions_of (with_halants (of ts))) (((C, 4) ∷ (M, 2) ∷ (ZWNJ, 2) ∷ (H, 2) ∷ []) ∷ ((M, 2) ∷ (H, 2) ∷ (H, 2) ∷ []) ∷ ((C, 3) ∷ (C, 4) ∷ (M, 2) ∷ (H, 2) ∷ (H, 2) ∷ []) ∷ ((C, 4) ∷ (M, 9) ∷ (H, 9) ∷ []) ∷ ((C, 4) ∷ (M, 2) ∷ (N, 2) ∷ []) ∷ []) ≡ (4 ∷ 2 ∷ 2 ∷ 4 ∷ []) ∷ (2 ∷ 2 ∷ 2 ∷ []) ∷ (3 ∷ 4 ∷ 2 ∷ 4 ∷ 4 ∷ []) ∷ (4 ∷ 9 ∷ 9 ∷ []) ∷ (4 ∷ 2 ∷ 2 ∷ []) ∷ []
 halants_behind = refl
+
+-- an H elsewhere stays, also behind a modifier
+halants_stay : map (λ ts. positions_of (with_halants (of ts))) (((C, 4) ∷ (SM, 13) ∷ (H, 4) ∷ []) ∷ ((C, 3) ∷ (H, 9) ∷ []) ∷ []) ∷ map (λ ts. positions_of (with_marks_attached (of ts))) (((C, 4) ∷ (SM, 13) ∷ (H, 0) ∷ []) ∷ []) ∷ [] ≡ ((4 ∷ 13 ∷ 4 ∷ []) ∷ (3 ∷ 9 ∷ []) ∷ []) ∷ ((4 ∷ 13 ∷ 4 ∷ []) ∷ []) ∷ []
+halants_stay = refl
+
+-- in each of the three a ligature counts as its category does: of N, of a modifier, of a postfixed matra, of H
+ligatures_attached : positions_of (with_attached (ligated_at 1 (of ((C, 4) ∷ (N, 7) ∷ [])))) ∷ positions_of (with_signs (ligated_at 0 (of ((SM, 13) ∷ (MPst, 9) ∷ [])))) ∷ positions_of (with_signs (ligated_at 1 (of ((SM, 13) ∷ (MPst, 9) ∷ [])))) ∷ positions_of (with_halants (ligated_at 2 (of ((C, 4) ∷ (M, 2) ∷ (H, 2) ∷ [])))) ∷ [] ≡ (4 ∷ 4 ∷ []) ∷ (9 ∷ 9 ∷ []) ∷ (9 ∷ 9 ∷ []) ∷ (4 ∷ 2 ∷ 4 ∷ []) ∷ []
+ligatures_attached = refl
 
 -- all three at once: C(4) M(2) ZWNJ(14) H(14), where the H gets 4; and behind a modifier that a left matra draws
 together : map (λ ts. positions_of (with_marks_attached (of ts))) (((C, 4) ∷ (M, 2) ∷ (ZWNJ, 14) ∷ (H, 14) ∷ []) ∷ ((C, 4) ∷ (SM, 13) ∷ (MPst, 2) ∷ (H, 0) ∷ []) ∷ ((C, 4) ∷ (SM, 13) ∷ (M, 2) ∷ (H, 0) ∷ []) ∷ []) ≡ (4 ∷ 2 ∷ 2 ∷ 4 ∷ []) ∷ (4 ∷ 2 ∷ 2 ∷ 4 ∷ []) ∷ (4 ∷ 13 ∷ 2 ∷ 13 ∷ []) ∷ []
@@ -71,6 +87,10 @@ owners = refl
 
 before_the_base : positions_of (with_owners_after 2 (of ((N, 0) ∷ (C, 3) ∷ (N, 4) ∷ (H, 4) ∷ (C, 8) ∷ []))) ∷ positions_of (with_owners_after 5 (of ((N, 0) ∷ (C, 3) ∷ []))) ∷ [] ≡ (0 ∷ 3 ∷ 4 ∷ 8 ∷ 8 ∷ []) ∷ (0 ∷ 3 ∷ []) ∷ []
 before_the_base = refl
+
+-- a ligature of a matra bounds what a consonant owns
+ligated_matra : positions_of (with_owners_after 0 (ligated_at 2 (of ((C, 4) ∷ (H, 4) ∷ (M, 9) ∷ (C, 8) ∷ [])))) ≡ 4 ∷ 4 ∷ 9 ∷ 8 ∷ []
+ligated_matra = refl
 
 -- a ligature is no consonant: it owns nothing, and is owned
 abbrev with_ligature : List hb_glyph_info_t

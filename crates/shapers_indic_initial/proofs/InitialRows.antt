@@ -3,8 +3,10 @@ use Rattle.std.specs.Prelude.{◌≡◌, ℕ, zero, suc, true, false, List, [], 
 use Rattle.std.specs.List.{range_with_len}
 use Rattle.shapers_buffer.specs.declared.buffer.category.hb_unicode_general_category_t.TheVariants.{Mn}
 use Rattle.shapers_buffer.specs.declared.buffer.glyph.hb_glyph_info_t.{hb_glyph_info_t}
+use Rattle.shapers_buffer.specs.declared.buffer.level.BufferClusterLevel.TheVariants.{MonotoneGraphemes}
 use Rattle.shapers_indic.proofs.RowWords.{C, H, ZWNJ, ZWJ, M, Ra, glyphs_from, of, plainly, script, numbers_of, positions_of, masks_of}
 use Rattle.shapers_indic_initial.proofs.InitialWords.{rules, no_masks, each_mask, with_reph_of, clusters_after, reordered}
+use Rattle.shapers_indic_initial.specs.InitialClusters.{as_order_begins}
 use Rattle.shapers_indic_initial.specs.InitialReordering.{initial_order, initial_steps, is_reordered}
 
 abbrev half_alone : List ℕ
@@ -78,6 +80,10 @@ full = record { glyph_id = 7; cluster = 5; mask = 0x1000; syllable = 0x20; categ
 
 fields_stay : initial_order (rules "Deva" false each_mask) (script "Deva") (record full { category = C; auxiliary = 4; glyph_id = 6 } ∷ full ∷ []) ≡ record full { mask = 0x10A0 } ∷ record full { category = C; auxiliary = 4; glyph_id = 6 } ∷ []
 fields_stay = refl
+
+-- as the order of a second syllable begins: the first is reordered, and in the second the H has moved and nothing has merged
+order_begins : as_order_begins (rules "Deva" true no_masks) (script "Deva") MonotoneGraphemes 7 (of ((C, 4) ∷ (M, 9) ∷ (M, 6) ∷ []) ∷ []) (of ((C, 4) ∷ (H, 4) ∷ (Ra, 8) ∷ (H, 4) ∷ [])) (range_with_len 0 7) ≡ 0 ∷ 0 ∷ 0 ∷ 3 ∷ 5 ∷ 4 ∷ 6 ∷ []
+order_begins = refl
 
 -- long syllables: a base and 125, 126 and 127 matras of one position, which stay; of more than 127 glyphs all merges from the base on
 abbrev base_and : ℕ → List hb_glyph_info_t

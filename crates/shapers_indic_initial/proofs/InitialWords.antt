@@ -1,6 +1,6 @@
 -- Rules for rows of the initial reordering.
 use Prim.Native.String.{String}
-use Rattle.std.specs.Prelude.{ℕ, nat_eq, Bool, false, List, [], ◌∷◌, map, Option}
+use Rattle.std.specs.Prelude.{ℕ, zero, suc, nat_eq, Bool, false, List, [], ◌∷◌, map, Option}
 use Rattle.std.specs.Cmp.Lexicographic.{pointwise}
 use Rattle.shapers_buffer.specs.declared.buffer.glyph.hb_glyph_info_t.{hb_glyph_info_t}
 use Rattle.shapers_buffer.specs.declared.buffer.tag.Script.{Script}
@@ -9,7 +9,7 @@ use Rattle.shapers_buffer.specs.Glyph.{clusters}
 use Rattle.shapers_base.specs.declared.font.GlyphId.{GlyphId}
 use Rattle.shapers_clusters.specs.Steps.{run_steps}
 use Rattle.shapers_indic.specs.Plan.{config_of}
-use Rattle.shapers_indic.proofs.RowWords.{masks_of, numbers_of, script}
+use Rattle.shapers_indic.proofs.RowWords.{marked, masks_of, numbers_of, script}
 use Rattle.shapers_indic_initial.specs.InitialReordering.{initial_order, initial_steps}
 use Rattle.shapers_indic_initial.specs.InitialRules.{Rules}
 
@@ -40,6 +40,12 @@ with_pref_of ids r = record r { forms_pref = only ids }
 
 abbrev pub clusters_after : Rules → Option Script → List hb_glyph_info_t → List ℕ
 clusters_after r s gs = clusters (run_steps MonotoneGraphemes (initial_steps r s gs) gs)
+
+-- the glyph at a place put in by a lookup for several
+abbrev pub ligated_at : ℕ → List hb_glyph_info_t → List hb_glyph_info_t
+ligated_at i [] = []
+ligated_at zero (g ∷ gs) = marked 2 g ∷ gs
+ligated_at (suc i) (g ∷ gs) = g ∷ ligated_at i gs
 
 -- order, clusters and masks of a syllable after
 abbrev pub reordered : Rules → Option Script → List hb_glyph_info_t → List (List ℕ)

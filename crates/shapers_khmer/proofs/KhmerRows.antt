@@ -133,9 +133,23 @@ two_coengs = refl
 two_coengs_clusters : clusters_after 0 (h 1 ∷ h 2 ∷ ra 3 ∷ ra 4 ∷ []) ≡ 0 ∷ 0 ∷ 0 ∷ 0 ∷ []
 two_coengs_clusters = refl
 
+-- C H1 VPre H2 Ra1 Ra2: behind the pair that moved, the Coeng before the vowel is looked at again, and it moves with a Ro three places behind it
+looked_at_again : shown 0 (c 1 ∷ h 2 ∷ pre 3 ∷ h 4 ∷ ra 5 ∷ ra 6 ∷ []) ≡ (2, 0xF0) ∷ (6, 0x1F0) ∷ (4, 0xF0) ∷ (5, 0xF0) ∷ (3, 0xE0) ∷ (1, 0) ∷ []
+looked_at_again = refl
+
+looked_at_again_clusters : clusters_after 0 (c 1 ∷ h 2 ∷ pre 3 ∷ h 4 ∷ ra 5 ∷ ra 6 ∷ []) ≡ 0 ∷ 0 ∷ 0 ∷ 0 ∷ 0 ∷ 0 ∷ []
+looked_at_again_clusters = refl
+
 -- a circle and its consonant
 broken : shown 1 ((0x25CC, 11) ∷ c 2 ∷ []) ≡ (0x25CC, 0) ∷ (2, 0xE0) ∷ []
 broken = refl
+
+-- nothing but masks and places changes, and no mark counts
+abbrev full_of : ℕ → hb_glyph_info_t
+full_of sort = record full { category = sort; marks = record { 0 = 31 } }
+
+fields_stay : khmer_order by_masks (full_of 1 ∷ full_of 4 ∷ full_of 15 ∷ []) ≡ record (full_of 4) { mask = 0x10F3 } ∷ record (full_of 15) { mask = 0x10F3 } ∷ full_of 1 ∷ []
+fields_stay = refl
 
 -- what isn't Khmer stays as it is, and one glyph alone does
 others_stay : shown 2 (c 1 ∷ h 2 ∷ ra 3 ∷ []) ≡ (1, 0) ∷ (2, 0) ∷ (3, 0) ∷ []

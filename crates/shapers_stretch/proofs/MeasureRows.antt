@@ -108,6 +108,25 @@ no_tile-added = refl
 no_tile : numbers_of (run (pos 100) (pos 0) (pos 0) 0) ≡ pos 0 ∷ pos 50 ∷ pos 0 ∷ pos 50 ∷ (negsuc 49) ∷ []
 no_tile = refl
 
+-- tiles of the least width, and tiles that reach too far by one
+least-added : copies_added (run (pos 10) (pos 0) (pos 1) 1) ≡ 9
+least-added = refl
+
+least : numbers_of (run (pos 10) (pos 0) (pos 1) 1) ≡ pos 0 ∷ pos 5 ∷ pos 10 ∷ pos 0 ∷ pos 0 ∷ []
+least = refl
+
+one_too_far-added : copies_added (run (pos 599) (pos 0) (pos 300) 1) ≡ 1
+one_too_far-added = refl
+
+one_too_far : numbers_of (run (pos 599) (pos 0) (pos 300) 1) ≡ pos 1 ∷ pos 0 ∷ pos 599 ∷ pos 0 ∷ pos 0 ∷ []
+one_too_far = refl
+
+two_one_too_far-added : copies_added (run (pos 599) (pos 0) (pos 300) 2) ≡ 2
+two_one_too_far-added = refl
+
+two_one_too_far : numbers_of (run (pos 599) (pos 0) (pos 300) 2) ≡ pos 0 ∷ pos 0 ∷ pos 600 ∷ pos 0 ∷ pos 0 ∷ []
+two_one_too_far = refl
+
 -- the ends of 32 bits
 ends : map fits_i32 (pos 2147483647 ∷ pos 2147483648 ∷ negsuc 2147483647 ∷ negsuc 2147483648 ∷ pos 0 ∷ []) ≡ true ∷ false ∷ true ∷ false ∷ true ∷ []
 ends = refl

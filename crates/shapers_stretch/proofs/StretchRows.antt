@@ -1,5 +1,5 @@
 -- Stretched marks, computed on small texts.
-use Rattle.std.specs.Prelude.{◌≡◌, ℕ, ◌==◌, ℤ, pos, negsuc, true, false, List, [], ◌∷◌, map, Option, None, Some, refl, if◌then◌else◌}
+use Rattle.std.specs.Prelude.{◌≡◌, ℕ, ◌==◌, ℤ, pos, negsuc, true, false, List, [], ◌∷◌, ◌++◌, map, Option, None, Some, refl, if◌then◌else◌}
 use Rattle.shapers_buffer.specs.declared.buffer.category.hb_unicode_general_category_t.{hb_unicode_general_category_t}
 use Rattle.shapers_buffer.specs.declared.buffer.category.hb_unicode_general_category_t.TheVariants.{Cc, Cf, Cn, Co, Cs, Ll, Lm, Lo, Lt, Lu, Mc, Me, Mn, Nd, Nl, No, Pc, Pd, Pe, Pf, Pi, Po, Ps, Sc, Sk, Sm, So, Zl, Zp, Zs}
 use Rattle.shapers_buffer.specs.declared.buffer.glyph.GlyphPosition.{GlyphPosition}
@@ -160,6 +160,16 @@ offset_too_low = refl
 
 two_before_two : map (λ d. stretch_refusal (font (λ n. if n == 2 then pos 1500000000 else negsuc 1499999999)) AsCode (text d (cell 3 0 Lo 8 (pos 0) ∷ cell 3 0 Lo 8 (pos 0) ∷ fixed_tile ∷ fixed_tile ∷ []))) (RightToLeft ∷ LeftToRight ∷ []) ≡ Some StretchOverflow ∷ Some StretchOverflow ∷ []
 two_before_two = refl
+
+-- of several runs one that overflows is enough, be it the first or the last
+abbrev wide_run : List Cell
+wide_run = letter 0 (pos 2147483647) ∷ letter 1 (pos 2147483647) ∷ fixed_tile ∷ []
+
+abbrev narrow_run : List Cell
+narrow_run = letter 0 (pos 140) ∷ fixed_tile ∷ []
+
+one_of_several : map (refusal AsCode RightToLeft) ((narrow_run ++ wide_run) ∷ (wide_run ++ narrow_run) ∷ (wide_run ++ space ∷ []) ∷ (narrow_run ++ narrow_run) ∷ []) ≡ Some StretchOverflow ∷ Some StretchOverflow ∷ Some StretchOverflow ∷ None ∷ []
+one_of_several = refl
 
 -- a word that isn't before a run is never summed
 no_run_to_measure : refusal AsCode RightToLeft (letter 0 (pos 2147483647) ∷ letter 1 (pos 2147483647) ∷ []) ≡ None

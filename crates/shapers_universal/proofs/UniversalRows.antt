@@ -1,6 +1,7 @@
 -- The order of the universal shaper, computed on small syllables.
 use Rattle.std.specs.Prelude.{ℕ, suc, ◌≡◌, None, Some, Bool, true, false, not, filter, List, [], ◌∷◌, map, refl}
 use Rattle.std.specs.List.{range_with_len}
+use Rattle.shapers_buffer.specs.declared.buffer.category.hb_unicode_general_category_t.TheVariants.{Mn}
 use Rattle.shapers_buffer.specs.declared.buffer.glyph.hb_glyph_info_t.{hb_glyph_info_t}
 use Rattle.shapers_buffer.specs.declared.buffer.level.BufferClusterLevel.TheVariants.{MonotoneGraphemes}
 use Rattle.shapers_buffer.specs.Glyph.{clusters, default_glyph}
@@ -52,6 +53,16 @@ of_kind_9 g = record g { syllable = 0x19 }
 
 other_kind : universal_order (map of_kind_9 (syl (18 ∷ 1 ∷ 22 ∷ []))) ≡ map of_kind_9 (syl (18 ∷ 1 ∷ 22 ∷ []))
 other_kind = refl
+
+other_kind_steps : universal_steps (map of_kind_9 (syl (18 ∷ 1 ∷ 22 ∷ []))) ≡ []
+other_kind_steps = refl
+
+-- glyphs with all fields set: R B VPre, of which none changes
+abbrev full : ℕ → ℕ → hb_glyph_info_t
+full sort comp = record { glyph_id = 7; cluster = 5; mask = 0x1003; syllable = 0x22; category = sort; auxiliary = 3; general_category = Mn; modified_combining_class = 9; lig_comp = comp; marks = record { 0 = 31 } }
+
+fields_stay : universal_order (full 18 2 ∷ full 1 3 ∷ full 22 0 ∷ []) ≡ full 22 0 ∷ full 1 3 ∷ full 18 2 ∷ []
+fields_stay = refl
 
 -- each category from 0 to 55: what ends the run that a reph passes, which are halants, and what goes to the front
 abbrev of_category : ℕ → hb_glyph_info_t
