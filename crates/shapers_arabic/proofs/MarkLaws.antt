@@ -1,5 +1,5 @@
 -- The order of marks in a text: what merging leaves of the parts, and what the laws of steps say.
-use Rattle.std.proofs.Common.{◌≡◌, ℕ, zero, suc, ◌+◌, ◌-◌, ◌≤◌, Bool, cond, List, [], ◌∷◌, ◌++◌, map, length, take, drop, refl, ap, sym, ◌∙◌, subst, arith, length-append, length-take, length-drop}
+use Rattle.std.proofs.Common.{◌≡◌, ℕ, zero, suc, ◌+◌, ◌-◌, ◌≤◌, Bool, List, [], ◌∷◌, ◌++◌, map, length, take, drop, refl, ap, sym, ◌∙◌, subst, arith, length-append, length-take, length-drop}
 use Rattle.std.specs.List.{prefix_len}
 use Rattle.std.proofs.lemmas.List.{length-map, take-map, drop-map, map-append}
 use Rattle.shapers_buffer.specs.declared.buffer.glyph.hb_glyph_info_t.{hb_glyph_info_t}
@@ -8,6 +8,8 @@ use Rattle.shapers_buffer.specs.declared.buffer.modified_combining_class.TheCons
 use Rattle.shapers_buffer.specs.Clusters.{stretch_of, merge_all}
 use Rattle.shapers_buffer.specs.Glyph.{plain, order_view}
 use Rattle.shapers_buffer.specs.Places.{pick}
+use Rattle.shapers_buffer.proofs.MappedLists.{prefix_len-seen}
+use Rattle.shapers_buffer.proofs.ClusterLemmas.{map-stretch}
 use Rattle.shapers_clusters.specs.Flags.{HidesFields}
 use Rattle.shapers_clusters.specs.Laws.{ReorderedHold}
 use Rattle.shapers_clusters.specs.Steps.{run_step, shifted, widened, MovesMerged, Permutes}
@@ -22,15 +24,12 @@ use Rattle.shapers_arabic.proofs.MarkLists.{joined_parts, parts_moved, split-joi
 use Rattle.shapers_arabic.proofs.MarkMoves.{step_of, moves-merged, moves-permute}
 
 -- the parts show in the order view
-prefix-plain : (test : hb_glyph_info_t → Bool) → ((g : hb_glyph_info_t) → test (plain g) ≡ test g) → (gs : List hb_glyph_info_t) → prefix_len test (order_view gs) ≡ prefix_len test gs
-prefix-plain test same [] = refl
-prefix-plain test same (g ∷ gs) = ap (λ b. cond b (1 + prefix_len test (order_view gs)) 0) (same g) ∙ ap (λ n. cond (test g) (1 + n) 0) (prefix-plain test same gs)
 
 front-plain : (test : hb_glyph_info_t → Bool) → ((g : hb_glyph_info_t) → test (plain g) ≡ test g) → (gs : List hb_glyph_info_t) → front_of test (order_view gs) ≡ order_view (front_of test gs)
-front-plain test same gs = ap (λ n. take n (order_view gs)) (prefix-plain test same gs) ∙ take-map plain (prefix_len test gs) gs
+front-plain test same gs = ap (λ n. take n (order_view gs)) (prefix_len-seen test plain same gs) ∙ take-map plain (prefix_len test gs) gs
 
 behind-plain : (test : hb_glyph_info_t → Bool) → ((g : hb_glyph_info_t) → test (plain g) ≡ test g) → (gs : List hb_glyph_info_t) → behind test (order_view gs) ≡ order_view (behind test gs)
-behind-plain test same gs = ap (λ n. drop n (order_view gs)) (prefix-plain test same gs) ∙ drop-map plain (prefix_len test gs) gs
+behind-plain test same gs = ap (λ n. drop n (order_view gs)) (prefix_len-seen test plain same gs) ∙ drop-map plain (prefix_len test gs) gs
 
 abbrev marks_of : List hb_glyph_info_t → List hb_glyph_info_t → List hb_glyph_info_t → List hb_glyph_info_t → List hb_glyph_info_t → Marks
 marks_of a m b n c = record { low = a; modifiers_below = m; middle = b; modifiers_above = n; rest = c }
@@ -103,11 +102,9 @@ step-same s t h =
     ∙ ap (λ c. step_of (length t.low) (length t.modifiers_below) (length t.middle) (length t.modifiers_above) c) h.rest
 
 -- so the merges before the moves leave the lengths of the parts
-view-stretch : (s e : ℕ) (gs : List hb_glyph_info_t) → order_view (stretch_of s e gs) ≡ stretch_of s e (order_view gs)
-view-stretch s e gs = sym (ap (take (e - s)) (drop-map plain s gs) ∙ take-map plain (e - s) (drop s gs))
 
 view-merged_stretch : (level : BufferClusterLevel) (sts : List (ℕ × ℕ)) (s e : ℕ) (gs : List hb_glyph_info_t) → order_view (stretch_of s e (merge_all level sts gs)) ≡ order_view (stretch_of s e gs)
-view-merged_stretch level sts s e gs = view-stretch s e (merge_all level sts gs) ∙ ap (stretch_of s e) (order_view-merge_all level sts gs) ∙ sym (view-stretch s e gs)
+view-merged_stretch level sts s e gs = map-stretch plain s e (merge_all level sts gs) ∙ ap (stretch_of s e) (order_view-merge_all level sts gs) ∙ sym (map-stretch plain s e gs)
 
 pub lengths-merged : (level : BufferClusterLevel) (sts : List (ℕ × ℕ)) (s e : ℕ) (gs ms : List hb_glyph_info_t) (p : Parts) → ms ≡ merge_all level sts gs → p ≡ lengths_of (split_marks (stretch_of s e gs)) → p ≡ lengths_of (split_marks (stretch_of s e ms))
 lengths-merged level sts s e gs ms p h i =
@@ -153,8 +150,8 @@ first-plain s =
     ∙ ap (λ xs. map (in_class CCC22) (order_view s.modifiers_below) ++ (xs ++ (order_view s.low ++ (order_view s.middle ++ order_view s.rest)))) (classed-plain CCC26 s.modifiers_above)
 
 -- a list whose stretch is changed, seen through a map
-map-stretch : (f : hb_glyph_info_t → hb_glyph_info_t) (s e : ℕ) (inner gs : List hb_glyph_info_t) → map f (take s gs ++ (inner ++ drop e gs)) ≡ take s (map f gs) ++ (map f inner ++ drop e (map f gs))
-map-stretch f s e inner gs =
+map-inner : (f : hb_glyph_info_t → hb_glyph_info_t) (s e : ℕ) (inner gs : List hb_glyph_info_t) → map f (take s gs ++ (inner ++ drop e gs)) ≡ take s (map f gs) ++ (map f inner ++ drop e (map f gs))
+map-inner f s e inner gs =
     map-append f (take s gs) (inner ++ drop e gs)
     ∙ ap (λ xs. xs ++ map f (inner ++ drop e gs)) (sym (take-map f s gs))
     ∙ ap (λ xs. take s (map f gs) ++ xs) (map-append f inner (drop e gs) ∙ ap (λ xs. map f inner ++ xs) (sym (drop-map f e gs)))
@@ -162,8 +159,8 @@ map-stretch f s e inner gs =
 reordered-plain : (s e : ℕ) (gs : List hb_glyph_info_t) → order_view (marks_reordered s e gs) ≡ marks_reordered s e (order_view gs)
 reordered-plain s e gs =
     let marks = stretch_of s e gs in
-    map-stretch plain s e (with_modifiers_first (split_marks marks)) gs
-    ∙ ap (λ xs. take s (order_view gs) ++ (xs ++ drop e (order_view gs))) (first-plain (split_marks marks) ∙ ap with_modifiers_first (sym (split-plain marks)) ∙ ap (λ xs. with_modifiers_first (split_marks xs)) (view-stretch s e gs))
+    map-inner plain s e (with_modifiers_first (split_marks marks)) gs
+    ∙ ap (λ xs. take s (order_view gs) ++ (xs ++ drop e (order_view gs))) (first-plain (split_marks marks) ∙ ap with_modifiers_first (sym (split-plain marks)) ∙ ap (λ xs. with_modifiers_first (split_marks xs)) (map-stretch plain s e gs))
 
 pub marks_view : (level : BufferClusterLevel) (s e : ℕ) (gs : List hb_glyph_info_t) → order_view (marks_reordered s e (marks_merged level s e gs)) ≡ marks_reordered s e (order_view gs)
 marks_view level s e gs = reordered-plain s e (marks_merged level s e gs) ∙ ap (marks_reordered s e) (order_view-merge_all level (text_step s e gs).merged_first gs)
@@ -221,9 +218,9 @@ step_gives level s e gs h l =
     ap (λ n. pick (widened s e n step).places ms) (sym long)
     ∙ pick-widened s e step ms h (omega arith) fits.within
     ∙ ap (λ xs. take s ms ++ (xs ++ drop e ms)) picked in
-    map-stretch without_class s e (with_modifiers_first new) ms
+    map-inner without_class s e (with_modifiers_first new) ms
     ∙ ap (λ xs. take s (map without_class ms) ++ (xs ++ drop e (map without_class ms))) (first-hidden new)
-    ∙ sym (map-stretch without_class s e (parts_moved new) ms)
+    ∙ sym (map-inner without_class s e (parts_moved new) ms)
     ∙ ap (map without_class) (sym ran)
 
 -- what the reordering leaves, by the laws

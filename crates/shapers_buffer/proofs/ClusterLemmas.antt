@@ -1,5 +1,5 @@
 -- What the loops that merge rest on.
-use Rattle.std.proofs.Common.{◌≡◌, ◌<◌, ◌≤◌, ℕ, zero, suc, ◌+◌, ◌-◌, ◌==◌, Bool, true, false, cond, not, ◌&&◌, nat_lt, inl, inr, List, [], ◌∷◌, ◌++◌, min, map, length, get_or, take, drop, reverse, refl, sym, ap, ◌∙◌, append_assoc, arith, length-take, length-drop, if◌then◌else◌}
+use Rattle.std.proofs.Common.{◌≡◌, ◌<◌, ◌≤◌, ℕ, zero, suc, ◌+◌, ◌-◌, ◌==◌, Bool, true, false, cond, not, ◌&&◌, nat_lt, inl, inr, List, [], ◌∷◌, ◌++◌, min, map, length, get_or, take, drop, reverse, refl, sym, ap, ◌∙◌, append_assoc, arith, length-take, length-drop, if◌then◌else◌, length-take-le}
 use Rattle.std.specs.Prelude.{fold}
 use Rattle.std.specs.List.{prefix_len, suffix_len}
 use Rattle.std.proofs.lemmas.List.{length-reverse, map-append, reverse-append, reverse-reverse, take_at, drop_at, drop-drop, take-take, drop-take, take-append-drop, drop_all, take_all, get_or-reverse, take-map, drop-map, append-nil}
@@ -103,6 +103,13 @@ merged_inside s e gs h l =
     stretched_parts (in_cluster m) s e k j gs h le
     ∙ ap (λ l. l ++ (map (in_cluster m) middle ++ (map (in_cluster m) (take j (drop e gs)) ++ drop j (drop e gs)))) (sym front)
     ∙ ap (λ l. reverse (flooded (first_cluster middle) m (reverse (take s gs))) ++ (map (in_cluster m) middle ++ l)) (sym (flooded-parts (last_cluster middle) m (drop e gs)))
+
+-- how long a stretch is, and each element of it changed
+pub length-stretch : {X : Type 0} (s e : ℕ) (xs : List X) → e ≤ length xs → length (stretch_of s e xs) ≡ e - s
+length-stretch s e xs h = length-take-le (e - s) (drop s xs) (omega (arith, length-drop s xs))
+
+pub map-stretch : {X Y : Type 0} (f : X → Y) (s e : ℕ) (xs : List X) → map f (stretch_of s e xs) ≡ stretch_of s e (map f xs)
+map-stretch f s e xs = sym (ap (take (e - s)) (drop-map f s xs) ∙ take-map f (e - s) (drop s xs))
 
 -- a list is its front, a stretch and what is behind it
 pub three_parts : {X : Type 0} (s e : ℕ) (xs : List X) → s ≤ e → take s xs ++ (stretch_of s e xs ++ drop e xs) ≡ xs

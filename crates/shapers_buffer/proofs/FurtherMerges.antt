@@ -1,5 +1,5 @@
 -- Merges that go on behind glyphs that are in one cluster already.
-use Rattle.std.proofs.Common.{◌≡◌, ◌<◌, ◌≤◌, ℕ, ◌+◌, ◌-◌, ◌==◌, inl, inr, nat_lt, not, true, List, [], ◌∷◌, ◌++◌, min, map, length, get_or, take, drop, reverse, refl, sym, ap, ◌∙◌, append_assoc, arith, length-take, length-drop}
+use Rattle.std.proofs.Common.{◌≡◌, ◌<◌, ◌≤◌, ℕ, ◌+◌, ◌-◌, ◌==◌, inl, inr, nat_lt, not, true, List, [], ◌∷◌, ◌++◌, min, map, length, get_or, take, drop, reverse, refl, sym, ap, ◌∙◌, append_assoc, arith, length-take}
 use Rattle.std.specs.Prelude.{fold}
 use Rattle.std.specs.List.{list_all}
 use Rattle.std.proofs.lemmas.List.{length-reverse, map-append, reverse-append, reverse-reverse, length-map, drop-drop, take_at, drop_at, get_or-take, get_or-drop}
@@ -11,7 +11,7 @@ use Rattle.shapers_buffer.specs.declared.buffer.glyph.hb_glyph_info_t.{hb_glyph_
 use Rattle.shapers_buffer.specs.declared.buffer.level.BufferClusterLevel.{BufferClusterLevel}
 use Rattle.shapers_buffer.specs.Glyph.{clusters, default_glyph}
 use Rattle.shapers_buffer.specs.Clusters.{least, first_cluster, last_cluster, has_cluster, in_cluster, in_one_cluster, flooded, merge, merged, merges, stretch_of, taken_in}
-use Rattle.shapers_buffer.proofs.ClusterLemmas.{first-read, flooded_itself, merged_is, three_parts}
+use Rattle.shapers_buffer.proofs.ClusterLemmas.{first-read, flooded_itself, merged_is, three_parts, length-stretch}
 
 -- glyphs of a cluster stay when they are put into it, and it is their least one
 in_cluster_stays : (c : ℕ) (gs : List hb_glyph_info_t) → list_all (has_cluster c) gs ≡ true → map (in_cluster c) gs ≡ gs
@@ -99,17 +99,14 @@ front_in_two s mid xs h =
     let n : mid ≡ s + (mid - s) = omega arith in
     ap (λ k. take k xs) n ∙ take-add s (mid - s) xs
 
-length-stretch_of : {X : Type 0} (s e : ℕ) (xs : List X) → s ≤ e → e ≤ length xs → length (stretch_of s e xs) ≡ e - s
-length-stretch_of s e xs h l = omega (arith, length-take (e - s) (drop s xs), length-drop s xs)
-
 -- what the code makes is the merge
 pub further_merged : (s mid e : ℕ) (gs : List hb_glyph_info_t) → s < mid → mid < e → e ≤ length gs → in_one_cluster (stretch_of s mid gs) ≡ true → first_cluster (stretch_of s mid gs) ≤ least (clusters (stretch_of mid e gs)) → taken_in (first_cluster (stretch_of s mid gs)) mid e gs ≡ merged s e gs
 further_merged s mid e gs h l within one le =
     let front = stretch_of s mid gs in
     let back = stretch_of mid e gs in
     let c = first_cluster front in
-    let first : 0 < length front = omega (arith, length-stretch_of s mid gs (omega arith) (omega arith)) in
-    let second : 0 < length back = omega (arith, length-stretch_of mid e gs (omega arith) within) in
+    let first : 0 < length front = omega (arith, length-stretch s mid gs (omega arith)) in
+    let second : 0 < length back = omega (arith, length-stretch mid e gs within) in
     let both = joined_behind (take s gs) front back (drop e gs) first second one le in
     ap (λ l. l ++ (map (in_cluster c) back ++ flooded (last_cluster back) c (drop e gs))) (front_in_two s mid gs (omega arith))
     ∙ append_assoc (take s gs) front (map (in_cluster c) back ++ flooded (last_cluster back) c (drop e gs))
@@ -148,7 +145,7 @@ one_merged s e gs h l =
     let before = reverse (flooded (first_cluster middle) m (reverse (take s gs))) in
     let behind = flooded (last_cluster middle) m (drop e gs) in
     let n : length before ≡ s = length-reverse (flooded (first_cluster middle) m (reverse (take s gs))) ∙ length-flooded (first_cluster middle) m (reverse (take s gs)) ∙ length-reverse (take s gs) ∙ omega (arith, length-take s gs) in
-    let k : length (map (in_cluster m) middle) ≡ e - s = length-map middle (in_cluster m) ∙ length-stretch_of s e gs h l in
+    let k : length (map (in_cluster m) middle) ≡ e - s = length-map middle (in_cluster m) ∙ length-stretch s e gs l in
     let stretch : stretch_of s e (merged s e gs) ≡ map (in_cluster m) middle = ap (λ l. take (e - s) (drop s l)) (merged_is s e gs h) ∙ ap (take (e - s)) (drop_at before (map (in_cluster m) middle ++ behind) s n) ∙ take_at (map (in_cluster m) middle) behind (e - s) k in
     ap in_one_cluster stretch ∙ one_after_map m middle
 
@@ -159,7 +156,7 @@ nothing_further level s mid e gs h to l one end = elim (cases_Bool (merges level
   | inl on ↦
       let same : mid ≡ e = let le = end on in omega arith in
       let there : in_one_cluster (stretch_of s e gs) ≡ true = ap (λ n. in_one_cluster (stretch_of s n gs)) (sym same) ∙ one on in
-      let some : 0 < length (stretch_of s e gs) = omega (arith, length-stretch_of s e gs (omega arith) l) in
+      let some : 0 < length (stretch_of s e gs) = omega (arith, length-stretch s e gs l) in
       let all : merged s e gs ≡ gs = merged_is s e gs (omega arith) ∙ one_stays (take s gs) (stretch_of s e gs) (drop e gs) some there ∙ three_parts s e gs (omega arith) in
       rw on (elim (cases_Bool (not (nat_lt (e - s) 2))) [
         | inl two ↦ rw two (sym all)

@@ -5,6 +5,7 @@ pub mod FurtherMerges
 mod ConstantRows
 mod GlyphFlagRows
 pub mod ListLaws
+pub mod Listing
 pub mod MappedLists
 pub mod MarkLemmas
 mod MarkRows

@@ -11,10 +11,23 @@ pub map-reverse : {X Y : Type 0} (f : X → Y) (xs : List X) → map f (reverse 
 map-reverse f [] = refl
 map-reverse f (x ∷ xs) = ap (map f) (reverse-append (x ∷ []) xs) ∙ map_push f (reverse xs) x ∙ ap (λ l. l ++ f x ∷ []) (map-reverse f xs) ∙ sym (reverse-append (f x ∷ []) (map f xs))
 
--- the longest end of a mapped list, and what stands before it
-prefix_len-map : {X Y : Type 0} (test : Y → Bool) (f : X → Y) (xs : List X) → prefix_len test (map f xs) ≡ prefix_len (λ x. test (f x)) xs
+-- changes that a view doesn't see, and that it sees as they are
+pub map-hidden : {X Y : Type 0} (view : X → Y) (f : X → X) → ((x : X) → view (f x) ≡ view x) → (xs : List X) → map view (map f xs) ≡ map view xs
+map-hidden view f hides [] = refl
+map-hidden view f hides (x ∷ xs) = ap (λ y. y ∷ map view (map f xs)) (hides x) ∙ ap (λ ys. view x ∷ ys) (map-hidden view f hides xs)
+
+pub map-seen : {X : Type 0} (view f : X → X) → ((x : X) → view (f x) ≡ f (view x)) → (xs : List X) → map view (map f xs) ≡ map f (map view xs)
+map-seen view f same [] = refl
+map-seen view f same (x ∷ xs) = ap (λ y. y ∷ map view (map f xs)) (same x) ∙ ap (λ ys. f (view x) ∷ ys) (map-seen view f same xs)
+
+-- the longest front and the longest end of a mapped list, and what stands before it
+pub prefix_len-map : {X Y : Type 0} (test : Y → Bool) (f : X → Y) (xs : List X) → prefix_len test (map f xs) ≡ prefix_len (λ x. test (f x)) xs
 prefix_len-map test f [] = refl
 prefix_len-map test f (x ∷ xs) = ap (λ n. cond (test (f x)) (1 + n) 0) (prefix_len-map test f xs)
+
+pub prefix_len-seen : {X : Type 0} (test : X → Bool) (view : X → X) → ((x : X) → test (view x) ≡ test x) → (xs : List X) → prefix_len test (map view xs) ≡ prefix_len test xs
+prefix_len-seen test view same [] = refl
+prefix_len-seen test view same (x ∷ xs) = ap (λ b. cond b (1 + prefix_len test (map view xs)) 0) (same x) ∙ ap (λ n. cond (test x) (1 + n) 0) (prefix_len-seen test view same xs)
 
 pub suffix_len-map : {X Y : Type 0} (test : Y → Bool) (f : X → Y) (xs : List X) → suffix_len test (map f xs) ≡ suffix_len (λ x. test (f x)) xs
 suffix_len-map test f xs = ap (prefix_len test) (sym (map-reverse f xs)) ∙ prefix_len-map test f (reverse xs)

@@ -1,7 +1,7 @@
 -- Laws of the placement list: what is read, and what is written.
 use Prim.Native.Nat.compare
 use lib.Dec.{compare_is_eq}
-use Rattle.std.proofs.Common.{◌≡◌, ℕ, zero, suc, ◌+◌, ◌-◌, ◌<◌, ◌≤◌, ◌==◌, false, if◌then◌else◌, List, [], ◌∷◌, ◌++◌, length, take, drop, get_or, set, slice_set, replicate, refl, sym, ap, ◌∙◌, arith, length-append, length-take-le, length-drop}
+use Rattle.std.proofs.Common.{◌≡◌, ℕ, zero, suc, ◌+◌, ◌-◌, ◌<◌, ◌≤◌, ◌==◌, false, if◌then◌else◌, List, [], ◌∷◌, ◌++◌, length, take, drop, get_or, set, slice_set, replicate, refl, sym, ap, ◌∙◌, arith, length-append}
 use Rattle.std.specs.List.{All, range_with_len, slice_get, cons_option}
 use Rattle.std.proofs.lemmas.List.{ext_get_or, get_or-take, get_or-drop, take_more, take_more_set}
 use Rattle.std.proofs.lemmas.List.Elements.{All-from_get_or, filter_map-append}
@@ -12,6 +12,7 @@ use Rattle.std.proofs.lemmas.Bool.Decides.{nat_tests}
 use Rattle.std.proofs.lemmas.List.{length-replicate}
 use Rattle.shapers_buffer.specs.Places.{onto_places, without_last_zeros, with_place, place_at, listed, pick, ListsEachOnce, PlacesAreWritten}
 use Rattle.shapers_buffer.specs.Clusters.{stretch_of}
+use Rattle.shapers_buffer.proofs.ClusterLemmas.{length-stretch}
 
 -- zeros at the end don't count
 onto_zero : onto_places 0 [] ≡ []
@@ -90,8 +91,6 @@ set-without_last_zeros ps i p h =
     ∙ sym (read_set long i p j (long_enough (without_last_zeros ps) i)))
 
 -- what is listed, read off a list that is long enough
-length-stretch : {X : Type 0} (s e : ℕ) (xs : List X) → s ≤ e → e ≤ length xs → length (stretch_of s e xs) ≡ e - s
-length-stretch s e xs h l = length-take-le (e - s) (drop s xs) (omega (arith, length-drop s xs))
 
 listed_at : (s e : ℕ) (ps : List ℕ) (k : ℕ) → k < e - s → get_or (listed s e (without_last_zeros ps)) k 0 ≡ get_or (stretch_of s e ps) k 0
 listed_at s e ps k h =
@@ -102,7 +101,7 @@ listed_at s e ps k h =
 pub listed-stretch : (s e : ℕ) (ps : List ℕ) → s ≤ e → e ≤ length ps → listed s e (without_last_zeros ps) ≡ stretch_of s e ps
 listed-stretch s e ps h l =
     let n = length-map-range_with_len (place_at (without_last_zeros ps)) s (e - s) in
-    ext_get_or 0 (listed s e (without_last_zeros ps)) (stretch_of s e ps) (n ∙ sym (length-stretch s e ps h l)) (λ k i. listed_at s e ps k (omega (arith, n)))
+    ext_get_or 0 (listed s e (without_last_zeros ps)) (stretch_of s e ps) (n ∙ sym (length-stretch s e ps l)) (λ k i. listed_at s e ps k (omega (arith, n)))
 
 -- places that are each listed once lie within
 range_within : (s e n : ℕ) → s ≤ e → e ≤ n → All (λ p. p < n) (range_with_len s (e - s))

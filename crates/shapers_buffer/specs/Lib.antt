@@ -3,6 +3,7 @@ pub mod Category
 pub mod Clusters
 pub mod Glyph
 pub mod GlyphFlags
+pub mod ListingWalk
 pub mod Lists
 pub mod Marks
 pub mod Places

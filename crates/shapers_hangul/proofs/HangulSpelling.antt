@@ -3,7 +3,7 @@ use Rattle.std.proofs.Common.{◌≡◌, inl, inr, ℕ, zero, suc, ◌+◌, ◌-
 use Rattle.std.specs.List.{filter}
 use Rattle.std.proofs.lemmas.Bool.{leb-true, le-leb, eqb-true}
 use Rattle.std.proofs.lemmas.Bool.Decides.{leb_tells}
-use Rattle.std.proofs.lemmas.List.{append-nil, drop_more, take_more, take-append-drop}
+use Rattle.std.proofs.lemmas.List.{append-nil, drop_more, take_more, take-append-drop, drop-drop}
 use Rattle.std.proofs.lemmas.List.Concat.{flat_map-append}
 use Rattle.std.proofs.lemmas.List.Elements.{filter-append}
 use Rattle.std.proofs.Math.Seq.{drop-nil}
@@ -20,7 +20,7 @@ use Rattle.shapers_hangul.specs.Hangul.{is_between, is_l, is_v, is_t, combines_l
 use Rattle.shapers_hangul.specs.HangulLaws.{jamo_of, full, spelled, SpellingLaw, SpellsSame}
 use Rattle.shapers_hangul.proofs.Outputs.{Leads, outputs-map}
 use Rattle.shapers_hangul.proofs.Walks.{characters-all_joined}
-use Rattle.shapers_hangul.proofs.Items.{both, either, taken_some, drop_more_of, there, above, unit_within}
+use Rattle.shapers_hangul.proofs.Items.{both, either, taken_some, there, above, unit_within}
 
 true_is_not : true ≡ false → ⊥
 true_is_not e = cc
@@ -287,14 +287,14 @@ rest_spells font circles all place zero (u ∷ us) is =
     let rest = items_from (first_item font circles) (place + 1) (n - 1) us in
     let some = taken_some item.unit in
     let many : n ≡ suc (n - 1) = omega (arith, some) in
-    let next : drop (place + 1) all ≡ us = sym (drop_more_of place 1 all) ∙ ap (drop 1) is in
+    let next : drop (place + 1) all ≡ us = sym (drop-drop 1 place all) ∙ ap (drop 1) is in
     spelled-append (item_output character_copies item (drop place all)) (outputs character_copies rest all)
     ∙ ap (λ xs. spelled (item_output character_copies item xs) ++ spelled (outputs character_copies rest all)) is
     ∙ ap (λ xs. xs ++ spelled (outputs character_copies rest all)) (item_spells font circles u us)
     ∙ ap (λ xs. spelled (take n (u ∷ us)) ++ xs) (rest_spells font circles all (place + 1) (n - 1) us next ∙ sym (ap (λ k. spelled (drop k (u ∷ us))) many))
     ∙ sym (spelled-append (take n (u ∷ us)) (drop n (u ∷ us)))
     ∙ ap spelled (take-append-drop n (u ∷ us))
-rest_spells font circles all place (suc skip) (u ∷ us) is = rest_spells font circles all (place + 1) skip us (sym (drop_more_of place 1 all) ∙ ap (drop 1) is)
+rest_spells font circles all place (suc skip) (u ∷ us) is = rest_spells font circles all (place + 1) skip us (sym (drop-drop 1 place all) ∙ ap (drop 1) is)
 
 pub spells : SpellingLaw
 spells font circles us = record { unit = unit_spells font circles us; whole = rest_spells font circles us 0 0 us refl }

@@ -1,8 +1,7 @@
 -- Units and items: how far they reach, one after another.
 use Rattle.std.proofs.Common.{◌≡◌, ◌⊎◌, inl, inr, ℕ, zero, suc, ◌+◌, ◌-◌, ◌<◌, ◌≤◌, ◌&&◌, ◌||◌, ◌==◌, not, Bool, true, false, cond, List, [], ◌∷◌, length, get_or, drop, refl, sym, ap, subst, ◌∙◌, arith}
 use Rattle.std.proofs.lemmas.Bool.Decides.{nat_tests}
-use Rattle.std.proofs.lemmas.List.{drop_all, length-drop}
-use Rattle.std.proofs.Math.Seq.{drop-nil}
+use Rattle.std.proofs.lemmas.List.{drop_all, length-drop, drop-drop}
 use Rattle.shapers_base.specs.Font.{Font, has_nominal}
 use Rattle.shapers_hangul.specs.declared.ot_shaper_hangul.item.Item.{Item}
 use Rattle.shapers_hangul.specs.declared.ot_shaper_hangul.item.JoinedTone.{JoinedTone}
@@ -229,11 +228,6 @@ item_next read place k (u ∷ us) some takes =
     ap (λ n. (place, read (u ∷ us)) ∷ items_from read (place + 1) n us) less
     ∙ ap (λ l. (place, read (u ∷ us)) ∷ l) (skipped read (place + 1) k us ∙ ap (λ p. items_from read p 0 (drop k us)) same)
 
-pub drop_more_of : {X : Type 0} (n k : ℕ) (xs : List X) → drop k (drop n xs) ≡ drop (n + k) xs
-drop_more_of zero k xs = let same : k ≡ 0 + k = omega arith in ap (λ i. drop i xs) same
-drop_more_of (suc n) k [] = drop-nil k ∙ sym (drop-nil (suc n + k))
-drop_more_of (suc n) k (x ∷ xs) = let same : suc n + k ≡ suc (n + k) = omega arith in drop_more_of n k xs ∙ sym (ap (λ i. drop i (x ∷ xs)) same)
-
 -- the items from a place of a text on
 abbrev pub items_at : Font → Bool → List ℕ → ℕ → List (ℕ × Item)
 items_at font circles us place = items_from (first_item font circles) place 0 (drop place us)
@@ -249,7 +243,7 @@ items_at_next font circles us place item inside is =
     item_next read place k rest (omega (arith, length-drop place us)) takes
     ∙ ap (λ i. (place, i) ∷ items_from read (place + suc k) 0 (drop (suc k) rest)) (sym is)
     ∙ ap (λ n. (place, item) ∷ items_from read (place + n) 0 (drop n rest)) many
-    ∙ ap (λ l. (place, item) ∷ items_from read (place + item_len item) 0 l) (drop_more_of place (item_len item) us)
+    ∙ ap (λ l. (place, item) ∷ items_from read (place + item_len item) 0 l) (drop-drop (item_len item) place us)
 
 pub items_at_end : (font : Font) (circles : Bool) (us : List ℕ) (place : ℕ) → length us ≤ place → items_at font circles us place ≡ []
 items_at_end font circles us place past = ap (items_from (first_item font circles) place 0) (drop_all place us past)

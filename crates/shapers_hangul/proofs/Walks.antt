@@ -2,7 +2,7 @@
 use Rattle.std.proofs.Common.{◌≡◌, ℕ, zero, suc, ◌+◌, ◌<◌, ◌≤◌, ◌||◌, ◌&&◌, ◌==◌, not, nat_lt, Bool, true, false, cond, List, [], ◌∷◌, ◌++◌, length, map, take, drop, refl, sym, ap, subst, ◌∙◌, arith}
 use Rattle.std.specs.Prelude.{slice_index_or}
 use Rattle.std.proofs.lemmas.Bool.{eqb-true}
-use Rattle.std.proofs.lemmas.List.{append_assoc, append-nil, length-append, length-map, drop-map, take-append-drop}
+use Rattle.std.proofs.lemmas.List.{append_assoc, append-nil, length-append, length-map, drop-map, take-append-drop, drop-drop}
 use Rattle.shapers_buffer.specs.declared.buffer.glyph.hb_glyph_info_t.{hb_glyph_info_t}
 use Rattle.shapers_buffer.specs.declared.buffer.level.BufferClusterLevel.{BufferClusterLevel}
 use Rattle.shapers_buffer.specs.Clusters.{merge, merge_all}
@@ -20,7 +20,7 @@ use Rattle.shapers_hangul.specs.declared.ot_shaper_hangul.item.JoinedTone.TheVar
 use Rattle.shapers_hangul.specs.declared.ot_shaper_hangul.item.Unit.{Unit}
 use Rattle.shapers_hangul.specs.declared.ot_shaper_hangul.item.Unit.TheVariants.{ComposedTwo, ComposedThree, JamoTwo, JamoThree, PartsTwo, PartsThree, PartsBeforeT, Syllable, ToneCircle, CircleTone, Other}
 use Rattle.shapers_hangul.specs.Hangul.{taken, output_len, tone_len, item_len, keeps, is_kept, first_item, items, Fit, Copying, unit_output, with_tone, item_output, outputs, is_merged, item_stretches, stretches, unsafe_stretches, item_joined, all_joined, glyph_copies, characters, Stays}
-use Rattle.shapers_hangul.proofs.Items.{drop_more_of, items_at, items_at_next, items_at_end}
+use Rattle.shapers_hangul.proofs.Items.{items_at, items_at_next, items_at_end}
 
 pub characters-merge_all : (level : BufferClusterLevel) (sts : List (ℕ × ℕ)) (gs : List hb_glyph_info_t) → characters (merge_all level sts gs) ≡ characters gs
 characters-merge_all level sts gs = map-merge_all (λ g. g.glyph_id) (λ g. refl) level sts gs
@@ -212,7 +212,7 @@ stays_next font circles gs place item inside is kept later =
       unjoined = λ level. ap (all_joined level cut) (keeps.unjoined level place gs) ∙ later.unjoined level;
       same =
           ap (λ l. l ++ outputs glyph_copies cut gs) (keeps.itself (drop place gs))
-          ∙ ap (λ l. take 1 (drop place gs) ++ l) (later.same ∙ ap (λ n. drop (place + n) gs) keeps.one ∙ sym (drop_more_of place 1 gs))
+          ∙ ap (λ l. take 1 (drop place gs) ++ l) (later.same ∙ ap (λ n. drop (place + n) gs) keeps.one ∙ sym (drop-drop 1 place gs))
           ∙ take-append-drop 1 (drop place gs);
     })
 

@@ -9,7 +9,7 @@ use Rattle.shapers_buffer.specs.Clusters.{merge, merge_all, merged, merges}
 use Rattle.shapers_clusters.specs.Steps.{shifted}
 use Rattle.shapers_indic_initial.specs.CycleWalk.{EachOnce, with_spent}
 use Rattle.shapers_indic_initial.specs.InitialOrder.{cycle, cycle_stretch, leads_cycle, way_to}
-use Rattle.shapers_indic_initial.proofs.Cycles.{In, cycle_back, cycle_closed_back, cycle_within, in_or_not, way_agrees, way_at}
+use Rattle.shapers_indic_initial.proofs.Cycles.{In, cycle_back, cycle_closed_back, cycle_within, in_or_not, way_agrees, way_at, all_true, fold_min-le, fold_max-le}
 
 -- a list with some places spent: they stay, the others are as they were
 pub length-with_spent : (f xs : List ℕ) → length (with_spent f xs) ≡ length f
@@ -88,10 +88,6 @@ all_false test x (y ∷ ys) i e = elim i [
     | inr t ↦ ap (λ b. b && list_all test ys) t
   ]
 ]
-
-all_true : (test : ℕ → Bool) (xs : List ℕ) → ((x : ℕ) → In x xs → test x ≡ true) → list_all test xs ≡ true
-all_true test [] each = refl
-all_true test (y ∷ ys) each = ap (λ b. b && list_all test ys) (each y (inl refl)) ∙ all_true test ys (λ x i. each x (inr i))
 
 pub follows : (f : List ℕ) (base p r : ℕ) → base ≤ p → p < r → In p (cycle f r) → leads_cycle f base r ≡ false
 follows f base p r h l i = all_false (λ q. nat_lt q base || nat_le r q) p (cycle f r) i (grind (arith, nat_tests))
@@ -192,13 +188,6 @@ left_spent level s f base p gs h l o own =
     (λ r a b. alike_behind f base p r h (omega arith) (omega arith) o)
 
 -- the bounds of what a cycle merges
-fold_min-le : (x : ℕ) (xs : List ℕ) → fold min x xs ≤ x
-fold_min-le x [] = omega arith
-fold_min-le x (y ∷ ys) = omega (arith, fold_min-le (min x y) ys)
-
-fold_max-le : (x : ℕ) (xs : List ℕ) → x ≤ fold max x xs
-fold_max-le x [] = omega arith
-fold_max-le x (y ∷ ys) = omega (arith, fold_max-le (max x y) ys)
 
 fold_max-lt : (n x : ℕ) (xs : List ℕ) → x < n → ((y : ℕ) → In y xs → y < n) → fold max x xs < n
 fold_max-lt n x [] h each = h

@@ -1,7 +1,7 @@
 -- What cycles hold together is what the ways of their glyphs hold together.
 use Rattle.std.proofs.Common.{ℕ, zero, suc, ◌+◌, ◌-◌, ◌<◌, ◌≤◌, ◌≡◌, ◌≢◌, ◌⊎◌, inl, inr, Bool, true, false, ◌||◌, ◌&&◌, nat_lt, max, min, cond, List, [], ◌∷◌, length, map, get_or, refl, sym, ◌∙◌, ap, subst, arith}
 use Rattle.std.specs.Prelude.{filter, fold, nat_le}
-use Rattle.std.specs.List.{list_all, range_with_len}
+use Rattle.std.specs.List.{range_with_len}
 use Rattle.std.proofs.lemmas.Bool.{cases_Bool, cases_lt}
 use Rattle.std.proofs.lemmas.Bool.Decides.{nat_tests}
 use Rattle.shapers_clusters.specs.Cuts.{held}
@@ -9,7 +9,7 @@ use Rattle.shapers_indic.specs.Glyphs.{places}
 use Rattle.shapers_indic_initial.specs.CycleWalk.{EachOnce}
 use Rattle.shapers_indic_initial.specs.InitialClusters.{all_ways, way_of}
 use Rattle.shapers_indic_initial.specs.InitialOrder.{cycle, cycle_stretch, cycle_stretches, leads_cycle}
-use Rattle.shapers_indic_initial.proofs.Cycles.{In, cycle_back, cycle_closed, cycle_within, in_or_not, way_keeps}
+use Rattle.shapers_indic_initial.proofs.Cycles.{In, cycle_back, cycle_closed, cycle_within, in_or_not, way_keeps, all_true, fold_min-le, fold_max-le}
 
 -- places of a range, of a filtered list
 in_range : (a n x : ℕ) → a ≤ x → x < a + n → In x (range_with_len a n)
@@ -83,25 +83,18 @@ by_held f (y ∷ ys) r h = elim (cases_Bool (nat_lt (f y).0 r && nat_lt r (f y).
 ]
 
 -- the least and the greatest of some numbers: bounds that are reached
-least_start : (m : ℕ) (xs : List ℕ) → fold min m xs ≤ m
-least_start m [] = omega arith
-least_start m (y ∷ ys) = let h = least_start (min m y) ys in omega arith
 
 least_bound : (m : ℕ) (xs : List ℕ) (x : ℕ) → In x xs → fold min m xs ≤ x
 least_bound m [] x i = absurd i
 least_bound m (y ∷ ys) x i = elim i [
-  | inl e ↦ (let h = least_start (min m y) ys in omega arith)
+  | inl e ↦ (let h = fold_min-le (min m y) ys in omega arith)
   | inr j ↦ least_bound (min m y) ys x j
 ]
-
-greatest_start : (m : ℕ) (xs : List ℕ) → m ≤ fold max m xs
-greatest_start m [] = omega arith
-greatest_start m (y ∷ ys) = let h = greatest_start (max m y) ys in omega arith
 
 greatest_bound : (m : ℕ) (xs : List ℕ) (x : ℕ) → In x xs → x ≤ fold max m xs
 greatest_bound m [] x i = absurd i
 greatest_bound m (y ∷ ys) x i = elim i [
-  | inl e ↦ (let h = greatest_start (max m y) ys in omega arith)
+  | inl e ↦ (let h = fold_max-le (max m y) ys in omega arith)
   | inr j ↦ greatest_bound (max m y) ys x j
 ]
 
@@ -161,10 +154,6 @@ least_in xs a (suc k) p e i = elim (in_or_not a xs) [
         ];
       }
 ]
-
-all_true : (test : ℕ → Bool) (xs : List ℕ) → ((x : ℕ) → In x xs → test x ≡ true) → list_all test xs ≡ true
-all_true test [] each = refl
-all_true test (y ∷ ys) each = ap (λ b. b && list_all test ys) (each y (inl refl)) ∙ all_true test ys (λ x i. each x (inr i))
 
 before_or_from : (base l q : ℕ) → ((base ≤ q) → l ≤ q) → (nat_lt q base || nat_le l q) ≡ true
 before_or_from base l q h = elim (cases_lt q base) [

@@ -1,7 +1,7 @@
 -- Cycles of a list that has each of its places once.
-use Rattle.std.proofs.Common.{◌≡◌, ◌≢◌, ◌⊎◌, inl, inr, ℕ, zero, suc, ◌<◌, ◌==◌, eqb, true, false, ◌||◌, List, [], ◌∷◌, length, get_or, set, refl, sym, ap, ◌∙◌, subst, arith, length-set, get_or-set_same, get_or-set_other, if◌then◌else◌}
+use Rattle.std.proofs.Common.{◌≡◌, ◌≢◌, ◌⊎◌, inl, inr, ℕ, zero, suc, ◌<◌, ◌==◌, eqb, true, false, ◌||◌, List, [], ◌∷◌, length, get_or, set, refl, sym, ap, ◌∙◌, subst, arith, length-set, get_or-set_same, get_or-set_other, if◌then◌else◌, Bool, fold, min, max, ◌≤◌, ◌&&◌}
 use Rattle.std.specs.Prelude.{swap}
-use Rattle.std.specs.List.{AllByRecursion, IsDistinct, list_any}
+use Rattle.std.specs.List.{AllByRecursion, IsDistinct, list_any, list_all}
 use Rattle.std.proofs.lemmas.Bool.{cases_eq}
 use Rattle.std.proofs.lemmas.Bool.Decides.{nat_tests}
 use Rattle.std.proofs.lemmas.List.Edits.{swap_is, length-swap}
@@ -24,6 +24,19 @@ in_or_not x (y ∷ ys) = elim (cases_eq x y) [
     | inr o ↦ inr (λ i. elim i [ inl e ↦ n e | inr i ↦ o i ])
   ]
 ]
+
+-- a test that all of some numbers pass, and their least and greatest with another
+pub all_true : (test : ℕ → Bool) (xs : List ℕ) → ((x : ℕ) → In x xs → test x ≡ true) → list_all test xs ≡ true
+all_true test [] each = refl
+all_true test (y ∷ ys) each = ap (λ b. b && list_all test ys) (each y (inl refl)) ∙ all_true test ys (λ x i. each x (inr i))
+
+pub fold_min-le : (x : ℕ) (xs : List ℕ) → fold min x xs ≤ x
+fold_min-le x [] = omega arith
+fold_min-le x (y ∷ ys) = omega (arith, fold_min-le (min x y) ys)
+
+pub fold_max-le : (x : ℕ) (xs : List ℕ) → x ≤ fold max x xs
+fold_max-le x [] = omega arith
+fold_max-le x (y ∷ ys) = omega (arith, fold_max-le (max x y) ys)
 
 -- two places that change what they have
 abbrev pub turned : ℕ → ℕ → ℕ → ℕ

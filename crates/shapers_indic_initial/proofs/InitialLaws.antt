@@ -4,6 +4,7 @@ use Rattle.shapers_buffer.specs.declared.buffer.glyph.hb_glyph_info_t.{hb_glyph_
 use Rattle.shapers_buffer.specs.declared.buffer.tag.Script.{Script}
 use Rattle.shapers_buffer.specs.Glyph.{plain}
 use Rattle.shapers_buffer.specs.Places.{pick}
+use Rattle.shapers_buffer.specs.Buffer.{Buffer}
 use Rattle.shapers_clusters.specs.Steps.{FitsStep, Permutes, Step}
 use Rattle.shapers_clusters.proofs.Picks.{pick-map}
 use Rattle.shapers_clusters.proofs.Through.{length-same}
@@ -14,15 +15,18 @@ use Rattle.shapers_indic_initial.specs.InitialOrder.{ordered_base, ordered_place
 use Rattle.shapers_indic_initial.specs.InitialReordering.{halant_step, in_order, initial_order, initial_steps, is_reordered, joiner_step, masked_in_order, order_step, steps_of_reordered, with_all_positions, with_base, with_joiner_first}
 use Rattle.shapers_indic_initial.specs.InitialPositions.{with_marks_attached}
 use Rattle.shapers_indic_initial.specs.InitialRules.{Rules, rules_of}
-use Rattle.shapers_indic_initial.specs.InitialLaws.{InitialReorderLaws, InitialTextReordered}
-use Rattle.shapers_indic_initial.specs.InitialPause.{with_positions_and_circles}
+use Rattle.shapers_indic_initial.specs.InitialLaws.{InitialReorderLaws}
+use Rattle.shapers_indic_initial.specs.InitialPause.{with_positions_and_circles, InitiallyReordered}
 use Rattle.shapers_indic_initial.proofs.InitialSteps.{halant_fits, halant_permutes, joiner_fits, joiner_permutes, order_fits}
 use Rattle.shapers_indic_initial.proofs.InitialViews.{carried_hides_positions, hidden-by_base, hidden-with_initial_masks, hidden-with_marks_attached, hidden-with_owners_after, seen_hides_masks, seen_hides_positions}
 use Rattle.shapers_indic_initial.proofs.OrderedPlaces.{ordered_permutes}
 use Rattle.shapers_syllabic.specs.Reordering.{carried}
-use Rattle.shapers_syllabic.specs.ReorderingLaws.{ReorderLaws}
+use Rattle.shapers_syllabic.specs.ReorderingLaws.{ReorderLaws, TextReordered}
 use Rattle.shapers_syllabic.proofs.ReorderingLaws.{text_reordered}
 use Rattle.shapers_syllabic.proofs.LawsThen.{laws_by_step, laws_then, laws_where}
+use Rattle.shapers_base.specs.declared.plan.indic.indic_shape_plan_t.{indic_shape_plan_t}
+use Rattle.shapers_base.specs.Font.{Font}
+use Rattle.shapers_base.specs.Map.{Map}
 
 -- the step of Kannada
 pub joiner_laws : (script : Option Script) → ReorderLaws (with_joiner_first script) (λ gs. joiner_step script gs ∷ [])
@@ -36,7 +40,7 @@ halant_order r script gs = with_all_positions r script (base_place r gs) (with_b
 abbrev pub halant_step_of : Rules → Option Script → List hb_glyph_info_t → Step
 halant_step_of r script gs = halant_step r script (base_place r gs) (with_base r gs)
 
-length-with_base : (r : Rules) (gs : List hb_glyph_info_t) → length (with_base r gs) ≡ length gs
+pub length-with_base : (r : Rules) (gs : List hb_glyph_info_t) → length (with_base r gs) ≡ length gs
 length-with_base r gs = length-same carried (with_base r gs) gs (hidden-by_base carried carried_hides_positions (base_place r gs) (has_reph r gs) gs)
 
 pub halant_laws : (r : Rules) (script : Option Script) → ReorderLaws (halant_order r script) (λ gs. halant_step_of r script gs ∷ [])
@@ -76,7 +80,7 @@ pub initial_laws : InitialReorderLaws
 initial_laws r script = laws_where is_reordered (all_three r script) (steps_of_reordered r script) (three_laws r script)
 
 -- the whole text after the pause
-pub initial_text_reordered : InitialTextReordered
+pub initial_text_reordered : (font : Font) (m : Map) (p : indic_shape_plan_t) (old new : Buffer) → InitiallyReordered font m p old new → TextReordered (initial_steps (rules_of font m p) old.script) (with_positions_and_circles font m p old) new
 initial_text_reordered font m p old new done =
     let r = rules_of font m p in
     text_reordered (initial_order r old.script) (initial_steps r old.script) (with_positions_and_circles font m p old) new (initial_laws r old.script) done

@@ -10,7 +10,7 @@ use Rattle.shapers_buffer.specs.Clusters.{stretch_of, with_stretch}
 use Rattle.shapers_buffer.specs.GlyphFlags.{with_bits}
 use Rattle.shapers_buffer.specs.Places.{pick}
 use Rattle.shapers_buffer.specs.Syllables.{kind_of}
-use Rattle.shapers_buffer.proofs.MappedLists.{list_any-map}
+use Rattle.shapers_buffer.proofs.MappedLists.{list_any-map, map-seen}
 use Rattle.shapers_base.specs.declared.plan.ot_category_t.TheConstants.{OT_H, OT_Ra, OT_ZWJ, OT_ZWNJ}
 use Rattle.shapers_base.specs.declared.plan.ot_position_t.TheConstants.{POS_BASE_C, POS_PRE_M, POS_RA_TO_BECOME_REPH}
 use Rattle.shapers_clusters.specs.Steps.{Step, still_step, swap_step}
@@ -21,14 +21,14 @@ use Rattle.shapers_indic_initial.specs.InitialBase.{base_place}
 use Rattle.shapers_indic_initial.specs.InitialMasks.{bits_of, has_eyelash, is_in_eyelash, loses_half, mask_after_base, mask_before_base, opens_eyelash, pref_pair, with_bits_on_pair, with_eyelash_mask, with_initial_masks, with_masks_around, with_pref_mask, with_reph_mask, without_bits, without_half}
 use Rattle.shapers_indic_initial.specs.InitialOrder.{group, group_in_order, last_unit_first, ordered_base, ordered_places, ordered_stretches}
 use Rattle.shapers_indic_initial.specs.InitialPositions.{with_marks_attached, with_owners_after}
-use Rattle.shapers_indic_initial.specs.InitialReordering.{halant_step, in_order, is_reordered, joiner_step, masked_in_order, order_step, steps_of_reordered, with_base, with_joiner_first}
+use Rattle.shapers_indic_initial.specs.InitialReordering.{halant_step, in_order, is_reordered, joiner_step, masked_in_order, order_step, steps_of_reordered, with_base, with_joiner_first, initial_order, initial_steps}
 use Rattle.shapers_base.specs.declared.font.GlyphId.{GlyphId}
 use Rattle.shapers_base.specs.declared.plan.indic.indic_shape_plan_t.{indic_shape_plan_t}
 use Rattle.shapers_base.specs.Font.{Font}
 use Rattle.shapers_base.specs.Map.{Map}
 use Rattle.shapers_indic_initial.specs.InitialFont.{all_by_virama, by_virama, consonant_position, positions_by_font, virama_glyph}
 use Rattle.shapers_indic_initial.specs.InitialRules.{Rules, mask_at, rules_of}
-use Rattle.shapers_indic_initial.specs.InitialLaws.{InitialReadsNoSerials, OrderByFontReadsNoSerials}
+use Rattle.shapers_indic_initial.specs.InitialLaws.{OrderByFontReadsNoSerials}
 use Rattle.shapers_indic_initial.proofs.InitialLaws.{all_three, halant_order, halant_step_of, masked_order}
 use Rattle.shapers_indic_initial.proofs.InitialReads.{KeepsRead, base_stays, joiner_first_stays, numbers_stay, passes_stays, prefix_stays, same_three, same_two}
 use Rattle.shapers_indic_initial.proofs.InitialWrites.{halant_places_stay, with_base_stays, with_marks_stays, with_owners_after_stays}
@@ -36,6 +36,7 @@ use Rattle.shapers_syllabic.specs.declared.ot_shaper_syllabic.kinds.indic_syllab
 use Rattle.shapers_syllabic.specs.Borders.{unnumbered}
 use Rattle.shapers_syllabic.specs.Consonants.{is_consonant}
 use Rattle.shapers_syllabic.proofs.LawsThen.{reads_by_view, reads_then, reads_where}
+use Rattle.shapers_syllabic.specs.ReorderingLaws.{ReadsNoSerials}
 
 -- glyphs without serials keep what is read
 pub unnumbered_keeps : KeepsRead unnumbered
@@ -110,20 +111,17 @@ order_step_stays r gs =
     (ap ordered_base (sym (in_order_stays gs)) ∙ ordered_base_stays (in_order gs))
 
 -- masks
-bits_stay : (m : ℕ) (gs : List hb_glyph_info_t) → map unnumbered (map (with_bits m) gs) ≡ map (with_bits m) (map unnumbered gs)
-bits_stay m [] = refl
-bits_stay m (g ∷ gs) = ap (λ xs. unnumbered (with_bits m g) ∷ xs) (bits_stay m gs)
 
 reph_mask_stays : (r : Rules) (gs : List hb_glyph_info_t) → map unnumbered (with_reph_mask r gs) ≡ with_reph_mask r (map unnumbered gs)
 reph_mask_stays r gs =
-    stretch_stays (map (with_bits (bits_of r RPHF))) (bits_stay (bits_of r RPHF)) 0 (prefix_len (has_position POS_RA_TO_BECOME_REPH) gs) gs
+    stretch_stays (map (with_bits (bits_of r RPHF))) (map-seen unnumbered (with_bits (bits_of r RPHF)) (λ g. refl)) 0 (prefix_len (has_position POS_RA_TO_BECOME_REPH) gs) gs
     ∙ ap (λ n. with_stretch 0 n (map (with_bits (bits_of r RPHF))) (map unnumbered gs)) (sym (prefix_stays unnumbered (has_position POS_RA_TO_BECOME_REPH) (λ g. refl) gs))
 
 around_stays : (r : Rules) (base : ℕ) (gs : List hb_glyph_info_t) → map unnumbered (with_masks_around r base gs) ≡ with_masks_around r base (map unnumbered gs)
 around_stays r base gs =
     let before = with_stretch 0 base (map (with_bits (mask_before_base r))) gs in
-    stretch_stays (map (with_bits (mask_after_base r))) (bits_stay (mask_after_base r)) (base + 1) (length gs) before
-    ∙ same_two (λ n xs. with_stretch (base + 1) n (map (with_bits (mask_after_base r))) xs) (sym (length-map gs unnumbered)) (stretch_stays (map (with_bits (mask_before_base r))) (bits_stay (mask_before_base r)) 0 base gs)
+    stretch_stays (map (with_bits (mask_after_base r))) (map-seen unnumbered (with_bits (mask_after_base r)) (λ g. refl)) (base + 1) (length gs) before
+    ∙ same_two (λ n xs. with_stretch (base + 1) n (map (with_bits (mask_after_base r))) xs) (sym (length-map gs unnumbered)) (stretch_stays (map (with_bits (mask_before_base r))) (map-seen unnumbered (with_bits (mask_before_base r)) (λ g. refl)) 0 base gs)
 
 opens_eyelash_stays : (base : ℕ) (gs : List hb_glyph_info_t) → opens_eyelash base (map unnumbered gs) ≡ opens_eyelash base gs
 opens_eyelash_stays base gs =
@@ -150,7 +148,7 @@ pref_pair_stays r base gs =
 
 on_pair_stays : (m : ℕ) (o : Option ℕ) (gs : List hb_glyph_info_t) → map unnumbered (with_bits_on_pair m o gs) ≡ with_bits_on_pair m o (map unnumbered gs)
 on_pair_stays m None gs = refl
-on_pair_stays m (Some i) gs = stretch_stays (map (with_bits m)) (bits_stay m) i (i + 2) gs
+on_pair_stays m (Some i) gs = stretch_stays (map (with_bits m)) (map-seen unnumbered (with_bits m) (λ g. refl)) i (i + 2) gs
 
 pref_mask_stays : (r : Rules) (base : ℕ) (gs : List hb_glyph_info_t) → map unnumbered (with_pref_mask r base gs) ≡ with_pref_mask r base (map unnumbered gs)
 pref_mask_stays r base gs =
@@ -194,7 +192,7 @@ kinds_read : (gs : List hb_glyph_info_t) → is_reordered (map unnumbered gs) �
 kinds_read [] = refl
 kinds_read (g ∷ gs) = let same : kind_of (kind_of g.syllable) ≡ kind_of g.syllable = omega arith in ap (λ (k : ℕ). list_any (λ kind. kind == k) (CONSONANT_SYLLABLE ∷ VOWEL_SYLLABLE ∷ STANDALONE_CLUSTER ∷ BROKEN_CLUSTER ∷ [])) same
 
-pub initial_reads_no_serials : InitialReadsNoSerials
+initial_reads_no_serials : (r : Rules) (script : Option Script) → ReadsNoSerials (initial_order r script) (initial_steps r script)
 initial_reads_no_serials r script =
     reads_where is_reordered (all_three r script) (steps_of_reordered r script) (λ gs hs same. sym (kinds_read gs) ∙ ap is_reordered same ∙ kinds_read hs)
     (reads_then (with_joiner_first script) (λ gs. masked_order r script (halant_order r script gs)) (λ gs. joiner_step script gs ∷ []) (λ gs. halant_step_of r script gs ∷ (order_step r (halant_order r script gs) ∷ []))

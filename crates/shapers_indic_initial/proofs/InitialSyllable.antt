@@ -12,6 +12,7 @@ use Rattle.shapers_indic_initial.specs.InitialReordering.{in_order, initial_orde
 use Rattle.shapers_indic_initial.specs.InitialRules.{Rules}
 use Rattle.shapers_indic_initial.proofs.InitialLaws.{halant_laws, halant_order, halant_step_of, joiner_laws}
 use Rattle.shapers_indic_initial.proofs.InitialSteps.{order_fits}
+use Rattle.shapers_indic_initial.proofs.Opening.{seen_long}
 use Rattle.shapers_syllabic.specs.Reordering.{SyllableReordered}
 use Rattle.shapers_syllabic.specs.ReorderingLaws.{ReorderLaws}
 use Rattle.shapers_syllabic.proofs.LawsThen.{laws_then}
@@ -31,8 +32,6 @@ length-in_order r gs =
     length-pick (order_step r gs).places gs f.within ∙ f.as_many
 
 -- a syllable of the order view
-length-stretch : (s e : ℕ) (gs : List hb_glyph_info_t) → s ≤ e → e ≤ length gs → length (stretch_of s e (order_view gs)) ≡ e - s
-length-stretch s e gs h l = length-take-le (e - s) (drop s (order_view gs)) (omega (arith, length-drop s (order_view gs), length-map gs plain))
 
 kind-viewed : (gs : List hb_glyph_info_t) → is_reordered (order_view gs) ≡ is_reordered gs
 kind-viewed [] = refl
@@ -61,11 +60,11 @@ after meaning steps s e old new h l k done =
 ordered_and_masked : (r : Rules) (script : Option Script) (s e : ℕ) (b1 b2 b3 b4 : Buffer) → s ≤ e → e ≤ length b1.glyphs → SyllableReordered (positioned r script) (opening_steps r script) s e b1 b2 → SyllableReordered in_order (λ gs. order_step r gs ∷ []) s e b2 b3 → SyllableReordered (masked_in_order r script) (λ _. []) s e b3 b4 → SyllableReordered (λ gs. masked_in_order r script (in_order (positioned r script gs))) (λ gs. opening_steps r script gs ++ ((order_step r (positioned r script gs) ∷ []) ++ [])) s e b1 b4
 ordered_and_masked r script s e b1 b2 b3 b4 h l p o m =
     let x1 = stretch_of s e (order_view b1.glyphs) in
-    let n1 : length (positioned r script x1) ≡ e - s = length-positioned r script x1 ∙ length-stretch s e b1.glyphs h l in
+    let n1 : length (positioned r script x1) ≡ e - s = length-positioned r script x1 ∙ seen_long s e b1.glyphs h l in
     let a = after (positioned r script) (opening_steps r script) s e b1 b2 h l n1 p in
     let l2 : e ≤ length b2.glyphs = omega (arith, a.long) in
     let x2 = stretch_of s e (order_view b2.glyphs) in
-    let n2 : length (in_order x2) ≡ e - s = length-in_order r x2 ∙ length-stretch s e b2.glyphs h l2 in
+    let n2 : length (in_order x2) ≡ e - s = length-in_order r x2 ∙ seen_long s e b2.glyphs h l2 in
     syllable_then (positioned r script) (λ gs. masked_in_order r script (in_order gs)) (opening_steps r script) (λ gs. (order_step r gs ∷ []) ++ []) s e b1 b2 b4 h l n1 p
     (syllable_then in_order (masked_in_order r script) (λ gs. order_step r gs ∷ []) (λ _. []) s e b2 b3 b4 h l2 n2 o m)
 
@@ -73,7 +72,7 @@ ordered_and_masked r script s e b1 b2 b3 b4 h l p o m =
 pub initial_syllable : (first : List hb_glyph_info_t → List hb_glyph_info_t) (r : Rules) (script : Option Script) (s e : ℕ) (b0 b1 b2 b3 b4 : Buffer) → s ≤ e → e ≤ length b0.glyphs → ((gs : List hb_glyph_info_t) → length (first gs) ≡ length gs) → SyllableReordered first (λ _. []) s e b0 b1 → is_reordered (stretch_of s e b1.glyphs) ≡ true → SyllableReordered (positioned r script) (opening_steps r script) s e b1 b2 → SyllableReordered in_order (λ gs. order_step r gs ∷ []) s e b2 b3 → SyllableReordered (masked_in_order r script) (λ _. []) s e b3 b4 → SyllableReordered (λ gs. initial_order r script (first gs)) (λ gs. initial_steps r script (first gs)) s e b0 b4
 initial_syllable first r script s e b0 b1 b2 b3 b4 h l long f kind p o m =
     let x0 = stretch_of s e (order_view b0.glyphs) in
-    let n0 : length (first x0) ≡ e - s = long x0 ∙ length-stretch s e b0.glyphs h l in
+    let n0 : length (first x0) ≡ e - s = long x0 ∙ seen_long s e b0.glyphs h l in
     let a = after first (λ _. []) s e b0 b1 h l n0 f in
     let l1 : e ≤ length b1.glyphs = omega (arith, a.long) in
     let yes : is_reordered (first x0) ≡ true = sym (ap is_reordered a.syllable) ∙ kind-stretch s e b1.glyphs ∙ kind in
@@ -87,7 +86,7 @@ initial_syllable first r script s e b0 b1 b2 b3 b4 h l long f kind p o m =
 pub other_syllable : (first : List hb_glyph_info_t → List hb_glyph_info_t) (r : Rules) (script : Option Script) (s e : ℕ) (b0 b1 : Buffer) → s ≤ e → e ≤ length b0.glyphs → ((gs : List hb_glyph_info_t) → length (first gs) ≡ length gs) → SyllableReordered first (λ _. []) s e b0 b1 → is_reordered (stretch_of s e b1.glyphs) ≡ false → SyllableReordered (λ gs. initial_order r script (first gs)) (λ gs. initial_steps r script (first gs)) s e b0 b1
 other_syllable first r script s e b0 b1 h l long f kind =
     let x0 = stretch_of s e (order_view b0.glyphs) in
-    let n0 : length (first x0) ≡ e - s = long x0 ∙ length-stretch s e b0.glyphs h l in
+    let n0 : length (first x0) ≡ e - s = long x0 ∙ seen_long s e b0.glyphs h l in
     let a = after first (λ _. []) s e b0 b1 h l n0 f in
     let no : is_reordered (first x0) ≡ false = sym (ap is_reordered a.syllable) ∙ kind-stretch s e b1.glyphs ∙ kind in
     syllable_as first (λ gs. initial_order r script (first gs)) (λ _. []) (λ gs. initial_steps r script (first gs)) s e b0 b1

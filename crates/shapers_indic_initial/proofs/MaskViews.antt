@@ -11,6 +11,7 @@ use Rattle.shapers_buffer.specs.Clusters.{stretch_of, with_stretch}
 use Rattle.shapers_buffer.specs.Glyph.{order_view, plain, without_flags}
 use Rattle.shapers_buffer.specs.GlyphFlags.{with_bits}
 use Rattle.shapers_buffer.specs.Marks.{no_marks}
+use Rattle.shapers_buffer.proofs.MappedLists.{map-seen, prefix_len-seen}
 use Rattle.shapers_base.specs.declared.plan.ot_category_t.TheConstants.{OT_ZWNJ}
 use Rattle.shapers_base.specs.declared.plan.ot_position_t.TheConstants.{POS_BASE_C, POS_RA_TO_BECOME_REPH}
 use Rattle.shapers_clusters.proofs.FlagCalls.{flags-or, plain-or}
@@ -59,30 +60,23 @@ carried_hides_masks half off fits = record {
 }
 
 -- glyphs changed each for itself, and by their places
-viewed-map : (f : hb_glyph_info_t → hb_glyph_info_t) → ((g : hb_glyph_info_t) → plain (f g) ≡ f (plain g)) → (gs : List hb_glyph_info_t) → order_view (map f gs) ≡ map f (order_view gs)
-viewed-map f same [] = refl
-viewed-map f same (g ∷ gs) = ap (λ x. x ∷ order_view (map f gs)) (same g) ∙ ap (λ xs. f (plain g) ∷ xs) (viewed-map f same gs)
 
 viewed-numbered : (change meant : ℕ → hb_glyph_info_t → hb_glyph_info_t) → ((i : ℕ) (g : hb_glyph_info_t) → plain (change i g) ≡ meant i (plain g)) → (n : ℕ) (gs : List hb_glyph_info_t) → order_view (map (λ t. change t.0 t.1) (enumerate_from n gs)) ≡ map (λ t. meant t.0 t.1) (enumerate_from n (order_view gs))
 viewed-numbered change meant same n [] = refl
 viewed-numbered change meant same n (g ∷ gs) = ap (λ x. x ∷ order_view (map (λ t. change t.0 t.1) (enumerate_from (n + 1) gs))) (same n g) ∙ ap (λ xs. meant n (plain g) ∷ xs) (viewed-numbered change meant same (n + 1) gs)
 
 viewed-stretch : (m s e : ℕ) → m % 8 ≡ 0 → (gs : List hb_glyph_info_t) → order_view (with_stretch s e (map (with_bits m)) gs) ≡ with_stretch s e (map (with_bits m)) (order_view gs)
-viewed-stretch m s e off gs = stretch-viewed s e (map (with_bits m)) (map (with_bits m)) gs (viewed-map (with_bits m) (λ g. plain-with_bits m g off) (stretch_of s e gs))
+viewed-stretch m s e off gs = stretch-viewed s e (map (with_bits m)) (map (with_bits m)) gs (map-seen plain (with_bits m) (λ g. plain-with_bits m g off) (stretch_of s e gs))
 
 length-viewed : (gs : List hb_glyph_info_t) → length (order_view gs) ≡ length gs
 length-viewed gs = length-map gs plain
-
-prefix-viewed : (test : hb_glyph_info_t → Bool) → ((g : hb_glyph_info_t) → test (plain g) ≡ test g) → (gs : List hb_glyph_info_t) → prefix_len test (order_view gs) ≡ prefix_len test gs
-prefix-viewed test same [] = refl
-prefix-viewed test same (g ∷ gs) = ap (λ b. cond b (1 + prefix_len test (order_view gs)) 0) (same g) ∙ ap (λ n. cond (test g) (1 + n) 0) (prefix-viewed test same gs)
 
 -- part by part
 viewed-with_reph_mask : (r : Rules) (gs : List hb_glyph_info_t) → order_view (with_reph_mask r gs) ≡ with_reph_mask r (order_view gs)
 viewed-with_reph_mask r gs =
     let m = bits_of r RPHF in
     viewed-stretch m 0 (prefix_len (has_position POS_RA_TO_BECOME_REPH) gs) (bits_off r RPHF) gs
-    ∙ sym (ap (λ n. with_stretch 0 n (map (with_bits m)) (order_view gs)) (prefix-viewed (has_position POS_RA_TO_BECOME_REPH) (λ g. refl) gs))
+    ∙ sym (ap (λ n. with_stretch 0 n (map (with_bits m)) (order_view gs)) (prefix_len-seen (has_position POS_RA_TO_BECOME_REPH) plain (λ g. refl) gs))
 
 viewed-with_masks_around : (r : Rules) (base : ℕ) (gs : List hb_glyph_info_t) → order_view (with_masks_around r base gs) ≡ with_masks_around r base (order_view gs)
 viewed-with_masks_around r base gs =
@@ -170,7 +164,7 @@ viewed-with_initial_masks r script base gs fits =
 
 -- the base of an ordered syllable
 pub ordered_base-viewed : (gs : List hb_glyph_info_t) → ordered_base (order_view gs) ≡ ordered_base gs
-ordered_base-viewed gs = base_by_position (order_view gs) ∙ prefix-viewed (λ g. not (has_position POS_BASE_C g)) (λ g. refl) gs ∙ sym (base_by_position gs)
+ordered_base-viewed gs = base_by_position (order_view gs) ∙ prefix_len-seen (λ g. not (has_position POS_BASE_C g)) plain (λ g. refl) gs ∙ sym (base_by_position gs)
 
 -- the masks of a syllable of the buffer
 pub syllable_masked : (r : Rules) (script : Option Script) (s e : ℕ) (old new : Buffer) → s ≤ e → bits_of r HALF ≤ 0xFFFFFFFF → but_places new ≡ record (but_places old) { glyphs = new.glyphs } → new.glyphs ≡ with_stretch s e (masked_in_order r script) old.glyphs → SyllableReordered (masked_in_order r script) (λ _. []) s e old new

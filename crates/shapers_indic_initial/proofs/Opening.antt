@@ -2,18 +2,17 @@
 use Rattle.std.proofs.Common.{ℕ, zero, suc, ◌+◌, ◌-◌, ◌<◌, ◌≤◌, ◌≡◌, Bool, true, false, if◌then◌else◌, List, [], ◌∷◌, ◌++◌, length, take, drop, Option, refl, sym, ◌∙◌, ap, subst, arith}
 use Rattle.std.specs.Prelude.{swap}
 use Rattle.std.specs.List.{range_with_len}
-use Rattle.std.proofs.lemmas.List.{drop-map, length-drop, length-map, length-take-le, take-map}
+use Rattle.std.proofs.lemmas.List.{length-map, length-take-le}
 use Rattle.shapers_buffer.specs.declared.buffer.glyph.hb_glyph_info_t.{hb_glyph_info_t}
 use Rattle.shapers_buffer.specs.declared.buffer.tag.Script.{Script}
 use Rattle.shapers_buffer.specs.Buffer.{Buffer, but_places}
 use Rattle.shapers_buffer.specs.Clusters.{merge, merge_all, stretch_of, with_stretch}
 use Rattle.shapers_buffer.specs.Glyph.{default_glyph, order_view, plain}
 use Rattle.shapers_buffer.specs.Places.{pick}
-use Rattle.shapers_buffer.proofs.ClusterLemmas.{three_parts}
+use Rattle.shapers_buffer.proofs.ClusterLemmas.{three_parts, length-stretch, map-stretch}
 use Rattle.shapers_clusters.specs.Steps.{FitsStep, Step, shifted, still_step, swap_step}
 use Rattle.shapers_clusters.proofs.Merging.{length-merge}
 use Rattle.shapers_clusters.proofs.Picks.{length-pick, pick-all}
-use Rattle.shapers_clusters.proofs.Through.{length-same}
 use Rattle.shapers_indic.specs.Glyphs.{places}
 use Rattle.shapers_indic_initial.specs.InitialBase.{base_place, has_reph, joiner_comes_first}
 use Rattle.shapers_indic_initial.specs.InitialPositions.{by_base, halant_after, halant_from, halant_places, moved_behind, with_marks_attached, with_owners_after}
@@ -25,6 +24,7 @@ use Rattle.shapers_indic_initial.proofs.InitialViews.{carried_hides_positions, h
 use Rattle.shapers_indic_initial.proofs.InitialWrites.{halant_places_stay, with_base_stays, with_marks_stays, with_owners_after_stays}
 use Rattle.shapers_indic_initial.proofs.Moves.{moved_within, pick-moved, stepped}
 use Rattle.shapers_indic_initial.proofs.OrderedPlaces.{places_all}
+use Rattle.shapers_indic_initial.proofs.InitialLaws.{length-with_base}
 use Rattle.shapers_syllabic.specs.Reordering.{SyllableReordered, carried}
 use Rattle.shapers_syllabic.proofs.SyllableThen.{changed_parts, syllable_as, syllable_changed, syllable_then}
 
@@ -39,26 +39,21 @@ plain_keeps = record {
 }
 
 -- a syllable in the order view, and how long it is
-pub seen_syllable : (s e : ℕ) (gs : List hb_glyph_info_t) → stretch_of s e (order_view gs) ≡ order_view (stretch_of s e gs)
-seen_syllable s e gs = ap (take (e - s)) (drop-map plain s gs) ∙ take-map plain (e - s) (drop s gs)
 
-stretch_long : {X : Type 0} (s e : ℕ) (xs : List X) → s ≤ e → e ≤ length xs → length (stretch_of s e xs) ≡ e - s
-stretch_long s e xs h l = length-take-le (e - s) (drop s xs) (omega (arith, length-drop s xs))
-
-seen_long : (s e : ℕ) (gs : List hb_glyph_info_t) → s ≤ e → e ≤ length gs → length (stretch_of s e (order_view gs)) ≡ e - s
-seen_long s e gs h l = stretch_long s e (order_view gs) h (omega (arith, length-map gs plain))
+pub seen_long : (s e : ℕ) (gs : List hb_glyph_info_t) → s ≤ e → e ≤ length gs → length (stretch_of s e (order_view gs)) ≡ e - s
+seen_long s e gs h l = length-stretch s e (order_view gs) (omega (arith, length-map gs plain))
 
 -- a stretch picked in its own order stays
 picked_still : (s e n : ℕ) (gs : List hb_glyph_info_t) → s ≤ e → e ≤ length gs → n ≡ e - s → gs ≡ with_stretch s e (pick (range_with_len 0 n)) gs
 picked_still s e n gs h l k =
     sym (three_parts s e gs h)
-    ∙ sym (ap (λ ys. take s gs ++ (ys ++ drop e gs)) (pick-all n (stretch_of s e gs) (stretch_long s e gs h l ∙ sym k)))
+    ∙ sym (ap (λ ys. take s gs ++ (ys ++ drop e gs)) (pick-all n (stretch_of s e gs) (length-stretch s e gs l ∙ sym k)))
 
 -- a stretch picked by a move
 picked_moved : (s e n h j : ℕ) (gs : List hb_glyph_info_t) → s ≤ e → e ≤ length gs → n ≡ e - s → h ≤ j → j < n → moved_behind (s + h) (s + j) gs ≡ with_stretch s e (pick (moved_behind h j (range_with_len 0 n))) gs
 picked_moved s e n h j gs l r k a b =
     moved_within default_glyph s e h j gs l r a (omega arith)
-    ∙ sym (ap (λ ys. take s gs ++ (ys ++ drop e gs)) (pick-moved h j n (stretch_of s e gs) (stretch_long s e gs l r ∙ sym k) a b))
+    ∙ sym (ap (λ ys. take s gs ++ (ys ++ drop e gs)) (pick-moved h j n (stretch_of s e gs) (length-stretch s e gs r ∙ sym k) a b))
 
 -- a swap of the second and the third is a move
 swap_moved : (n : ℕ) → 2 < n → swap (range_with_len 0 n) 1 2 ≡ moved_behind 1 2 (range_with_len 0 n)
@@ -78,7 +73,7 @@ joiner_moves script s e old mid new h l first is kept moved =
     let X = stretch_of s e (order_view gs) in
     let n = length X in
     let long : n ≡ e - s = seen_long s e gs h l in
-    let on : joiner_comes_first script X ≡ true = ap (joiner_comes_first script) (seen_syllable s e gs) ∙ joiner_first_stays plain plain_keeps script (stretch_of s e gs) ∙ first in
+    let on : joiner_comes_first script X ≡ true = ap (joiner_comes_first script) (sym (map-stretch plain s e gs)) ∙ joiner_first_stays plain plain_keeps script (stretch_of s e gs) ∙ first in
     let step = joiner_step script X in
     let swaps : step ≡ swap_step n 1 = ap (λ b. if b then swap_step n 1 else still_step n) on in
     let two : 2 < n = joiner_long script X on in
@@ -104,7 +99,7 @@ joiner_stays_put script s e b h l first =
     let X = stretch_of s e (order_view gs) in
     let n = length X in
     let long : n ≡ e - s = seen_long s e gs h l in
-    let off : joiner_comes_first script X ≡ false = ap (joiner_comes_first script) (seen_syllable s e gs) ∙ joiner_first_stays plain plain_keeps script (stretch_of s e gs) ∙ first in
+    let off : joiner_comes_first script X ≡ false = ap (joiner_comes_first script) (sym (map-stretch plain s e gs)) ∙ joiner_first_stays plain plain_keeps script (stretch_of s e gs) ∙ first in
     let step = joiner_step script X in
     let still : step ≡ still_step n = ap (λ c. if c then swap_step n 1 else still_step n) off in
     stepped (with_joiner_first script) (joiner_steps script) s e step b b h l
@@ -125,10 +120,10 @@ halant_moves r script base s e a j old new h l up within there kept moved =
     let gs = old.glyphs in
     let X = stretch_of s e (order_view gs) in
     let n = length (stretch_of s e gs) in
-    let long : n ≡ e - s = stretch_long s e gs h l in
+    let long : n ≡ e - s = length-stretch s e gs l in
     let step = halant_step r script base X in
     let moves : step.places ≡ moved_behind a j (range_with_len 0 n) =
-    ap (halant_places r script base) (seen_syllable s e gs) ∙ halant_places_stay plain plain_keeps r script base (stretch_of s e gs) ∙ there ∙ ap (moved_behind a j) (places_all n) in
+    ap (halant_places r script base) (sym (map-stretch plain s e gs)) ∙ halant_places_stay plain plain_keeps r script base (stretch_of s e gs) ∙ there ∙ ap (moved_behind a j) (places_all n) in
     let last : s + j + 1 - 1 ≡ s + j = omega arith in
     stepped (with_halant_moved r script base) (halant_steps r script base) s e step old new h l
     (subst (λ m. FitsStep m step) (seen_long s e gs h l) (halant_fits r script base X))
@@ -146,10 +141,10 @@ halant_stays_put r script base s e b h l there =
     let gs = b.glyphs in
     let X = stretch_of s e (order_view gs) in
     let n = length (stretch_of s e gs) in
-    let long : n ≡ e - s = stretch_long s e gs h l in
+    let long : n ≡ e - s = length-stretch s e gs l in
     let step = halant_step r script base X in
     let stays : step.places ≡ range_with_len 0 n =
-    ap (halant_places r script base) (seen_syllable s e gs) ∙ halant_places_stay plain plain_keeps r script base (stretch_of s e gs) ∙ there ∙ places_all n in
+    ap (halant_places r script base) (sym (map-stretch plain s e gs)) ∙ halant_places_stay plain plain_keeps r script base (stretch_of s e gs) ∙ there ∙ places_all n in
     stepped (with_halant_moved r script base) (halant_steps r script base) s e step b b h l
     (subst (λ m. FitsStep m step) (seen_long s e gs h l) (halant_fits r script base X))
     refl
@@ -206,9 +201,6 @@ marks_changed s e base old new h is walked =
 joiner_keeps_length : (script : Option Script) (gs : List hb_glyph_info_t) → length (with_joiner_first script gs) ≡ length gs
 joiner_keeps_length script gs = let f = joiner_fits script gs in length-pick (joiner_step script gs).places gs f.within ∙ f.as_many
 
-base_keeps_length : (r : Rules) (gs : List hb_glyph_info_t) → length (with_base r gs) ≡ length gs
-base_keeps_length r gs = length-same carried (with_base r gs) gs (hidden-by_base carried carried_hides_positions (base_place r gs) (has_reph r gs) gs)
-
 halant_keeps_length : (r : Rules) (script : Option Script) (base : ℕ) (gs : List hb_glyph_info_t) → length (with_halant_moved r script base gs) ≡ length gs
 halant_keeps_length r script base gs = let f = halant_fits r script base gs in length-pick (halant_places r script base gs) gs f.within ∙ f.as_many
 
@@ -228,10 +220,10 @@ opened r script s e base reph b0 b1 b2 b3 b4 h l long1 one base_is reph_is is2 w
     let Y = with_joiner_first script X in
     let kY : length Y ≡ e - s = joiner_keeps_length script X ∙ kX in
     let Z = with_base r Y in
-    let kZ : length Z ≡ e - s = base_keeps_length r Y ∙ kY in
+    let kZ : length Z ≡ e - s = length-with_base r Y ∙ kY in
     let front : length (take s xs) ≡ s = length-take-le s xs (omega (arith, length-map b0.glyphs plain)) in
     let parts = changed_parts s e (take s xs) Y (drop e xs) (order_view b1.glyphs) h front kY one.order in
-    let there : order_view (stretch_of s e b1.glyphs) ≡ Y = sym (seen_syllable s e b1.glyphs) ∙ parts.stretch in
+    let there : order_view (stretch_of s e b1.glyphs) ≡ Y = map-stretch plain s e b1.glyphs ∙ parts.stretch in
     let base_eq : base ≡ base_place r Y = base_is ∙ sym (base_stays plain plain_keeps r (stretch_of s e b1.glyphs)) ∙ ap (base_place r) there in
     let two = by_base_changed r s e base reph b1 b2 h base_is reph_is is2 walked2 in
     let four = marks_changed s e base b3 b4 h is4 walked4 in

@@ -1,8 +1,8 @@
 -- What the order of a syllable makes of its clusters.
 use Rattle.std.proofs.Common.{ℕ, ◌+◌, ◌-◌, ◌<◌, ◌≤◌, ◌≡◌, ◌≢◌, ◌==◌, inl, inr, Bool, true, false, ◌||◌, ◌&&◌, nat_lt, if◌then◌else◌, List, [], ◌∷◌, length, get_or, slice_index, refl, sym, ◌∙◌, ap, subst, arith}
-use Rattle.std.specs.List.{AllByRecursion, range_with_len}
+use Rattle.std.specs.List.{AllByRecursion, range_with_len, AllPairs}
 use Rattle.std.specs.List.Sorted.{IsPermutation}
-use Rattle.std.proofs.lemmas.Bool.{cases_Bool, cases_lt, eqb-true}
+use Rattle.std.proofs.lemmas.Bool.{cases_Bool, cases_lt, eqb-true, or_right}
 use Rattle.std.proofs.lemmas.Bool.Decides.{nat_tests}
 use Rattle.std.proofs.lemmas.List.Sorted.{IsPermutation-keeps}
 use Rattle.shapers_buffer.specs.declared.buffer.level.BufferClusterLevel.{BufferClusterLevel}
@@ -51,10 +51,6 @@ together_lies r from base o = elim (r.old || nat_lt 127 (length from)) as (λ b.
       (all-range (λ p. p < length from) base (length from - base) (λ p low high. omega arith))
 ]
 
-pub or_true : (b : Bool) → (b || true) ≡ true
-or_true true = refl
-or_true false = refl
-
 -- what holds of all, by two things that do
 pub all_by_two : {X : Type 0} (P Q R : X → Type 0) → ((x : X) → P x → Q x → R x) → (xs : List X) → AllByRecursion P xs → AllByRecursion Q xs → AllByRecursion R xs
 all_by_two P Q R each [] h i = tt
@@ -89,7 +85,7 @@ exact_by xs sts others js same f =
 pub one_cluster : (level : BufferClusterLevel) → merges level ≡ true → (sts : List (ℕ × ℕ)) (xs : List ℕ) → EndWithin (length xs) sts → (st : ℕ × ℕ) → st.1 ≤ length xs → HeldIn sts st → InOneCluster (joined_all level sts xs) st
 one_cluster level m sts xs ends st within all p q pl ph ql qh =
     sym (share_all (joined_all level sts xs) p q (λ i a b. joined_all-linked level m sts xs ends i (omega arith) (omega arith)
-    (ap (λ c. slice_index xs (i - 1) == slice_index xs i || c) (all i (omega arith) (omega arith)) ∙ or_true (slice_index xs (i - 1) == slice_index xs i))) q (omega arith) (omega arith))
+    (ap (λ c. slice_index xs (i - 1) == slice_index xs i || c) (all i (omega arith) (omega arith)) ∙ or_right (slice_index xs (i - 1) == slice_index xs i) true refl)) q (omega arith) (omega arith))
 
 -- a place before the base keeps its cluster
 unlinked_before : (base n : ℕ) (sts : List (ℕ × ℕ)) (xs : List ℕ) → AllByRecursion (Lies base n) sts → ((a c : ℕ) → a < c → c < length xs → get_or xs a 0 ≢ get_or xs c 0) → (i : ℕ) → 0 < i → i ≤ base → i < length xs → linked xs sts i ≡ true → ⊥

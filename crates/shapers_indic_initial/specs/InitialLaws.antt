@@ -11,30 +11,20 @@ use Rattle.shapers_indic_initial.specs.InitialClusters.{EachSyllableMerges}
 use Rattle.shapers_indic_initial.specs.InitialPause.{InitiallyReordered, order_by_font, steps_by_font, with_positions_and_circles}
 use Rattle.shapers_indic_initial.specs.InitialReordering.{initial_order, initial_steps}
 use Rattle.shapers_indic_initial.specs.InitialRules.{Rules, rules_of}
-use Rattle.shapers_syllabic.specs.ReorderingLaws.{ReadsNoSerials, ReorderLaws, TextReordered}
-
--- What a syllable becomes hangs on the kind in its bytes and not on their serials.
-abbrev pub InitialReadsNoSerials : Type 0
-InitialReadsNoSerials = (r : Rules) (script : Option Script) → ReadsNoSerials (initial_order r script) (initial_steps r script)
+use Rattle.shapers_syllabic.specs.ReorderingLaws.{ReadsNoSerials, ReorderLaws}
 
 -- The steps of a syllable take each of its places once and lead to its order.
 abbrev pub InitialReorderLaws : Type 0
 InitialReorderLaws = (r : Rules) (script : Option Script) → ReorderLaws (initial_order r script) (initial_steps r script)
 
--- After the pause, of the text as the moves begin: no glyph is lost; no cluster rises, and glyph flags stay unless it fell; labels
--- that glyphs of equal cluster share, and the glyphs of each stretch as it merges, are still shared by glyphs of one cluster.
-abbrev pub InitialTextReordered : Type 0
-InitialTextReordered = (font : Font) (m : Map) (p : indic_shape_plan_t) (old new : Buffer) →
-    InitiallyReordered font m p old new →
-    TextReordered (initial_steps (rules_of font m p) old.script) (with_positions_and_circles font m p old) new
-
--- And at the levels that merge, each syllable's clusters by what its order moves.
+-- After the pause, at the levels that merge: each syllable's clusters by what its order moves.
 abbrev pub InitialTextMerges : Type 0
 InitialTextMerges = (font : Font) (m : Map) (p : indic_shape_plan_t) (old new : Buffer) →
     InitiallyReordered font m p old new → merges old.level ≡ true →
     let gs = (with_positions_and_circles font m p old).glyphs in
     EachSyllableMerges (rules_of font m p) old.script old.level (order_view gs) (clusters gs) (clusters new.glyphs)
 
--- Nor does the order with positions by the font, so that the pause can be cut between any two spans.
+-- What a syllable becomes, with positions by the font, hangs on the kind in its bytes and not on their serials, so that the pause can
+-- be cut between any two spans.
 abbrev pub OrderByFontReadsNoSerials : Type 0
 OrderByFontReadsNoSerials = (font : Font) (m : Map) (p : indic_shape_plan_t) (script : Option Script) → ReadsNoSerials (order_by_font font m p script) (steps_by_font font m p script)

@@ -15,13 +15,18 @@ use Rattle.shapers_indic_initial.specs.InitialFont.{positions_by_font}
 use Rattle.shapers_indic_initial.specs.InitialReordering.{initial_order, initial_steps}
 use Rattle.shapers_indic_initial.specs.InitialRules.{rules_of}
 use Rattle.shapers_syllabic.specs.declared.ot_shaper_syllabic.kinds.indic_syllable.TheConstants.{BROKEN_CLUSTER, NON_INDIC_CLUSTER}
-use Rattle.shapers_syllabic.specs.Circles.{circled, circles_for}
+use Rattle.shapers_syllabic.specs.Circles.{circled}
 use Rattle.shapers_syllabic.specs.declared.ot_shaper_syllabic.circles.DottedCircles.{DottedCircles}
-use Rattle.shapers_syllabic.specs.Reordering.{SyllablesReordered}
+use Rattle.shapers_syllabic.specs.Reordering.{SyllablesReordered, circles_of_sort}
+use Rattle.shapers_syllabic.specs.declared.ot_shaper_syllabic.pause.CircleSort.{CircleSort}
 
--- the circles that a buffer gets: behind a repha that opens a broken syllable, and of the last position, which the base's replaces where a circle is the base
+-- the dotted circles: behind a repha that opens a broken syllable, and of the last position, which the base's replaces where a circle is the base
+abbrev pub indic_circles : CircleSort
+indic_circles = record { broken_kind = BROKEN_CLUSTER; category = OT_DOTTEDCIRCLE; repha = Some OT_Repha; position = Some POS_END }
+
+-- the circles that a buffer gets
 abbrev pub initial_circles : Font → Buffer → Option DottedCircles
-initial_circles font b = circles_for (font.nominal 0x25CC) BROKEN_CLUSTER OT_DOTTEDCIRCLE (Some OT_Repha) (Some POS_END) b
+initial_circles font b = circles_of_sort indic_circles font b
 
 -- the text with positions by the font and with its circles
 abbrev pub with_positions_and_circles : Font → Map → indic_shape_plan_t → Buffer → Buffer

@@ -12,13 +12,9 @@ use Rattle.shapers_stretch.specs.declared.ot_shaper_arabic_stretch.measuring.Lay
 use Rattle.shapers_stretch.specs.CountingWalk.{IsNumber, WalksPen, last_at, moves_of, offsets_fit, offsets_on, pen_behind, run_moves, stands_at}
 use Rattle.shapers_stretch.specs.Measure.{fits_i32, total}
 use Rattle.std.proofs.lemmas.List.Folds.{list_all-append}
-use Rattle.shapers_stretch.proofs.Numbers.{and_both, fits_from}
-use Rattle.shapers_stretch.proofs.Steps.{stepping, stepping_fits}
-use Rattle.shapers_stretch.proofs.Sums.{times_suc, times_zero, total_cons, total-append, total-replicate}
-
-times_neg : (n : ℕ) (a : ℤ) → pos n *ℤ neg_ℤ a ≡ neg_ℤ (pos n *ℤ a)
-times_neg zero a = omega (arith, ints, times_zero (neg_ℤ a), times_zero a)
-times_neg (suc n) a = omega (arith, ints, times_suc n (neg_ℤ a), times_suc n a, times_neg n a)
+use Rattle.std.proofs.lemmas.Bool.{and_parts}
+use Rattle.shapers_stretch.proofs.Steps.{stepping, stepping_fits, fits_bounds}
+use Rattle.shapers_stretch.proofs.Sums.{times_suc, total_cons, total-append, total-replicate, times_neg}
 
 leftward : (pen step : ℤ) (n : ℕ) → offsets_on true pen (replicate (suc n) step) ≡ stepping (pen -ℤ step) (neg_ℤ step) n
 leftward pen step zero = refl
@@ -37,13 +33,10 @@ ends_tell false pen step n =
     let last : pen +ℤ pos n *ℤ step ≡ (pen +ℤ pos (suc n) *ℤ step) -ℤ step = omega (arith, ints, times_suc n step) in
     ap (list_all fits_i32) (rightward pen step n) ∙ stepping_fits pen step n ∙ ap (λ x. fits_i32 pen && fits_i32 x) last
 
-fits_near : (x : ℤ) → fits_i32 x ≡ true → (negsuc 2147483647 ≤ℤ x) × (x ≤ℤ pos 2147483647)
-fits_near x e = let fits = fits_from x e in (omega (arith, ints), omega (arith, ints))
-
 -- a pen behind copies of which the last one fits
 number_behind : (right_to_left : Bool) (behind step : ℤ) → fits_i32 (last_at right_to_left behind step) ≡ true → negsuc (2 ^ 67) ≤ℤ step → step ≤ℤ pos (2 ^ 67) → IsNumber behind
-number_behind true behind step e low high = let near = fits_near behind e in record { low = omega (arith, ints); high = omega (arith, ints) }
-number_behind false behind step e low high = let near = fits_near (behind -ℤ step) e in record { low = omega (arith, ints); high = omega (arith, ints) }
+number_behind true behind step e low high = let near = fits_bounds behind e in record { low = omega (arith, ints); high = omega (arith, ints) }
+number_behind false behind step e low high = let near = fits_bounds (behind -ℤ step) e in record { low = omega (arith, ints); high = omega (arith, ints) }
 
 tells : (right_to_left : Bool) (pen step behind : ℤ) (count : ℕ) → 0 < count → behind ≡ pen_behind right_to_left pen (pos count *ℤ step) → offsets_fit right_to_left pen (replicate count step) ≡ (fits_i32 (stands_at right_to_left pen step) && fits_i32 (last_at right_to_left behind step))
 tells right_to_left pen step behind zero p e = absurd (omega arith)
@@ -51,7 +44,7 @@ tells right_to_left pen step behind (suc n) p e = ends_tell right_to_left pen st
 
 pub copies_walked : (right_to_left : Bool) (pen step behind : ℤ) (count : ℕ) → 0 < count → behind ≡ pen_behind right_to_left pen (pos count *ℤ step) → (fits_i32 (stands_at right_to_left pen step) && fits_i32 (last_at right_to_left behind step)) ≡ true → negsuc (2 ^ 67) ≤ℤ step → step ≤ℤ pos (2 ^ 67) → WalksPen right_to_left pen (replicate count step) (Some behind)
 copies_walked right_to_left pen step behind count p e fits low high =
-    let both = and_both (fits_i32 (stands_at right_to_left pen step)) (fits_i32 (last_at right_to_left behind step)) fits in
+    let both = and_parts (fits_i32 (stands_at right_to_left pen step)) (fits_i32 (last_at right_to_left behind step)) fits in
     (tells right_to_left pen step behind count p e ∙ fits, e ∙ ap (pen_behind right_to_left pen) (sym (total-replicate count step)), number_behind right_to_left behind step both.1 low high)
 
 pub copies_stopped : (right_to_left : Bool) (pen step behind : ℤ) (count : ℕ) → 0 < count → behind ≡ pen_behind right_to_left pen (pos count *ℤ step) → (fits_i32 (stands_at right_to_left pen step) && fits_i32 (last_at right_to_left behind step)) ≡ false → WalksPen right_to_left pen (replicate count step) None

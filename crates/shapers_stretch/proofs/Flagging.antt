@@ -1,13 +1,14 @@
 -- A word and its run, flagged together: nothing that is measured or laid changes but the masks.
 use Rattle.std.proofs.Common.{◌≡◌, ◌≤◌, ◌+◌, ◌-◌, ◌==◌, ℕ, zero, suc, ℤ, ◌-ℤ◌, Bool, true, false, cond, List, [], ◌∷◌, ◌++◌, length, map, take, drop, replicate, refl, sym, ◌∙◌, ap, arith, subst}
 use Rattle.std.specs.List.{zip, AllByRecursion}
-use Rattle.std.proofs.lemmas.List.{drop-take, append_assoc, length-append, length-drop, length-map, length-take-le, map-append, take-append-drop, take-map, take_at, drop_at}
+use Rattle.std.proofs.lemmas.List.{drop-take, append_assoc, length-append, length-drop, length-map, length-take-le, map-append, take-append-drop, take-map, take_at, drop_at, drop-drop, take-take}
 use Rattle.std.proofs.lemmas.Slice.Zip.{firsts-zip, seconds-zip}
 use Rattle.shapers_buffer.specs.declared.buffer.glyph.GlyphPosition.{GlyphPosition}
 use Rattle.shapers_buffer.specs.declared.buffer.glyph.hb_glyph_info_t.{hb_glyph_info_t}
 use Rattle.shapers_buffer.specs.Clusters.{least, stretch_of}
 use Rattle.shapers_buffer.specs.Glyph.{clusters}
 use Rattle.shapers_buffer.specs.GlyphFlags.{flagged, unsafe_inside, with_bits, with_bits_off}
+use Rattle.shapers_buffer.proofs.ClusterLemmas.{length-stretch}
 use Rattle.shapers_base.specs.Font.{Font}
 use Rattle.shapers_stretch.specs.declared.ot_shaper_arabic_stretch.measuring.Run.{Run}
 use Rattle.shapers_stretch.specs.Cells.{Cell, glyphs_of, positions_of, repeats}
@@ -15,9 +16,8 @@ use Rattle.shapers_stretch.specs.CountingWalk.{pen_behind, stands_at}
 use Rattle.shapers_stretch.specs.LayingWalk.{laid_on, offsets}
 use Rattle.shapers_stretch.specs.Measure.{added, overlap}
 use Rattle.shapers_stretch.specs.Stretch.{Copy, copies, copies_of, unbroken, width_of}
-use Rattle.shapers_stretch.proofs.Laying.{take_less}
 use Rattle.shapers_stretch.proofs.TileWalk.{copies-push}
-use Rattle.shapers_stretch.proofs.Zips.{dropped, length-zipped, stretch_then, zip-append, zip-drop, zip-stretch, zip-take}
+use Rattle.shapers_stretch.proofs.Zips.{length-zipped, stretch_then, zip-append, zip-drop, zip-stretch, zip-take}
 use Rattle.shapers_stretch.proofs.Moves.{map-replicate}
 use Rattle.shapers_stretch.proofs.PartCounts.{length-unbroken}
 
@@ -26,18 +26,15 @@ pub stretch_join : {X : Type 0} (s m e : ℕ) (xs : List X) → s ≤ m → m �
 stretch_join s m e xs p q =
     let n = m - s in
     let same : s + n ≡ m = omega arith in
-    let rest : stretch_of m e xs ≡ drop n (take (n + (e - m)) (drop s xs)) = ap (λ k. take (e - m) (drop k xs)) (sym same) ∙ ap (take (e - m)) (sym (dropped s n xs)) ∙ sym (drop-take n (e - m) (drop s xs)) in
-    let first : stretch_of s m xs ≡ take n (take (n + (e - m)) (drop s xs)) = sym (take_less n (n + (e - m)) (drop s xs) (omega arith)) in
+    let rest : stretch_of m e xs ≡ drop n (take (n + (e - m)) (drop s xs)) = ap (λ k. take (e - m) (drop k xs)) (sym same) ∙ ap (take (e - m)) (sym (drop-drop n s xs)) ∙ sym (drop-take n (e - m) (drop s xs)) in
+    let first : stretch_of s m xs ≡ take n (take (n + (e - m)) (drop s xs)) = sym (take-take n (n + (e - m)) (drop s xs) (omega arith)) in
     ap (λ z. z ++ stretch_of m e xs) first ∙ ap (λ z. take n (take (n + (e - m)) (drop s xs)) ++ z) rest ∙ take-append-drop n (take (n + (e - m)) (drop s xs)) ∙ ap (λ k. take k (drop s xs)) (omega arith)
 
-pub stretch_length : {X : Type 0} (s e : ℕ) (xs : List X) → e ≤ length xs → length (stretch_of s e xs) ≡ e - s
-stretch_length s e xs q = length-take-le (e - s) (drop s xs) (omega (arith, length-drop s xs))
-
 pub stretch_glyphs : (s e : ℕ) (gs : List hb_glyph_info_t) (ps : List GlyphPosition) → length gs ≡ length ps → e ≤ length gs → glyphs_of (stretch_of s e (zip gs ps)) ≡ stretch_of s e gs
-stretch_glyphs s e gs ps both q = ap glyphs_of (zip-stretch s e gs ps) ∙ firsts-zip (stretch_of s e gs) (stretch_of s e ps) (omega (arith, stretch_length s e gs q, stretch_length s e ps (omega arith)))
+stretch_glyphs s e gs ps both q = ap glyphs_of (zip-stretch s e gs ps) ∙ firsts-zip (stretch_of s e gs) (stretch_of s e ps) (omega (arith, length-stretch s e gs q, length-stretch s e ps (omega arith)))
 
 pub stretch_positions : (s e : ℕ) (gs : List hb_glyph_info_t) (ps : List GlyphPosition) → length gs ≡ length ps → e ≤ length gs → positions_of (stretch_of s e (zip gs ps)) ≡ stretch_of s e ps
-stretch_positions s e gs ps both q = ap positions_of (zip-stretch s e gs ps) ∙ seconds-zip (stretch_of s e gs) (stretch_of s e ps) (omega (arith, stretch_length s e gs q, stretch_length s e ps (omega arith)))
+stretch_positions s e gs ps both q = ap positions_of (zip-stretch s e gs ps) ∙ seconds-zip (stretch_of s e gs) (stretch_of s e ps) (omega (arith, length-stretch s e gs q, length-stretch s e ps (omega arith)))
 
 -- what the flags make of slices
 pub record Flagged (w t e : ℕ) (gs fs : List hb_glyph_info_t) (ps : List GlyphPosition) : Type 0 where
@@ -52,7 +49,7 @@ whole_cells w t e gs ps p q r both =
     let fs = flagged 3 (stretch_of w e gs) in
     let cells = zip gs ps in
     let split : ps ≡ take w ps ++ (stretch_of w e ps ++ drop e ps) = sym (take-append-drop w ps) ∙ ap (λ z. take w ps ++ z) (stretch_then w e ps (omega arith)) in
-    let flagged_length : length fs ≡ length (stretch_of w e ps) = omega (arith, length-map (stretch_of w e gs) (with_bits_off 3 (least (clusters (stretch_of w e gs)))), stretch_length w e gs r, stretch_length w e ps (omega arith)) in
+    let flagged_length : length fs ≡ length (stretch_of w e ps) = omega (arith, length-map (stretch_of w e gs) (with_bits_off 3 (least (clusters (stretch_of w e gs)))), length-stretch w e gs r, length-stretch w e ps (omega arith)) in
     let middle : zip fs (stretch_of w e ps) ≡ unbroken (stretch_of w e cells) = ap (λ g. zip (flagged 3 g) (stretch_of w e ps)) (sym (stretch_glyphs w e gs ps both r)) ∙ ap (λ z. zip (flagged 3 (glyphs_of (stretch_of w e cells))) z) (sym (stretch_positions w e gs ps both r)) in
     ap (λ z. zip (unsafe_inside w e gs) z) split
     ∙ zip-append (take w gs) (take w ps) (fs ++ drop e gs) (stretch_of w e ps ++ drop e ps) (omega (arith, length-take-le w gs (omega arith), length-take-le w ps (omega arith)))
@@ -74,7 +71,7 @@ pub unbroken_is : (cs : List Cell) → unbroken cs ≡ map (flag_cell (least (cl
 unbroken_is cs = zip_mapped (with_bits_off 3 (least (clusters (glyphs_of cs)))) cs
 
 length-unsafe : (w e : ℕ) (gs : List hb_glyph_info_t) → w ≤ e → e ≤ length gs → length (unsafe_inside w e gs) ≡ length gs
-length-unsafe w e gs p q = omega (arith, length-append (take w gs) (flagged 3 (stretch_of w e gs) ++ drop e gs), length-append (flagged 3 (stretch_of w e gs)) (drop e gs), length-take-le w gs (omega arith), length-map (stretch_of w e gs) (with_bits_off 3 (least (clusters (stretch_of w e gs)))), stretch_length w e gs q, length-drop e gs)
+length-unsafe w e gs p q = omega (arith, length-append (take w gs) (flagged 3 (stretch_of w e gs) ++ drop e gs), length-append (flagged 3 (stretch_of w e gs)) (drop e gs), length-take-le w gs (omega arith), length-map (stretch_of w e gs) (with_bits_off 3 (least (clusters (stretch_of w e gs)))), length-stretch w e gs q, length-drop e gs)
 
 join : (e k : ℕ) → e ≤ k → k ≡ e + (k - e)
 join e k h = omega arith
@@ -90,8 +87,8 @@ flags_made w t e gs fs ps p q r both is =
     let whole : F ≡ take w cells ++ (all ++ drop e cells) = ap (λ z. zip z ps) is ∙ whole_cells w t e gs ps p q r both in
     let same_length : length fs ≡ length gs = ap length is ∙ length-unsafe w e gs (omega arith) r in
     let before : length (take w cells) ≡ w = length-take-le w cells (omega arith) in
-    let word_length : length word ≡ t - w = stretch_length w t cells (omega arith) in
-    let tiles_length : length tiles ≡ e - t = stretch_length t e cells (omega arith) in
+    let word_length : length word ≡ t - w = length-stretch w t cells (omega arith) in
+    let tiles_length : length tiles ≡ e - t = length-stretch t e cells (omega arith) in
     let all_length : length all ≡ (t - w) + (e - t) = omega (arith, length-unbroken (word ++ tiles), length-append word tiles) in
     let split : F ≡ (take w cells ++ take (length word) all) ++ (drop (length word) all ++ drop e cells) =
     whole ∙ ap (λ z. take w cells ++ (z ++ drop e cells)) (sym (take-append-drop (length word) all))
@@ -100,13 +97,13 @@ flags_made w t e gs fs ps p q r both is =
     let front_length : length (take w cells ++ take (length word) all) ≡ t = omega (arith, length-append (take w cells) (take (length word) all), length-take-le (length word) all (omega arith)) in
     let run_length : length (drop (length word) all) ≡ e - t = omega (arith, length-drop (length word) all) in
     let dropped_front : drop t F ≡ drop (length word) all ++ drop e cells = ap (drop t) split ∙ drop_at (take w cells ++ take (length word) all) (drop (length word) all ++ drop e cells) t front_length in
-    let at_end : drop e F ≡ drop e cells = ap (λ n. drop n F) (join t e q) ∙ sym (dropped t (e - t) F) ∙ ap (drop (e - t)) dropped_front ∙ drop_at (drop (length word) all) (drop e cells) (e - t) run_length in
+    let at_end : drop e F ≡ drop e cells = ap (λ n. drop n F) (join t e q) ∙ sym (drop-drop (e - t) t F) ∙ ap (drop (e - t)) dropped_front ∙ drop_at (drop (length word) all) (drop e cells) (e - t) run_length in
     record {
       whole = whole;
       same_length = same_length;
       front = ap (take t) split ∙ take_at (take w cells ++ take (length word) all) (drop (length word) all ++ drop e cells) t front_length;
       tiles = ap (take (e - t)) dropped_front ∙ take_at (drop (length word) all) (drop e cells) (e - t) run_length;
-      behind = λ k h. ap (λ n. drop n F) (join e k h) ∙ sym (dropped e (k - e) F) ∙ ap (drop (k - e)) at_end ∙ dropped e (k - e) cells ∙ ap (λ n. drop n cells) (sym (join e k h));
+      behind = λ k h. ap (λ n. drop n F) (join e k h) ∙ sym (drop-drop (k - e) e F) ∙ ap (drop (k - e)) at_end ∙ drop-drop (k - e) e cells ∙ ap (λ n. drop n cells) (sym (join e k h));
     }
 
 -- glyph numbers and kinds of tiles stay

@@ -4,12 +4,12 @@ use Rattle.std.specs.List.{suffix_len, list_all, onto_first, take-map}
 use Rattle.std.proofs.lemmas.List.{append_assoc, append-nil, length_push, length-map}
 use Rattle.std.proofs.lemmas.List.Folds.{list_all-append}
 use Rattle.std.proofs.Math.Seq.{take-append_seam, drop-append_seam}
+use Rattle.std.proofs.lemmas.Bool.{and_from, not-true, not-false, and_parts, and_right}
 use borrow.Author.Tests.{clash}
 use Rattle.shapers_buffer.specs.Lists.{last_run, before_last_run}
 use Rattle.shapers_buffer.proofs.ListLaws.{suffix_len_yes, suffix_len_no, suffix_len_stop, from_end, last_of}
 use Rattle.shapers_buffer.proofs.MappedLists.{suffix_len-map}
 use Rattle.shapers_stretch.specs.Cells.{Cell, glyphs_of, before_tiles, before_word, cut_here, in_word, is_tile, parts, run_ends, tiles_of, word_of}
-use Rattle.shapers_stretch.proofs.Numbers.{and_both}
 use Rattle.shapers_stretch.proofs.Parts.{parts-append}
 
 -- a list as what stands before its last run, and that run
@@ -20,11 +20,8 @@ pub record RunSplit {X : Type 0} (test : X → Bool) (xs : List X) : Type 0 wher
   pub stops : suffix_len test front ≡ 0
   pub passes : list_all test run ≡ true
 
-pub both_and : (a b : Bool) → a ≡ true → b ≡ true → (a && b) ≡ true
-both_and a b p q = ap (λ v. v && b) p ∙ q
-
 all_push : {X : Type 0} (test : X → Bool) (xs : List X) (x : X) → list_all test xs ≡ true → test x ≡ true → list_all test (xs ++ x ∷ []) ≡ true
-all_push test xs x p q = list_all-append test xs (x ∷ []) ∙ both_and _ _ p (ap (λ b. b && true) q)
+all_push test xs x p q = list_all-append test xs (x ∷ []) ∙ and_from _ _ p (ap (λ b. b && true) q)
 
 pub run_split : {X : Type 0} (test : X → Bool) (xs : List X) → RunSplit test xs
 run_split {X} test xs =
@@ -44,8 +41,8 @@ last_fails test xs x h =
 
 all_before : {X : Type 0} (test : X → Bool) (xs : List X) (x : X) → list_all test (xs ++ x ∷ []) ≡ true → (list_all test xs ≡ true) × (test x ≡ true)
 all_before test xs x h =
-    let both = and_both (list_all test xs) (list_all test (x ∷ [])) (sym (list_all-append test xs (x ∷ [])) ∙ h) in
-    (both.0, (and_both (test x) true both.1).0)
+    let both = and_parts (list_all test xs) (list_all test (x ∷ [])) (sym (list_all-append test xs (x ∷ [])) ∙ h) in
+    (both.0, (and_parts (test x) true both.1).0)
 
 all_counts : {X : Type 0} (test : X → Bool) (run : List X) → list_all test run ≡ true → suffix_len test run ≡ length run
 all_counts {X} test run =
@@ -81,16 +78,8 @@ stops_behind test front back h =
 all_weaker : {X : Type 0} (test other : X → Bool) → ((x : X) → test x ≡ true → other x ≡ true) → (xs : List X) → list_all test xs ≡ true → list_all other xs ≡ true
 all_weaker test other f [] h = refl
 all_weaker test other f (x ∷ xs) h =
-    let both = and_both (test x) (list_all test xs) h in
-    both_and _ _ (f x both.0) (all_weaker test other f xs both.1)
-
-not_true : (b : Bool) → not b ≡ true → b ≡ false
-not_true true e = absurd (clash e)
-not_true false e = refl
-
-and_false : (b : Bool) → (b && false) ≡ false
-and_false true = refl
-and_false false = refl
+    let both = and_parts (test x) (list_all test xs) h in
+    and_from _ _ (f x both.0) (all_weaker test other f xs both.1)
 
 -- a list of which none passes ends with no run
 none_stops : {X : Type 0} (test : X → Bool) (xs : List X) → list_all (λ x. not (test x)) xs ≡ true → suffix_len test xs ≡ 0
@@ -99,7 +88,7 @@ none_stops test xs h =
       | inl none ↦ ap (suffix_len test) none
       | inr p ↦
           let fails = (all_before (λ x. not (test x)) p.front p.last (ap (list_all (λ x. not (test x))) (sym p.parts) ∙ h)).1 in
-          ap (suffix_len test) p.parts ∙ suffix_len_no test p.front p.last (not_true _ fails)
+          ap (suffix_len test) p.parts ∙ suffix_len_no test p.front p.last (not-true _ fails)
     ]
 
 abbrev tile : Cell → Bool
@@ -116,22 +105,22 @@ uncut x xs here rest = ap (λ b. cond b ((x ∷ []) ∷ parts xs) (onto_first x 
 
 uncut_other : (x : Cell) (xs : List Cell) → other x ≡ true → cut_here run_ends x xs ≡ false
 uncut_other x [] h = refl
-uncut_other x (y ∷ xs) h = ap (λ b. b && not (is_tile y.0)) (not_true (is_tile x.0) h)
+uncut_other x (y ∷ xs) h = ap (λ b. b && not (is_tile y.0)) (not-true (is_tile x.0) h)
 
 -- other cells and then tiles are one part
 tiles_alone : (x : Cell) (xs : List Cell) → list_all tile (x ∷ xs) ≡ true → parts (x ∷ xs) ≡ (x ∷ xs) ∷ []
 tiles_alone x [] h = refl
 tiles_alone x (y ∷ xs) h =
-    let both = and_both (tile x) (list_all tile (y ∷ xs)) h in
-    let next = (and_both (tile y) (list_all tile xs) both.1).0 in
-    let here : cut_here run_ends x (y ∷ xs) ≡ false = ap (λ b. is_tile x.0 && not b) next ∙ and_false (is_tile x.0) in
+    let both = and_parts (tile x) (list_all tile (y ∷ xs)) h in
+    let next = (and_parts (tile y) (list_all tile xs) both.1).0 in
+    let here : cut_here run_ends x (y ∷ xs) ≡ false = ap (λ b. is_tile x.0 && not b) next ∙ and_right (is_tile x.0) false refl in
     uncut x (y ∷ xs) here (tiles_alone y xs both.1)
 
 pub one_part : (x : Cell) (others tiles : List Cell) → list_all other (x ∷ others) ≡ true → list_all tile tiles ≡ true → parts ((x ∷ others) ++ tiles) ≡ ((x ∷ others) ++ tiles) ∷ []
 one_part x [] [] h p = refl
-one_part x [] (t ∷ tiles) h p = uncut x (t ∷ tiles) (uncut_other x (t ∷ tiles) (and_both (other x) true h).0) (tiles_alone t tiles p)
+one_part x [] (t ∷ tiles) h p = uncut x (t ∷ tiles) (uncut_other x (t ∷ tiles) (and_parts (other x) true h).0) (tiles_alone t tiles p)
 one_part x (y ∷ others) tiles h p =
-    let both = and_both (other x) (list_all other (y ∷ others)) h in
+    let both = and_parts (other x) (list_all other (y ∷ others)) h in
     uncut x ((y ∷ others) ++ tiles) (uncut_other x ((y ∷ others) ++ tiles) both.0) (one_part y others tiles both.1 p)
 
 -- The last part of a text that isn't empty, cut into what stands before its word, its word and its tiles.
@@ -164,15 +153,11 @@ runs_of cs =
     record { tiles = tiles; word = word; before = run_split other word.front }
 
 in_word_other : (g : Cell) → wordly g ≡ true → other g ≡ true
-in_word_other g h = (and_both (other g) _ h).0
-
-not_false : (b : Bool) → not b ≡ false → b ≡ true
-not_false true e = refl
-not_false false e = absurd (clash (sym e))
+in_word_other g h = (and_parts (other g) _ h).0
 
 -- a list that ends with no run of others ends with a tile, or is empty
 ends_with_tile : (front : List Cell) (a : Cell) → suffix_len other (front ++ a ∷ []) ≡ 0 → tile a ≡ true
-ends_with_tile front a h = not_false (tile a) (last_fails other front a h)
+ends_with_tile front a h = not-false (tile a) (last_fails other front a h)
 
 alone : (others tiles : List Cell) → list_all other others ≡ true → list_all tile tiles ≡ true → 0 < length (others ++ tiles) → parts (others ++ tiles) ≡ (others ++ tiles) ∷ []
 alone [] [] h p some = absurd (omega arith)
@@ -184,7 +169,7 @@ behind_tile front a [] tiles e t h p =
     let fails : tile a ≡ false = last_fails tile front a (ap (suffix_len tile) (sym (append-nil (front ++ a ∷ []))) ∙ t) in
     absurd (clash (sym fails ∙ e))
 behind_tile front a (x ∷ others) tiles e t h p =
-    let here : tile x ≡ false = not_true (tile x) (and_both (other x) _ h).0 in
+    let here : tile x ≡ false = not-true (tile x) (and_parts (other x) _ h).0 in
     parts-append front a x (others ++ tiles) e here ∙ ap (λ ps. parts (front ++ a ∷ []) ++ ps) (one_part x others tiles h p)
 
 parted_at : (front others tiles : List Cell) → suffix_len other front ≡ 0 → suffix_len tile (front ++ others) ≡ 0 → list_all other others ≡ true → list_all tile tiles ≡ true → 0 < length (others ++ tiles) → parts (front ++ (others ++ tiles)) ≡ parts front ++ (others ++ tiles) ∷ []
@@ -224,7 +209,7 @@ last_part_of cs some =
     let tiles = r.tiles.run in
     let upto : r.tiles.front ≡ front ++ (before ++ word) = r.word.whole ∙ ap (λ f. f ++ word) r.before.whole ∙ append_assoc front before word in
     let whole : cs ≡ front ++ ((before ++ word) ++ tiles) = r.tiles.whole ∙ ap (λ f. f ++ tiles) upto ∙ append_assoc front (before ++ word) tiles in
-    let others : list_all other (before ++ word) ≡ true = list_all-append other before word ∙ both_and _ _ r.before.passes (all_weaker wordly other in_word_other word r.word.passes) in
+    let others : list_all other (before ++ word) ≡ true = list_all-append other before word ∙ and_from _ _ r.before.passes (all_weaker wordly other in_word_other word r.word.passes) in
     let no_tile : suffix_len tile (front ++ (before ++ word)) ≡ 0 = sym (ap (suffix_len tile) upto) ∙ r.tiles.stops in
     let no_word : suffix_len wordly (front ++ before) ≡ 0 = sym (ap (suffix_len wordly) r.before.whole) ∙ r.word.stops in
     let some_part : 0 < length ((before ++ word) ++ tiles) = some_at_end front (before ++ word) tiles (omega (arith, ap length whole)) r.before.stops no_tile in

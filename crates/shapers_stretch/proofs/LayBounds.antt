@@ -4,6 +4,7 @@ use Rattle.std.specs.List.{list_all}
 use Rattle.std.proofs.lemmas.Int.{ints, by_lt_z}
 use Rattle.std.proofs.lemmas.List.Folds.{list_all-append}
 use Rattle.std.proofs.lemmas.Option.{none-some}
+use Rattle.std.proofs.lemmas.Bool.{and_parts}
 use borrow.Author.Tests.{ltb-true}
 use mir.Syntax.{w32}
 use Rattle.shapers_base.specs.declared.plan.arabic.StretchStart.{StretchStart}
@@ -13,7 +14,7 @@ use Rattle.shapers_stretch.specs.declared.ot_shaper_arabic_stretch.measuring.Lay
 use Rattle.shapers_stretch.specs.declared.ot_shaper_arabic_stretch.measuring.Run.{Run}
 use Rattle.shapers_stretch.specs.Lays.{lay_if_fits, lay_of}
 use Rattle.shapers_stretch.specs.Measure.{added, copies_added, falls_short, fit, fits_i32, fitting, laid_width, left, numbers, overlap, reach, run_numbers, squeezes, start}
-use Rattle.shapers_stretch.proofs.Numbers.{and_both, fit_room, fit_width, fit_yes, fits_from, overlap_bounds, overlap_no, quotient_abs}
+use Rattle.shapers_stretch.proofs.Numbers.{fit_room, fit_width, fit_yes, fits_from, overlap_bounds, overlap_no, quotient_abs}
 
 -- what fits, of the numbers of a run
 pub record SmallRun (z : Run) : Type 0 where
@@ -23,17 +24,17 @@ pub record SmallRun (z : Run) : Type 0 where
 
 small_from : (z : Run) → list_all fits_i32 (run_numbers z) ≡ true → SmallRun z
 small_from z e =
-    let a = and_both (fits_i32 z.word) _ e in
-    let b = and_both (fits_i32 z.fixed) _ a.1 in
-    let c = and_both (fits_i32 z.repeating) _ b.1 in
-    let d = and_both (fits_i32 (left z)) _ c.1 in
-    let f = and_both (fits_i32 (reach z (added z))) _ d.1 in
-    let h = and_both (fits_i32 (pos (copies_added z))) _ f.1 in
+    let a = and_parts (fits_i32 z.word) _ e in
+    let b = and_parts (fits_i32 z.fixed) _ a.1 in
+    let c = and_parts (fits_i32 z.repeating) _ b.1 in
+    let d = and_parts (fits_i32 (left z)) _ c.1 in
+    let f = and_parts (fits_i32 (reach z (added z))) _ d.1 in
+    let h = and_parts (fits_i32 (pos (copies_added z))) _ f.1 in
     record { left = fits_from (left z) d.0; reach = fits_from (reach z (added z)) f.0; copies = ltb-true (copies_added z) (2 ^ 31) h.0 }
 
 numbers_small : (choice : StretchStart) (z : Run) → list_all fits_i32 (numbers choice z) ≡ true → SmallRun z
 numbers_small AsCode z e = small_from z e
-numbers_small Centred z e = small_from z (and_both _ _ (sym (list_all-append fits_i32 (run_numbers z) (laid_width z ∷ (z.word -ℤ laid_width z) ∷ [])) ∙ e)).0
+numbers_small Centred z e = small_from z (and_parts _ _ (sym (list_all-append fits_i32 (run_numbers z) (laid_width z ∷ (z.word -ℤ laid_width z) ∷ [])) ∙ e)).0
 
 magnitude : (x : ℤ) → FitsSigned w32 x → unsigned_abs x ≤ 2 ^ 31
 magnitude (pos n) fits = omega (arith, ints)
@@ -74,8 +75,8 @@ number_neg (negsuc n) fits = record { low = omega (arith, ints, div-le_self (suc
 start_small : (choice : StretchStart) (right_to_left : Bool) (z : Run) → list_all fits_i32 (numbers choice z) ≡ true → IsNumber (start choice right_to_left z)
 start_small AsCode right_to_left z e = number_if (squeezes z) _ _ number_zero (half_small (left z) (small_from z e).left)
 start_small Centred right_to_left z e =
-    let both = and_both _ _ (sym (list_all-append fits_i32 (run_numbers z) (laid_width z ∷ (z.word -ℤ laid_width z) ∷ [])) ∙ e) in
-    let gap = fits_from (z.word -ℤ laid_width z) (and_both _ _ (and_both (fits_i32 (laid_width z)) _ both.1).1).0 in
+    let both = and_parts _ _ (sym (list_all-append fits_i32 (run_numbers z) (laid_width z ∷ (z.word -ℤ laid_width z) ∷ [])) ∙ e) in
+    let gap = fits_from (z.word -ℤ laid_width z) (and_parts _ _ (and_parts (fits_i32 (laid_width z)) _ both.1).1).0 in
     number_if right_to_left _ _ (number_neg (z.word -ℤ laid_width z) gap) (half_small (z.word -ℤ laid_width z) gap)
 
 -- a lay that was found

@@ -1,10 +1,11 @@
 -- Copies laid one after another.
-use Rattle.std.proofs.Common.{cond, ◌-ℤ◌, subst, ◌≡◌, ◌≤◌, ◌<◌, ◌+◌, ◌-◌, ℕ, zero, suc, ℤ, pos, negsuc, Bool, true, false, ◌&&◌, List, [], ◌∷◌, ◌++◌, length, take, drop, set, reverse, replicate, refl, sym, ◌∙◌, ap, arith, FitsSigned}
+use Rattle.std.proofs.Common.{cond, ◌-ℤ◌, subst, ◌≡◌, ◌≤◌, ◌<◌, ◌+◌, ◌-◌, ℕ, suc, ℤ, pos, negsuc, Bool, true, false, ◌&&◌, List, [], ◌∷◌, ◌++◌, length, take, drop, set, reverse, replicate, refl, sym, ◌∙◌, ap, arith, FitsSigned}
 use mir.Syntax.{w128}
 use Rattle.std.specs.List.{zip, list_all}
 use Rattle.std.proofs.lemmas.Int.{ints}
-use Rattle.std.proofs.lemmas.List.{append_assoc, length-append, reverse-append, map-append, take-set, drop-set}
+use Rattle.std.proofs.lemmas.List.{append_assoc, length-append, reverse-append, map-append, take-set, drop-set, take-take}
 use Rattle.std.proofs.lemmas.List.Folds.{list_all-append}
+use Rattle.std.proofs.lemmas.Bool.{and_parts}
 use Rattle.shapers_buffer.specs.declared.buffer.glyph.GlyphPosition.{GlyphPosition}
 use Rattle.shapers_buffer.specs.declared.buffer.glyph.hb_glyph_info_t.{hb_glyph_info_t}
 use Rattle.shapers_stretch.specs.declared.ot_shaper_arabic_stretch.laying.Pen.{Pen}
@@ -16,16 +17,9 @@ use Rattle.shapers_stretch.specs.LayingWalk.{CanLay, Lays, laid_on, offsets}
 use Rattle.shapers_stretch.specs.Measure.{added, fits_i32, overlap}
 use Rattle.shapers_stretch.specs.Stretch.{Copy, copies_of, moves, width_of}
 use Rattle.shapers_stretch.proofs.Moves.{moves-append}
-use Rattle.shapers_stretch.proofs.Numbers.{and_both}
 use Rattle.shapers_stretch.proofs.Pen.{laid_on-append, no_move}
 use Rattle.shapers_stretch.proofs.Sums.{total_cons}
 use Rattle.shapers_stretch.proofs.Zips.{zip-set, length-zipped}
-
-pub take_less : {X : Type 0} (n m : ℕ) (xs : List X) → n ≤ m → take n (take m xs) ≡ take n xs
-take_less zero m xs p = refl
-take_less (suc n) zero xs p = absurd (omega arith)
-take_less (suc n) (suc m) [] p = refl
-take_less (suc n) (suc m) (x ∷ xs) p = ap (λ ys. x ∷ ys) (take_less n m xs (omega arith))
 
 one_move : (right_to_left : Bool) (at : ℤ) (c : Copy) → pen_behind right_to_left at (moves (c ∷ [])) ≡ pen_behind right_to_left at c.move
 one_move right_to_left at c = ap (pen_behind right_to_left at) (total_cons c.move [] ∙ omega (arith, ints))
@@ -63,7 +57,7 @@ lays_then right_to_left xs ys a b c old mid now l m =
     record {
       pen = m.pen ∙ ap (λ at. pen_behind right_to_left at (moves ys)) l.pen ∙ moved_all right_to_left a.at xs ys;
       place = omega (arith, m.place, l.place, length-append xs ys);
-      kept = m.kept ∙ sym (take_less c.place b.place mid before) ∙ ap (take c.place) l.kept ∙ take_less c.place b.place old before;
+      kept = m.kept ∙ sym (take-take c.place b.place mid before) ∙ ap (take c.place) l.kept ∙ take-take c.place b.place old before;
       behind = m.behind ∙ ap (λ z. reverse second ++ z) l.behind ∙ sym (append_assoc (reverse second) (reverse first) (drop a.place old)) ∙ ap (λ z. z ++ drop a.place old) (sym (ap reverse both ∙ reverse-append first second));
     }
 
@@ -85,7 +79,7 @@ offsets-append right_to_left at xs ys =
 -- where copies can be laid, the first of them can, and behind these the others
 pub can_first : (right_to_left : Bool) (xs ys : List Copy) (pen : Pen) (gs : List hb_glyph_info_t) (ps : List GlyphPosition) → CanLay right_to_left (xs ++ ys) pen gs ps → CanLay right_to_left xs pen gs ps
 can_first right_to_left xs ys pen gs ps can = record {
-  fits = (and_both _ _ (sym (offsets-append right_to_left pen.at xs ys) ∙ can.fits)).0;
+  fits = (and_parts _ _ (sym (offsets-append right_to_left pen.at xs ys) ∙ can.fits)).0;
   room = omega (arith, can.room, length-append xs ys);
   within = can.within;
   both = can.both;
@@ -93,7 +87,7 @@ can_first right_to_left xs ys pen gs ps can = record {
 
 pub can_rest : (right_to_left : Bool) (xs ys : List Copy) (pen after : Pen) (gs hs : List hb_glyph_info_t) (ps qs : List GlyphPosition) (old now : List Cell) → CanLay right_to_left (xs ++ ys) pen gs ps → Lays right_to_left xs pen after old now → length hs ≡ length gs → length hs ≡ length qs → CanLay right_to_left ys after hs qs
 can_rest right_to_left xs ys pen after gs hs ps qs old now can laid same both = record {
-  fits = ap (λ at. list_all fits_i32 (offsets (laid_on right_to_left at ys))) laid.pen ∙ (and_both _ _ (sym (offsets-append right_to_left pen.at xs ys) ∙ can.fits)).1;
+  fits = ap (λ at. list_all fits_i32 (offsets (laid_on right_to_left at ys))) laid.pen ∙ (and_parts _ _ (sym (offsets-append right_to_left pen.at xs ys) ∙ can.fits)).1;
   room = omega (arith, can.room, length-append xs ys, laid.place);
   within = omega (arith, can.within, laid.place);
   both = both;

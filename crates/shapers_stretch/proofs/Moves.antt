@@ -13,15 +13,11 @@ use Rattle.shapers_stretch.specs.Cells.{Cell, repeats, tiles_of, glyphs_of}
 use Rattle.shapers_stretch.specs.declared.ot_shaper_arabic_stretch.measuring.Run.{Run}
 use Rattle.shapers_stretch.specs.Measure.{added, overlap, total, laid_width}
 use Rattle.shapers_stretch.specs.Stretch.{Copy, copies, copies_of, moves, width_of, repeating, fixed, run_of}
-use Rattle.shapers_stretch.proofs.Sums.{total_cons, total-append, times_suc, times_sum, times_add, times_zero, total-replicate}
+use Rattle.shapers_stretch.proofs.Sums.{total_cons, total-append, times_suc, times_sum, times_add, times_zero, total-replicate, times_neg}
 
 -- the moves of one tile by whether it repeats
 abbrev pub tile_moves : Bool → ℤ → ℕ → ℤ → ℤ
 tile_moves b width n over = cond b (pos (suc n) *ℤ width -ℤ pos n *ℤ over) width
-
-times_neg : (n : ℕ) (a : ℤ) → pos n *ℤ neg_ℤ a ≡ neg_ℤ (pos n *ℤ a)
-times_neg zero a = omega (arith, ints, times_zero (neg_ℤ a), times_zero a)
-times_neg (suc n) a = omega (arith, ints, times_suc n (neg_ℤ a), times_suc n a, times_neg n a)
 
 pub map-replicate : {X Y : Type 0} (f : X → Y) (n : ℕ) (x : X) → map f (replicate n x) ≡ replicate n (f x)
 map-replicate f zero x = refl

@@ -5,6 +5,7 @@ use Rattle.std.proofs.lemmas.Int.{ints, by_lt_z}
 use borrow.Author.Tests.{ltb-true, clash}
 use Rattle.std.proofs.lemmas.Option.{none-some}
 use Rattle.std.proofs.lemmas.Bool.Decides.{nat_tests}
+use Rattle.std.proofs.lemmas.Bool.{and_right, and_parts}
 use mir.Syntax.{w32}
 use Rattle.shapers_stretch.specs.declared.ot_shaper_arabic_stretch.measuring.Run.{Run}
 use Rattle.shapers_base.specs.declared.plan.arabic.StretchStart.{StretchStart}
@@ -18,20 +19,16 @@ pub fits_from : (x : ℤ) → fits_i32 x ≡ true → FitsSigned w32 x
 fits_from (pos n) e = record { sfits = ltb-true n (2 ^ 31) e }
 fits_from (negsuc n) e = record { sfits = ltb-true n (2 ^ 31) e }
 
-pub and_both : (a b : Bool) → (a && b) ≡ true → (a ≡ true) × (b ≡ true)
-and_both true b e = (refl, e)
-and_both false b e = absurd (clash e)
-
 -- what IsTrue says
 pub is_true_from : (b : Bool) → IsTrue b → b ≡ true
 is_true_from b t = t
 
 pub run_fits_from : (z : Run) → IsTrue (list_all fits_i32 (z.word ∷ z.fixed ∷ z.repeating ∷ left z ∷ [])) → RunFits z
 run_fits_from z t =
-    let first = and_both (fits_i32 z.word) _ (is_true_from _ t) in
-    let second = and_both (fits_i32 z.fixed) _ first.1 in
-    let third = and_both (fits_i32 z.repeating) _ second.1 in
-    let fourth = and_both (fits_i32 (left z)) _ third.1 in
+    let first = and_parts (fits_i32 z.word) _ (is_true_from _ t) in
+    let second = and_parts (fits_i32 z.fixed) _ first.1 in
+    let third = and_parts (fits_i32 z.repeating) _ second.1 in
+    let fourth = and_parts (fits_i32 (left z)) _ third.1 in
     record { word = fits_from z.word first.0; fixed = fits_from z.fixed second.0; repeating = fits_from z.repeating third.0; left = fits_from (left z) fourth.0 }
 
 pub quotient_abs : (a b : ℤ) → pos 0 <ℤ a → pos 0 <ℤ b → nat_abs (int_div a b) ≡ unsigned_abs a / unsigned_abs b
@@ -84,12 +81,8 @@ short_is z h p = ap (λ v. v && nat_lt 0 z.repeaters) (lt_yes (pos 0) (left z -�
 full_is : (z : Run) → (left z -ℤ reach z (fitting z)) ≤ℤ pos 0 → falls_short z ≡ false
 full_is z h = ap (λ v. v && nat_lt 0 z.repeaters) (lt_not (pos 0) (left z -ℤ reach z (fitting z)) h)
 
-no_second : (a b : Bool) → b ≡ false → (a && b) ≡ false
-no_second true b e = e
-no_second false b e = refl
-
 none_is : (z : Run) → z.repeaters ≡ 0 → falls_short z ≡ false
-none_is z h = no_second (int_lt (pos 0) (left z -ℤ reach z (fitting z))) _ (grind (arith, nat_tests))
+none_is z h = and_right (int_lt (pos 0) (left z -ℤ reach z (fitting z))) _ (grind (arith, nat_tests))
 
 pub squeezes_full : (z : Run) → (left z -ℤ reach z (fitting z)) ≤ℤ pos 0 → squeezes z ≡ false
 squeezes_full z h = ap (λ v. v && int_lt (pos 0) (excess z)) (full_is z h)
@@ -103,8 +96,8 @@ squeezes_short z h p = ap (λ v. v && int_lt (pos 0) (excess z)) (short_is z h p
 -- where copies overlap, there are some, and they reach too far
 pub squeezed_some : (z : Run) → squeezes z ≡ true → (0 < copies_added z) × (pos 0 <ℤ excess z)
 squeezed_some z e =
-    let both = and_both (falls_short z) _ e in
-    let short = and_both (int_lt (pos 0) (left z -ℤ reach z (fitting z))) (nat_lt 0 z.repeaters) both.0 in
+    let both = and_parts (falls_short z) _ e in
+    let short = and_parts (int_lt (pos 0) (left z -ℤ reach z (fitting z))) (nat_lt 0 z.repeaters) both.0 in
     let some : 0 < z.repeaters = ltb-true 0 z.repeaters short.1 in
     let one_more : added z ≡ suc (fitting z) = ap (λ v. cond v (suc (fitting z)) (fitting z)) both.0 in
     let many : 0 < added z = omega arith in

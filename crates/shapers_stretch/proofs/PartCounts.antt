@@ -1,12 +1,13 @@
 -- How much longer a stretched part is, and when a number of it doesn't fit.
 use Rattle.std.proofs.Common.{◌≡◌, ◌<◌, ◌≤◌, ◌+◌, ◌-◌, ◌*◌, ℕ, zero, suc, ℤ, ◌-ℤ◌, Bool, true, false, cond, not, nat_lt, ◌&&◌, ◌||◌, List, [], ◌∷◌, ◌++◌, length, map, reverse, take, drop, flat_map, replicate, Option, None, Some, refl, subst, sym, ◌∙◌, ap, arith, length-append, length-drop, length-take-le}
 use Rattle.std.specs.List.{AllByRecursion, list_all, list_any, suffix_len, zip, take-map}
-use Rattle.std.proofs.lemmas.List.{append-nil, length-map, map-append, drop-map, take-append-drop, take_all, drop-take, length-reverse}
+use Rattle.std.proofs.lemmas.List.{append-nil, length-map, map-append, drop-map, take-append-drop, take_all, drop-take, length-reverse, take-take}
 use Rattle.std.proofs.lemmas.List.Concat.{flat_map-append}
 use Rattle.std.proofs.lemmas.List.Folds.{list_all-append, list_any-append}
 use Rattle.std.proofs.Math.Seq.{drop-append_seam}
 use Rattle.std.proofs.lemmas.Option.{none-some}
 use Rattle.std.proofs.lemmas.Bool.Decides.{nat_tests}
+use Rattle.std.proofs.lemmas.Bool.{or_right}
 use borrow.Author.Tests.{clash}
 use Rattle.shapers_buffer.specs.declared.buffer.glyph.GlyphPosition.{GlyphPosition}
 use Rattle.shapers_buffer.specs.declared.buffer.glyph.hb_glyph_info_t.{hb_glyph_info_t}
@@ -24,7 +25,6 @@ use Rattle.shapers_stretch.specs.Measure.{added, copies_added, fits_i32, numbers
 use Rattle.shapers_stretch.specs.Stretch.{Copy, Laying, copies, copies_of, has_run, laid_run, measured, overflows, part_overflows, repeating, run_of, stretched, stretched_over, stretched_part, unbroken, width_of}
 use Rattle.shapers_stretch.proofs.LastParts.{LastPartAt, last_part_at}
 use Rattle.shapers_stretch.proofs.Lengths.{length-copies, length-laid}
-use Rattle.shapers_stretch.proofs.Laying.{take_less}
 use Rattle.shapers_stretch.proofs.Zips.{length-zipped, zip-take}
 use Rattle.shapers_stretch.proofs.Pen.{laid_is, laid_on}
 use Rattle.shapers_stretch.proofs.Moves.{map-replicate}
@@ -146,10 +146,6 @@ no_or : (b : Bool) → (b || false) ≡ b
 no_or true = refl
 no_or false = refl
 
-last_or : (b : Bool) → (b || true) ≡ true
-last_or true = refl
-last_or false = refl
-
 last_overflows : (how : Laying) (cs front part : List Cell) → parts cs ≡ parts front ++ part ∷ [] → overflows how cs ≡ (overflows how front || (part_overflows how part || false))
 last_overflows how cs front part e = ap (list_any (part_overflows how)) e ∙ list_any-append (part_overflows how) (parts front) (part ∷ [])
 
@@ -206,7 +202,7 @@ uncounted_run how cs s w t at less e =
     let part = drop s cs in
     let z = measured how.font (positions_of (drop w (take t cs))) (glyphs_of (drop t cs)) in
     let over : part_overflows how part ≡ true = fit_at how cs s w t at less ∙ ap not (lost_if (all_fit how z (glyphs_of (drop t cs))) (copies_added z) e) in
-    last_overflows how cs (take s cs) part at.parted ∙ ap (λ b. overflows how (take s cs) || (b || false)) over ∙ last_or (overflows how (take s cs))
+    last_overflows how cs (take s cs) part at.parted ∙ ap (λ b. overflows how (take s cs) || (b || false)) over ∙ or_right (overflows how (take s cs)) true refl
 
 -- the same of a list of glyphs and one of positions
 pub last_part_zipped : (gs : List hb_glyph_info_t) (ps : List GlyphPosition) (s w t : ℕ) → length gs ≡ length ps → 0 < length gs → t + suffix_len is_tile gs ≡ length gs → w + suffix_len in_word (take t gs) ≡ t → s + suffix_len (λ g. not (is_tile g)) (take w gs) ≡ w → LastPartAt (zip gs ps) s w t
@@ -244,7 +240,7 @@ counted_then : (how : Laying) (cs : List Cell) (end many start n : ℕ) → IsCo
 counted_then how cs end many start n first rest =
     let upto : length (take end cs) ≡ end = length-take-le end cs first.within in
     let less : start ≤ end = omega (arith, rest.within) in
-    let same : take start (take end cs) ≡ take start cs = take_less start end cs less in
+    let same : take start (take end cs) ≡ take start cs = take-take start end cs less in
     record {
       within = omega (arith, first.within);
       fits = first.fits ∙ rest.fits ∙ ap (overflows how) same;

@@ -1,22 +1,23 @@
 -- The last part of a text laid, and what is left to lay.
-use Rattle.std.proofs.Common.{◌≡◌, ◌≤◌, ◌<◌, ◌+◌, ◌-◌, ℕ, zero, suc, Bool, true, false, cond, not, ◌&&◌, ◌||◌, nat_lt, List, [], ◌∷◌, ◌++◌, length, take, drop, reverse, flat_map, refl, sym, ◌∙◌, ap, arith, subst}
+use Rattle.std.proofs.Common.{◌≡◌, ◌≤◌, ◌<◌, ◌+◌, ◌-◌, ℕ, zero, suc, Bool, true, false, cond, not, ◌&&◌, nat_lt, List, [], ◌∷◌, ◌++◌, length, take, drop, reverse, flat_map, refl, sym, ◌∙◌, ap, arith, subst}
 use Rattle.std.specs.List.{suffix_len, zip, AllByRecursion, list_all, list_any, onto_first}
-use Rattle.std.proofs.lemmas.List.{drop_all, length-map, append-nil, append_assoc, length-append, length-reverse, length-take-le, take-append-le, drop-append-le, take-append-drop, drop-take}
+use Rattle.std.proofs.lemmas.List.{drop_all, length-map, append-nil, append_assoc, length-append, length-reverse, length-take-le, take-append-le, drop-append-le, take-append-drop, drop-take, take-take}
 use Rattle.std.proofs.lemmas.List.Concat.{flat_map-append}
 use Rattle.std.proofs.lemmas.List.Folds.{list_any-append}
 use Rattle.std.proofs.lemmas.Slice.Zip.{firsts-zip, seconds-zip}
+use Rattle.std.proofs.lemmas.Bool.{or_parts}
 use borrow.Author.Tests.{lt-true, clash}
 use Rattle.shapers_buffer.specs.declared.buffer.glyph.GlyphPosition.{GlyphPosition}
 use Rattle.shapers_buffer.specs.declared.buffer.glyph.hb_glyph_info_t.{hb_glyph_info_t}
 use Rattle.shapers_buffer.specs.Clusters.{stretch_of}
+use Rattle.shapers_buffer.proofs.ClusterLemmas.{length-stretch}
 use Rattle.shapers_stretch.specs.declared.ot_shaper_arabic_stretch.measuring.Run.{Run}
 use Rattle.shapers_stretch.specs.Cells.{Cell, before_tiles, before_word, cut_between, cut_here, glyphs_of, in_word, is_tile, parts, positions_of, run_ends, tiles_of, word_of}
 use Rattle.shapers_stretch.specs.LayingWalk.{CanLayRun, HasRoom, IsLaidFrom, IsUnlaid, offsets, text_of, whole_of}
 use Rattle.shapers_stretch.specs.Measure.{fits_i32, numbers, start}
 use Rattle.shapers_stretch.specs.Stretch.{Laying, copies, has_run, laid_run, measured, overflows, part_overflows, run_of, stretched, stretched_over, stretched_part, unbroken}
-use Rattle.shapers_stretch.proofs.Flagging.{stretch_length, unbroken_is}
+use Rattle.shapers_stretch.proofs.Flagging.{unbroken_is}
 use Rattle.shapers_stretch.proofs.LastParts.{LastPartAt, last_part_at}
-use Rattle.shapers_stretch.proofs.Laying.{take_less}
 use Rattle.shapers_stretch.proofs.Lengths.{length-copies, length-laid}
 use Rattle.shapers_stretch.proofs.RunLaying.{flagged_length, run_tiles}
 use Rattle.shapers_stretch.proofs.Zips.{length-zipped, zip-take}
@@ -60,9 +61,6 @@ stretched_longer how cs =
     omega (arith, ap length (cut_joined run_ends cs), flat_grows (stretched_part how) (parts cs) (λ part. part_grows_at how part (has_run part)))
 
 -- the parts before the last one, and it
-or_none : (a b : Bool) → (a || b) ≡ false → (a ≡ false) × (b ≡ false)
-or_none true b e = absurd (clash (sym e))
-or_none false b e = (refl, e)
 
 dropped_taken : {X : Type 0} (n m : ℕ) (xs : List X) → n ≤ m → drop n (take m xs) ≡ stretch_of n m xs
 dropped_taken n m xs p = let same : m ≡ n + (m - n) = omega arith in ap (λ k. drop n (take k xs)) same ∙ drop-take n (m - n) xs
@@ -109,14 +107,14 @@ part_of how gs ps s w t end place some u e f h =
     let s_end : s ≤ end = omega (arith, l.less, whole) in
     let w_end : w ≤ end = omega (arith, l.word_fits, l.tiles_fit, whole) in
     let t_end : t ≤ end = omega (arith, l.tiles_fit, whole) in
-    let front : take s cs ≡ take s cells = take_less s end cells s_end in
-    let before : before_word (drop s cs) ≡ stretch_of s w cells = l.before_is ∙ ap (drop s) (take_less w end cells w_end) ∙ dropped_taken s w cells l.before_fits in
-    let word : word_of (drop s cs) ≡ stretch_of w t cells = l.word_is ∙ ap (drop w) (take_less t end cells t_end) ∙ dropped_taken w t cells l.word_fits in
+    let front : take s cs ≡ take s cells = take-take s end cells s_end in
+    let before : before_word (drop s cs) ≡ stretch_of s w cells = l.before_is ∙ ap (drop s) (take-take w end cells w_end) ∙ dropped_taken s w cells l.before_fits in
+    let word : word_of (drop s cs) ≡ stretch_of w t cells = l.word_is ∙ ap (drop w) (take-take t end cells t_end) ∙ dropped_taken w t cells l.word_fits in
     let tiles : tiles_of (drop s cs) ≡ stretch_of t end cells = l.tiles_is ∙ dropped_taken t end cells t_end in
-    let count : length (tiles_of (drop s cs)) ≡ end - t = ap length tiles ∙ stretch_length t end cells (omega (arith, u.ahead, u.within, long)) in
+    let count : length (tiles_of (drop s cs)) ≡ end - t = ap length tiles ∙ length-stretch t end cells (omega (arith, u.ahead, u.within, long)) in
     let split : stretched how cs ≡ stretched how (take s cells) ++ stretched_part how (drop s cs) = ap (flat_map (stretched_part how)) l.parted ∙ flat_map-append (stretched_part how) (parts (take s cs)) (drop s cs ∷ []) ∙ ap (λ x. stretched how (take s cs) ++ x) (append-nil (stretched_part how (drop s cs))) ∙ ap (λ x. stretched how x ++ stretched_part how (drop s cs)) front in
-    let none = or_none _ _ (sym (ap (list_any (part_overflows how)) l.parted ∙ list_any-append (part_overflows how) (parts (take s cs)) (drop s cs ∷ [])) ∙ u.fits) in
-    let last = or_none _ _ none.1 in
+    let none = or_parts _ _ (sym (ap (list_any (part_overflows how)) l.parted ∙ list_any-append (part_overflows how) (parts (take s cs)) (drop s cs ∷ [])) ∙ u.fits) in
+    let last = or_parts _ _ none.1 in
     let has : t < end → has_run (drop s cs) ≡ true = λ p. ap (nat_lt 0) count ∙ sym (lt-true 0 (end - t) (omega arith)) in
     let hasnt : t ≡ end → has_run (drop s cs) ≡ false = λ p. let zero : end - t ≡ 0 = omega arith in ap (nat_lt 0) (count ∙ zero) in
     let Z : List Cell → List Cell → Run = λ x y. measured how.font (positions_of x) (glyphs_of y) in
@@ -147,7 +145,7 @@ part_can how gs ps s w t end place some u l =
     let long : length cells ≡ length gs = length-zipped gs ps u.both in
     let counted : place ≡ length (stretched how (take s cells)) + ((w - s) + ((t - w) + length (copies how.font z tiles))) =
     sym u.room ∙ ap length (l.changed some) ∙ length-append (stretched how (take s cells)) (stretch_of s w cells ++ stretched_over how z word tiles)
-    ∙ ap (λ n. length (stretched how (take s cells)) + n) (length-append (stretch_of s w cells) (stretched_over how z word tiles) ∙ ap (λ n. n + length (stretched_over how z word tiles)) (stretch_length s w cells (omega (arith, l.word_fits, l.tiles_fit, u.ahead, u.within, long))) ∙ ap (λ n. (w - s) + n) (length-over how z word tiles ∙ ap (λ n. n + length (copies how.font z tiles)) (stretch_length w t cells (omega (arith, l.tiles_fit, u.ahead, u.within, long))))) in
+    ∙ ap (λ n. length (stretched how (take s cells)) + n) (length-append (stretch_of s w cells) (stretched_over how z word tiles) ∙ ap (λ n. n + length (stretched_over how z word tiles)) (length-stretch s w cells (omega (arith, l.word_fits, l.tiles_fit, u.ahead, u.within, long))) ∙ ap (λ n. (w - s) + n) (length-over how z word tiles ∙ ap (λ n. n + length (copies how.font z tiles)) (length-stretch w t cells (omega (arith, l.tiles_fit, u.ahead, u.within, long))))) in
     record {
       order = l.tiles_fit;
       ahead = u.ahead;
@@ -192,10 +190,10 @@ part_moved how gs us ps vs s w t end place none u l same both kept up =
     let q = place - (t - s) in
     let long : length cells ≡ length gs = length-zipped gs ps u.both in
     let became = stretch_of s end cells in
-    let size : length became ≡ end - s = stretch_length s end cells (omega (arith, u.ahead, u.within, long)) in
+    let size : length became ≡ end - s = length-stretch s end cells (omega (arith, u.ahead, u.within, long)) in
     let below : s ≤ q = omega (arith, u.ahead, l.less) in
     left_over how gs us ps vs s w t end place q became u l same both (l.still none) (omega (arith, size, u.ahead, l.less))
-    (sym (take_less s q (zip us vs) below) ∙ ap (take s) kept ∙ take_less s q cells below)
+    (sym (take-take s q (zip us vs) below) ∙ ap (take s) kept ∙ take-take s q cells below)
     (up ∙ ap (λ n. stretch_of s n cells ++ drop place cells) none)
 
 -- a part with a run: it is laid, and what stands before it moves up
@@ -224,11 +222,11 @@ part_laid how gs hs us ps qs vs s w t end place p some u l same same_too both fl
     let before : length (take w cells) ≡ w = length-take-le w cells (omega (arith, long, l.word_fits, l.tiles_fit, u.ahead, u.within)) in
     let became = stretch_of s w cells ++ stretched_over how z word tiles in
     let size : length became ≡ (w - s) + ((t - w) + length (copies how.font z tiles)) =
-    length-append (stretch_of s w cells) (stretched_over how z word tiles) ∙ ap (λ n. n + length (stretched_over how z word tiles)) (stretch_length s w cells (omega (arith, l.word_fits, l.tiles_fit, u.ahead, u.within, long))) ∙ ap (λ n. (w - s) + n) (length-over how z word tiles ∙ ap (λ n. n + length (copies how.font z tiles)) (stretch_length w t cells (omega (arith, l.tiles_fit, u.ahead, u.within, long)))) in
-    let fronted : take s now ≡ take s cells = sym (take_less s t now (omega (arith, l.before_fits, l.word_fits))) ∙ ap (take s) flagged ∙ take-append-le s (take w cells) (take (length word) whole) (omega (arith, before, l.before_fits)) ∙ take_less s w cells l.before_fits in
+    length-append (stretch_of s w cells) (stretched_over how z word tiles) ∙ ap (λ n. n + length (stretched_over how z word tiles)) (length-stretch s w cells (omega (arith, l.word_fits, l.tiles_fit, u.ahead, u.within, long))) ∙ ap (λ n. (w - s) + n) (length-over how z word tiles ∙ ap (λ n. n + length (copies how.font z tiles)) (length-stretch w t cells (omega (arith, l.tiles_fit, u.ahead, u.within, long)))) in
+    let fronted : take s now ≡ take s cells = sym (take-take s t now (omega (arith, l.before_fits, l.word_fits))) ∙ ap (take s) flagged ∙ take-append-le s (take w cells) (take (length word) whole) (omega (arith, before, l.before_fits)) ∙ take-take s w cells l.before_fits in
     let moved : stretch_of s t now ≡ stretch_of s w cells ++ take (length word) whole = sym (dropped_taken s t now (omega (arith, l.before_fits, l.word_fits))) ∙ ap (drop s) flagged ∙ drop-append-le s (take w cells) (take (length word) whole) (omega (arith, before, l.before_fits)) ∙ ap (λ x. x ++ take (length word) whole) (dropped_taken s w cells l.before_fits) in
     left_over how gs us ps vs s w t end place q became u l (same_too ∙ same) both (l.changed some) (omega (arith, size, count, ahead, l.before_fits, l.word_fits))
-    (sym (take_less s q (zip us vs) below) ∙ ap (take s) kept ∙ take_less s q now below ∙ fronted)
+    (sym (take-take s q (zip us vs) below) ∙ ap (take s) kept ∙ take-take s q now below ∙ fronted)
     (up ∙ ap (λ x. x ++ drop p now) moved ∙ ap (λ x. (stretch_of s w cells ++ take (length word) whole) ++ x) laid
     ∙ append_assoc (stretch_of s w cells) (take (length word) whole) (run ++ drop place cells)
     ∙ ap (λ x. stretch_of s w cells ++ x) (sym (append_assoc (take (length word) whole) run (drop place cells)))

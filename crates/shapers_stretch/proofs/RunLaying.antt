@@ -2,8 +2,9 @@
 use Rattle.std.proofs.Common.{◌≡◌, ◌≤◌, ◌+◌, ℕ, ℤ, Bool, true, List, ◌++◌, length, map, take, drop, reverse, None, Some, sym, ◌∙◌, ap, arith, subst, of_z, to_z}
 use Rattle.std.specs.List.{zip, list_all}
 use Rattle.std.proofs.lemmas.Int.{to_z-of_z}
-use Rattle.std.proofs.lemmas.List.{length-map}
+use Rattle.std.proofs.lemmas.List.{length-map, take-take}
 use Rattle.std.proofs.lemmas.List.Folds.{list_all-append}
+use Rattle.std.proofs.lemmas.Bool.{and_parts}
 use borrow.Author.Tests.{clash}
 use mir.Syntax.{w128}
 use Rattle.shapers_buffer.specs.declared.buffer.glyph.GlyphPosition.{GlyphPosition}
@@ -23,8 +24,7 @@ use Rattle.shapers_stretch.specs.Measure.{fits_i32, numbers, start}
 use Rattle.shapers_stretch.specs.Stretch.{Copy, Laying, copies, laid_run, measured, unbroken}
 use Rattle.shapers_stretch.proofs.Flagging.{flag_copies, flag_copy, flag_offsets, stretch_glyphs, stretch_positions, tiles_are}
 use Rattle.shapers_stretch.proofs.LayBounds.{found_lay, no_lay}
-use Rattle.shapers_stretch.proofs.Laying.{near_fits, take_less}
-use Rattle.shapers_stretch.proofs.Numbers.{and_both}
+use Rattle.shapers_stretch.proofs.Laying.{near_fits}
 use Rattle.shapers_stretch.proofs.Pen.{laid_is}
 
 -- the tiles of a run, flagged with its word
@@ -76,7 +76,7 @@ start_read_near choice right_to_left z lay e = subst IsNumber (sym (start_read c
 -- one is found where no number overflows
 pub lay_some : (choice : StretchStart) (right_to_left : Bool) (z : Run) (rest : List ℤ) {P : Type 0} → list_all fits_i32 (numbers choice z ++ rest) ≡ true → lay_if_fits choice right_to_left z ≡ None → P
 lay_some choice right_to_left z rest e none =
-    let yes = (and_both _ _ (sym (list_all-append fits_i32 (numbers choice z) rest) ∙ e)).0 in
+    let yes = (and_parts _ _ (sym (list_all-append fits_i32 (numbers choice z) rest) ∙ e)).0 in
     absurd (clash (sym (no_lay choice right_to_left z none) ∙ yes))
 
 -- so its flagged tiles can be laid
@@ -86,7 +86,7 @@ pub run_can : (how : Laying) (word tiles cs : List Cell) (first end place : ℕ)
 run_can how word tiles cs first end place gs fs ps at can is same from =
     let z = measured how.font (positions_of word) (glyphs_of tiles) in
     let rest = offsets (laid_run how z tiles) in
-    let fits : list_all fits_i32 rest ≡ true = (and_both _ _ (sym (list_all-append fits_i32 (numbers how.choice z) rest) ∙ can.fits)).1 in
+    let fits : list_all fits_i32 rest ≡ true = (and_parts _ _ (sym (list_all-append fits_i32 (numbers how.choice z) rest) ∙ can.fits)).1 in
     record {
       fits =
           ap (λ x. list_all fits_i32 (offsets (laid_on how.right_to_left x (copies how.font z cs)))) from
@@ -129,4 +129,4 @@ run_laid how word tiles cs at place after was old now is from behind laid =
 pub run_front : (right_to_left : Bool) (first : ℕ) (before after : Pen) (laid : List Copy) (front old now : List Cell) → Lays right_to_left laid before after old now → first + length laid ≤ before.place → take first old ≡ front → take first now ≡ front
 run_front right_to_left first before after laid front old now l room is =
     let below : first ≤ after.place = omega (arith, l.place) in
-    sym (take_less first after.place now below) ∙ ap (take first) l.kept ∙ take_less first after.place old below ∙ is
+    sym (take-take first after.place now below) ∙ ap (take first) l.kept ∙ take-take first after.place old below ∙ is

@@ -29,7 +29,7 @@ fits_yes (pos n) p q = sym (lt-true n (2 ^ 31) (omega (arith, ints)))
 fits_yes (negsuc n) p q = sym (lt-true n (2 ^ 31) (omega (arith, ints)))
 
 -- a number that fits lies between the ends
-fits_bounds : (x : ℤ) → fits_i32 x ≡ true → (negsuc 2147483647 ≤ℤ x) × (x ≤ℤ pos 2147483647)
+pub fits_bounds : (x : ℤ) → fits_i32 x ≡ true → (negsuc 2147483647 ≤ℤ x) × (x ≤ℤ pos 2147483647)
 fits_bounds x e = let fits = fits_from x e in (omega (arith, ints), omega (arith, ints))
 
 -- n equal steps from a on, both ends counted

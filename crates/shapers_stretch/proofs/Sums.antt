@@ -1,5 +1,5 @@
 -- Sums of whole numbers.
-use Rattle.std.proofs.Common.{◌≡◌, ℕ, zero, suc, ◌+◌, ℤ, pos, ◌+ℤ◌, ◌*ℤ◌, List, [], ◌∷◌, ◌++◌, fold, replicate, map, length, sym, ◌∙◌, ap, arith, ◌<◌, Bool, true, false, cond, filter, take, get_or, add-one}
+use Rattle.std.proofs.Common.{◌≡◌, ℕ, zero, suc, ◌+◌, ℤ, pos, ◌+ℤ◌, ◌*ℤ◌, List, [], ◌∷◌, ◌++◌, fold, replicate, map, length, sym, ◌∙◌, ap, arith, ◌<◌, Bool, true, false, cond, filter, take, get_or, add-one, neg_ℤ}
 use Rattle.std.proofs.lemmas.Int.{ints}
 use Rattle.std.proofs.lemmas.List.{append-nil, length_push, map-append, take_more}
 use Rattle.std.proofs.lemmas.List.Elements.{filter-append}
@@ -30,6 +30,10 @@ times_sum (suc n) a b = omega (arith, ints, times_suc n (a +ℤ b), times_suc n 
 pub times_add : (m n : ℕ) (a : ℤ) → pos (m + n) *ℤ a ≡ pos m *ℤ a +ℤ pos n *ℤ a
 times_add zero n a = omega (arith, ints, times_zero a)
 times_add (suc m) n a = omega (arith, ints, times_suc (m + n) a, times_suc m a, times_add m n a)
+
+pub times_neg : (n : ℕ) (a : ℤ) → pos n *ℤ neg_ℤ a ≡ neg_ℤ (pos n *ℤ a)
+times_neg zero a = omega (arith, ints, times_zero (neg_ℤ a), times_zero a)
+times_neg (suc n) a = omega (arith, ints, times_suc n (neg_ℤ a), times_suc n a, times_neg n a)
 
 pub total-replicate : (n : ℕ) (a : ℤ) → total (replicate n a) ≡ pos n *ℤ a
 total-replicate zero a = sym (times_zero a)

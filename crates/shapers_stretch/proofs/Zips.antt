@@ -1,9 +1,10 @@
 -- Two lists of one length, as a list of pairs; and a list of which a stretch is written anew.
 use Rattle.std.proofs.Common.{◌≡◌, ◌≤◌, ◌+◌, ◌-◌, ℕ, zero, suc, List, [], ◌∷◌, ◌++◌, length, take, drop, set, refl, sym, ◌∙◌, ap, arith}
 use Rattle.std.specs.List.{zip, copy_within}
-use Rattle.std.proofs.lemmas.List.{take_at, drop_at, take-append-drop, length-take-le, length-drop, append_assoc}
+use Rattle.std.proofs.lemmas.List.{take_at, drop_at, take-append-drop, length-take-le, length-drop, append_assoc, drop-drop}
 use Rattle.std.proofs.lemmas.List.Edits.{take-paste, drop-paste}
 use Rattle.shapers_buffer.specs.Clusters.{stretch_of}
+use Rattle.shapers_buffer.proofs.ClusterLemmas.{length-stretch}
 
 pub zip-take : {X Y : Type 0} (n : ℕ) (xs : List X) (ys : List Y) → take n (zip xs ys) ≡ zip (take n xs) (take n ys)
 zip-take zero xs ys = refl
@@ -57,9 +58,6 @@ copied_up xs s e to p q r =
     let whole = sym (take-append-drop (to + n) (copy_within xs s e to)) ∙ ap (λ ys. ys ++ drop (to + n) (copy_within xs s e to)) (take-paste xs to (drop s xs) n (omega arith) short) ∙ append_assoc (take to xs) (take n (drop s xs)) (drop (to + n) (copy_within xs s e to)) in
     ap (drop to) whole ∙ drop_at (take to xs) (take n (drop s xs) ++ drop (to + n) (copy_within xs s e to)) to (length-take-le to xs (omega arith)) ∙ ap (λ ys. take n (drop s xs) ++ ys) (drop-paste xs to (drop s xs) n (omega arith) short)
 
-length-stretch : {X : Type 0} (s e : ℕ) (xs : List X) → e ≤ length xs → length (stretch_of s e xs) ≡ e - s
-length-stretch s e xs q = length-take-le (e - s) (drop s xs) (omega (arith, length-drop s xs))
-
 -- and so two lists at once
 pub pairs_kept : {X Y : Type 0} (xs : List X) (ys : List Y) (us : List X) (vs : List Y) (s e place : ℕ) → us ≡ copy_within xs s e (place - (e - s)) → vs ≡ copy_within ys s e (place - (e - s)) → s ≤ e → e ≤ place → place ≤ length xs → length xs ≡ length ys → take (place - (e - s)) (zip us vs) ≡ take (place - (e - s)) (zip xs ys)
 pairs_kept xs ys us vs s e place f g p q r both =
@@ -79,18 +77,6 @@ pairs_up xs ys us vs s e place f g p q r both =
     ∙ ap (λ z. z ++ zip (drop place xs) (drop place ys)) (sym (zip-stretch s e xs ys))
     ∙ ap (λ z. stretch_of s e (zip xs ys) ++ z) (sym (zip-drop place xs ys))
 
-drop_none : {X : Type 0} (m : ℕ) → drop {A = X} m [] ≡ []
-drop_none zero = refl
-drop_none (suc m) = refl
-
-next : (n m : ℕ) → suc (n + m) ≡ suc n + m
-next n m = omega arith
-
-pub dropped : {X : Type 0} (n m : ℕ) (xs : List X) → drop m (drop n xs) ≡ drop (n + m) xs
-dropped zero m xs = ap (λ n. drop n xs) (omega arith)
-dropped (suc n) m [] = drop_none m ∙ sym (drop_none (suc n + m))
-dropped (suc n) m (x ∷ xs) = dropped n m xs ∙ ap (λ k. drop k (x ∷ xs)) (next n m)
-
 -- where a stretch ends at a place, what stands from its start on
 pub stretch_then : {X : Type 0} (s e : ℕ) (xs : List X) → s ≤ e → drop s xs ≡ stretch_of s e xs ++ drop e xs
-stretch_then s e xs p = sym (take-append-drop (e - s) (drop s xs)) ∙ ap (λ ys. stretch_of s e xs ++ ys) (dropped s (e - s) xs ∙ ap (λ n. drop n xs) (omega arith))
+stretch_then s e xs p = sym (take-append-drop (e - s) (drop s xs)) ∙ ap (λ ys. stretch_of s e xs ++ ys) (drop-drop (e - s) s xs ∙ ap (λ n. drop n xs) (omega arith))

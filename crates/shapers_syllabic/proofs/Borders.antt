@@ -176,7 +176,7 @@ syllables_cut (g ∷ gs) = cut_opening g (syllables gs) (syllables_cut gs)
 alike : (a b byte : ℕ) → a ≡ byte → b ≡ byte → (b == a) ≡ true
 alike a b byte e f = grind (arith, nat_tests)
 
-one_run : (byte : ℕ) (gs : List hb_glyph_info_t) → OfByte byte gs → syllables gs ≡ gs ∷ []
+pub one_run : (byte : ℕ) (gs : List hb_glyph_info_t) → OfByte byte gs → syllables gs ≡ gs ∷ []
 one_run byte [] u = let none = u.some in absurd (omega arith)
 one_run byte (g ∷ []) u = refl
 one_run byte (g ∷ (h ∷ gs)) u =

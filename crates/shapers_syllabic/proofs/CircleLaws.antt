@@ -6,6 +6,7 @@ use Rattle.std.proofs.lemmas.Bool.Decides.{nat_tests}
 use Rattle.std.proofs.lemmas.List.{drop-drop, drop_all, drop_more, take_all, length-map, take_at, drop_at, take-append-drop}
 use Rattle.std.proofs.lemmas.List.Elements.{All-append, All-cons, All-head, All-take, All-drop, All-map, All-weaker, All-contains_itself}
 use Rattle.std.proofs.lemmas.List.Sums.{prefix_len-le-length, prefix_len_stops, sum_by-cons}
+use Rattle.std.proofs.lemmas.Bool.{not-false}
 use Rattle.shapers_buffer.specs.declared.buffer.glyph.hb_glyph_info_t.{hb_glyph_info_t}
 use Rattle.shapers_syllabic.specs.declared.ot_shaper_syllabic.circles.DottedCircles.{DottedCircles}
 use Rattle.shapers_buffer.specs.Buffer.{Buffer}
@@ -149,10 +150,6 @@ opens_broken rule g gs test =
       count = ap (count_in rule) runs ∙ count_more rule (take n text) rest ∙ ap (λ b. cond b 1 0 + count_in rule rest) test ∙ omega arith;
     }
 
-not_false : (b : Bool) → not b ≡ false → b ≡ true
-not_false true h = refl
-not_false false h = sym h
-
 -- where the first broken syllable stands
 pub is_first_broken : (rule : DottedCircles) (gs : List hb_glyph_info_t) (start len : ℕ) → start ≡ prefix_len (is_of_other_kind rule.broken_kind) gs → start < length gs → len ≡ first_syllable_len (drop start gs) → 0 < len → len ≤ length (drop start gs) → IsFirstBroken rule gs start (start + len)
 is_first_broken rule gs start len start_is inside len_is some within =
@@ -162,7 +159,7 @@ is_first_broken rule gs start len start_is inside len_is some within =
     let other = is_of_other_kind rule.broken_kind in
     let stop : other (get_or gs (prefix_len other gs) default_glyph) ≡ false = prefix_len_stops other gs default_glyph (omega arith) in
     let fails : other g ≡ false = ap (λ n. other (get_or gs n default_glyph)) start_is ∙ stop in
-    let opens : OpensBroken rule (drop start gs) = subst (OpensBroken rule) (sym opening) (opens_broken rule g rest (not_false _ fails)) in
+    let opens : OpensBroken rule (drop start gs) = subst (OpensBroken rule) (sym opening) (opens_broken rule g rest (not-false _ fails)) in
     let stays : StaysUpTo rule gs start = subst (StaysUpTo rule gs) (sym start_is) (stays_up_to rule gs) in
     let size : start + len - start ≡ first_syllable_len (drop start gs) = omega arith in
     let behind : drop (start + len) gs ≡ drop (first_syllable_len (drop start gs)) (drop start gs) = ap (λ n. drop (start + n) gs) len_is ∙ sym (drop-drop (first_syllable_len (drop start gs)) start gs) in

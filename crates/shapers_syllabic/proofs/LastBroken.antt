@@ -1,10 +1,10 @@
 -- The last broken syllable of a text: where it stands, and what opening it leaves.
-use Rattle.std.proofs.Common.{ℕ, suc, ◌+◌, ◌-◌, ◌<◌, ◌≡◌, ◌≢◌, ◌==◌, Bool, true, false, not, cond, inl, inr, List, [], ◌∷◌, ◌++◌, map, length, take, drop, get_or, refl, sym, ◌∙◌, ap, subst, arith, append_assoc, length-append, length-take, length-drop, slice_index, if◌then◌else◌}
+use Rattle.std.proofs.Common.{ℕ, suc, ◌+◌, ◌-◌, ◌<◌, ◌≡◌, ◌≢◌, ◌==◌, Bool, true, false, not, cond, inl, inr, List, [], ◌∷◌, ◌++◌, map, length, take, drop, get_or, refl, sym, ◌∙◌, ap, subst, arith, append_assoc, length-append, length-take, length-drop, slice_index, if◌then◌else◌, eq-eqb}
 use Rattle.std.specs.Prelude.{All, count_by}
 use Rattle.std.specs.List.{flat_map, list_any, prefix_len, suffix_len}
 use Rattle.std.proofs.lemmas.Bool.{cases_Bool, or_parts, true≢false}
 use Rattle.std.proofs.lemmas.Bool.Decides.{nat_tests}
-use Rattle.std.proofs.lemmas.List.{append-nil, drop_at, drop-drop, take_at, get_or-append_right, length-map, map-append, take-append-drop}
+use Rattle.std.proofs.lemmas.List.{drop_at, drop-drop, take_at, get_or-append_right, length-map, map-append, take-append-drop}
 use Rattle.std.proofs.lemmas.List.Concat.{flat_map-append}
 use Rattle.std.proofs.lemmas.List.Elements.{All-append, All-cons, All-head, All-nil}
 use Rattle.std.proofs.lemmas.List.Sums.{suffix_len-le-length, sum_by-append, sum_by-cons}
@@ -18,7 +18,7 @@ use Rattle.shapers_syllabic.specs.declared.ot_shaper_syllabic.circles.DottedCirc
 use Rattle.shapers_syllabic.specs.Borders.{MeetAtBorder}
 use Rattle.shapers_syllabic.specs.Circles.{circled_syllable, count_of_kind, is_of_kind, with_circle, with_circles}
 use Rattle.shapers_syllabic.specs.FirstBroken.{IsLastBroken, is_of_other_kind}
-use Rattle.shapers_syllabic.proofs.Borders.{OfByte, cut_is, first_byte, last_byte, syllables-append}
+use Rattle.shapers_syllabic.proofs.Borders.{OfByte, first_byte, last_byte, syllables-append, one_run}
 use Rattle.shapers_syllabic.proofs.CircleLaws.{none_broken, with_circles-none}
 
 -- the longest end of one byte, and that a syllable of that byte meets what stands before it at a border
@@ -35,9 +35,6 @@ last_byte_is gs g =
     ∙ ap (λ l. slice_index l (length gs)) (map-append (λ (g : hb_glyph_info_t). g.syllable) gs (g ∷ []))
     ∙ get_or-append_right (bytes gs) (g.syllable ∷ []) (length gs) (length gs) 0 (length-map gs (λ (g : hb_glyph_info_t). g.syllable)) (omega arith)
     ∙ ap (λ k. get_or (g.syllable ∷ []) k 0) none
-
-itself : (n : ℕ) → (n == n) ≡ true
-itself n = grind (arith, nat_tests)
 
 apart : (m n : ℕ) → m ≡ n → (m == n) ≡ false → ⊥
 apart m n same test = grind (arith, nat_tests)
@@ -60,10 +57,6 @@ ends_in_run b gs =
           }
     ]) gs
 
--- a text of one byte is a syllable
-one_syllable : (b : ℕ) (gs : List hb_glyph_info_t) → OfByte b gs → syllables gs ≡ gs ∷ []
-one_syllable b gs u = ap syllables (sym (append-nil gs)) ∙ cut_is (gs ∷ []) ((b, u), (λ some more same. absurd (omega arith)), tt)
-
 -- a text of a front, a broken syllable and what stands behind it, none of it broken
 record Parted (rule : DottedCircles) (b : ℕ) (front syllable behind : List hb_glyph_info_t) : Type 0 where
   uniform : OfByte b syllable
@@ -81,7 +74,7 @@ syllable_broken rule b (g ∷ gs) u broken =
 pieces_of : (rule : DottedCircles) (b : ℕ) (front syllable behind : List hb_glyph_info_t) → Parted rule b front syllable behind → syllables (front ++ (syllable ++ behind)) ≡ syllables front ++ (syllable ∷ syllables behind)
 pieces_of rule b front syllable behind p =
     syllables-append front (syllable ++ behind) p.before
-    ∙ ap (λ l. syllables front ++ l) (syllables-append syllable behind p.after ∙ ap (λ l. l ++ syllables behind) (one_syllable b syllable p.uniform))
+    ∙ ap (λ l. syllables front ++ l) (syllables-append syllable behind p.after ∙ ap (λ l. l ++ syllables behind) (one_run b syllable p.uniform))
 
 parted_text : (rule : DottedCircles) (b : ℕ) (front syllable behind : List hb_glyph_info_t) → Parted rule b front syllable behind → with_circles rule (front ++ (syllable ++ behind)) ≡ with_circles rule front ++ (with_circle rule syllable ++ behind)
 parted_text rule b front syllable behind p =
@@ -180,7 +173,7 @@ last_broken_at rule gs t n p t_is n_is =
     let zero_in : length a - length a ≡ 0 = omega arith in
     let read : get_or gs (length gs - t - 1) default_glyph ≡ x = ap (λ i. get_or gs i default_glyph) last ∙ ap (λ l. get_or l (length a) default_glyph) p.parts ∙ get_or-append_right a (x ∷ p.after) (length a) (length a) default_glyph refl (omega arith) ∙ ap (λ i. get_or (x ∷ p.after) i default_glyph) zero_in in
     let taken : take (length gs - t) gs ≡ a ++ x ∷ [] = ap (λ i. take i gs) end ∙ ap (take (length a + 1)) (p.parts ∙ sym (append_assoc a (x ∷ []) p.after)) ∙ take_at (a ++ x ∷ []) p.after (length a + 1) (length-append a (x ∷ [])) in
-    let many : n ≡ 1 + suffix_len (has_byte b) a = n_is ∙ ap (λ (g : hb_glyph_info_t). suffix_len (has_byte g.syllable) (take (length gs - t) gs)) read ∙ ap (suffix_len (has_byte b)) taken ∙ suffix_len_yes (has_byte b) a x (itself b) in
+    let many : n ≡ 1 + suffix_len (has_byte b) a = n_is ∙ ap (λ (g : hb_glyph_info_t). suffix_len (has_byte g.syllable) (take (length gs - t) gs)) read ∙ ap (suffix_len (has_byte b)) taken ∙ suffix_len_yes (has_byte b) a x (eq-eqb b b refl) in
     let bound = suffix_len-le-length (has_byte b) a in
     let m = suffix_len (has_byte b) a in
     let start : length front ≡ length gs - t - n = length-take (length a - m) a ∙ omega arith in

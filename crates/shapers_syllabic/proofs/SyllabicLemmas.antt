@@ -1,8 +1,8 @@
 -- Spans cut a text into its syllables: steps of the walk that sets them up.
-use Rattle.std.proofs.Common.{◌≡◌, ◌==◌, ℕ, zero, suc, ◌+◌, ◌-◌, ◌*◌, ◌%◌, ◌<◌, ◌≤◌, nat_lt, Bool, true, false, not, List, [], ◌∷◌, ◌++◌, map, length, take, drop, replicate, refl, ap, sym, ◌∙◌, arith, length-append, length-take-le, length-drop, append_assoc}
+use Rattle.std.proofs.Common.{◌≡◌, ◌==◌, ℕ, zero, suc, ◌+◌, ◌-◌, ◌*◌, ◌%◌, ◌<◌, ◌≤◌, nat_lt, Bool, true, false, not, List, [], ◌∷◌, ◌++◌, map, length, take, drop, replicate, refl, ap, sym, ◌∙◌, arith, length-append, length-take-le, length-drop, append_assoc, eq-eqb}
 use Rattle.std.specs.Prelude.{All, sum_by}
 use Rattle.std.specs.List.{flat_map, list_all}
-use Rattle.std.proofs.lemmas.Bool.{and_parts}
+use Rattle.std.proofs.lemmas.Bool.{and_parts, not-true}
 use Rattle.std.proofs.lemmas.Bool.Decides.{nat_tests}
 use Rattle.std.proofs.lemmas.List.{length-map, take_at, drop_at, drop-drop}
 use Rattle.std.proofs.lemmas.List.Elements.{All-head, All-tail}
@@ -22,23 +22,16 @@ abbrev opens_other : ℕ → List hb_glyph_info_t → Bool
 opens_other byte [] = true
 opens_other byte (g ∷ gs) = not (g.syllable == byte)
 
-not_true : (b : Bool) → not b ≡ true → b ≡ false
-not_true true h = sym h
-not_true false h = refl
-
 alone : (g : hb_glyph_info_t) (ys : List hb_glyph_info_t) → opens_other g.syllable ys ≡ true → with_opening g (syllables ys) ≡ (g ∷ []) ∷ syllables ys
 alone g [] other = refl
 alone g (y ∷ ys) other =
     let runs = syllables_are_runs y ys in
-    ap (with_opening g) runs ∙ with_opening_other g y _ _ (not_true (y.syllable == g.syllable) other) ∙ ap (λ pieces. (g ∷ []) ∷ pieces) (sym runs)
-
-itself : (n : ℕ) → (n == n) ≡ true
-itself n = grind (arith, nat_tests)
+    ap (with_opening g) runs ∙ with_opening_other g y _ _ (not-true (y.syllable == g.syllable) other) ∙ ap (λ pieces. (g ∷ []) ∷ pieces) (sym runs)
 
 -- glyphs of one byte before a text that opens with another are a syllable
 one_syllable : (byte : ℕ) (z : hb_glyph_info_t) (zs ys : List hb_glyph_info_t) → opens_other byte ys ≡ true → syllables (map (in_syllable byte) (z ∷ zs) ++ ys) ≡ map (in_syllable byte) (z ∷ zs) ∷ syllables ys
 one_syllable byte z [] ys other = alone (in_syllable byte z) ys other
-one_syllable byte z (w ∷ zs) ys other = ap (with_opening (in_syllable byte z)) (one_syllable byte w zs ys other) ∙ with_opening_same (in_syllable byte z) (in_syllable byte w) (map (in_syllable byte) zs) (syllables ys) (itself byte)
+one_syllable byte z (w ∷ zs) ys other = ap (with_opening (in_syllable byte z)) (one_syllable byte w zs ys other) ∙ with_opening_same (in_syllable byte z) (in_syllable byte w) (map (in_syllable byte) zs) (syllables ys) (eq-eqb byte byte refl)
 
 first_syllable : (byte : ℕ) (zs ys : List hb_glyph_info_t) → 0 < length zs → opens_other byte ys ≡ true → syllables (map (in_syllable byte) zs ++ ys) ≡ map (in_syllable byte) zs ∷ syllables ys
 first_syllable byte [] ys some other = absurd (omega arith)
@@ -65,7 +58,7 @@ covers_first n span spans covers =
     record {
       some = some;
       within = omega arith;
-      rest = rw (each.1, left) (itself (n - span.len));
+      rest = rw (each.1, left) (eq-eqb (n - span.len) (n - span.len) refl);
     }
 
 next_byte : (i : ℕ) (span s : Span) (n : ℕ) (bytes : List ℕ) (r : hb_glyph_info_t) (rs : List hb_glyph_info_t) → 0 < n → span.kind ≤ 15 → s.kind ≤ 15 → opens_other (span_byte i span) (with_bytes (r ∷ rs) (replicate n (span_byte (suc i) s) ++ bytes)) ≡ true

@@ -1,5 +1,5 @@
 -- A syllable reordered by one body and then by another; and bodies that move and merge nothing.
-use Rattle.std.proofs.Common.{ℕ, ◌-◌, ◌≤◌, ◌≡◌, List, [], ◌∷◌, ◌++◌, map, length, take, drop, refl, sym, ◌∙◌, ap, arith, append_assoc, length-append, length-take-le, length-drop}
+use Rattle.std.proofs.Common.{ℕ, ◌-◌, ◌≤◌, ◌≡◌, List, [], ◌++◌, map, length, take, drop, sym, ◌∙◌, ap, arith, append_assoc, length-append, length-take-le, length-drop}
 use Rattle.std.proofs.lemmas.List.{drop_at, length-map, map-append, take_at}
 use Rattle.std.proofs.lemmas.List.Sums.{fold-append}
 use Rattle.shapers_buffer.specs.declared.buffer.glyph.hb_glyph_info_t.{hb_glyph_info_t}
@@ -7,6 +7,7 @@ use Rattle.shapers_buffer.specs.Buffer.{Buffer, but_places}
 use Rattle.shapers_buffer.specs.Clusters.{stretch_of, with_stretch}
 use Rattle.shapers_buffer.specs.Glyph.{order_view, plain}
 use Rattle.shapers_buffer.proofs.ClusterLemmas.{three_parts}
+use Rattle.shapers_buffer.proofs.MappedLists.{map-hidden, map-seen}
 use Rattle.shapers_clusters.specs.Steps.{Step, run_step, run_steps, widened}
 use Rattle.shapers_syllabic.specs.Reordering.{SyllableReordered, carried}
 use Rattle.shapers_syllabic.proofs.ReorderingLemmas.{run_steps-carried, stretch-carried, stretch-viewed}
@@ -78,17 +79,9 @@ syllable_changed meaning change s e old new h kept is hides view = record {
 }
 
 -- the same where each glyph is changed for itself
-map-hidden : (f : hb_glyph_info_t → hb_glyph_info_t) → ((g : hb_glyph_info_t) → carried (f g) ≡ carried g) → (gs : List hb_glyph_info_t) → map carried (map f gs) ≡ map carried gs
-map-hidden f hides [] = refl
-map-hidden f hides (g ∷ gs) = ap (λ x. x ∷ map carried (map f gs)) (hides g) ∙ ap (λ xs. carried g ∷ xs) (map-hidden f hides gs)
-
-map-viewed : (f : hb_glyph_info_t → hb_glyph_info_t) → ((g : hb_glyph_info_t) → plain (f g) ≡ f (plain g)) → (gs : List hb_glyph_info_t) → order_view (map f gs) ≡ map f (order_view gs)
-map-viewed f same [] = refl
-map-viewed f same (g ∷ gs) = ap (λ x. x ∷ order_view (map f gs)) (same g) ∙ ap (λ xs. f (plain g) ∷ xs) (map-viewed f same gs)
-
 pub syllable_mapped : (f : hb_glyph_info_t → hb_glyph_info_t) (s e : ℕ) (old new : Buffer) → s ≤ e → but_places new ≡ record (but_places old) { glyphs = new.glyphs } → new.glyphs ≡ with_stretch s e (map f) old.glyphs → ((g : hb_glyph_info_t) → carried (f g) ≡ carried g) → ((g : hb_glyph_info_t) → plain (f g) ≡ f (plain g)) → SyllableReordered (map f) (λ _. []) s e old new
 syllable_mapped f s e old new h kept is hides same =
-    syllable_changed (map f) (map f) s e old new h kept is (map-hidden f hides (stretch_of s e old.glyphs)) (map-viewed f same (stretch_of s e old.glyphs))
+    syllable_changed (map f) (map f) s e old new h kept is (map-hidden carried f hides (stretch_of s e old.glyphs)) (map-seen plain f same (stretch_of s e old.glyphs))
 
 -- the same by what shows in the two views
 pub syllable_by_views : (meaning : List hb_glyph_info_t → List hb_glyph_info_t) (s e : ℕ) (old new : Buffer) → but_places new ≡ record (but_places old) { glyphs = new.glyphs } → order_view new.glyphs ≡ with_stretch s e meaning (order_view old.glyphs) → map carried new.glyphs ≡ map carried old.glyphs → SyllableReordered meaning (λ _. []) s e old new

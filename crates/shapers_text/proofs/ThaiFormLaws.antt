@@ -1,7 +1,7 @@
 -- The forms, one more character at the end.
 use Rattle.std.proofs.Common.{◌≡◌, ◌⊎◌, inl, inr, ℕ, suc, ◌-◌, ◌+◌, ◌==◌, Bool, true, false, cond, not, ◌||◌, ◌&&◌, List, [], ◌∷◌, ◌++◌, length, take, drop, get_or, set, reverse, refl, sym, ap, ◌∙◌, subst, arith, length-append}
 use Rattle.std.specs.List.{list_any, count_by, take_while, suffix_len}
-use Rattle.std.proofs.lemmas.Bool.{or_parts, eqb-true}
+use Rattle.std.proofs.lemmas.Bool.{or_parts, eqb-true, not-false, not-true, and_right}
 use Rattle.std.proofs.lemmas.List.{append_assoc, append-nil, get_or_at, set_at, reverse-append, length_push}
 use Rattle.std.proofs.lemmas.List.Folds.{list_any-append}
 use Rattle.std.proofs.lemmas.List.Sums.{take_while-cons}
@@ -53,19 +53,12 @@ forms_stop has before (u ∷ us) a after h =
     ∙ ap (λ zs. form_between has before u (us ++ []) ∷ zs) (forms_stop has (before ++ u ∷ []) us a after h)
 
 -- the forms of marks don't depend on what follows
-not_false : (b : Bool) → not b ≡ false → b ≡ true
-not_false true h = refl
-not_false false h = absurd cc
-
-not_true : (b : Bool) → not b ≡ true → b ≡ false
-not_true true h = absurd cc
-not_true false h = refl
 
 pub forms_marks : (has : ℕ → Bool) (before us after : List ℕ) → list_any (λ u. not (is_thai_mark u)) us ≡ false → forms_between has before us after ≡ forms_between has before us []
 forms_marks has before [] after marks = refl
 forms_marks has before (u ∷ us) after marks =
     let parts = or_parts _ _ marks in
-    let is_one : is_thai_mark u ≡ true = not_false _ parts.0 in
+    let is_one : is_thai_mark u ≡ true = not-false _ parts.0 in
     ap (λ b. cond b (shaped_by has u (action_after before u)) (cond (is_removable (consonant_type u) && has_below (us ++ after)) (shaped_by has u RD) u) ∷ forms_between has (before ++ u ∷ []) us after) is_one
     ∙ ap (λ zs. shaped_by has u (action_after before u) ∷ zs) (forms_marks has (before ++ u ∷ []) us after parts.1)
     ∙ ap (λ b. cond b (shaped_by has u (action_after before u)) (cond (is_removable (consonant_type u) && has_below (us ++ [])) (shaped_by has u RD) u) ∷ forms_between has (before ++ u ∷ []) us []) (sym is_one)
@@ -76,7 +69,7 @@ below_marks [] marks = refl
 below_marks (u ∷ us) marks =
     let parts = or_parts _ _ marks in
     below-cons u us
-    ∙ ap (λ b. cond b (stands_below (mark_type u) || has_below us) false) (not_false _ parts.0)
+    ∙ ap (λ b. cond b (stands_below (mark_type u) || has_below us) false) (not-false _ parts.0)
     ∙ ap (λ b. stands_below (mark_type u) || b) (below_marks us parts.1)
 
 -- where an action acts on the mark itself
@@ -176,7 +169,7 @@ passes_run test ms marks =
     from_end (λ xs. list_any (λ u. not (test u)) xs ≡ false → suffix_len test xs ≡ length xs) (λ _. refl)
     (λ xs x same none.
     let parts = none_before_push (λ u. not (test u)) xs x none in
-    let whole = suffix_len_yes test xs x (not_false _ parts.1) in
+    let whole = suffix_len_yes test xs x (not-false _ parts.1) in
     let front = same parts.0 in
     omega (arith, length_push xs x)) ms marks
 
@@ -246,14 +239,10 @@ last_form has xs u = forms-append has [] xs (u ∷ []) []
 mark_form : (has : ℕ → Bool) (xs : List ℕ) (u : ℕ) → is_thai_mark u ≡ true → form_between has xs u [] ≡ shaped_by has u (action_after xs u)
 mark_form has xs u is_one = ap (λ b. cond b (shaped_by has u (action_after xs u)) (cond (is_removable (consonant_type u) && false) (shaped_by has u RD) u)) is_one
 
-and_false : (b : Bool) → (b && false) ≡ false
-and_false true = refl
-and_false false = refl
-
 plain_form : (has : ℕ → Bool) (xs : List ℕ) (u : ℕ) → is_thai_mark u ≡ false → form_between has xs u [] ≡ u
 plain_form has xs u none =
     ap (λ b. cond b (shaped_by has u (action_after xs u)) (cond (is_removable (consonant_type u) && false) (shaped_by has u RD) u)) none
-    ∙ ap (λ b. cond b (shaped_by has u RD) u) (and_false (is_removable (consonant_type u)))
+    ∙ ap (λ b. cond b (shaped_by has u RD) u) (and_right (is_removable (consonant_type u)) false refl)
 
 -- where the mark itself is shaped and the forms before it stay
 shapes_own : (has : ℕ → Bool) (xs : List ℕ) (u : ℕ) (rest : List ℕ) → Own (action_after xs u) → forms_between has [] xs (u ∷ []) ≡ forms_between has [] xs [] → form_between has xs u [] ≡ shaped_by has u (action_after xs u) → Shapes has xs u rest
@@ -307,7 +296,7 @@ shapes_with has ys base ms u rest none marks is_one =
       | inl takes ↦
           let without_form : forms_between has [] xs [] ≡ ps ++ base ∷ behind =
           now ∙ ap (λ b. ps ++ (cond (is_removable (base_type xs) && b) (shaped_by has base RD) base ∷ behind)) takes.1.1.1
-          ∙ ap (λ b. ps ++ (cond b (shaped_by has base RD) base ∷ behind)) (and_false (is_removable (base_type xs))) in
+          ∙ ap (λ b. ps ++ (cond b (shaped_by has base RD) base ∷ behind)) (and_right (is_removable (base_type xs)) false refl) in
           let shaped : forms_between has [] xs (u ∷ []) ≡ ps ++ shaped_by has base RD ∷ behind =
           next ∙ ap (λ b. ps ++ (cond (b && (h || s)) (shaped_by has base RD) base ∷ behind)) takes.1.0
           ∙ ap (λ b. ps ++ (cond (h || b) (shaped_by has base RD) base ∷ behind)) takes.1.1.0
@@ -328,7 +317,7 @@ shapes has xs u rest =
       | false ↦ λ none. shapes_plain has xs u rest none
       | true ↦ λ is_one. elim (last_pass (λ v. not (is_thai_mark v)) xs) [
         | inl marks ↦ shapes_alone has xs u rest marks is_one
-        | inr p ↦ subst (λ zs. Shapes has zs u rest) (sym p.parts) (shapes_with has p.before p.element p.after u rest (not_true _ p.passes) p.none_after is_one)
+        | inr p ↦ subst (λ zs. Shapes has zs u rest) (sym p.parts) (shapes_with has p.before p.element p.after u rest (not-true _ p.passes) p.none_after is_one)
       ]
     ] refl
 

@@ -15,6 +15,7 @@ use Rattle.shapers_buffer.specs.declared.buffer.syllables.Span.{Span}
 use Rattle.shapers_buffer.specs.Buffer.{Buffer}
 use Rattle.shapers_buffer.specs.GlyphFlags.{with_bits}
 use Rattle.shapers_buffer.specs.Syllables.{syllables}
+use Rattle.shapers_buffer.proofs.MappedLists.{map-seen}
 use Rattle.shapers_syllabic.specs.declared.ot_shaper_syllabic.kinds.use_syllable.TheConstants.{BROKEN_CLUSTER}
 use Rattle.shapers_universal.specs.declared.ot_shaper_use.category.TheConstants.{R}
 use Rattle.shapers_base.specs.Map.{Map}
@@ -137,10 +138,6 @@ formless_same arabic m [] = refl
 formless_same (Some p) m (g ∷ gs) = ap (λ l. unnumbered g ∷ l) (formless_same (Some p) m gs)
 formless_same None m (g ∷ gs) = ap (λ l. unnumbered (formless_for None m g) ∷ l) (formless_same None m gs)
 
-bits_same : (rphf : ℕ) (gs : List hb_glyph_info_t) → map unnumbered (map (with_bits rphf) gs) ≡ map (with_bits rphf) (map unnumbered gs)
-bits_same rphf [] = refl
-bits_same rphf (g ∷ gs) = ap (λ l. unnumbered (with_bits rphf g) ∷ l) (bits_same rphf gs)
-
 len_same : (gs : List hb_glyph_info_t) → reph_len (map unnumbered gs) ≡ reph_len gs
 len_same [] = refl
 len_same (g ∷ gs) = ap (λ n. if g.category == R then 1 else min 3 (suc n)) (length-map gs unnumbered)
@@ -149,7 +146,7 @@ rphf_same : (rphf : ℕ) (gs : List hb_glyph_info_t) → map unnumbered (with_rp
 rphf_same rphf gs =
     let n = reph_len gs in
     map-append unnumbered (map (with_bits rphf) (take n gs)) (drop n gs)
-    ∙ ap (λ l. l ++ map unnumbered (drop n gs)) (bits_same rphf (take n gs) ∙ ap (map (with_bits rphf)) (sym (take-map unnumbered n gs)))
+    ∙ ap (λ l. l ++ map unnumbered (drop n gs)) (map-seen unnumbered (with_bits rphf) (λ g. refl) (take n gs) ∙ ap (map (with_bits rphf)) (sym (take-map unnumbered n gs)))
     ∙ ap (λ l. map (with_bits rphf) (take n (map unnumbered gs)) ++ l) (sym (drop-map unnumbered n gs))
     ∙ ap (λ k. map (with_bits rphf) (take k (map unnumbered gs)) ++ drop k (map unnumbered gs)) (sym (len_same gs))
 

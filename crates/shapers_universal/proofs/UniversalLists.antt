@@ -1,6 +1,6 @@
 -- Laws of lists with what passes a test in front, reversed, and with their first behind others.
 use Rattle.std.proofs.Common.{◌≡◌, ℕ, zero, suc, ◌+◌, ◌-◌, ◌≤◌, Bool, true, false, not, if◌then◌else◌, List, [], ◌∷◌, ◌++◌, map, filter, reverse, length, take, drop, Option, None, Some, refl, ap, sym, ◌∙◌, subst, arith, append_assoc, length-append, zero-add}
-use Rattle.std.specs.List.{AllByRecursion, flat_map, list_any, onto_first, prefix_len, range_with_len, slice_get}
+use Rattle.std.specs.List.{AllByRecursion, flat_map, list_any, onto_first, range_with_len, slice_get}
 use Rattle.std.specs.List.Sorted.{IsPermutation}
 use Rattle.std.proofs.lemmas.List.{append-nil, reverse-append, take-append-drop, map-append, take_at, take_rest, take-map, drop-map}
 use Rattle.std.proofs.lemmas.List.FromFn.{length-range_with_len}
@@ -198,14 +198,6 @@ pub filter-same : {X : Type 0} (t u : X → Bool) (xs : List X) → ((x : X) →
 filter-same t u [] same = refl
 filter-same t u (x ∷ xs) same =
     ap (λ b. if b then x ∷ filter t xs else filter t xs) (same x) ∙ ap (λ ys. if u x then x ∷ ys else ys) (filter-same t u xs same)
-
-pub prefix_len-map : {X Y : Type 0} (test : Y → Bool) (f : X → Y) (xs : List X) → prefix_len test (map f xs) ≡ prefix_len (λ x. test (f x)) xs
-prefix_len-map test f [] = refl
-prefix_len-map test f (x ∷ xs) =
-    elim (test (f x)) as (λ b. (if b then 1 + prefix_len test (map f xs) else 0) ≡ (if b then 1 + prefix_len (λ y. test (f y)) xs else 0)) [
-      | true ↦ ap (λ k. 1 + k) (prefix_len-map test f xs)
-      | false ↦ refl
-    ]
 
 pub reversed_first-map : {X Y : Type 0} (test : Y → Bool) (f : X → Y) (xs : List X) → reversed_first test (map f xs) ≡ map f (reversed_first (λ x. test (f x)) xs)
 reversed_first-map test f xs =

@@ -9,7 +9,7 @@ use Rattle.shapers_buffer.specs.declared.buffer.level.BufferClusterLevel.TheVari
 use Rattle.shapers_buffer.specs.Glyph.{order_view, plain}
 use Rattle.shapers_buffer.specs.Lists.{cut_after}
 use Rattle.shapers_buffer.specs.Places.{pick}
-use Rattle.shapers_buffer.proofs.MappedLists.{cut_after-map}
+use Rattle.shapers_buffer.proofs.MappedLists.{cut_after-map, prefix_len-map}
 use Rattle.shapers_clusters.specs.Flags.{seen}
 use Rattle.shapers_clusters.specs.Steps.{FitsStep, Step, old_places, reordered_along, run_steps, steps_along}
 use Rattle.shapers_clusters.proofs.Moves.{order_view-run_steps}
@@ -19,7 +19,7 @@ use Rattle.shapers_syllabic.specs.Reordering.{carried}
 use Rattle.shapers_syllabic.specs.ReorderingLaws.{ReorderLaws}
 use Rattle.shapers_syllabic.proofs.ReorderingLemmas.{old_places_one}
 use Rattle.shapers_universal.specs.Universal.{first_behind, goes_front, goes_front_at, is_halant, is_passed, is_reordered, piece_step, piece_steps, pieces, places_of, reph_moved, reph_run, reph_step, reversed_first, universal_order, universal_steps}
-use Rattle.shapers_universal.proofs.UniversalLists.{cut_after-concat, filter-same, first_behind-map, length-first_behind, mapped_twice, pick-first_behind, pick-reversed_first, prefix_len-map, reversed_first-map}
+use Rattle.shapers_universal.proofs.UniversalLists.{cut_after-concat, filter-same, first_behind-map, length-first_behind, mapped_twice, pick-first_behind, pick-reversed_first, reversed_first-map}
 use Rattle.shapers_universal.proofs.UniversalSteps.{all_pieces, piece_fits, pieces_sum, reph_run-within, universal_fits, universal_permutes}
 
 -- what the step of the reph picks

@@ -1,8 +1,8 @@
 -- What the code of the order shows: its merges and moves are the steps.
-use Rattle.std.proofs.Common.{◌≡◌, ℕ, zero, suc, ◌+◌, ◌-◌, ◌<◌, ◌≤◌, Bool, true, false, if◌then◌else◌, List, [], ◌∷◌, ◌++◌, map, filter, length, take, drop, get_or, Some, refl, ap, sym, ◌∙◌, subst, arith, append_assoc, length-append, length-take-le, length-drop, zero-add}
+use Rattle.std.proofs.Common.{◌≡◌, ℕ, suc, ◌+◌, ◌-◌, ◌<◌, ◌≤◌, Bool, true, false, if◌then◌else◌, List, [], ◌∷◌, ◌++◌, map, filter, length, take, drop, get_or, Some, refl, ap, sym, ◌∙◌, subst, arith, append_assoc, length-append, length-take-le, zero-add}
 use Rattle.std.specs.List.{AllByRecursion, range_with_len, slice_get, onto_first, sum_by}
 use Rattle.std.specs.Option.{option_map_or}
-use Rattle.std.proofs.lemmas.List.{drop_more, drop-take, take_more, get_or-append_right, length-map, map-append, take_at, drop_at, drop-drop, take-map, drop-map, get_or-take, get_or-drop, get_or-map}
+use Rattle.std.proofs.lemmas.List.{drop_more, drop-take, take_more, get_or-append_right, length-map, map-append, take_at, drop_at, drop-drop, get_or-take, get_or-drop, get_or-map, take-take}
 use Rattle.std.proofs.lemmas.Option.{slice_get-get_or}
 use Rattle.std.proofs.lemmas.List.Sorted.{length_permutation}
 use Rattle.std.proofs.lemmas.List.Sums.{sum_by-cons}
@@ -14,6 +14,7 @@ use Rattle.shapers_buffer.specs.Clusters.{merge, merge_all, stretch_of, with_str
 use Rattle.shapers_buffer.specs.Glyph.{order_view, plain}
 use Rattle.shapers_buffer.specs.Lists.{cut_after}
 use Rattle.shapers_buffer.specs.Places.{pick}
+use Rattle.shapers_buffer.proofs.ClusterLemmas.{length-stretch, map-stretch}
 use Rattle.shapers_clusters.specs.Steps.{FitsStep, FitSteps, Step, old_places, run_step, run_steps, shifted, steps_along, widened}
 use Rattle.shapers_clusters.proofs.Merging.{length-merge_all, order_view-merge_all}
 use Rattle.shapers_clusters.proofs.Picks.{length-pick}
@@ -26,11 +27,6 @@ use Rattle.shapers_universal.proofs.UniversalSteps.{piece_fits, pieces_sum, reph
 use Rattle.shapers_universal.proofs.UniversalView.{goes_front_at-view, pieces_cut-view, piece_steps-view, picked_order, reph_picks, universal_order-view, universal_steps-view}
 
 -- a stretch of a text, its length and its view
-pub length-stretch : {X : Type 0} (s e : ℕ) (xs : List X) → s ≤ e → e ≤ length xs → length (stretch_of s e xs) ≡ e - s
-length-stretch s e xs h l = length-take-le (e - s) (drop s xs) (omega (arith, length-drop s xs))
-
-stretch-view : (s e : ℕ) (gs : List hb_glyph_info_t) → order_view (stretch_of s e gs) ≡ stretch_of s e (order_view gs)
-stretch-view s e gs = sym (take-map plain (e - s) (drop s gs)) ∙ ap (take (e - s)) (sym (drop-map plain s gs))
 
 -- a step over a stretch that merges nothing then
 step_run : (level : BufferClusterLevel) (s e : ℕ) (sts : List (ℕ × ℕ)) (ps : List ℕ) (gs : List hb_glyph_info_t) → s ≤ e → e ≤ length gs → FitsStep (e - s) (record { merged_first = sts; places = ps; merged_then = [] }) → run_step level (widened s e (length gs) (record { merged_first = sts; places = ps; merged_then = [] })) gs ≡ with_stretch s e (pick ps) (merge_all level (shifted s sts) gs)
@@ -42,7 +38,7 @@ step_run level s e sts ps gs h l f =
 
 -- the stretch after merges: as long, and looking the same
 merged_view : (level : BufferClusterLevel) (s e : ℕ) (sts : List (ℕ × ℕ)) (gs : List hb_glyph_info_t) → order_view (stretch_of s e (merge_all level sts gs)) ≡ order_view (stretch_of s e gs)
-merged_view level s e sts gs = stretch-view s e (merge_all level sts gs) ∙ ap (stretch_of s e) (order_view-merge_all level sts gs) ∙ sym (stretch-view s e gs)
+merged_view level s e sts gs = map-stretch plain s e (merge_all level sts gs) ∙ ap (stretch_of s e) (order_view-merge_all level sts gs) ∙ sym (map-stretch plain s e gs)
 
 merged_long : (level : BufferClusterLevel) (s e : ℕ) (sts : List (ℕ × ℕ)) (gs : List hb_glyph_info_t) → length (stretch_of s e (merge_all level sts gs)) ≡ length (stretch_of s e gs)
 merged_long level s e sts gs =
@@ -58,7 +54,7 @@ reph_ran level s e k gs ns h l run is =
     let none : s + 0 ≡ s = omega arith in
     let ms = merge level s (s + m) gs in
     let long : length (stretch_of s e ms) ≡ length zs = merged_long level s e ((s, s + m) ∷ []) gs in
-    let fits = subst (λ n. FitsStep n (reph_step zs)) (length-stretch s e gs h l) (reph_fits zs) in
+    let fits = subst (λ n. FitsStep n (reph_step zs)) (length-stretch s e gs l) (reph_fits zs) in
     let within : m ≤ length (stretch_of s e ms) = omega (arith, reph_run-within zs) in
     let picks : pick ps (stretch_of s e ms) ≡ first_behind m (stretch_of s e ms) = ap (λ n. pick (first_behind m (range_with_len 0 n)) (stretch_of s e ms)) (sym long) ∙ pick-first_behind m (stretch_of s e ms) within in
     is
@@ -80,7 +76,7 @@ piece_ran level s e gs ms ns h l merged is =
     let xs = stretch_of s e done in
     let long : length xs ≡ length zs = merged_long level s e (shifted s st.merged_first) gs in
     let same : order_view xs ≡ order_view zs = merged_view level s e (shifted s st.merged_first) gs in
-    let fits = subst (λ n. FitsStep n st) (length-stretch s e gs h l) (piece_fits zs) in
+    let fits = subst (λ n. FitsStep n st) (length-stretch s e gs l) (piece_fits zs) in
     let t = goes_front_at zs in
     let picks : pick st.places xs ≡ reversed_first goes_front xs = ap (λ n. pick (reversed_first t (range_with_len 0 n)) xs) (sym long) ∙ pick-reversed_first t goes_front xs (told_after zs xs same) in
     is
@@ -149,7 +145,7 @@ stayed_next xs ys i d l is test =
 told_at : (s e i : ℕ) (gs hs : List hb_glyph_info_t) (d : hb_glyph_info_t) → s + i < e → e ≤ length gs → order_view hs ≡ order_view gs → goes_front_at (stretch_of s e gs) i ≡ goes_front (get_or hs (s + i) d)
 told_at s e i gs hs d l within same =
     let zs = stretch_of s e gs in
-    let here : i < length zs = omega (arith, length-stretch s e gs (omega arith) within) in
+    let here : i < length zs = omega (arith, length-stretch s e gs within) in
     let there : s + i < length gs = omega arith in
     let as_long : length hs ≡ length gs = sym (length-map hs plain) ∙ ap length same ∙ length-map gs plain in
     ap (λ o. option_map_or goes_front o false) (slice_get-get_or zs i d here)
@@ -179,14 +175,14 @@ pub merged_next : (level : BufferClusterLevel) (s e i : ℕ) (gs hs ns : List hb
 merged_next level s e i gs hs ns d l within same test is =
     let t = goes_front_at (stretch_of s e gs) in
     let n = length (stretch_of s e gs) in
-    let k : suc (n - (i + 1)) ≡ n - i = omega (arith, length-stretch s e gs (omega arith) within) in
+    let k : suc (n - (i + 1)) ≡ n - i = omega (arith, length-stretch s e gs within) in
     fronts_yes level s t i (n - (i + 1)) hs ns (told_at s e i gs hs d l within same ∙ test) is ∙ ap (λ m. merge_all level (shifted s (front_merges t i m)) hs) k
 
 pub unmerged_next : (level : BufferClusterLevel) (s e i : ℕ) (gs hs : List hb_glyph_info_t) (d : hb_glyph_info_t) → s + i < e → e ≤ length gs → order_view hs ≡ order_view gs → goes_front (get_or hs (s + i) d) ≡ false → merge_all level (shifted s (front_merges (goes_front_at (stretch_of s e gs)) (i + 1) (length (stretch_of s e gs) - (i + 1)))) hs ≡ merge_all level (shifted s (front_merges (goes_front_at (stretch_of s e gs)) i (length (stretch_of s e gs) - i))) hs
 unmerged_next level s e i gs hs d l within same test =
     let t = goes_front_at (stretch_of s e gs) in
     let n = length (stretch_of s e gs) in
-    let k : suc (n - (i + 1)) ≡ n - i = omega (arith, length-stretch s e gs (omega arith) within) in
+    let k : suc (n - (i + 1)) ≡ n - i = omega (arith, length-stretch s e gs within) in
     fronts_no level s t i (n - (i + 1)) hs (told_at s e i gs hs d l within same ∙ test) ∙ ap (λ m. merge_all level (shifted s (front_merges t i m)) hs) k
 
 -- the first piece of a list
@@ -222,22 +218,17 @@ left_behind level s e sts ps gs h l f =
     let c = drop e xs in
     let n : length xs ≡ length gs = length-map gs plain in
     let view : order_view ns ≡ a ++ (b ++ c) = order_view-widened level s e (st ∷ []) gs h l (f, tt) ∙ ap (λ qs. a ++ (pick qs (stretch_of s e xs) ++ c)) (old_places_one (e - s) st f) in
-    let size : length (stretch_of s e xs) ≡ e - s = length-stretch s e xs h (omega arith) in
+    let size : length (stretch_of s e xs) ≡ e - s = length-stretch s e xs (omega arith) in
     let an : length a ≡ s = length-take-le s xs (omega arith) in
     let bn : length b ≡ e - s = length-pick ps (stretch_of s e xs) (subst (λ m. AllByRecursion (λ p. p < m) ps) (sym size) f.within) ∙ f.as_many in
     let abn : length (a ++ b) ≡ e = length-append a b ∙ omega arith in
     let split : order_view ns ≡ (a ++ b) ++ c = view ∙ sym (append_assoc a b c) in
     record {
-      stretch = stretch-view s e ns ∙ ap (λ ys. take (e - s) (drop s ys)) view ∙ ap (take (e - s)) (drop_at a (b ++ c) s an) ∙ take_at b c (e - s) bn ∙ ap (pick ps) (sym (stretch-view s e gs));
+      stretch = map-stretch plain s e ns ∙ ap (λ ys. take (e - s) (drop s ys)) view ∙ ap (take (e - s)) (drop_at a (b ++ c) s an) ∙ take_at b c (e - s) bn ∙ ap (pick ps) (sym (map-stretch plain s e gs));
       behind = ap (drop e) split ∙ drop_at (a ++ b) c e abn;
     }
 
 -- parts of a stretch
-take-take_le : {X : Type 0} (n m : ℕ) (xs : List X) → n ≤ m → take n (take m xs) ≡ take n xs
-take-take_le zero m xs l = refl
-take-take_le (suc n) zero xs l = absurd (omega arith)
-take-take_le (suc n) (suc m) [] l = refl
-take-take_le (suc n) (suc m) (x ∷ xs) l = ap (λ ys. x ∷ ys) (take-take_le n m xs (omega arith))
 
 stretch-rest : {X : Type 0} (s e end n : ℕ) (xs : List X) → end ≡ s + n → end ≤ e → drop n (stretch_of s e xs) ≡ stretch_of end e xs
 stretch-rest s e end n xs is within =
@@ -249,18 +240,18 @@ pub pieces_next : (level : BufferClusterLevel) (s e end : ℕ) (gs ns : List hb_
 pieces_next level s e end gs ns some l is within ran =
     let zs = stretch_of s e gs in
     let n = first_piece_len is_halant zs in
-    let size = length-stretch s e gs (omega arith) l in
+    let size = length-stretch s e gs l in
     let cut = cut_first is_halant zs (omega arith) in
     let m : end - s ≡ n = omega arith in
     let both : end - s ≤ e - s = omega arith in
-    let piece : take n zs ≡ stretch_of s end gs = take-take_le n (e - s) (drop s gs) (omega arith) ∙ ap (λ k. take k (drop s gs)) (sym m) in
+    let piece : take n zs ≡ stretch_of s end gs = take-take n (e - s) (drop s gs) (omega arith) ∙ ap (λ k. take k (drop s gs)) (sym m) in
     let rest : drop n zs ≡ stretch_of end e gs = stretch-rest s e end n gs is within in
     let st = piece_step (stretch_of s end gs) in
-    let fits = subst (λ k. FitsStep k st) (length-stretch s end gs (omega arith) (omega arith)) (piece_fits (stretch_of s end gs)) in
+    let fits = subst (λ k. FitsStep k st) (length-stretch s end gs (omega arith)) (piece_fits (stretch_of s end gs)) in
     let left = left_behind level s end st.merged_first st.places gs (omega arith) (omega arith) fits in
-    let same : order_view (stretch_of end e ns) ≡ order_view (stretch_of end e gs) = stretch-view end e ns ∙ ap (take (e - end)) (ap (λ ys. drop end (order_view ys)) ran ∙ left.behind) ∙ sym (stretch-view end e gs) in
+    let same : order_view (stretch_of end e ns) ≡ order_view (stretch_of end e gs) = map-stretch plain end e ns ∙ ap (take (e - end)) (ap (λ ys. drop end (order_view ys)) ran ∙ left.behind) ∙ sym (map-stretch plain end e gs) in
     let after = steps_along (length gs) end (piece_steps (cut_after is_halant (stretch_of end e gs))) in
-    let long : length (stretch_of s end gs) ≡ n = length-stretch s end gs (omega arith) (omega arith) ∙ m in
+    let long : length (stretch_of s end gs) ≡ n = length-stretch s end gs (omega arith) ∙ m in
     let first : piece_steps (cut_after is_halant zs) ≡ (length (stretch_of s end gs), st ∷ []) ∷ piece_steps (cut_after is_halant (stretch_of end e gs)) =
     ap piece_steps cut ∙ ap (λ p. (length p, piece_step p ∷ []) ∷ piece_steps (cut_after is_halant (drop n zs))) piece ∙ ap (λ ys. (length (stretch_of s end gs), st ∷ []) ∷ piece_steps (cut_after is_halant ys)) rest in
     let ends : s + length (stretch_of s end gs) ≡ end = omega arith in
@@ -328,7 +319,7 @@ syllable_ran level s e gs ms ns h l test first as_long rest =
     let zs = stretch_of s e gs in
     let n = length gs in
     let st = reph_step zs in
-    let size = length-stretch s e gs h l in
+    let size = length-stretch s e gs l in
     let fits = subst (λ k. FitsStep k st) size (reph_fits zs) in
     let left = left_behind level s e st.merged_first st.places gs h l fits in
     let seen : order_view (stretch_of s e ms) ≡ order_view (reph_moved zs) = ap (λ ys. order_view (stretch_of s e ys)) first ∙ left.stretch ∙ reph_picks plain zs in
@@ -353,17 +344,17 @@ syllable_reordered s e old new h l others is =
     let zs = stretch_of s e gs in
     let xs = order_view gs in
     let steps = universal_steps zs in
-    let size = length-stretch s e gs h l in
+    let size = length-stretch s e gs l in
     let fits = subst (λ k. FitSteps k steps) size (universal_fits zs) in
     let picked : pick (old_places (e - s) steps) (stretch_of s e xs) ≡ universal_order (stretch_of s e xs) =
     ap (λ k. pick (old_places k steps) (stretch_of s e xs)) (sym size)
-    ∙ ap (pick (old_places (length zs) steps)) (sym (stretch-view s e gs) ∙ ap order_view (sym (map_same zs)))
+    ∙ ap (pick (old_places (length zs) steps)) (sym (map-stretch plain s e gs) ∙ ap order_view (sym (map_same zs)))
     ∙ picked_order (λ g. g) zs
     ∙ ap order_view (map_same (universal_order zs))
     ∙ sym (universal_order-view zs)
-    ∙ ap universal_order (stretch-view s e gs) in
+    ∙ ap universal_order (map-stretch plain s e gs) in
     record {
       others = ap but_places others;
       order = ap order_view is ∙ order_view-widened old.level s e steps gs h l fits ∙ ap (λ ys. take s xs ++ (ys ++ drop e xs)) picked;
-      moved = ap (map carried) (is ∙ ap (λ sts. run_steps old.level (map (widened s e (length gs)) sts) gs) (sym (universal_steps-view zs) ∙ ap universal_steps (stretch-view s e gs)));
+      moved = ap (map carried) (is ∙ ap (λ sts. run_steps old.level (map (widened s e (length gs)) sts) gs) (sym (universal_steps-view zs) ∙ ap universal_steps (map-stretch plain s e gs)));
     }

@@ -69,8 +69,8 @@ pub fn run_pause<F: hb_font_t>(
 }
 
 /// Every pause that reorders makes of each syllable by itself what its definition says, of that
-/// syllable, the plan, the font and the buffer's script alone, but for the mask of `init`, which also
-/// looks at the glyph before; and it loses no glyph.
+/// syllable, the plan, the font and the buffer's script alone, but for the mask of `init`, which
+/// also looks at the glyph before; and it loses no glyph.
 pub fn syllables_regrouped_law()
     ensures { SyllablesRegrouped }
 {}

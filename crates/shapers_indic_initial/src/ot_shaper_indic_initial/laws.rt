@@ -1,22 +1,10 @@
 //! Laws of the initial reordering, each the contract of a function without a body.
 ghost use Rattle.shapers_indic_initial.specs.InitialClusters.{InitialClustersLaw, OrderMergesLaw};
-ghost use Rattle.shapers_indic_initial.specs.InitialLaws.{InitialReadsNoSerials, InitialReorderLaws, InitialTextMerges, InitialTextReordered, OrderByFontReadsNoSerials};
+ghost use Rattle.shapers_indic_initial.specs.InitialLaws.{InitialReorderLaws, InitialTextMerges, OrderByFontReadsNoSerials};
 
 /// The steps of a syllable take each of its places once and lead to its order.
 pub fn initial_reorder_laws()
     ensures { InitialReorderLaws }
-{}
-
-/// What a syllable becomes hangs on the kind in its bytes and not on their serials, so that pauses
-/// can be cut between any two spans.
-pub fn initial_reads_no_serials()
-    ensures { InitialReadsNoSerials }
-{}
-
-/// After the pause no glyph is lost, no cluster rises, glyph flags stay unless it fell, and labels
-/// that clusters and merged stretches respect are still respected.
-pub fn initial_text_reordered()
-    ensures { InitialTextReordered }
 {}
 
 /// What the order of a syllable merges: places from the base on that a glyph moved over share one
@@ -35,7 +23,8 @@ pub fn initial_text_merges()
     ensures { InitialTextMerges }
 {}
 
-/// Nor does the order with positions by the font: the pause can be cut between any two spans.
+/// What a syllable becomes hangs on the kind in its bytes and not on their serials, so that the
+/// pause can be cut between any two spans.
 pub fn order_by_font_reads_no_serials()
     ensures { OrderByFontReadsNoSerials }
 {}

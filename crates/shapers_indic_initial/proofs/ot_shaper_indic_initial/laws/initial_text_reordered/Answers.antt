@@ -1,5 +1,0 @@
-use Rattle.shapers_indic_initial.proofs.InitialLaws as proofs
-use Rattle.shapers_indic_initial.proofs.ot_shaper_indic_initial.laws.initial_text_reordered.Goals as goal
-
-pub returns : goal.returns
-returns c = proofs.initial_text_reordered
