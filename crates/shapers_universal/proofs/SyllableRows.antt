@@ -88,6 +88,9 @@ rphf_masks = refl
 rphf_keeps : with_rphf 0x100 (full ∷ full ∷ full ∷ full ∷ []) ≡ record full { mask = 0x13F } ∷ record full { mask = 0x13F } ∷ record full { mask = 0x13F } ∷ full ∷ []
 rphf_keeps = refl
 
+rphf_on_ligature : with_rphf 0x100 (record full { category = 18 } ∷ full ∷ []) ≡ record full { category = 18; mask = 0x13F } ∷ full ∷ []
+rphf_on_ligature = refl
+
 -- the whole set-up, where letters join and where they don't
 abbrev font : Map
 font = map_of 1 (feature "rphf" 0x100 ∷ feature "isol" 0x10 ∷ feature "init" 0x20 ∷ feature "medi" 0x40 ∷ feature "fina" 0x80 ∷ [])

@@ -87,6 +87,10 @@ ligatures = refl
 other_marks : map (λ marks. is_halant (record (of_category 12) { marks = record { 0 = marks } })) (0 ∷ 1 ∷ 2 ∷ 4 ∷ 8 ∷ 16 ∷ 29 ∷ 31 ∷ []) ≡ true ∷ true ∷ false ∷ true ∷ true ∷ true ∷ true ∷ false ∷ []
 other_marks = refl
 
+-- a ligature of what stands after the base ends what a reph passes, one of a halant doesn't
+ligatures_passed : map (λ sort. is_passed (record (of_category sort) { marks = record { 0 = 2 } })) (22 ∷ 33 ∷ 12 ∷ 1 ∷ []) ≡ false ∷ false ∷ true ∷ true ∷ []
+ligatures_passed = refl
+
 components : map (λ comp. goes_front (record (of_category 22) { lig_comp = comp })) (0 ∷ 1 ∷ 15 ∷ []) ≡ true ∷ false ∷ false ∷ []
 components = refl
 
