@@ -9,12 +9,12 @@ use crate::tables::{CanonicalPair, CharacterEntry};
 use fields::{
     character, decimal, decimal_to, four_characters, general_category, hexadecimal, signed,
 };
-pub use glyph_field::GlyphField;
-pub use hook::HookCall;
+pub(crate) use glyph_field::GlyphField;
+pub(crate) use hook::HookCall;
 use rustybuzz_shapers::buffer::{CONTEXT_LENGTH, Span, hb_tag_t};
 use rustybuzz_shapers::font::GlyphId;
 use rustybuzz_shapers::plan::hb_arabic_joining_type_t;
-pub use setting::Setting;
+pub(crate) use setting::Setting;
 use std::alloc::Global;
 use std::ops::Range;
 
@@ -23,14 +23,14 @@ const LOOKUPS: usize = 65536;
 
 /// The side of the text that a context stands on.
 #[derive(Clone, Copy)]
-pub enum Side {
+pub(crate) enum Side {
     Before,
     After,
 }
 
 /// One line of input.
 #[derive(Drop)]
-pub enum Command {
+pub(crate) enum Command {
     /// `font U G W`: a character's glyph, and the glyph's advance.
     Font(char, GlyphId, i32),
     /// `applies I G G` or with three G: glyphs to which a lookup would apply.
@@ -59,7 +59,7 @@ pub enum Command {
 
 impl Command {
     /// The command of a line, whose fields one space separates.
-    pub fn parse(alloc: Global, line: &str) -> Result<Command, LineFault> {
+    pub(crate) fn parse(alloc: Global, line: &str) -> Result<Command, LineFault> {
         let fields: Vec<&str> = line.split(' ').collect(alloc)?;
         match *fields.as_slice() {
             ["font", u, glyph, advance] => {

@@ -32,7 +32,7 @@ impl<T: Drop> From<AllocFailed<T>> for LineFault {
 
 /// What ends a run, as it is told on standard error.
 #[derive(Clone, Copy, Debug, Error)]
-pub enum Fault {
+pub(crate) enum Fault {
     /// A line that can't be carried out, by its number from 1.
     #[error("line {0}: unreadable")]
     Unreadable(usize),
@@ -51,11 +51,11 @@ impl From<AllocError> for Fault {
 }
 
 impl Fault {
-    ghost use Rattle.std.specs.Prelude.{◌≡◌};
+    ghost use Rattle.std.specs.Prelude.{◌≡◌, ◌≤◌};
     ghost use Rattle.hbhook_lines.specs.Fault.{status_of};
 
     /// The fault of the line of this number.
-    pub fn on_line(fault: LineFault, number: usize) -> Self {
+    pub(crate) fn on_line(fault: LineFault, number: usize) -> Self {
         match fault {
             LineFault::Unreadable => Fault::Unreadable(number),
             LineFault::Refused(refusal) => Fault::Refused(refusal),
@@ -63,8 +63,9 @@ impl Fault {
     }
 
     /// The status that a run with this fault ends with.
-    pub fn status(self) -> u8
-        ensures { result ≡ status_of self }
+    pub(crate) fn status(self) -> u8
+        ensures value { result ≡ status_of self }
+        ensures most { result ≤ 2 }
     {
         match self {
             Fault::Refused(_) => 1,

@@ -22,7 +22,7 @@ struct Applied {
 
 impl LineFont {
     /// A font without a glyph or a lookup.
-    pub fn new(alloc: Global) -> Self {
+    pub(crate) fn new(alloc: Global) -> Self {
         LineFont {
             glyphs: BTreeMap::new(alloc),
             advances: BTreeMap::new(alloc),
@@ -31,7 +31,7 @@ impl LineFont {
     }
 
     /// Gives a character a glyph, and the glyph an advance.
-    pub fn add_glyph(
+    pub(crate) fn add_glyph(
         &mut self,
         character: char,
         glyph: GlyphId,
@@ -43,7 +43,11 @@ impl LineFont {
     }
 
     /// From now on the lookup would apply to these glyphs.
-    pub fn add_applied(&mut self, lookup: u16, glyphs: Vec<GlyphId>) -> Result<(), AllocError> {
+    pub(crate) fn add_applied(
+        &mut self,
+        lookup: u16,
+        glyphs: Vec<GlyphId>,
+    ) -> Result<(), AllocError> {
         self.applied.push(Applied { lookup, glyphs })?;
         Ok(())
     }

@@ -2,19 +2,21 @@
 //! buffer.
 #![tactic(auto)]
 
-pub mod command;
-pub mod fault;
-pub mod font;
+mod command;
+mod fault;
+mod font;
 mod printing;
-pub mod session;
-pub mod settings;
-pub mod tables;
+mod session;
+mod settings;
+mod tables;
 
-use command::Command;
-use fault::{Fault, LineFault};
+ghost use Rattle.std.specs.Prelude.{◌≤◌};
+
+use fault::Fault;
+pub use fault::LineFault;
 use printing::{report, write_text};
 use rustybuzz_shapers::buffer::ShaperError;
-use session::Session;
+pub use session::{MAX_LEN, Session};
 use std::alloc::Global;
 use std::io::{self, ErrorKind, Read, Write};
 
@@ -27,6 +29,7 @@ where
     I: Read + Drop,
     O: Write + Drop,
     F: Write + Drop,
+    ensures { result ≤ 2 }
 {
     match run(alloc, input, output) {
         Ok(()) => 0,
@@ -42,7 +45,7 @@ where
     let mut bytes = Vec::new(alloc);
     input.read_to_end(&mut bytes).map_err(input_fault)?;
     let mut session = Session::new(alloc);
-    carry_out_lines(alloc, &mut session, &bytes)?;
+    carry_out_lines(&mut session, &bytes)?;
     let text = session.printed()?;
     write_text(output, text.as_str()).map_err(|_| Fault::Broken)
 }
@@ -56,15 +59,12 @@ fn input_fault(error: io::Error) -> Fault {
 }
 
 // Carries out the lines in order, to the first fault.
-fn carry_out_lines(alloc: Global, session: &mut Session, input: &[u8]) -> Result<(), Fault> {
+fn carry_out_lines(session: &mut Session, input: &[u8]) -> Result<(), Fault> {
     for (i, line) in input.split_inclusive(|byte| *byte == b'\n').enumerate() {
         let line = line.strip_suffix(b"\n").unwrap_or(line);
-        carry_out(alloc, session, line).map_err(|fault| Fault::on_line(fault, i + 1))?;
+        session
+            .carry_out(line)
+            .map_err(|fault| Fault::on_line(fault, i + 1))?;
     }
     Ok(())
-}
-
-fn carry_out(alloc: Global, session: &mut Session, line: &[u8]) -> Result<(), LineFault> {
-    let line = str::from_utf8(line).map_err(|_| LineFault::Unreadable)?;
-    session.carry_out(Command::parse(alloc, line)?)
 }

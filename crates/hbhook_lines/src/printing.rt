@@ -1,5 +1,5 @@
 //! What a run writes: the glyphs of the buffer on standard output, a fault on standard error.
-ghost use Rattle.std.specs.Prelude.{◌<◌, length};
+ghost use Rattle.std.specs.Prelude.{◌<◌, ◌≤◌, length};
 
 use crate::fault::Fault;
 use rustybuzz_shapers::buffer::hb_buffer_t;
@@ -8,7 +8,7 @@ use std::io::{self, Write};
 
 /// Adds a line for each glyph: glyph, cluster, mask, syllable, category, auxiliary and class, and
 /// in a buffer with positions advance and offset.
-pub fn print_buffer(text: &mut String, buffer: &hb_buffer_t) -> Result<(), AllocError> {
+pub(crate) fn print_buffer(text: &mut String, buffer: &hb_buffer_t) -> Result<(), AllocError> {
     for i in 0..buffer.len() {
         print_glyph(text, buffer, i)?;
     }
@@ -40,13 +40,15 @@ fn print_glyph(text: &mut String, buffer: &hb_buffer_t, i: usize) -> Result<(), 
 }
 
 /// Writes all of a text.
-pub fn write_text<W: Write + Drop>(mut output: W, text: &str) -> io::Result<()> {
+pub(crate) fn write_text<W: Write + Drop>(mut output: W, text: &str) -> io::Result<()> {
     output.write_all(text.as_bytes())?;
     output.flush()
 }
 
 /// Tells of a fault and answers the status to end with.
-pub fn report<W: Write + Drop>(mut faults: W, fault: Fault) -> u8 {
+pub(crate) fn report<W: Write + Drop>(mut faults: W, fault: Fault) -> u8
+    ensures { result ≤ 2 }
+{
     if matches!(fault, Fault::Broken) {
         return fault.status();
     }

@@ -1,6 +1,8 @@
 //! Carries out the lines.
 mod hooks;
 
+ghost use Rattle.std.specs.Prelude.{◌≡◌, []};
+
 use crate::command::{Command, GlyphField, Setting, Side};
 use crate::fault::LineFault;
 use crate::printing::print_buffer;
@@ -22,7 +24,10 @@ pub struct Session {
 
 impl Session {
     /// Nothing set, and an empty buffer.
-    pub fn new(alloc: Global) -> Self {
+    pub fn new(alloc: Global) -> Self
+        ensures empty { result.buffer.glyphs ≡ [] }
+        ensures max_len { result.buffer.max_len ≡ 1000000 }
+    {
         Session {
             settings: Settings::new(alloc),
             buffer: hb_buffer_t::new(alloc, MAX_LEN),
@@ -31,17 +36,28 @@ impl Session {
     }
 
     /// What the lines have set.
-    pub fn settings(&self) -> &Settings {
+    pub fn settings(&self) -> &Settings
+        ensures { result.now ≡ self.now.settings }
+    {
         &self.settings
     }
 
     /// The buffer that they made.
-    pub fn buffer(&self) -> &hb_buffer_t {
+    pub fn buffer(&self) -> &hb_buffer_t
+        ensures { result.now ≡ self.now.buffer }
+    {
         &self.buffer
     }
 
-    /// Carries out a line.
-    pub fn carry_out(&mut self, command: Command) -> Result<(), LineFault> {
+    /// Reads a line, which is text, and carries it out.
+    pub fn carry_out(&mut self, line: &[u8]) -> Result<(), LineFault> {
+        let line = str::from_utf8(line).map_err(|_| LineFault::Unreadable)?;
+        let command = Command::parse(self.buffer.alloc(), line)?;
+        self.carry_out_command(command)
+    }
+
+    // Carries out the command of a line.
+    fn carry_out_command(&mut self, command: Command) -> Result<(), LineFault> {
         let settings = &mut self.settings;
         match command {
             Command::Font(character, glyph, advance) => {
@@ -64,7 +80,7 @@ impl Session {
     }
 
     /// What the run prints: the answers of its hooks, then the glyphs.
-    pub fn printed(self) -> Result<String, AllocError> {
+    pub(crate) fn printed(self) -> Result<String, AllocError> {
         let mut text = self.answers;
         print_buffer(&mut text, &self.buffer)?;
         Ok(text)

@@ -23,21 +23,21 @@ struct Feature {
 #[derive(Drop)]
 pub struct Settings {
     pub shaper: Option<hb_ot_shaper_t>,
-    pub script: Option<Script>,
-    pub chosen: Option<hb_tag_t>,
-    pub found: bool,
-    pub gpos_mark: bool,
-    pub stretch_start: StretchStart,
-    pub global_mask: u32,
+    pub(crate) script: Option<Script>,
+    pub(crate) chosen: Option<hb_tag_t>,
+    pub(crate) found: bool,
+    pub(crate) gpos_mark: bool,
+    pub(crate) stretch_start: StretchStart,
+    pub(crate) global_mask: u32,
     pub font: LineFont,
     pub tables: LineTables,
-    pub spans: Vec<Span>,
+    pub(crate) spans: Vec<Span>,
     features: Vec<Feature>,
 }
 
 impl Settings {
     /// Nothing set.
-    pub fn new(alloc: Global) -> Self {
+    pub(crate) fn new(alloc: Global) -> Self {
         Settings {
             shaper: None,
             script: None,
@@ -101,7 +101,7 @@ impl Settings {
     }
 
     /// Sets a feature's mask.
-    pub fn set_mask(&mut self, tag: hb_tag_t, mask: u32) -> Result<(), AllocError> {
+    pub(crate) fn set_mask(&mut self, tag: hb_tag_t, mask: u32) -> Result<(), AllocError> {
         for feature in self.features.iter_mut() {
             if feature.tag == tag {
                 feature.mask = mask;
@@ -114,7 +114,11 @@ impl Settings {
     }
 
     /// Sets a feature's lookups.
-    pub fn set_lookups(&mut self, tag: hb_tag_t, lookups: Range<usize>) -> Result<(), AllocError> {
+    pub(crate) fn set_lookups(
+        &mut self,
+        tag: hb_tag_t,
+        lookups: Range<usize>,
+    ) -> Result<(), AllocError> {
         for feature in self.features.iter_mut() {
             if feature.tag == tag {
                 feature.lookups = lookups;

@@ -10,7 +10,7 @@ use std::collections::BTreeMap;
 
 /// What the tables say of a character.
 #[derive(Clone, Copy)]
-pub struct CharacterEntry {
+pub(crate) struct CharacterEntry {
     pub joining_type: hb_arabic_joining_type_t,
     pub general_category: hb_unicode_general_category_t,
     pub indic_category: Category,
@@ -20,7 +20,7 @@ pub struct CharacterEntry {
 
 impl CharacterEntry {
     /// What holds of a character without a line.
-    pub const DEFAULT: Self = CharacterEntry {
+    pub(crate) const DEFAULT: Self = CharacterEntry {
         joining_type: hb_arabic_joining_type_t::U,
         general_category: hb_unicode_general_category_t::Lo,
         indic_category: 0,
@@ -31,7 +31,7 @@ impl CharacterEntry {
 
 /// Two characters that compose to a third one, which decomposes to them.
 #[derive(Clone, Copy)]
-pub struct CanonicalPair {
+pub(crate) struct CanonicalPair {
     pub first: char,
     pub second: char,
     pub whole: char,
@@ -46,7 +46,7 @@ pub struct LineTables {
 
 impl LineTables {
     /// Tables that no line has changed.
-    pub fn new(alloc: Global) -> Self {
+    pub(crate) fn new(alloc: Global) -> Self {
         LineTables {
             entries: BTreeMap::new(alloc),
             pairs: Vec::new(alloc),
@@ -54,13 +54,17 @@ impl LineTables {
     }
 
     /// From now on the tables say this of the character.
-    pub fn set_entry(&mut self, character: char, entry: CharacterEntry) -> Result<(), AllocError> {
+    pub(crate) fn set_entry(
+        &mut self,
+        character: char,
+        entry: CharacterEntry,
+    ) -> Result<(), AllocError> {
         self.entries.insert(u32::from(character), entry)?;
         Ok(())
     }
 
     /// Adds a pair, which counts unless an earlier one says otherwise.
-    pub fn add_pair(&mut self, pair: CanonicalPair) -> Result<(), AllocError> {
+    pub(crate) fn add_pair(&mut self, pair: CanonicalPair) -> Result<(), AllocError> {
         self.pairs.push(pair)?;
         Ok(())
     }

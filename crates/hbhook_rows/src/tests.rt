@@ -1,6 +1,5 @@
 //! What no row can say: how lines and streams end, and what lines leave that no output tells of.
 mod edges;
-mod pauses;
 mod session;
 
 use hbhook_lines::run_lines;

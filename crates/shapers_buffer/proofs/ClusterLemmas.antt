@@ -2,7 +2,7 @@
 use Rattle.std.proofs.Common.{◌≡◌, ◌<◌, ◌≤◌, ℕ, zero, suc, ◌+◌, ◌-◌, ◌==◌, Bool, true, false, cond, not, ◌&&◌, nat_lt, inl, inr, List, [], ◌∷◌, ◌++◌, min, map, length, get_or, take, drop, reverse, refl, sym, ap, ◌∙◌, append_assoc, arith, length-take, length-drop, if◌then◌else◌, length-take-le}
 use Rattle.std.specs.Prelude.{fold}
 use Rattle.std.specs.List.{prefix_len, suffix_len}
-use Rattle.std.proofs.lemmas.List.{length-reverse, map-append, reverse-append, reverse-reverse, take_at, drop_at, drop-drop, take-take, drop-take, take-append-drop, drop_all, take_all, get_or-reverse, take-map, drop-map, append-nil}
+use Rattle.std.proofs.lemmas.List.{length-reverse, map-append, reverse-append, reverse-reverse, take_at, drop_at, drop-drop, take-take, drop-take, take-append-drop, drop_all, take_all, get_or-reverse, take-map, drop-map, append-nil, get_or-take, get_or-drop}
 use Rattle.std.proofs.lemmas.List.Sums.{suffix_len-le-length}
 use Rattle.std.proofs.Math.Seq.{take-add}
 use Rattle.std.proofs.lemmas.Bool.{cases_lt}
@@ -104,9 +104,12 @@ merged_inside s e gs h l =
     ∙ ap (λ l. l ++ (map (in_cluster m) middle ++ (map (in_cluster m) (take j (drop e gs)) ++ drop j (drop e gs)))) (sym front)
     ∙ ap (λ l. reverse (flooded (first_cluster middle) m (reverse (take s gs))) ++ (map (in_cluster m) middle ++ l)) (sym (flooded-parts (last_cluster middle) m (drop e gs)))
 
--- how long a stretch is, and each element of it changed
+-- how long a stretch is, what stands at its places, and each element of it changed
 pub length-stretch : {X : Type 0} (s e : ℕ) (xs : List X) → e ≤ length xs → length (stretch_of s e xs) ≡ e - s
 length-stretch s e xs h = length-take-le (e - s) (drop s xs) (omega (arith, length-drop s xs))
+
+pub get_or-stretch : {X : Type 0} (s e k : ℕ) (d : X) (xs : List X) → k < e - s → get_or (stretch_of s e xs) k d ≡ get_or xs (s + k) d
+get_or-stretch s e k d xs h = get_or-take (e - s) (drop s xs) k d h ∙ get_or-drop s xs k d
 
 pub map-stretch : {X Y : Type 0} (f : X → Y) (s e : ℕ) (xs : List X) → map f (stretch_of s e xs) ≡ stretch_of s e (map f xs)
 map-stretch f s e xs = sym (ap (take (e - s)) (drop-map f s xs) ∙ take-map f (e - s) (drop s xs))

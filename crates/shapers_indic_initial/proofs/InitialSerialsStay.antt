@@ -11,6 +11,7 @@ use Rattle.shapers_buffer.specs.GlyphFlags.{with_bits}
 use Rattle.shapers_buffer.specs.Places.{pick}
 use Rattle.shapers_buffer.specs.Syllables.{kind_of}
 use Rattle.shapers_buffer.proofs.MappedLists.{list_any-map, map-seen}
+use Rattle.shapers_buffer.proofs.ClusterLemmas.{map-stretch}
 use Rattle.shapers_base.specs.declared.plan.ot_category_t.TheConstants.{OT_H, OT_Ra, OT_ZWJ, OT_ZWNJ}
 use Rattle.shapers_base.specs.declared.plan.ot_position_t.TheConstants.{POS_BASE_C, POS_PRE_M, POS_RA_TO_BECOME_REPH}
 use Rattle.shapers_clusters.specs.Steps.{Step, still_step, swap_step}
@@ -66,7 +67,7 @@ stretch_stays change each s e gs =
     map-append unnumbered (take s gs) (change b ++ drop e gs)
     ∙ same_two (λ xs (ys : List hb_glyph_info_t). xs ++ ys) (sym (take-map unnumbered s gs))
     (map-append unnumbered (change b) (drop e gs)
-    ∙ same_two (λ xs (ys : List hb_glyph_info_t). xs ++ ys) (each b ∙ ap change (sym (ap (take (e - s)) (drop-map unnumbered s gs) ∙ take-map unnumbered (e - s) (drop s gs)))) (sym (drop-map unnumbered e gs)))
+    ∙ same_two (λ xs (ys : List hb_glyph_info_t). xs ++ ys) (each b ∙ ap change (map-stretch unnumbered s e gs)) (sym (drop-map unnumbered e gs)))
 
 -- the older specification's H
 halant_step_stays : (r : Rules) (script : Option Script) (base : ℕ) (gs : List hb_glyph_info_t) → halant_step r script base (map unnumbered gs) ≡ halant_step r script base gs
@@ -140,7 +141,7 @@ eyelash_stays r script base gs =
     ∙ ap (λ (a : ℕ → Bool). map (λ t. if has_eyelash r script && a t.0 then with_bits (bits_of r BLWF) t.1 else t.1) (enumerate_from 0 (map unnumbered gs))) (sym (in_eyelash_stays base gs))
 
 numbers_between : (s e : ℕ) (gs : List hb_glyph_info_t) → numbers (stretch_of s e (map unnumbered gs)) ≡ numbers (stretch_of s e gs)
-numbers_between s e gs = ap numbers (ap (take (e - s)) (drop-map unnumbered s gs) ∙ take-map unnumbered (e - s) (drop s gs)) ∙ numbers_stay unnumbered unnumbered_keeps (stretch_of s e gs)
+numbers_between s e gs = ap numbers (sym (map-stretch unnumbered s e gs)) ∙ numbers_stay unnumbered unnumbered_keeps (stretch_of s e gs)
 
 pref_pair_stays : (r : Rules) (base : ℕ) (gs : List hb_glyph_info_t) → pref_pair r base (map unnumbered gs) ≡ pref_pair r base gs
 pref_pair_stays r base gs =

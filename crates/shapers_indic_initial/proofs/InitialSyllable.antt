@@ -1,11 +1,12 @@
 -- The parts of the initial reordering of a syllable, one after another.
 use Rattle.std.proofs.Common.{◌≡◌, ℕ, ◌-◌, ◌≤◌, Bool, true, false, if◌then◌else◌, List, [], ◌∷◌, ◌++◌, length, take, drop, refl, sym, ap, ◌∙◌, arith, Option, length-append, length-take-le, length-drop}
-use Rattle.std.proofs.lemmas.List.{length-map, take-map, drop-map}
+use Rattle.std.proofs.lemmas.List.{length-map}
 use Rattle.shapers_buffer.specs.declared.buffer.glyph.hb_glyph_info_t.{hb_glyph_info_t}
 use Rattle.shapers_buffer.specs.declared.buffer.tag.Script.{Script}
 use Rattle.shapers_buffer.specs.Buffer.{Buffer}
 use Rattle.shapers_buffer.specs.Clusters.{stretch_of}
 use Rattle.shapers_buffer.specs.Glyph.{order_view, plain}
+use Rattle.shapers_buffer.proofs.ClusterLemmas.{map-stretch}
 use Rattle.shapers_clusters.specs.Steps.{Step}
 use Rattle.shapers_clusters.proofs.Picks.{length-pick}
 use Rattle.shapers_indic_initial.specs.InitialReordering.{in_order, initial_order, initial_steps, is_reordered, joiner_step, masked_in_order, opening_steps, order_step, positioned, steps_of_reordered, with_joiner_first}
@@ -38,7 +39,7 @@ kind-viewed [] = refl
 kind-viewed (g ∷ gs) = refl
 
 kind-stretch : (s e : ℕ) (gs : List hb_glyph_info_t) → is_reordered (stretch_of s e (order_view gs)) ≡ is_reordered (stretch_of s e gs)
-kind-stretch s e gs = ap is_reordered (ap (take (e - s)) (drop-map plain s gs) ∙ take-map plain (e - s) (drop s gs)) ∙ kind-viewed (stretch_of s e gs)
+kind-stretch s e gs = ap is_reordered (sym (map-stretch plain s e gs)) ∙ kind-viewed (stretch_of s e gs)
 
 -- what a part leaves: as many glyphs, and its syllable
 record After (meaning : List hb_glyph_info_t → List hb_glyph_info_t) (s e : ℕ) (old new : Buffer) : Type 0 where

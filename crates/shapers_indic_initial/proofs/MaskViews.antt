@@ -1,9 +1,10 @@
 -- What shows of the masks of a syllable: order views carry them along, and what a reordering carries along hides them.
 use Rattle.std.proofs.Common.{◌≡◌, ℕ, ◌+◌, ◌-◌, ◌%◌, ◌/◌, ◌≤◌, ◌&&◌, ◌||◌, ◌==◌, Bool, true, false, not, cond, if◌then◌else◌, List, [], ◌∷◌, length, take, drop, map, refl, sym, ap, ◌∙◌, arith, Option, Some, None}
-use Rattle.std.specs.Prelude.{bit_and, find, nat_lt}
+use Rattle.std.specs.Prelude.{bit_and, find, nat_lt, bit_or}
 use Rattle.std.specs.List.{enumerate_from, prefix_len}
 use Rattle.std.proofs.lemmas.List.{length-map, take-map, drop-map}
-use Rattle.std.proofs.lemmas.Nat.{and_mask, and_mod, and_shr}
+use Rattle.std.proofs.lemmas.Nat.{and_mask, and_mod, and_shr, or_mod, or_shr}
+use Rattle.std.specs.Int.Bits.{or_zero_r}
 use Rattle.shapers_buffer.specs.declared.buffer.glyph.hb_glyph_info_t.{hb_glyph_info_t}
 use Rattle.shapers_buffer.specs.declared.buffer.tag.Script.{Script}
 use Rattle.shapers_buffer.specs.Buffer.{Buffer, but_places}
@@ -12,6 +13,7 @@ use Rattle.shapers_buffer.specs.Glyph.{order_view, plain, without_flags}
 use Rattle.shapers_buffer.specs.GlyphFlags.{with_bits}
 use Rattle.shapers_buffer.specs.Marks.{no_marks}
 use Rattle.shapers_buffer.proofs.MappedLists.{map-seen, prefix_len-seen}
+use Rattle.shapers_buffer.proofs.ClusterLemmas.{map-stretch}
 use Rattle.shapers_base.specs.declared.plan.ot_category_t.TheConstants.{OT_ZWNJ}
 use Rattle.shapers_base.specs.declared.plan.ot_position_t.TheConstants.{POS_BASE_C, POS_RA_TO_BECOME_REPH}
 use Rattle.shapers_clusters.proofs.FlagCalls.{flags-or, plain-or}
@@ -109,7 +111,7 @@ numbers-viewed [] = refl
 numbers-viewed (g ∷ gs) = ap (λ ids. number g ∷ ids) (numbers-viewed gs)
 
 stretch_numbers-viewed : (s e : ℕ) (gs : List hb_glyph_info_t) → numbers (stretch_of s e (order_view gs)) ≡ numbers (stretch_of s e gs)
-stretch_numbers-viewed s e gs = ap numbers (ap (take (e - s)) (drop-map plain s gs) ∙ take-map plain (e - s) (drop s gs)) ∙ numbers-viewed (stretch_of s e gs)
+stretch_numbers-viewed s e gs = ap numbers (sym (map-stretch plain s e gs)) ∙ numbers-viewed (stretch_of s e gs)
 
 find-same : (P Q : ℕ → Bool) → ((i : ℕ) → P i ≡ Q i) → (xs : List ℕ) → find P xs ≡ find Q xs
 find-same P Q same [] = refl

@@ -12,7 +12,7 @@ use Rattle.shapers_buffer.specs.Buffer.{Buffer, but_places}
 use Rattle.shapers_buffer.specs.Clusters.{merge_all, stretch_of, with_stretch}
 use Rattle.shapers_buffer.specs.Glyph.{order_view}
 use Rattle.shapers_buffer.specs.Places.{listed, pick, place_at, placed, with_place}
-use Rattle.shapers_buffer.proofs.ClusterLemmas.{three_parts}
+use Rattle.shapers_buffer.proofs.ClusterLemmas.{three_parts, length-stretch}
 use Rattle.shapers_buffer.proofs.PlaceLaws.{places_are_written}
 use Rattle.shapers_clusters.specs.Steps.{FitsStep, Step, run_steps, shifted, widened}
 use Rattle.shapers_clusters.proofs.Merging.{length-merge_all}
@@ -55,7 +55,7 @@ moved_within d s e h j xs l r k m =
     let B = stretch_of s e xs in
     let C = drop e xs in
     let lA : length A ≡ s = length-take-le s xs (omega arith) in
-    let lB : length B ≡ e - s = length-take-le (e - s) (drop s xs) (omega (arith, length-drop s xs)) in
+    let lB : length B ≡ e - s = length-stretch s e xs (omega arith) in
     let a = take h B in
     let x = get_or B h d in
     let b = take (j - h) (drop (h + 1) B) in

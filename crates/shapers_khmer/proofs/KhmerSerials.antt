@@ -7,6 +7,7 @@ use Rattle.shapers_buffer.specs.declared.buffer.glyph.hb_glyph_info_t.{hb_glyph_
 use Rattle.shapers_buffer.specs.Clusters.{stretch_of}
 use Rattle.shapers_buffer.specs.Places.{pick}
 use Rattle.shapers_buffer.specs.Syllables.{kind_of}
+use Rattle.shapers_buffer.proofs.ClusterLemmas.{map-stretch}
 use Rattle.shapers_clusters.specs.Steps.{Step, still_step}
 use Rattle.shapers_clusters.proofs.Picks.{pick-map}
 use Rattle.shapers_khmer.specs.declared.ot_shaper_khmer.reordering.KhmerOrder.{KhmerOrder}
@@ -51,7 +52,7 @@ masked_stays m s e gs =
     map-append unnumbered a (map (with_mask m) b ++ c)
     ∙ ap (λ xs. xs ++ map unnumbered (map (with_mask m) b ++ c)) (sym (take-map unnumbered s gs))
     ∙ ap (λ xs. take s us ++ xs) (map-append unnumbered (map (with_mask m) b) c
-    ∙ ap (λ xs. xs ++ map unnumbered c) (mask_all m b ∙ ap (map (with_mask m)) (sym (ap (take (e - s)) (drop-map unnumbered s gs) ∙ take-map unnumbered (e - s) (drop s gs))))
+    ∙ ap (λ xs. xs ++ map unnumbered c) (mask_all m b ∙ ap (map (with_mask m)) (map-stretch unnumbered s e gs))
     ∙ ap (λ xs. map (with_mask m) (stretch_of s e us) ++ xs) (sym (drop-map unnumbered e gs)))
 
 masked_for_stays : (r : KhmerOrder) (move : Move) (order : List ℕ) (gs : List hb_glyph_info_t) → map unnumbered (masked_for r move order gs) ≡ masked_for r move order (map unnumbered gs)

@@ -10,7 +10,7 @@ use Rattle.shapers_buffer.specs.Clusters.{merge, merge_all, stretch_of, with_str
 use Rattle.shapers_buffer.specs.Glyph.{order_view, plain, without_flags}
 use Rattle.shapers_buffer.specs.Marks.{no_marks}
 use Rattle.shapers_buffer.specs.Places.{listed, pick, placed}
-use Rattle.shapers_buffer.proofs.ClusterLemmas.{three_parts}
+use Rattle.shapers_buffer.proofs.ClusterLemmas.{three_parts, map-stretch, length-stretch}
 use Rattle.shapers_clusters.specs.Flags.{HidesFields, seen}
 use Rattle.shapers_clusters.specs.Steps.{FitsStep, Step, run_steps, old_places, shifted, still_step, widened}
 use Rattle.shapers_clusters.proofs.Merging.{length-merge_all}
@@ -122,7 +122,7 @@ order_by_places s e step change places gs ms ns h l f lists as_many changed is =
 pub order_by_places_alone : (s e : ℕ) (step : Step) (places : List ℕ) (gs ms ns : List hb_glyph_info_t) → s ≤ e → e ≤ length gs → FitsStep (e - s) step → listed s e places ≡ map (λ p. s + p) step.places → order_view ms ≡ order_view gs → ns ≡ placed s e places ms → order_view ns ≡ with_stretch s e (pick step.places) (order_view gs)
 order_by_places_alone s e step places gs ms ns h l f lists same is =
     let n : length (order_view gs) ≡ length gs = length-map gs plain in
-    let long : length (stretch_of s e (order_view gs)) ≡ e - s = length-take-le (e - s) (drop s (order_view gs)) (omega (arith, length-drop s (order_view gs))) in
+    let long : length (stretch_of s e (order_view gs)) ≡ e - s = length-stretch s e (order_view gs) (omega arith) in
     order_by_places s e step (λ xs. xs) places gs ms ns h l f lists long (same ∙ sym (three_parts s e (order_view gs) h)) is
 
 -- What a body shows that merges and changes its syllable, and then places it: ms are the glyphs before they are placed.
@@ -212,7 +212,7 @@ stretch-viewed s e change meant gs same =
     map-append plain a (b ++ c)
     ∙ ap (λ ys. order_view a ++ ys) (map-append plain b c ∙ ap (λ ys. ys ++ order_view c) same)
     ∙ ap (λ ys. ys ++ (meant (order_view (stretch_of s e gs)) ++ order_view c)) (sym (take-map plain s gs))
-    ∙ ap (λ ys. take s (order_view gs) ++ (meant ys ++ order_view c)) (sym (ap (take (e - s)) (drop-map plain s gs) ∙ take-map plain (e - s) (drop s gs)))
+    ∙ ap (λ ys. take s (order_view gs) ++ (meant ys ++ order_view c)) (map-stretch plain s e gs)
     ∙ ap (λ ys. take s (order_view gs) ++ (meant (stretch_of s e (order_view gs)) ++ ys)) (sym (drop-map plain e gs))
 
 -- for the laws of an instance: the old places of one step are its places

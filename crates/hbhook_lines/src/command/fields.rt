@@ -6,7 +6,7 @@ use rustybuzz_shapers::buffer::hb_unicode_general_category_t;
 use std::str::FromStr;
 
 /// A number of decimal digits alone.
-pub fn decimal<N: FromStr>(field: &str) -> Result<N, LineFault>
+pub(super) fn decimal<N: FromStr>(field: &str) -> Result<N, LineFault>
 where
     N::Err: Drop,
 {
@@ -17,7 +17,7 @@ where
 }
 
 /// A number from 0 to `last`, in decimal digits alone.
-pub fn decimal_to(field: &str, last: u8) -> Result<u8, LineFault>
+pub(super) fn decimal_to(field: &str, last: u8) -> Result<u8, LineFault>
     ensures { IfOk result (λ number. number ≤ last) }
 {
     let number = decimal(field)?;
@@ -28,7 +28,7 @@ pub fn decimal_to(field: &str, last: u8) -> Result<u8, LineFault>
 }
 
 /// A decimal number, with a minus where it is negative.
-pub fn signed(field: &str) -> Result<i32, LineFault> {
+pub(super) fn signed(field: &str) -> Result<i32, LineFault> {
     let digits = field.strip_prefix('-').unwrap_or(field);
     if !digits.bytes().all(|byte| byte.is_ascii_digit()) {
         return Err(LineFault::Unreadable);
@@ -37,7 +37,7 @@ pub fn signed(field: &str) -> Result<i32, LineFault> {
 }
 
 /// A number of hexadecimal digits alone.
-pub fn hexadecimal(field: &str) -> Result<u32, LineFault> {
+pub(super) fn hexadecimal(field: &str) -> Result<u32, LineFault> {
     if !field.bytes().all(|byte| byte.is_ascii_hexdigit()) {
         return Err(LineFault::Unreadable);
     }
@@ -45,12 +45,12 @@ pub fn hexadecimal(field: &str) -> Result<u32, LineFault> {
 }
 
 /// A character, by its hexadecimal number.
-pub fn character(field: &str) -> Result<char, LineFault> {
+pub(super) fn character(field: &str) -> Result<char, LineFault> {
     char::from_u32(hexadecimal(field)?).ok_or(LineFault::Unreadable)
 }
 
 /// Four ASCII characters, none of them a space.
-pub fn four_characters(field: &str) -> Result<[u8; 4], LineFault> {
+pub(super) fn four_characters(field: &str) -> Result<[u8; 4], LineFault> {
     match *field.as_bytes() {
         [a, b, c, d]
             if [a, b, c, d]
@@ -61,14 +61,14 @@ pub fn four_characters(field: &str) -> Result<[u8; 4], LineFault> {
 }
 
 /// A general category, by its place in the order of the categories.
-pub fn general_category(field: &str) -> Result<hb_unicode_general_category_t, LineFault> {
+pub(super) fn general_category(field: &str) -> Result<hb_unicode_general_category_t, LineFault> {
     let place: usize = decimal(field)?;
     let category = hb_unicode_general_category_t::ALL.get(place);
     category.copied().ok_or(LineFault::Unreadable)
 }
 
 /// `yes` or `no`.
-pub fn yes_or_no(field: &str) -> Result<bool, LineFault> {
+pub(super) fn yes_or_no(field: &str) -> Result<bool, LineFault> {
     match field {
         "yes" => Ok(true),
         "no" => Ok(false),

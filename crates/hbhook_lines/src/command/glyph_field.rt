@@ -5,7 +5,7 @@ use rustybuzz_shapers::buffer::{GlyphMarks, hb_glyph_info_t, hb_unicode_general_
 
 /// A field of a glyph or of its position, and its value.
 #[derive(Clone, Copy)]
-pub enum GlyphField {
+pub(crate) enum GlyphField {
     Glyph(u32),
     Cluster(u32),
     Mask(u32),
@@ -21,7 +21,7 @@ pub enum GlyphField {
 
 impl GlyphField {
     /// The field of this name, with its value.
-    pub fn parse(name: &str, value: &str) -> Result<GlyphField, LineFault> {
+    pub(super) fn parse(name: &str, value: &str) -> Result<GlyphField, LineFault> {
         match name {
             "glyph" => Ok(GlyphField::Glyph(decimal(value)?)),
             "cluster" => Ok(GlyphField::Cluster(decimal(value)?)),
@@ -39,7 +39,7 @@ impl GlyphField {
     }
 
     /// Writes the field into a glyph; the advance is no field of a glyph.
-    pub fn write(self, glyph: &mut hb_glyph_info_t) {
+    pub(crate) fn write(self, glyph: &mut hb_glyph_info_t) {
         match self {
             GlyphField::Glyph(number) => glyph.glyph_id = number,
             GlyphField::Cluster(cluster) => glyph.cluster = cluster,

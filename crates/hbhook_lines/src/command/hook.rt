@@ -5,7 +5,7 @@ use rustybuzz_shapers::plan::Pause;
 
 /// A hook or a pause, and what it is asked.
 #[derive(Clone, Copy)]
-pub enum HookCall {
+pub(crate) enum HookCall {
     Preprocess,
     Masks,
     Postprocess,
@@ -18,7 +18,7 @@ pub enum HookCall {
 
 impl HookCall {
     /// The hook that the first field names, with the others as its arguments.
-    pub fn parse(fields: &[&str]) -> Result<HookCall, LineFault> {
+    pub(super) fn parse(fields: &[&str]) -> Result<HookCall, LineFault> {
         match *fields {
             ["preprocess"] => Ok(HookCall::Preprocess),
             ["masks"] => Ok(HookCall::Masks),

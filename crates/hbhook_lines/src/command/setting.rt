@@ -11,7 +11,7 @@ use rustybuzz_shapers::shaper::{
 
 /// A setting and its value.
 #[derive(Clone, Copy)]
-pub enum Setting {
+pub(crate) enum Setting {
     Shaper(hb_ot_shaper_t),
     /// The script of the plan and of the buffer.
     Script(Script),
@@ -35,7 +35,7 @@ pub enum Setting {
 
 impl Setting {
     /// The setting of this name, with its value.
-    pub fn parse(key: &str, value: &str) -> Result<Setting, LineFault> {
+    pub(super) fn parse(key: &str, value: &str) -> Result<Setting, LineFault> {
         match key {
             "shaper" => Ok(Setting::Shaper(named_shaper(value)?)),
             "script" => Ok(Setting::Script(Script(four_characters(value)?))),

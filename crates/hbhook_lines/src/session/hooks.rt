@@ -10,7 +10,7 @@ use rustybuzz_shapers::shaper::{Pause, Preprocess, hb_ot_shaper_t, pause_fits, r
 impl Session {
     /// Asks a hook of the shaper. Without a shaper, and where the call's conditions fail, the line
     /// doesn't read.
-    pub fn run(&mut self, call: HookCall) -> Result<(), LineFault> {
+    pub(super) fn run(&mut self, call: HookCall) -> Result<(), LineFault> {
         let shaper = self.settings.shaper.ok_or(LineFault::Unreadable)?;
         match call {
             HookCall::Preprocess => self.preprocess(shaper),

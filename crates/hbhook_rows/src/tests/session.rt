@@ -1,7 +1,5 @@
 //! What lines leave in the settings and the buffer, of which no line of output tells.
-use hbhook_lines::command::Command;
-use hbhook_lines::fault::LineFault;
-use hbhook_lines::session::{MAX_LEN, Session};
+use hbhook_lines::{LineFault, MAX_LEN, Session};
 use rustybuzz_shapers::buffer::{
     BufferClusterLevel, BufferFlags, Direction, Script, hb_tag_t, hb_unicode_general_category_t,
 };
@@ -16,7 +14,7 @@ use std::test::Fail;
 fn session_of(alloc: Global, lines: &[&str]) -> Result<Session, LineFault> {
     let mut session = Session::new(alloc);
     for line in lines {
-        session.carry_out(Command::parse(alloc, line)?)?;
+        session.carry_out(line.as_bytes())?;
     }
     Ok(session)
 }
@@ -147,10 +145,10 @@ fn makes_glyphs(rt: HostRuntime) -> Result<(), Fail> {
         "run pause setup_syllables_khmer",
     ];
     for line in broken {
-        session.carry_out(Command::parse(rt.alloc(), line)?)?;
+        session.carry_out(line.as_bytes())?;
     }
     assert!(rt; session.buffer().has_broken_syllable());
-    session.carry_out(Command::parse(rt.alloc(), "text 61")?)?;
+    session.carry_out(b"text 61".as_slice())?;
     assert!(rt; !session.buffer().has_broken_syllable());
     Ok(())
 }
