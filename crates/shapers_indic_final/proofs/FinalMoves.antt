@@ -11,25 +11,10 @@ use Rattle.shapers_buffer.specs.Buffer.{Buffer}
 use Rattle.shapers_buffer.specs.Clusters.{stretch_of, with_stretch}
 use Rattle.shapers_buffer.specs.Glyph.{default_glyph}
 use Rattle.shapers_buffer.specs.Places.{ListsEachOnce, listed, pick, place_at, placed, with_place}
-use Rattle.shapers_buffer.proofs.PlaceLaws.{places_are_written}
+use Rattle.shapers_buffer.proofs.Listing.{written_elsewhere, written_there}
 use Rattle.shapers_clusters.proofs.Picks.{pick-append, pick-range, pick-within}
 use Rattle.shapers_clusters.proofs.Widened.{range-append}
 use Rattle.shapers_indic_final.specs.FinalGlyphs.{first_goes_last, last_goes_first}
-
--- what is read where it was written, and elsewhere
-pub written_there : (i p : ℕ) (places : List ℕ) → place_at (with_place i p places) i ≡ p
-written_there i p places = places_are_written i p places i ∙ ap (λ b. if b then p else place_at places i) (eq-eqb i i refl)
-
-pub written_elsewhere : (i p : ℕ) (places : List ℕ) (j : ℕ) → j ≢ i → place_at (with_place i p places) j ≡ place_at places j
-written_elsewhere i p places j other = places_are_written i p places j ∙ ap (λ b. if b then p else place_at places j) (ne_eqb j i other)
-
--- a call that changes places alone, after others that did
-pub only_places : (a b c : Buffer) (ps : List ℕ) → b ≡ record a { places = b.places } → c ≡ record b { places = ps } → c ≡ record a { places = c.places }
-only_places a b c ps before after =
-    let is : c.places ≡ ps = ap (λ (x : Buffer). x.places) after in
-    after
-    ∙ ap (λ (x : Buffer). let y : Buffer = record x { places = ps } in y) before
-    ∙ ap (λ (l : List ℕ). let y : Buffer = record a { places = l } in y) (sym is)
 
 -- places from s to e - 1 that list the next place each, and e - 1 that lists s
 pub record ListsNext (s i : ℕ) (places : List ℕ) : Type 0 where

@@ -13,6 +13,7 @@ use Rattle.shapers_buffer.specs.Clusters.{merge, stretch_of, with_stretch}
 use Rattle.shapers_buffer.specs.Glyph.{default_glyph, order_view, plain}
 use Rattle.shapers_buffer.specs.Places.{pick}
 use Rattle.shapers_buffer.proofs.MappedLists.{enumerate-append}
+use Rattle.shapers_buffer.proofs.ClusterLemmas.{length-stretch, three_parts}
 use Rattle.shapers_base.specs.declared.plan.indic.RephPosition.{RephPosition}
 use Rattle.shapers_clusters.specs.Steps.{Step, run_step, run_steps, widened}
 use Rattle.shapers_clusters.proofs.Merging.{length-merge, order_view-merge}
@@ -25,7 +26,7 @@ use Rattle.shapers_indic_final.specs.FinalPref.{formed_pref, pref_move, pref_ste
 use Rattle.shapers_indic_final.specs.FinalReph.{opens_with_reph, reph_step, reph_steps, reph_target}
 use Rattle.shapers_indic_final.proofs.FinalMoves.{permutes_last_first}
 use Rattle.shapers_indic_final.proofs.FinalPlaces.{passes_there, places_first, places_none}
-use Rattle.shapers_indic_final.proofs.FinalSteps.{length-moved, matra_stepped, pref_stepped, reph_stepped, three_parts}
+use Rattle.shapers_indic_final.proofs.FinalSteps.{length-moved, matra_stepped, pref_stepped, reph_stepped}
 
 -- how many glyphs there are after a step
 pub length-reph : (level : BufferClusterLevel) (s e j : ℕ) (gs : List hb_glyph_info_t) → s + j < e → e ≤ length gs → length (run_step level (widened s e (length gs) (reph_step (e - s) j)) gs) ≡ length gs
@@ -52,9 +53,6 @@ length-matra level s e b i j gs h l w m =
     ap length (sym (matra_stepped level s e b i j gs h l m))
     ∙ length-merge level (s + j) (s + b) (with_stretch (s + i) (s + j + 1) first_goes_last gs) (omega arith)
     ∙ n
-
-pub length-stretch : (s e : ℕ) (gs : List hb_glyph_info_t) → e ≤ length gs → length (stretch_of s e gs) ≡ e - s
-length-stretch s e gs l = omega (arith, length-take (e - s) (drop s gs), length-drop s gs)
 
 -- a left matra that moves leaves what stands before it
 left_seen : (gs : List hb_glyph_info_t) (q : ℕ) (d : hb_glyph_info_t) → is_left (get_or gs q d) ≡ is_left (get_or (order_view gs) q (plain d))

@@ -13,6 +13,7 @@ use Rattle.shapers_buffer.specs.Buffer.{Buffer}
 use Rattle.shapers_buffer.specs.Clusters.{merge, stretch_of, with_stretch}
 use Rattle.shapers_buffer.specs.Places.{pick}
 use Rattle.shapers_buffer.proofs.MappedLists.{drop-range}
+use Rattle.shapers_buffer.proofs.ClusterLemmas.{three_parts}
 use Rattle.shapers_clusters.specs.Steps.{Step, run_step, widened}
 use Rattle.shapers_clusters.proofs.Merging.{length-merge}
 use Rattle.shapers_clusters.proofs.Picks.{pick-append, pick-range, within_range}
@@ -77,12 +78,6 @@ stretch_picks f g picks i k n gs h l long =
     ∙ ap (λ ys. take i gs ++ (ys ++ pick (drop k ps) gs)) (picks i k gs h (omega arith))
     ∙ ap (λ qs. take i gs ++ (g (stretch_of i k gs) ++ pick qs gs)) back
     ∙ ap (λ ys. take i gs ++ (g (stretch_of i k gs) ++ ys)) (pick-range k (n - k) gs (omega arith) ∙ rest)
-
-pub three_parts : {X : Type 0} (s e : ℕ) (xs : List X) → s ≤ e → take s xs ++ (stretch_of s e xs ++ drop e xs) ≡ xs
-three_parts s e xs l =
-    ap (λ ys. take s xs ++ (stretch_of s e xs ++ ys)) (ap (λ m. drop m xs) (let a : e ≡ s + (e - s) = omega arith in a) ∙ sym (drop-drop (e - s) s xs))
-    ∙ ap (λ ys. take s xs ++ ys) (take-append-drop (e - s) (drop s xs))
-    ∙ take-append-drop s xs
 
 -- a change that permutes takes each place once
 pub stretch_permutes : (f : List ℕ → List ℕ) → ((ps : List ℕ) → IsPermutation ps (f ps)) → (i k n : ℕ) → i ≤ k → IsPermutation (range_with_len 0 n) (with_stretch i k f (places 0 n))

@@ -9,6 +9,7 @@ use Rattle.shapers_buffer.specs.Clusters.{stretch_of, with_stretch}
 use Rattle.shapers_buffer.specs.Glyph.{order_view, plain}
 use Rattle.shapers_buffer.specs.Marks.{LIGATED, MULTIPLIED, without_mark}
 use Rattle.shapers_buffer.specs.Places.{pick}
+use Rattle.shapers_buffer.proofs.ClusterLemmas.{length-stretch, map-stretch}
 use Rattle.shapers_base.specs.declared.plan.ot_category_t.TheConstants.{OT_H}
 use Rattle.shapers_clusters.specs.Steps.{FitSteps, Step, old_places, run_steps, widened}
 use Rattle.shapers_clusters.proofs.Through.{length-same}
@@ -28,12 +29,9 @@ use Rattle.shapers_indic_final.proofs.FinalPlain.{TouchesNoFlag, base_after_reph
 use Rattle.shapers_syllabic.specs.Reordering.{SyllableReordered, carried}
 use Rattle.shapers_syllabic.proofs.SyllableThen.{changed_parts, syllable_as, syllable_changed, syllable_mapped, syllable_still, syllable_then}
 
--- a syllable of the order view
-view_stretch : (s e : ℕ) (gs : List hb_glyph_info_t) → order_view (stretch_of s e gs) ≡ stretch_of s e (order_view gs)
-view_stretch s e gs = sym (ap (take (e - s)) (drop-map plain s gs) ∙ take-map plain (e - s) (drop s gs))
-
-length-stretch : (s e : ℕ) (gs : List hb_glyph_info_t) → s ≤ e → e ≤ length gs → length (stretch_of s e (order_view gs)) ≡ e - s
-length-stretch s e gs h l = length-take-le (e - s) (drop s (order_view gs)) (omega (arith, length-drop s (order_view gs), length-map gs plain))
+-- how long a syllable of the order view is
+length-view : (s e : ℕ) (gs : List hb_glyph_info_t) → e ≤ length gs → length (stretch_of s e (order_view gs)) ≡ e - s
+length-view s e gs l = length-stretch s e (order_view gs) (omega (arith, length-map gs plain))
 
 -- what a part leaves: as many glyphs, and its syllable
 record After (meaning : List hb_glyph_info_t → List hb_glyph_info_t) (s e : ℕ) (old new : Buffer) : Type 0 where
@@ -59,7 +57,7 @@ moved_part meaning steps s e old new h l laws is =
     let syl = stretch_of s e xs in
     let sts = steps syl in
     let ran = run_steps old.level (map (widened s e (length gs)) sts) gs in
-    let k : length syl ≡ e - s = length-stretch s e gs h l in
+    let k : length syl ≡ e - s = length-view s e gs l in
     let glyphs_are : new.glyphs ≡ ran = ap (λ (b : Buffer). b.glyphs) is in
     record {
       others = ap but_places is ∙ sym (ap (λ (zs : List hb_glyph_info_t). let b : Buffer = record (but_places old) { glyphs = zs } in b) glyphs_are);
@@ -73,7 +71,7 @@ moved_part meaning steps s e old new h l laws is =
 -- the same by steps of the syllable as it is, where these are the same
 pub part_by_steps : (meaning : List hb_glyph_info_t → List hb_glyph_info_t) (steps : List hb_glyph_info_t → List Step) (s e : ℕ) (old new : Buffer) → s ≤ e → e ≤ length old.glyphs → LawsAt (stretch_of s e (order_view old.glyphs)) (meaning (stretch_of s e (order_view old.glyphs))) (steps (stretch_of s e (order_view old.glyphs))) → steps (order_view (stretch_of s e old.glyphs)) ≡ steps (stretch_of s e old.glyphs) → new ≡ record old { glyphs = run_steps old.level (map (widened s e (length old.glyphs)) (steps (stretch_of s e old.glyphs))) old.glyphs; places = new.places } → SyllableReordered meaning steps s e old new
 part_by_steps meaning steps s e old new h l laws same is =
-    let both : steps (stretch_of s e old.glyphs) ≡ steps (stretch_of s e (order_view old.glyphs)) = sym same ∙ ap steps (view_stretch s e old.glyphs) in
+    let both : steps (stretch_of s e old.glyphs) ≡ steps (stretch_of s e (order_view old.glyphs)) = sym same ∙ ap steps (map-stretch plain s e old.glyphs) in
     moved_part meaning steps s e old new h l laws (is ∙ ap (λ (sts : List Step). let b : Buffer = record old { glyphs = run_steps old.level (map (widened s e (length old.glyphs)) sts) old.glyphs; places = new.places } in b) both)
 
 -- What the parts read of a syllable shows in its order view.
@@ -121,7 +119,7 @@ recovered-stretch r s e gs h l =
     let part = stretch_of s e gs in
     let k : length part ≡ e - s = length-take-le (e - s) (drop s gs) (omega (arith, length-drop s gs)) in
     let parts = changed_parts s e (take s gs) (map (recovered r.virama) part) (drop e gs) (with_stretch s e (map (recovered r.virama)) gs) h (length-take-le s gs (omega arith)) (length-map part (recovered r.virama) ∙ k) refl in
-    ap order_view parts.stretch ∙ sym (viramas_plain r part) ∙ ap (with_viramas r) (view_stretch s e gs)
+    ap order_view parts.stretch ∙ sym (viramas_plain r part) ∙ ap (with_viramas r) (map-stretch plain s e gs)
 
 -- where the base settles
 pub settled_part : (r : Rules) (script : Option Script) (s e : ℕ) (b0 b1 b2 : Buffer) → ((gs : List hb_glyph_info_t) → Viewed r script gs) → s ≤ e → e ≤ length b0.glyphs → b1 ≡ record b0 { glyphs = with_stretch s e (map (recovered r.virama)) b0.glyphs } → b2 ≡ record b1 { glyphs = with_stretch s e (settled r script) b1.glyphs } → SyllableReordered (λ gs. (based r script gs).glyphs) (λ _. []) s e b0 b2
@@ -132,7 +130,7 @@ settled_part r script s e b0 b1 b2 viewed h l one two =
     let k1 : but_places b1 ≡ record (but_places b0) { glyphs = b1.glyphs } = ap but_places one ∙ sym (ap (λ (zs : List hb_glyph_info_t). let b : Buffer = record (but_places b0) { glyphs = zs } in b) g1) in
     let k2 : but_places b2 ≡ record (but_places b1) { glyphs = b2.glyphs } = ap but_places two ∙ sym (ap (λ (zs : List hb_glyph_info_t). let b : Buffer = record (but_places b1) { glyphs = zs } in b) g2) in
     let v = viewed (stretch_of s e b1.glyphs) in
-    let n0 : length (with_viramas r x0) ≡ e - s = length-map x0 (recovered r.virama) ∙ length-stretch s e b0.glyphs h l in
+    let n0 : length (with_viramas r x0) ≡ e - s = length-map x0 (recovered r.virama) ∙ length-view s e b0.glyphs l in
     syllable_then (with_viramas r) (settled r script) (λ _. []) (λ _. []) s e b0 b1 b2 h l n0
     (syllable_mapped (recovered r.virama) s e b0 b1 h k1 g1 (recovered-carried r.virama) (recovered-plain r.virama))
     (syllable_changed (settled r script) (settled r script) s e b1 b2 h k2 g2 (hidden-based r script (stretch_of s e b1.glyphs)) (sym v.glyphs))
@@ -188,16 +186,16 @@ final_syllable r script s e base next tries b0 b1 b2 b3 b4 b5 viewed c last =
     let x1 = stretch_of s e (order_view b1.glyphs) in
     let B = based r script x0 in
     let opening : SyllableReordered (λ gs. (based r script gs).glyphs) (λ _. []) s e b0 b2 = settled_part r script s e b0 b1 b2 viewed h l c.viramas c.based_are in
-    let k0 : length x0 ≡ e - s = length-stretch s e b0.glyphs h l in
+    let k0 : length x0 ≡ e - s = length-view s e b0.glyphs l in
     let kb : length B.glyphs ≡ e - s = length-same carried B.glyphs x0 (hidden-based r script (with_viramas r x0) ∙ hidden-viramas r x0) ∙ k0 in
     let a2 = after (λ gs. (based r script gs).glyphs) (λ _. []) s e b0 b2 h l kb opening in
     let l2 : e ≤ length b2.glyphs = omega (arith, a2.long) in
     let x2 = stretch_of s e (order_view b2.glyphs) in
-    let k2 : length x2 ≡ e - s = length-stretch s e b2.glyphs h l2 in
+    let k2 : length x2 ≡ e - s = length-view s e b2.glyphs l2 in
     let virama_view : x1 ≡ with_viramas r x0 =
-    sym (view_stretch s e b1.glyphs) ∙ ap (λ zs. order_view (stretch_of s e zs)) (ap (λ (b : Buffer). b.glyphs) c.viramas) ∙ recovered-stretch r s e b0.glyphs h l in
+    sym (map-stretch plain s e b1.glyphs) ∙ ap (λ zs. order_view (stretch_of s e zs)) (ap (λ (b : Buffer). b.glyphs) c.viramas) ∙ recovered-stretch r s e b0.glyphs h l in
     let v1 = viewed (stretch_of s e b1.glyphs) in
-    let same1 : with_base r script (order_view (stretch_of s e b1.glyphs)) ≡ B = ap (with_base r script) (view_stretch s e b1.glyphs ∙ virama_view) in
+    let same1 : with_base r script (order_view (stretch_of s e b1.glyphs)) ≡ B = ap (with_base r script) (map-stretch plain s e b1.glyphs ∙ virama_view) in
     let base_at : base ≡ B.base = c.base_is ∙ sym v1.base ∙ ap (λ (b : Based). b.base) same1 in
     let tries_at : tries ≡ B.tries_pref = c.tries_is ∙ sym v1.tries ∙ ap (λ (b : Based). b.tries_pref) same1 in
     let base_low : base ≤ length x2 = subst (λ n. n ≤ length x2) (sym base_at) (subst (λ ys. B.base ≤ length ys) (sym a2.syllable) (base_within r script (with_viramas r x0))) in
@@ -213,11 +211,11 @@ final_syllable r script s e base next tries b0 b1 b2 b3 b4 b5 viewed c last =
     let r_laws = reph_at r.reph_pos base x3 in
     let reph_done : SyllableReordered (with_reph r.reph_pos base) (reph_steps r.reph_pos base) s e b3 b4 =
     part_by_steps (with_reph r.reph_pos base) (reph_steps r.reph_pos base) s e b3 b4 h l3 r_laws (v3.by_reph base) c.reph in
-    let k4 : length (with_reph r.reph_pos base x3) ≡ e - s = length_at x3 (with_reph r.reph_pos base x3) (reph_steps r.reph_pos base x3) r_laws ∙ length-stretch s e b3.glyphs h l3 in
+    let k4 : length (with_reph r.reph_pos base x3) ≡ e - s = length_at x3 (with_reph r.reph_pos base x3) (reph_steps r.reph_pos base x3) r_laws ∙ length-view s e b3.glyphs l3 in
     let a4 = after (with_reph r.reph_pos base) (reph_steps r.reph_pos base) s e b3 b4 h l3 k4 reph_done in
     let l4 : e ≤ length b4.glyphs = omega (arith, a4.long) in
     let next_at : next ≡ base_after_reph r.reph_pos base (with_matras script base B.glyphs) =
-    c.next_is ∙ sym (v3.base_then base) ∙ ap (base_after_reph r.reph_pos base) (view_stretch s e b3.glyphs ∙ a3.syllable ∙ ap (with_matras script base) a2.syllable) in
+    c.next_is ∙ sym (v3.base_then base) ∙ ap (base_after_reph r.reph_pos base) (map-stretch plain s e b3.glyphs ∙ a3.syllable ∙ ap (with_matras script base) a2.syllable) in
     let whole = syllable_then (λ gs. (based r script gs).glyphs) (placed_order r script tries base next) (λ _. []) (placed_steps r script tries base next) s e b0 b2 b5 h l kb opening
     (syllable_then (with_matras script base) (λ gs. tried_order r script tries next (with_reph r.reph_pos base gs)) (matra_steps script base) (λ gs. reph_steps r.reph_pos base gs ++ tried_steps r script tries next (with_reph r.reph_pos base gs)) s e b2 b3 b5 h l2 k3 matras_done
     (syllable_then (with_reph r.reph_pos base) (tried_order r script tries next) (reph_steps r.reph_pos base) (tried_steps r script tries next) s e b3 b4 b5 h l3 k4 reph_done (last.reordered l4))) in

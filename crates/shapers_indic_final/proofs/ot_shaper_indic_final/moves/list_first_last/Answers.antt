@@ -2,7 +2,8 @@
 use Rattle.std.proofs.Common.{ℕ, List, ◌+◌, ◌-◌, ap, ◌∙◌, sym, subst, arith, refl}
 use Rattle.shapers_buffer.specs.Buffer.{Buffer}
 use Rattle.shapers_buffer.specs.Places.{listed, with_place}
-use Rattle.shapers_indic_final.proofs.FinalMoves.{ListsNext, lists_first_last, next_more, only_places}
+use Rattle.shapers_buffer.proofs.Listing.{only_places}
+use Rattle.shapers_indic_final.proofs.FinalMoves.{ListsNext, lists_first_last, next_more}
 use Rattle.shapers_indic_final.proofs.ot_shaper_indic_final.moves.list_first_last.Goals as goal
 
 pub loop-i-init : goal.loop-i-init

@@ -1,9 +1,10 @@
 -- One merge is the step.
 use Rattle.std.proofs.Common.{sym, ap, ◌∙◌, arith}
 use Rattle.shapers_buffer.specs.Clusters.{stretch_of}
+use Rattle.shapers_buffer.proofs.ClusterLemmas.{length-stretch}
 use Rattle.shapers_indic.specs.Glyphs.{least_place, passes}
 use Rattle.shapers_indic_final.specs.FinalMatras.{is_left}
-use Rattle.shapers_indic_final.proofs.FinalPlacing.{length-stretch, stayed_in}
+use Rattle.shapers_indic_final.proofs.FinalPlacing.{stayed_in}
 use Rattle.shapers_indic_final.proofs.ot_shaper_indic_final.placing.merge_matras.Goals as goal
 
 pub returns-in-Some-clause-glyphs : goal.returns-in-Some-clause-glyphs

@@ -2,8 +2,9 @@
 use Rattle.std.proofs.Common.{length, ◌-◌, sym, ap, ◌∙◌, arith}
 use Rattle.shapers_buffer.specs.Buffer.{Buffer}
 use Rattle.shapers_buffer.specs.Clusters.{stretch_of}
+use Rattle.shapers_buffer.proofs.ClusterLemmas.{length-stretch}
 use Rattle.shapers_indic_final.specs.FinalPref.{formed_pref, pref_move, pref_steps, pref_target}
-use Rattle.shapers_indic_final.proofs.FinalPlacing.{length-pref, length-stretch, one_step, pref_only}
+use Rattle.shapers_indic_final.proofs.FinalPlacing.{length-pref, one_step, pref_only}
 use Rattle.shapers_indic_final.proofs.ot_shaper_indic_final.placing.place_pref.Goals as goal
 
 pub returns-in-Some-clause-glyphs : goal.returns-in-Some-clause-glyphs

@@ -2,8 +2,9 @@
 use Rattle.std.proofs.Common.{length, ◌-◌, sym, ap, ◌∙◌, arith}
 use Rattle.shapers_buffer.specs.Buffer.{Buffer}
 use Rattle.shapers_buffer.specs.Clusters.{stretch_of}
+use Rattle.shapers_buffer.proofs.ClusterLemmas.{length-stretch}
 use Rattle.shapers_indic_final.specs.FinalReph.{opens_with_reph, reph_step, reph_steps, reph_target}
-use Rattle.shapers_indic_final.proofs.FinalPlacing.{length-reph, length-stretch, one_step, reph_only}
+use Rattle.shapers_indic_final.proofs.FinalPlacing.{length-reph, one_step, reph_only}
 use Rattle.shapers_indic_final.proofs.ot_shaper_indic_final.placing.place_reph.Goals as goal
 
 pub returns-clause-glyphs : goal.returns-clause-glyphs
