@@ -62,34 +62,28 @@ impl Command {
     pub(crate) fn parse(alloc: Global, line: &str) -> Result<Command, LineFault> {
         let fields: Vec<&str> = line.split(' ').collect(alloc)?;
         match *fields.as_slice() {
-            ["font", u, glyph, advance] => {
-                Ok(Command::Font(character(u)?, GlyphId(decimal(glyph)?), signed(advance)?))
-            }
-            ["applies", lookup, ref glyphs @ ..] => applies(alloc, lookup, glyphs),
-            ["table", u, ref entry @ ..] => Ok(Command::Table(
-                character(u)?,
-                character_entry(entry)?,
-            )),
-            ["pair", a, b, c] => Ok(Command::Pair(CanonicalPair {
-                first: character(a)?,
-                second: character(b)?,
-                whole: character(c)?,
-            })),
-            ["mask", tag, mask] => feature_mask(tag, mask),
-            ["stage", tag, first, end] => feature_stage(tag, first, end),
-            ["set", key, value] => Ok(Command::Set(Setting::parse(key, value)?)),
-            ["text", ref us @ ..] => Ok(Command::Text(characters(alloc, us)?)),
-            ["context", side, ref us @ ..] => context(alloc, side, us),
-            ["at", place, name, value] => {
-                Ok(Command::At(decimal(place)?, GlyphField::parse(name, value)?))
-            }
-            ["span", len, kind] => Ok(Command::Span(Span {
-                len: decimal::<u32>(len)? as usize,
-                kind: decimal_to(kind, 15)?,
-            })),
-            ["run", ref call @ ..] => Ok(Command::Run(HookCall::parse(call)?)),
-            _ => Err(LineFault::Unreadable),
+            [word, ref fields @ ..] => read_command(alloc, word, fields),
+            [] => Err(LineFault::Unreadable),
         }
+    }
+}
+
+// The command that the first word of a line names, with the line's other fields.
+fn read_command(alloc: Global, word: &str, fields: &[&str]) -> Result<Command, LineFault> {
+    match word {
+        "font" => font_glyph(fields),
+        "applies" => applies(alloc, fields),
+        "table" => character_entry(fields),
+        "pair" => canonical_pair(fields),
+        "mask" => feature_mask(fields),
+        "stage" => feature_stage(fields),
+        "set" => named_setting(fields),
+        "text" => Ok(Command::Text(characters(alloc, fields)?)),
+        "context" => context(alloc, fields),
+        "at" => field_at_place(fields),
+        "span" => span(fields),
+        "run" => Ok(Command::Run(HookCall::parse(fields)?)),
+        _ => Err(LineFault::Unreadable),
     }
 }
 
@@ -102,28 +96,49 @@ fn characters(alloc: Global, fields: &[&str]) -> Result<Vec<char>, LineFault> {
     Ok(characters)
 }
 
-// A lookup and two or three glyphs.
-fn applies(alloc: Global, lookup: &str, fields: &[&str]) -> Result<Command, LineFault> {
-    if !matches!(fields.len(), 2 | 3) {
-        return Err(LineFault::Unreadable);
+// A character, its glyph and the glyph's advance.
+fn font_glyph(fields: &[&str]) -> Result<Command, LineFault> {
+    match *fields {
+        [u, glyph, advance] => {
+            Ok(Command::Font(character(u)?, GlyphId(decimal(glyph)?), signed(advance)?))
+        }
+        _ => Err(LineFault::Unreadable),
     }
-    let mut glyphs = Vec::new(alloc);
+}
+
+// A lookup and two or three glyphs.
+fn applies(alloc: Global, fields: &[&str]) -> Result<Command, LineFault> {
+    match *fields {
+        [lookup, ref glyphs @ ..] if matches!(glyphs.len(), 2 | 3) => {
+            Ok(Command::Applies(decimal(lookup)?, glyph_ids(alloc, glyphs)?))
+        }
+        _ => Err(LineFault::Unreadable),
+    }
+}
+
+// Each of these fields as a glyph.
+fn glyph_ids(alloc: Global, fields: &[&str]) -> Result<Vec<GlyphId>, LineFault> {
+    let mut glyphs = Vec::with_capacity(alloc, fields.len())?;
     for field in fields {
         glyphs.push(GlyphId(decimal(field)?))?;
     }
-    Ok(Command::Applies(decimal(lookup)?, glyphs))
+    Ok(glyphs)
 }
 
-// Joining type, general category, Indic category, position and universal category.
-fn character_entry(fields: &[&str]) -> Result<CharacterEntry, LineFault> {
+// A character, its joining type, general category, Indic category, position and universal
+// category.
+fn character_entry(fields: &[&str]) -> Result<Command, LineFault> {
     match *fields {
-        [joining, category, indic, position, universal] => Ok(CharacterEntry {
-            joining_type: joining_type(joining)?,
-            general_category: general_category(category)?,
-            indic_category: decimal(indic)?,
-            indic_position: decimal(position)?,
-            universal_category: decimal(universal)?,
-        }),
+        [u, joining, category, indic, position, universal] => {
+            let entry = CharacterEntry {
+                joining_type: joining_type(joining)?,
+                general_category: general_category(category)?,
+                indic_category: decimal(indic)?,
+                indic_position: decimal(position)?,
+                universal_category: decimal(universal)?,
+            };
+            Ok(Command::Table(character(u)?, entry))
+        }
         _ => Err(LineFault::Unreadable),
     }
 }
@@ -143,33 +158,98 @@ fn joining_type(field: &str) -> Result<hb_arabic_joining_type_t, LineFault> {
     }
 }
 
-// A feature and its mask, which has no glyph flag.
-fn feature_mask(tag: &str, mask: &str) -> Result<Command, LineFault> {
-    let mask = hexadecimal(mask)?;
-    if mask % 8 != 0 {
-        return Err(LineFault::Unreadable);
+// Two characters and the one that they compose to.
+fn canonical_pair(fields: &[&str]) -> Result<Command, LineFault> {
+    match *fields {
+        [a, b, c] => Ok(Command::Pair(CanonicalPair {
+            first: character(a)?,
+            second: character(b)?,
+            whole: character(c)?,
+        })),
+        _ => Err(LineFault::Unreadable),
     }
-    Ok(Command::Mask(hb_tag_t(four_characters(tag)?), mask))
+}
+
+// A feature and its mask.
+fn feature_mask(fields: &[&str]) -> Result<Command, LineFault> {
+    match *fields {
+        [tag, mask] => Ok(Command::Mask(hb_tag_t(four_characters(tag)?), mask_of_feature(mask)?)),
+        _ => Err(LineFault::Unreadable),
+    }
+}
+
+// A mask without a glyph flag, which are its low three bits.
+fn mask_of_feature(field: &str) -> Result<u32, LineFault> {
+    let mask = hexadecimal(field)?;
+    if mask & 7 == 0 {
+        Ok(mask)
+    } else {
+        Err(LineFault::Unreadable)
+    }
 }
 
 // A feature and its lookups, from the first to the end, which isn't among them.
-fn feature_stage(tag: &str, first: &str, end: &str) -> Result<Command, LineFault> {
+fn feature_stage(fields: &[&str]) -> Result<Command, LineFault> {
+    match *fields {
+        [tag, first, end] => Ok(Command::Stage(
+            hb_tag_t(four_characters(tag)?),
+            lookups(first, end)?,
+        )),
+        _ => Err(LineFault::Unreadable),
+    }
+}
+
+// A range of the lookups.
+fn lookups(first: &str, end: &str) -> Result<Range<usize>, LineFault> {
     let (first, end) = (decimal(first)?, decimal(end)?);
     if first > end || end > LOOKUPS {
         return Err(LineFault::Unreadable);
     }
-    Ok(Command::Stage(hb_tag_t(four_characters(tag)?), first..end))
+    Ok(first..end)
+}
+
+// What is set, and its value.
+fn named_setting(fields: &[&str]) -> Result<Command, LineFault> {
+    match *fields {
+        [key, value] => Ok(Command::Set(Setting::parse(key, value)?)),
+        _ => Err(LineFault::Unreadable),
+    }
 }
 
 // A side, and the characters there, of which a buffer keeps no more than a few.
-fn context(alloc: Global, side: &str, fields: &[&str]) -> Result<Command, LineFault> {
-    let side = match side {
-        "0" => Side::Before,
-        "1" => Side::After,
-        _ => return Err(LineFault::Unreadable),
-    };
-    if fields.len() > CONTEXT_LENGTH {
-        return Err(LineFault::Unreadable);
+fn context(alloc: Global, fields: &[&str]) -> Result<Command, LineFault> {
+    match *fields {
+        [side, ref us @ ..] if us.len() <= CONTEXT_LENGTH => {
+            Ok(Command::Context(side_of_text(side)?, characters(alloc, us)?))
+        }
+        _ => Err(LineFault::Unreadable),
     }
-    Ok(Command::Context(side, characters(alloc, fields)?))
+}
+
+// A side of the text: 0 before it, 1 after it.
+fn side_of_text(number: &str) -> Result<Side, LineFault> {
+    match number {
+        "0" => Ok(Side::Before),
+        "1" => Ok(Side::After),
+        _ => Err(LineFault::Unreadable),
+    }
+}
+
+// A place, and a field of the glyph there.
+fn field_at_place(fields: &[&str]) -> Result<Command, LineFault> {
+    match *fields {
+        [place, name, value] => Ok(Command::At(decimal(place)?, GlyphField::parse(name, value)?)),
+        _ => Err(LineFault::Unreadable),
+    }
+}
+
+// A length and a kind.
+fn span(fields: &[&str]) -> Result<Command, LineFault> {
+    match *fields {
+        [len, kind] => Ok(Command::Span(Span {
+            len: decimal::<u32>(len)? as usize,
+            kind: decimal_to(kind, 15)?,
+        })),
+        _ => Err(LineFault::Unreadable),
+    }
 }
