@@ -3,7 +3,7 @@ ghost use Rattle.std.specs.Prelude.{◌≡◌, ◌<◌, [], IfOk};
 ghost use Rattle.rustybuzz_shapers.specs.JoinedText.{AreCharacters};
 
 use rustybuzz_shapers::buffer::{
-    Script, ShaperError, hb_buffer_t, hb_glyph_info_t, hb_unicode_general_category_t,
+    ShaperError, hb_buffer_t, hb_glyph_info_t, hb_unicode_general_category_t,
 };
 use rustybuzz_shapers::font::Tables;
 use rustybuzz_shapers::ot_shaper_arabic::{
@@ -94,27 +94,6 @@ fn glyph(c: char, cluster: u32) -> hb_glyph_info_t
     }
 }
 
-// The same text once joined, and how its glyphs are then: form and mask with its flags.
-type Row = ([char; 3], [(u8, u32); 3]);
-
-#[test]
-fn joins_over_a_transparent_glyph(rt: HostRuntime) -> Result<(), Fail> {
-    let rows: [Row; 3] = [
-        (['d', 't', 'r'], [(6, 0x10), (7, 3), (1, 0x23)]),
-        (['d', 'd', 'd'], [(6, 0x10), (4, 3), (1, 0x23)]),
-        (['u', 'd', 'r'], [(7, 0), (6, 0x10), (1, 0x23)]),
-    ];
-    for (chars, joined) in rows {
-        let mut buffer = text(rt.alloc(), chars)?;
-        setup_masks_inner(&PLAN, Some(Script(*b"Arab")), &mut buffer, &Letters);
-        for (glyph, (form, mask)) in buffer.glyphs().iter().zip(&joined) {
-            assert_eq!(rt; glyph.auxiliary, *form);
-            assert_eq!(rt; glyph.mask, *mask);
-        }
-    }
-    Ok(())
-}
-
 #[test]
 fn joins_to_the_contexts(rt: HostRuntime) -> Result<(), Fail> {
     let mut buffer = text(rt.alloc(), ['d', 't', 'd'])?;
@@ -122,16 +101,6 @@ fn joins_to_the_contexts(rt: HostRuntime) -> Result<(), Fail> {
     buffer.set_post_context(&['t', 'r']);
     setup_masks_inner(&PLAN, None, &mut buffer, &Letters);
     for (glyph, form) in buffer.glyphs().iter().zip(&[4, 7, 4]) {
-        assert_eq!(rt; glyph.auxiliary, *form);
-    }
-    Ok(())
-}
-
-#[test]
-fn gives_mongolian_selectors_the_form_before_them(rt: HostRuntime) -> Result<(), Fail> {
-    let mut buffer = text(rt.alloc(), ['d', '\u{180B}', 'd'])?;
-    setup_masks_inner(&PLAN, Some(Script(*b"Mong")), &mut buffer, &Letters);
-    for (glyph, form) in buffer.glyphs().iter().zip(&[6, 6, 1]) {
         assert_eq!(rt; glyph.auxiliary, *form);
     }
     Ok(())

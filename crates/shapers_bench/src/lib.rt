@@ -10,14 +10,10 @@ mod circles;
 #[cfg(test)]
 mod feature_lists;
 #[cfg(test)]
-mod indic;
+mod font;
 #[cfg(test)]
 mod joining;
-#[cfg(test)]
-mod marks;
 #[cfg(test)]
 mod planner;
 #[cfg(test)]
 mod shapers;
-#[cfg(test)]
-mod syllabic;
