@@ -185,11 +185,29 @@ fn ends_fit(right_to_left: bool, pen: i128, behind: i128, step: i128) -> bool
     ensures { result ≡ (fits_i32 (stands_at right_to_left pen step)
         && fits_i32 (last_at right_to_left behind step)) }
 {
-    if right_to_left {
-        fits_i32(pen - step) && fits_i32(behind)
-    } else {
-        fits_i32(pen) && fits_i32(behind - step)
-    }
+    fits_i32(first_offset(right_to_left, pen, step))
+        && fits_i32(last_offset(right_to_left, behind, step))
+}
+
+// The offset of the first of such copies.
+fn first_offset(right_to_left: bool, pen: i128, step: i128) -> i128
+    requires pen { IsNumber pen }
+    requires low { negsuc (2 ^ 67) ≤ℤ step }
+    requires high { step ≤ℤ pos (2 ^ 67) }
+    ensures { result ≡ stands_at right_to_left pen step }
+{
+    if right_to_left { pen - step } else { pen }
+}
+
+// The offset of the last of them.
+fn last_offset(right_to_left: bool, behind: i128, step: i128) -> i128
+    requires low { negsuc (2 ^ 67) ≤ℤ step }
+    requires high { step ≤ℤ pos (2 ^ 67) }
+    requires behind_low { negsuc (2 ^ 100) ≤ℤ behind }
+    requires behind_high { behind ≤ℤ pos (2 ^ 100) }
+    ensures { result ≡ last_at right_to_left behind step }
+{
+    if right_to_left { behind } else { behind - step }
 }
 
 // How far so many copies move the pen.

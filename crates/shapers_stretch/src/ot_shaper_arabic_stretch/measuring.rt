@@ -1,6 +1,6 @@
 //! The numbers of a run: what its word and tiles measure, how often the tiles repeat, and how they
 //! are laid.
-ghost use Rattle.std.specs.Prelude.{◌≡◌, ◌≤◌, ◌<◌, ◌^◌, ◌*◌, ◌<ℤ◌, ◌≤ℤ◌, ◌-ℤ◌, [], ◌∷◌, if◌then◌else◌, neg_ℤ, pos, negsuc, ◌*ℤ◌, false, int_div, FitsSigned, IsTrue, length, map};
+ghost use Rattle.std.specs.Prelude.{◌≡◌, ◌≤◌, ◌<◌, ◌^◌, ◌*◌, ◌<ℤ◌, ◌≤ℤ◌, ◌-ℤ◌, ◌-◌, nat_abs, [], ◌∷◌, if◌then◌else◌, neg_ℤ, pos, negsuc, ◌*ℤ◌, false, int_div, FitsSigned, IsTrue, length, map};
 ghost use Rattle.std.specs.List.{list_all};
 ghost use mir.Syntax.{w32, w64};
 ghost use Rattle.shapers_stretch.specs.Cells.{repeats};
@@ -125,18 +125,30 @@ fn run_fits(run: Run) -> bool
 }
 
 // How many times more the repeating tiles of a run fit into what is left.
-#[tactic(auto, using(crate::proofs::Numbers::fit_yes, crate::proofs::Numbers::fit_room, crate::proofs::Numbers::fit_width, crate::proofs::Numbers::quotient_abs))]
+#[tactic(auto, using(crate::proofs::Numbers::fit_yes, crate::proofs::Numbers::fit_room, crate::proofs::Numbers::fit_width))]
 fn fitting(run: Run) -> usize
     requires { RunFits run }
     ensures value { result ≡ fitting run }
     ensures bound { result < 2 ^ 31 }
 {
-    let left = run.word - run.fixed;
+    let left = left_of(run);
     if run.repeating < left && 0 < run.repeating {
-        (left.unsigned_abs() / run.repeating.unsigned_abs()) as usize - 1
+        times_more(run, left)
     } else {
         0
     }
+}
+
+// The same where they do fit.
+#[tactic(auto, using(crate::proofs::Numbers::quotient_abs))]
+fn times_more(run: Run, left: i128) -> usize
+    requires fits { FitsSigned w32 left }
+    requires some { pos 0 <ℤ run.repeating }
+    requires room { run.repeating <ℤ left }
+    ensures value { result ≡ nat_abs (int_div left run.repeating) - 1 }
+    ensures bound { result < 2 ^ 31 }
+{
+    (left.unsigned_abs() / run.repeating.unsigned_abs()) as usize - 1
 }
 
 // How often the repeating tiles are laid besides once, and whether these copies overlap.
