@@ -1,10 +1,9 @@
 //! What the shapers ask of a font and of the Unicode tables. Both are functions: the same question
 //! has the same answer.
-ghost use Rattle.std.specs.Prelude.{◌≡◌, ◌≤◌, ◌↔◌, All, IsTrue};
-ghost use Rattle.std.specs.Char.{IsScalar};
+ghost use Rattle.std.specs.Prelude.{◌≡◌};
 ghost use Rattle.shapers_base.specs.Font.{CharacterTables, Font, has_nominal};
 
-use crate::buffer::{hb_glyph_info_t, hb_tag_t, hb_unicode_general_category_t};
+use crate::buffer::{hb_tag_t, hb_unicode_general_category_t};
 use crate::plan::{Category, Position, hb_arabic_joining_type_t};
 
 /// A glyph of a font, by its number.
@@ -66,20 +65,4 @@ pub trait Tables {
     /// The two characters that a character decomposes to by Unicode's canonical decomposition.
     fn decompose(&self, ab: char) -> Option<(char, char)>
         ensures { result ≡ (tables self.now).decomposed ab };
-}
-
-/// Whether each of these glyphs is still a character: a Unicode scalar value.
-pub fn are_characters(glyphs: &[hb_glyph_info_t]) -> bool
-    ensures { IsTrue result ↔ All (λ g. IsScalar g.glyph_id) glyphs.now }
-{
-    glyphs
-        .iter()
-        .all(|glyph| char::from_u32(glyph.glyph_id).is_some())
-}
-
-/// Whether each of these glyphs is numbered as a font's are, in 16 bits.
-pub fn are_glyph_numbers(glyphs: &[hb_glyph_info_t]) -> bool
-    ensures { IsTrue result ↔ All (λ g. g.glyph_id ≤ 65535) glyphs.now }
-{
-    glyphs.iter().all(|glyph| glyph.glyph_id <= 65535)
 }

@@ -1,13 +1,13 @@
 //! What the hooks ask of their callers: the plan's data, and tests of the rest.
-ghost use Rattle.std.specs.Prelude.{◌≡◌, ◌≤◌, ◌↔◌, IsTrue, is_some};
+ghost use Rattle.std.specs.Prelude.{◌≡◌, ◌≤◌, ◌↔◌, All, IsTrue, is_some};
+ghost use Rattle.std.specs.Char.{IsScalar};
 ghost use Rattle.rustybuzz_shapers.specs.Pauses.{PauseFits};
 ghost use Rattle.shapers_arabic.specs.PlanData.{IsArabic};
 ghost use Rattle.shapers_universal.specs.PlanData.{arabic_of};
 
 use super::hb_ot_shaper_t;
 use shapers_arabic::ot_shaper_arabic;
-use shapers_base::buffer::hb_buffer_t;
-use shapers_base::font::{are_characters, are_glyph_numbers};
+use shapers_base::buffer::{hb_buffer_t, hb_glyph_info_t};
 use shapers_base::plan::{Pause, PlanData, hb_ot_shape_plan_t};
 use shapers_hangul::ot_shaper_hangul;
 use shapers_indic::ot_shaper_indic;
@@ -123,9 +123,25 @@ fn joins_letters(plan_data: &PlanData) -> bool
     }
 }
 
+// Whether these glyphs are characters.
+fn are_characters(glyphs: &[hb_glyph_info_t]) -> bool
+    ensures { IsTrue result ↔ All (λ g. IsScalar g.glyph_id) glyphs.now }
+{
+    glyphs
+        .iter()
+        .all(|glyph| char::from_u32(glyph.glyph_id).is_some())
+}
+
 // Whether these are the data of Arabic.
 fn is_arabic(plan_data: &PlanData) -> bool
     ensures { IsTrue result ↔ IsArabic plan_data.now }
 {
     matches!(plan_data, PlanData::Arabic(_))
+}
+
+// Whether these glyphs are numbered as a font's are.
+fn are_glyph_numbers(glyphs: &[hb_glyph_info_t]) -> bool
+    ensures { IsTrue result ↔ All (λ g. g.glyph_id ≤ 65535) glyphs.now }
+{
+    glyphs.iter().all(|glyph| glyph.glyph_id <= 65535)
 }
