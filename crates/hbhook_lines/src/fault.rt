@@ -5,7 +5,7 @@ use thiserror::Error;
 
 /// Why a line can't be carried out.
 #[derive(Clone, Copy, Debug)]
-pub enum LineFault {
+pub(crate) enum LineFault {
     /// It doesn't read, or the conditions of its call fail.
     Unreadable,
     /// A shaper or a growth refused.

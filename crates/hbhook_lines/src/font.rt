@@ -7,7 +7,7 @@ use std::collections::BTreeMap;
 /// A font of the lines so far: glyphs of characters, advances of glyphs, and what its lookups
 /// would apply to.
 #[derive(Drop)]
-pub struct LineFont {
+pub(crate) struct LineFont {
     glyphs: BTreeMap<u32, GlyphId>,
     advances: BTreeMap<u16, i32>,
     applied: Vec<Applied>,

@@ -13,10 +13,9 @@ mod tables;
 ghost use Rattle.std.specs.Prelude.{◌≤◌};
 
 use fault::Fault;
-pub use fault::LineFault;
 use printing::{report, write_text};
 use rustybuzz_shapers::buffer::ShaperError;
-pub use session::{MAX_LEN, Session};
+use session::Session;
 use std::alloc::Global;
 use std::io::{self, ErrorKind, Read, Write};
 

@@ -11,12 +11,12 @@ use rustybuzz_shapers::buffer::{GlyphPosition, hb_buffer_t, hb_glyph_info_t};
 use rustybuzz_shapers::font::{GlyphId, Tables, hb_font_t};
 use std::alloc::{AllocError, Global};
 
-/// The greatest length of a buffer before a line sets it.
-pub const MAX_LEN: usize = 1_000_000;
+// The greatest length of a buffer before a line sets it.
+const MAX_LEN: usize = 1_000_000;
 
 /// What the lines so far have set, and the buffer that they made.
 #[derive(Drop)]
-pub struct Session {
+pub(crate) struct Session {
     settings: Settings,
     buffer: hb_buffer_t,
     answers: String,
@@ -24,7 +24,7 @@ pub struct Session {
 
 impl Session {
     /// Nothing set, and an empty buffer.
-    pub fn new(alloc: Global) -> Self
+    pub(crate) fn new(alloc: Global) -> Self
         ensures empty { result.buffer.glyphs ≡ [] }
         ensures max_len { result.buffer.max_len ≡ 1000000 }
     {
@@ -35,22 +35,8 @@ impl Session {
         }
     }
 
-    /// What the lines have set.
-    pub fn settings(&self) -> &Settings
-        ensures { result.now ≡ self.now.settings }
-    {
-        &self.settings
-    }
-
-    /// The buffer that they made.
-    pub fn buffer(&self) -> &hb_buffer_t
-        ensures { result.now ≡ self.now.buffer }
-    {
-        &self.buffer
-    }
-
     /// Reads a line, which is text, and carries it out.
-    pub fn carry_out(&mut self, line: &[u8]) -> Result<(), LineFault> {
+    pub(crate) fn carry_out(&mut self, line: &[u8]) -> Result<(), LineFault> {
         let line = str::from_utf8(line).map_err(|_| LineFault::Unreadable)?;
         let command = Command::parse(self.buffer.alloc(), line)?;
         self.carry_out_command(command)

@@ -21,16 +21,16 @@ struct Feature {
 
 /// The settings so far.
 #[derive(Drop)]
-pub struct Settings {
-    pub shaper: Option<hb_ot_shaper_t>,
+pub(crate) struct Settings {
+    pub(crate) shaper: Option<hb_ot_shaper_t>,
     pub(crate) script: Option<Script>,
     pub(crate) chosen: Option<hb_tag_t>,
     pub(crate) found: bool,
     pub(crate) gpos_mark: bool,
     pub(crate) stretch_start: StretchStart,
     pub(crate) global_mask: u32,
-    pub font: LineFont,
-    pub tables: LineTables,
+    pub(crate) font: LineFont,
+    pub(crate) tables: LineTables,
     pub(crate) spans: Vec<Span>,
     features: Vec<Feature>,
 }
@@ -54,7 +54,7 @@ impl Settings {
     }
 
     /// The plan of these settings.
-    pub fn plan(&self) -> Result<hb_ot_shape_plan_t, LineFault>
+    pub(crate) fn plan(&self) -> Result<hb_ot_shape_plan_t, LineFault>
         ensures script { IfOk result (λ plan. plan.script ≡ self.now.script) }
         ensures found { IfOk result (λ plan. plan.ot_map.found ≡ self.now.found) }
         ensures chosen { IfOk result (λ plan. plan.ot_map.chosen ≡ self.now.chosen) }

@@ -39,7 +39,7 @@ pub(crate) struct CanonicalPair {
 
 /// The tables of the lines so far.
 #[derive(Drop)]
-pub struct LineTables {
+pub(crate) struct LineTables {
     entries: BTreeMap<u32, CharacterEntry>,
     pairs: Vec<CanonicalPair>,
 }

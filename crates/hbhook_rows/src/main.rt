@@ -6,9 +6,6 @@
 //! message of a run that ends in a fault.
 #![tactic(auto)]
 
-#[cfg(test)]
-mod tests;
-
 use hbhook_lines::run_lines;
 use std::alloc::{AllocError, Global};
 use std::{fs, io};

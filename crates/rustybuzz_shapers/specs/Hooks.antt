@@ -1,6 +1,5 @@
 -- What each hook does, shaper by shaper. Where a shaper lacks a hook, nothing changes and the answer is None.
 use Rattle.std.specs.Prelude.{ℕ, ◌+◌, ◌≤◌, List, map, true, false, ◌≡◌, length, Option, None, Some, Result, IsOk}
-use Rattle.std.specs.Char.{IsScalar}
 use Rattle.std.specs.List.{All, list_any}
 use Rattle.shapers_buffer.specs.Buffer.{Buffer}
 use Rattle.shapers_base.specs.Font.{CharacterTables, Font}
@@ -8,7 +7,7 @@ use Rattle.shapers_buffer.specs.Glyph.{clusters}
 use Rattle.shapers_buffer.specs.Refusals.{Refuses, RefusesLength}
 use Rattle.shapers_arabic.specs.Marks as arabic
 use Rattle.shapers_arabic.specs.Marks.{marks_merged, marks_reordered}
-use Rattle.shapers_arabic.specs.JoinedText.{CutsAsHalves, IsJoined}
+use Rattle.shapers_arabic.specs.JoinedText.{AreCharacters, CutsAsHalves, IsJoined}
 use Rattle.shapers_arabic.specs.PlanData.{arabic_plan, IsArabic, masks_of}
 use Rattle.shapers_buffer.specs.declared.buffer.glyph.hb_glyph_info_t.{hb_glyph_info_t}
 use Rattle.shapers_buffer.specs.declared.buffer.refusal.ShaperError.{ShaperError}
@@ -64,7 +63,7 @@ PlanFits Universal plan = is_universal plan.plan_data ≡ true
 
 -- what setting masks asks of the glyphs: for Arabic, and the universal shaper where letters join, they are characters
 abbrev pub GlyphsFit : hb_ot_shaper_t → hb_ot_shape_plan_t → List hb_glyph_info_t → Type 0
-GlyphsFit Arabic plan gs = All (λ g. IsScalar g.glyph_id) gs
+GlyphsFit Arabic plan gs = AreCharacters gs
 GlyphsFit Hangul plan gs = Unit {0}
 GlyphsFit Hebrew plan gs = Unit {0}
 GlyphsFit Indic plan gs = Unit {0}

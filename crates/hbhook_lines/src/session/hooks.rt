@@ -1,10 +1,12 @@
 //! The lines `run NAME ..`: the conditions of a call are asked before the call is made.
 ghost use Rattle.std.specs.Prelude.{◌≡◌, ◌≤◌, ◌↔◌, [], is_ok, All, IsTrue, OnOk};
+ghost use Rattle.rustybuzz_shapers.specs.Hooks.{PlanFits};
 
 use super::Session;
 use crate::command::HookCall;
 use crate::fault::LineFault;
 use rustybuzz_shapers::buffer::Span;
+use rustybuzz_shapers::plan::hb_ot_shape_plan_t;
 use rustybuzz_shapers::shaper::{Pause, Preprocess, hb_ot_shaper_t, pause_fits, run_pause};
 
 impl Session {
@@ -12,22 +14,26 @@ impl Session {
     /// doesn't read.
     pub(super) fn run(&mut self, call: HookCall) -> Result<(), LineFault> {
         let shaper = self.settings.shaper.ok_or(LineFault::Unreadable)?;
+        let plan = shaper.with_data(self.settings.plan()?);
         match call {
-            HookCall::Preprocess => self.preprocess(shaper),
-            HookCall::Masks => self.set_masks(shaper),
-            HookCall::Postprocess => self.postprocess(shaper),
-            HookCall::Marks(start, end) => self.reorder_marks(shaper, start, end),
-            HookCall::Compose(a, b) => self.compose(shaper, a, b),
-            HookCall::Decompose(ab) => self.decompose(shaper, ab),
-            HookCall::Pause(pause) => self.pause(shaper, pause),
+            HookCall::Preprocess => self.preprocess(shaper, &plan),
+            HookCall::Masks => self.set_masks(shaper, &plan),
+            HookCall::Postprocess => self.postprocess(shaper, &plan),
+            HookCall::Marks(start, end) => self.reorder_marks(shaper, &plan, start, end),
+            HookCall::Compose(a, b) => self.compose(shaper, &plan, a, b),
+            HookCall::Decompose(ab) => self.decompose(shaper, &plan, ab),
+            HookCall::Pause(pause) => self.pause(&plan, pause),
         }
     }
 
     // The hook before normalization.
-    fn preprocess(&mut self, shaper: hb_ot_shaper_t) -> Result<(), LineFault> {
+    fn preprocess(
+        &mut self,
+        shaper: hb_ot_shaper_t,
+        plan: &hb_ot_shape_plan_t,
+    ) -> Result<(), LineFault> {
         self.check_no_positions()?;
-        let plan = shaper.with_data(self.settings.plan()?);
-        let answer = shaper.preprocess_text(&plan, &self.settings.font, &mut self.buffer)?;
+        let answer = shaper.preprocess_text(plan, &self.settings.font, &mut self.buffer)?;
         match answer {
             Some(Preprocess::Done) => Ok(()),
             Some(Preprocess::CallerRunsVowelConstraints) => self.answer("caller"),
@@ -36,21 +42,29 @@ impl Session {
     }
 
     // The hook that sets masks.
-    fn set_masks(&mut self, shaper: hb_ot_shaper_t) -> Result<(), LineFault> {
+    fn set_masks(
+        &mut self,
+        shaper: hb_ot_shaper_t,
+        plan: &hb_ot_shape_plan_t,
+    ) -> Result<(), LineFault>
+        requires { PlanFits shaper plan.now }
+    {
         self.check_no_positions()?;
-        let plan = shaper.with_data(self.settings.plan()?);
-        check(shaper.glyphs_fit(&plan, &self.buffer))?;
+        check(shaper.glyphs_fit(plan, &self.buffer))?;
         let (font, tables) = (&self.settings.font, &self.settings.tables);
-        let answer = shaper.setup_masks(&plan, font, tables, &mut self.buffer);
+        let answer = shaper.setup_masks(plan, font, tables, &mut self.buffer);
         self.answer_if_absent(answer)
     }
 
     // The hook after positioning.
-    fn postprocess(&mut self, shaper: hb_ot_shaper_t) -> Result<(), LineFault> {
+    fn postprocess(
+        &mut self,
+        shaper: hb_ot_shaper_t,
+        plan: &hb_ot_shape_plan_t,
+    ) -> Result<(), LineFault> {
         check(self.buffer.positions_len() == self.buffer.len())?;
-        let plan = shaper.with_data(self.settings.plan()?);
-        check(shaper.postprocess_fits(&plan, &self.buffer))?;
-        let answer = shaper.postprocess_glyphs(&plan, &self.settings.font, &mut self.buffer)?;
+        check(shaper.postprocess_fits(plan, &self.buffer))?;
+        let answer = shaper.postprocess_glyphs(plan, &self.settings.font, &mut self.buffer)?;
         self.answer_if_absent(answer)
     }
 
@@ -58,21 +72,26 @@ impl Session {
     fn reorder_marks(
         &mut self,
         shaper: hb_ot_shaper_t,
+        plan: &hb_ot_shape_plan_t,
         start: usize,
         end: usize,
     ) -> Result<(), LineFault> {
         self.check_no_positions()?;
         check(start <= end && end <= self.buffer.len())?;
         check(shaper.marks_fit(start, end))?;
-        let plan = shaper.with_data(self.settings.plan()?);
-        let answer = shaper.reorder_marks(&plan, &mut self.buffer, start, end);
+        let answer = shaper.reorder_marks(plan, &mut self.buffer, start, end);
         self.answer_if_absent(answer)
     }
 
     // The hook that composes two characters.
-    fn compose(&mut self, shaper: hb_ot_shaper_t, a: char, b: char) -> Result<(), LineFault> {
-        let plan = shaper.with_data(self.settings.plan()?);
-        match shaper.compose(&plan, &self.settings.tables, a, b) {
+    fn compose(
+        &mut self,
+        shaper: hb_ot_shaper_t,
+        plan: &hb_ot_shape_plan_t,
+        a: char,
+        b: char,
+    ) -> Result<(), LineFault> {
+        match shaper.compose(plan, &self.settings.tables, a, b) {
             Some(Some(ab)) => Ok(writeln!(self.answers, "{:04x}", u32::from(ab))?),
             Some(None) => self.answer("none"),
             None => self.answer("absent"),
@@ -80,9 +99,13 @@ impl Session {
     }
 
     // The hook that decomposes a character.
-    fn decompose(&mut self, shaper: hb_ot_shaper_t, ab: char) -> Result<(), LineFault> {
-        let plan = shaper.with_data(self.settings.plan()?);
-        match shaper.decompose(&plan, &self.settings.tables, ab) {
+    fn decompose(
+        &mut self,
+        shaper: hb_ot_shaper_t,
+        plan: &hb_ot_shape_plan_t,
+        ab: char,
+    ) -> Result<(), LineFault> {
+        match shaper.decompose(plan, &self.settings.tables, ab) {
             Some(Some((a, b))) => {
                 writeln!(self.answers, "{:04x} {:04x}", u32::from(a), u32::from(b))?;
                 Ok(())
@@ -92,14 +115,13 @@ impl Session {
         }
     }
 
-    // A pause, which reads the spans so far, with what the shaper keeps in the plan.
-    fn pause(&mut self, shaper: hb_ot_shaper_t, pause: Pause) -> Result<(), LineFault> {
+    // A pause, which reads the spans so far.
+    fn pause(&mut self, plan: &hb_ot_shape_plan_t, pause: Pause) -> Result<(), LineFault> {
         self.check_no_positions()?;
         check(kinds_fit(self.settings.spans.as_slice()))?;
-        let plan = shaper.with_data(self.settings.plan()?);
-        check(pause_fits(pause, &plan))?;
+        check(pause_fits(pause, plan))?;
         let (font, spans) = (&self.settings.font, self.settings.spans.as_slice());
-        run_pause(pause, &plan, font, spans, &mut self.buffer)?;
+        run_pause(pause, plan, font, spans, &mut self.buffer)?;
         Ok(())
     }
 

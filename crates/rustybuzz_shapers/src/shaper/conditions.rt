@@ -1,7 +1,7 @@
 //! What the hooks ask of their callers: the plan's data, and tests of the rest.
 ghost use Rattle.std.specs.Prelude.{◌≡◌, ◌≤◌, ◌↔◌, All, IsTrue, is_some};
-ghost use Rattle.std.specs.Char.{IsScalar};
 ghost use Rattle.rustybuzz_shapers.specs.Pauses.{PauseFits};
+ghost use Rattle.shapers_arabic.specs.JoinedText.{AreCharacters};
 ghost use Rattle.shapers_arabic.specs.PlanData.{IsArabic};
 ghost use Rattle.shapers_universal.specs.PlanData.{arabic_of};
 
@@ -125,7 +125,7 @@ fn joins_letters(plan_data: &PlanData) -> bool
 
 // Whether these glyphs are characters.
 fn are_characters(glyphs: &[hb_glyph_info_t]) -> bool
-    ensures { IsTrue result ↔ All (λ g. IsScalar g.glyph_id) glyphs.now }
+    ensures { IsTrue result ↔ AreCharacters glyphs.now }
 {
     glyphs
         .iter()
