@@ -5,7 +5,7 @@ ghost use Rattle.shapers_buffer.specs.Refusals.{RefusesLength};
 ghost use Rattle.shapers_buffer.specs.declared.buffer.refusal.ShaperError.TheVariants.{Memory};
 
 use arrayvec::ArrayVec;
-use placement::make_room;
+use placement::{copy_places, make_room};
 use std::alloc::Global;
 use std::marker::Model;
 
@@ -60,14 +60,14 @@ pub struct hb_buffer_t {
     has_broken_syllable: bool,
     has_stch: bool,
     max_len: usize,
-    // for each glyph at least one place, and room for one glyph, so that a reordering takes no
-    // memory
+    // room for a place and for a glyph a glyph, so that a reordering takes no memory; it is written
+    // as far as reorderings came
     places: Vec<usize>,
     spare: Vec<hb_glyph_info_t>,
 }
 
 impl Model for hb_buffer_t {
-    ghost use Rattle.std.specs.Prelude.{length};
+    ghost use Rattle.std.specs.Prelude.{vec_capacity};
     ghost use Rattle.shapers_buffer.specs.Buffer.{Buffer, IsBuffer};
     ghost use Rattle.shapers_buffer.specs.Places.{without_last_zeros};
 
@@ -101,7 +101,7 @@ impl Model for hb_buffer_t {
       stch = b.has_stch;
       max_len = b.max_len;
       places = without_last_zeros b.places.items;
-    }) (length b.places.items) (length b.spare.items) };
+    }) (vec_capacity b.places) (vec_capacity b.spare) };
 }
 
 impl hb_buffer_t {
@@ -234,8 +234,8 @@ impl hb_buffer_t {
             has_broken_syllable: self.has_broken_syllable,
             has_stch: self.has_stch,
             max_len: self.max_len,
-            places: Vec::from_slice(alloc, self.places.as_slice())?,
-            spare: Vec::from_slice(alloc, self.info.as_slice())?,
+            places: copy_places(alloc, self.places.as_slice(), self.info.len())?,
+            spare: Vec::with_capacity(alloc, self.info.len())?,
         })
     }
 }

@@ -1,7 +1,7 @@
 //! The placement list: a reordering lists for each place of a syllable the place whose glyph comes
 //! there, and then the syllable is written once. Its room grows with the buffer, so that a
-//! reordering takes no memory.
-ghost use Rattle.std.specs.Prelude.{◌≡◌, ◌<◌, ◌≤◌, All, IsOkUnless, OnOk, length};
+//! reordering takes no memory; what was never listed is never written.
+ghost use Rattle.std.specs.Prelude.{◌≡◌, ◌-◌, ◌<◌, ◌≤◌, All, IfErr, IfOk, IsOkUnless, OnOk, length, vec_capacity};
 ghost use Rattle.shapers_buffer.specs.Clusters.{stretch_of, with_stretch};
 ghost use Rattle.shapers_buffer.specs.Places.{ListsEachOnce, PlacesAreWritten, pick, place_at, placed, with_place, without_last_zeros};
 ghost use Rattle.shapers_buffer.specs.declared.buffer.refusal.ShaperError.TheVariants.{Memory};
@@ -9,6 +9,7 @@ ghost use Rattle.shapers_buffer.specs.declared.buffer.refusal.ShaperError.TheVar
 use super::glyph::hb_glyph_info_t;
 use super::hb_buffer_t;
 use super::refusal::ShaperError;
+use std::alloc::Global;
 
 impl hb_buffer_t {
     /// The place whose glyph is listed to come to `i`.
@@ -16,7 +17,7 @@ impl hb_buffer_t {
         requires { i < length self.now.glyphs }
         ensures { result ≡ place_at self.now.places i }
     {
-        self.places[i]
+        self.places.get(i).copied().unwrap_or(0)
     }
 
     /// Lists that the glyph of place `place` is to come to `i`.
@@ -24,6 +25,7 @@ impl hb_buffer_t {
         requires { i < length self.old.glyphs }
         ensures { self.new ≡ record self.old { places = with_place i place self.old.places } }
     {
+        open_places(&mut self.places, i + 1);
         self.places[i] = place;
     }
 
@@ -36,6 +38,8 @@ impl hb_buffer_t {
         ensures { let moved = placed start end self.old.places self.old.glyphs in
             self.new ≡ record self.old { glyphs = moved } }
     {
+        open_places(&mut self.places, end);
+        open_spare(&mut self.spare, end - start);
         reorder(&mut self.info, &self.places, &mut self.spare, start, end);
     }
 }
@@ -56,12 +60,12 @@ fn reorder(
     requires in_order { start ≤ end }
     requires in_range { end ≤ length glyphs.old }
     requires listed { end ≤ length places.now }
-    requires room { end ≤ length spare.old }
+    requires room { end - start ≤ length spare.old }
     requires within { All (λ p. p < length glyphs.old) (stretch_of start end places.now) }
     ensures { let moved = pick (stretch_of start end places.now) glyphs.old in
         glyphs.new ≡ with_stretch start end (λ _. moved) glyphs.old }
 {
-    let spare = &mut spare[start..end];
+    let spare = &mut spare[..end - start];
     gather(glyphs, &places[start..end], spare);
     glyphs[start..end].copy_from_slice(spare);
 }
@@ -77,35 +81,68 @@ fn gather(glyphs: &[hb_glyph_info_t], places: &[usize], to: &mut [hb_glyph_info_
     }
 }
 
-// Makes room for `n` places and glyphs.
+// How many places are opened at once.
+const OPENED: usize = 64;
+
+// Opens the first `n` places of the room that is there, and some more. What is opened reads 0, as
+// it did.
+fn open_places(places: &mut Vec<usize>, n: usize)
+    requires room { n ≤ vec_capacity places.old }
+    ensures places { without_last_zeros places.new.items ≡ without_last_zeros places.old.items }
+    ensures opened { n ≤ length places.new.items }
+    ensures capacity { vec_capacity places.old ≤ vec_capacity places.new }
+{
+    if places.len() < n {
+        let ahead = n.max(places.capacity().min(n.saturating_add(OPENED)));
+        places.resize(ahead, 0).unwrap();
+    }
+}
+
+// Opens the first `n` glyphs of the room that is there.
+fn open_spare(spare: &mut Vec<hb_glyph_info_t>, n: usize)
+    requires room { n ≤ vec_capacity spare.old }
+    ensures opened { n ≤ length spare.new.items }
+    ensures capacity { vec_capacity spare.old ≤ vec_capacity spare.new }
+{
+    if spare.len() < n {
+        spare.resize(n, hb_glyph_info_t::DEFAULT).unwrap();
+    }
+}
+
+// Makes room for `n` places and glyphs, and writes nothing there.
 pub(super) fn make_room(
     places: &mut Vec<usize>,
     spare: &mut Vec<hb_glyph_info_t>,
     n: usize,
 ) -> Result<(), ShaperError>
-    ensures places { without_last_zeros places.new.items ≡ without_last_zeros places.old.items }
-    ensures more_places { length places.old.items ≤ length places.new.items }
-    ensures more_spare { length spare.old.items ≤ length spare.new.items }
-    ensures places_room { OnOk result (n ≤ length places.new.items) }
-    ensures spare_room { OnOk result (n ≤ length spare.new.items) }
+    ensures places { places.new.items ≡ places.old.items }
+    ensures spare { spare.new.items ≡ spare.old.items }
+    ensures more_places { vec_capacity places.old ≤ vec_capacity places.new }
+    ensures more_spare { vec_capacity spare.old ≤ vec_capacity spare.new }
+    ensures places_room { OnOk result (n ≤ vec_capacity places.new) }
+    ensures spare_room { OnOk result (n ≤ vec_capacity spare.new) }
     ensures refusal { IsOkUnless result Memory }
 {
-    room_for_places(places, n)?;
-    if spare.len() < n {
-        spare.resize(n, hb_glyph_info_t::DEFAULT)?;
+    if places.capacity() < n {
+        places.reserve(n - places.len())?;
+    }
+    if spare.capacity() < n {
+        spare.reserve(n - spare.len())?;
     }
     Ok(())
 }
 
-// Makes room for `n` places. What is new reads 0.
-fn room_for_places(places: &mut Vec<usize>, n: usize) -> Result<(), ShaperError>
-    ensures places { without_last_zeros places.new.items ≡ without_last_zeros places.old.items }
-    ensures more_places { length places.old.items ≤ length places.new.items }
-    ensures places_room { OnOk result (n ≤ length places.new.items) }
-    ensures refusal { IsOkUnless result Memory }
+// These places, with room for `n`.
+pub(super) fn copy_places(
+    alloc: Global,
+    places: &[usize],
+    n: usize,
+) -> Result<Vec<usize>, ShaperError>
+    ensures items { IfOk result (λ copy. copy.items ≡ places.now) }
+    ensures room { IfOk result (λ copy. n ≤ vec_capacity copy) }
+    ensures refusal { IfErr result (λ e. e ≡ Memory) }
 {
-    if places.len() < n {
-        places.resize(n, 0)?;
-    }
-    Ok(())
+    let mut copy = Vec::with_capacity(alloc, n.max(places.len()))?;
+    copy.extend_from_slice(places)?;
+    Ok(copy)
 }
