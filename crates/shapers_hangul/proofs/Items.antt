@@ -8,7 +8,7 @@ use Rattle.shapers_hangul.specs.declared.ot_shaper_hangul.item.JoinedTone.{Joine
 use Rattle.shapers_hangul.specs.declared.ot_shaper_hangul.item.JoinedTone.TheVariants.{Absent, Before, Behind}
 use Rattle.shapers_hangul.specs.declared.ot_shaper_hangul.item.Unit.{Unit}
 use Rattle.shapers_hangul.specs.declared.ot_shaper_hangul.item.Unit.TheVariants.{ComposedTwo, ComposedThree, JamoTwo, JamoThree, PartsTwo, PartsThree, PartsBeforeT, Syllable, ToneCircle, CircleTone, Other}
-use Rattle.shapers_hangul.specs.Hangul.{is_l, is_v, is_t, combines_l, combines_v, combines_t, is_s, is_lv, is_tone, with_v, with_t, lead, vowel, trail, has_jamo_of, is_narrow, jamo_two, jamo_three, jamo_unit, parts, syllable_unit, lone_tone, lone_unit, first_unit, unsafe_len, taken, is_syllable, is_marked, joined_tone, is_split, first_item, tone_len, item_len, items_from, items, Fit}
+use Rattle.shapers_hangul.specs.Hangul.{is_l, is_v, is_t, combines_l, combines_v, combines_t, is_s, is_lv, is_tone, with_v, with_t, lead, vowel, trail, has_jamo_of, is_narrow, jamo_two, jamo_three, jamo_unit, parts, syllable_unit, lone_tone, lone_unit, first_unit, unsafe_len, taken, is_syllable, is_marked, joined_tone, is_split, first_item, tone_len, item_len, items_from, items, items_at, Fit}
 
 -- both of two tests that pass together; a choice of two units
 pub both : (a b : Bool) → a && b ≡ true → (a ≡ true) × (b ≡ true)
@@ -228,10 +228,6 @@ item_next read place k (u ∷ us) some takes =
     ap (λ n. (place, read (u ∷ us)) ∷ items_from read (place + 1) n us) less
     ∙ ap (λ l. (place, read (u ∷ us)) ∷ l) (skipped read (place + 1) k us ∙ ap (λ p. items_from read p 0 (drop k us)) same)
 
--- the items from a place of a text on
-abbrev pub items_at : Font → Bool → List ℕ → ℕ → List (ℕ × Item)
-items_at font circles us place = items_from (first_item font circles) place 0 (drop place us)
-
 pub items_at_next : (font : Font) (circles : Bool) (us : List ℕ) (place : ℕ) (item : Item) → place < length us → item ≡ first_item font circles (drop place us) → items_at font circles us place ≡ (place, item) ∷ items_at font circles us (place + item_len item)
 items_at_next font circles us place item inside is =
     let read = first_item font circles in
@@ -261,3 +257,8 @@ items_fit_from font circles place (suc skip) (u ∷ us) =
 
 pub items_fit : (font : Font) (circles : Bool) (us : List ℕ) → Fit (length us) (items font circles us)
 items_fit font circles us = let none : 0 + length us ≡ length us = omega arith in subst (λ n. Fit n (items font circles us)) none (items_fit_from font circles 0 0 us)
+
+pub items_at_fit : (font : Font) (circles : Bool) (us : List ℕ) (place : ℕ) → place ≤ length us → Fit (length us) (items_at font circles us place)
+items_at_fit font circles us place within =
+    let whole : place + length (drop place us) ≡ length us = omega (arith, length-drop place us) in
+    subst (λ n. Fit n (items_at font circles us place)) whole (items_fit_from font circles place 0 (drop place us))

@@ -1,10 +1,10 @@
 -- Outputs through maps, and their lengths.
-use Rattle.std.proofs.Common.{◌≡◌, ℕ, ◌+◌, Bool, List, [], ◌∷◌, ◌++◌, length, map, take, drop, refl, sym, ap, subst, ◌∙◌, arith}
+use Rattle.std.proofs.Common.{◌≡◌, ℕ, ◌+◌, Bool, List, [], ◌∷◌, ◌++◌, length, map, take, drop, refl, sym, ap, subst, ◌∙◌}
 use Rattle.std.specs.Prelude.{◌≤◌, Result, Err}
 use Rattle.shapers_buffer.specs.declared.buffer.refusal.ShaperError.TheVariants.{Memory}
 use Rattle.shapers_buffer.specs.Refusals.{RefusesLength}
 use Rattle.shapers_buffer.specs.declared.buffer.refusal.ShaperError.{ShaperError}
-use Rattle.std.proofs.lemmas.List.{map-append, drop-map}
+use Rattle.std.proofs.lemmas.List.{append-nil, length-append, length-take-le, map-append, drop-map, take_all}
 use Rattle.std.specs.List.{take-map}
 use Rattle.shapers_buffer.specs.declared.buffer.glyph.hb_glyph_info_t.{hb_glyph_info_t}
 use Rattle.shapers_buffer.specs.declared.buffer.level.BufferClusterLevel.{BufferClusterLevel}
@@ -14,8 +14,8 @@ use Rattle.shapers_hangul.specs.declared.ot_shaper_hangul.item.JoinedTone.{Joine
 use Rattle.shapers_hangul.specs.declared.ot_shaper_hangul.item.JoinedTone.TheVariants.{Absent, Before, Behind}
 use Rattle.shapers_hangul.specs.declared.ot_shaper_hangul.item.Unit.{Unit}
 use Rattle.shapers_hangul.specs.declared.ot_shaper_hangul.item.Unit.TheVariants.{ComposedTwo, ComposedThree, JamoTwo, JamoThree, PartsTwo, PartsThree, PartsBeforeT, Syllable, ToneCircle, CircleTone, Other}
-use Rattle.shapers_hangul.specs.Hangul.{taken, items, Copying, marked_from, unit_output, with_tone, item_output, outputs, all_joined, glyph_copies, character_copies, characters, preprocessed, Stays}
-use Rattle.shapers_hangul.proofs.Walks.{characters-all_joined, length-characters}
+use Rattle.shapers_hangul.specs.Hangul.{taken, items, Copying, marked_from, unit_output, with_tone, item_output, outputs, all_joined, glyph_copies, character_copies, characters, items_at, preprocessed, KeptBefore}
+use Rattle.shapers_hangul.proofs.Walks.{characters-all_joined, glyphs_end, length-characters}
 
 -- f leads what the one copying makes to what the other makes
 pub record Leads {X Y : Type 0} (f : X → Y) (c : Copying X) (d : Copying Y) : Type 0 where
@@ -83,29 +83,50 @@ length-preprocessed font circles level gs =
     ∙ ap length (outputs-map (λ g. g.glyph_id) glyph_copies character_copies leads cut ms ∙ ap (outputs character_copies cut) (characters-all_joined level cut gs) ∙ sym (outputs-map (λ g. g.glyph_id) glyph_copies character_copies leads cut gs))
     ∙ length-characters (outputs glyph_copies cut gs)
 
+-- behind what stays, the text is what the items from there on make of it
+pub preprocessed-kept : (font : Font) (circles : Bool) (level : BufferClusterLevel) (gs : List hb_glyph_info_t) (place : ℕ) → KeptBefore font circles gs place → let cut = items_at font circles (characters gs) place in preprocessed font circles level gs ≡ take place (all_joined level cut gs) ++ outputs glyph_copies cut (all_joined level cut gs)
+preprocessed-kept font circles level gs place kept =
+    ap (outputs glyph_copies (items font circles (characters gs))) (kept.unjoined level)
+    ∙ kept.same (all_joined level (items_at font circles (characters gs) place) gs)
+
 -- where all stays, so does the text
-pub preprocessed-stays : (font : Font) (circles : Bool) (level : BufferClusterLevel) (gs : List hb_glyph_info_t) → Stays (items font circles (characters gs)) gs → preprocessed font circles level gs ≡ gs
-preprocessed-stays font circles level gs stays = ap (outputs glyph_copies (items font circles (characters gs))) (stays.unjoined level) ∙ stays.same
+pub preprocessed-stays : (font : Font) (circles : Bool) (level : BufferClusterLevel) (gs : List hb_glyph_info_t) (place : ℕ) → length gs ≤ place → KeptBefore font circles gs place → preprocessed font circles level gs ≡ gs
+preprocessed-stays font circles level gs place past kept =
+    preprocessed-kept font circles level gs place kept
+    ∙ ap (λ (cut : List (ℕ × Item)). take place (all_joined level cut gs) ++ outputs glyph_copies cut (all_joined level cut gs)) (glyphs_end font circles gs (characters gs) place refl past)
+    ∙ append-nil (take place gs)
+    ∙ take_all place gs past
 
--- a refusal by the length of the result, told by the text before its merges
-pub told_by_text : {T : Type 0} (font : Font) (circles : Bool) (level : BufferClusterLevel) (limit : ℕ) (gs : List hb_glyph_info_t) (asked : Bool) (most : ℕ) (read : List hb_glyph_info_t) (r : Result T ShaperError) → asked ≡ circles → most ≡ limit → read ≡ gs → RefusesLength most (length (outputs glyph_copies (items font asked (characters read)) read)) r → RefusesLength limit (length (preprocessed font circles level gs)) r
-told_by_text font circles level limit gs asked most read r same_circles same_limit same_glyphs told =
-    subst (λ n. RefusesLength limit n r) (sym (length-preprocessed font circles level gs))
-    (subst (λ (xs : List hb_glyph_info_t). RefusesLength limit (length (outputs glyph_copies (items font circles (characters xs)) xs)) r) same_glyphs
-    (subst (λ n. RefusesLength n (length (outputs glyph_copies (items font circles (characters read)) read)) r) same_limit
-    (subst (λ b. RefusesLength most (length (outputs glyph_copies (items font b (characters read)) read)) r) same_circles told)))
+-- its length
+pub length-kept : (font : Font) (circles : Bool) (level : BufferClusterLevel) (gs : List hb_glyph_info_t) (place : ℕ) → KeptBefore font circles gs place → length (preprocessed font circles level gs) ≡ place + length (outputs glyph_copies (items_at font circles (characters gs) place) gs)
+length-kept font circles level gs place kept =
+    length-preprocessed font circles level gs
+    ∙ ap length (kept.same gs)
+    ∙ length-append (take place gs) (outputs glyph_copies (items_at font circles (characters gs) place) gs)
+    ∙ ap (λ n. n + length (outputs glyph_copies (items_at font circles (characters gs) place) gs)) (length-take-le place gs kept.within)
 
-pub stays_by : (font : Font) (circles : Bool) (level : BufferClusterLevel) (gs : List hb_glyph_info_t) (asked : Bool) (read : List hb_glyph_info_t) → asked ≡ circles → read ≡ gs → Stays (items font asked (characters read)) read → gs ≡ preprocessed font circles level gs
-stays_by font circles level gs asked read same_circles same_glyphs stays =
-    sym (preprocessed-stays font circles level gs (subst (λ (xs : List hb_glyph_info_t). Stays (items font circles (characters xs)) xs) same_glyphs (subst (λ b. Stays (items font b (characters read)) read) same_circles stays)))
+-- the result and its length, by what was read of the buffer
+pub length_read : (font : Font) (circles : Bool) (level : BufferClusterLevel) (gs : List hb_glyph_info_t) (asked : Bool) (read : List hb_glyph_info_t) (place : ℕ) → asked ≡ circles → read ≡ gs → KeptBefore font asked read place → length (preprocessed font circles level gs) ≡ place + length (outputs glyph_copies (items_at font asked (characters read) place) read)
+length_read font circles level gs asked read place same_circles same_glyphs kept =
+    ap (λ b. length (preprocessed font b level gs)) (sym same_circles)
+    ∙ ap (λ (xs : List hb_glyph_info_t). length (preprocessed font asked level xs)) (sym same_glyphs)
+    ∙ length-kept font asked level read place kept
+
+-- a refusal by the length of the result
+pub told_by_text : {T : Type 0} (limit most wanted len : ℕ) (r : Result T ShaperError) → most ≡ limit → wanted ≡ len → RefusesLength most len r → RefusesLength limit wanted r
+told_by_text limit most wanted len r same_limit same_length told =
+    subst (λ n. RefusesLength limit n r) (sym same_length) (subst (λ n. RefusesLength n len r) same_limit told)
+
+pub stays_by : (font : Font) (circles : Bool) (level : BufferClusterLevel) (gs : List hb_glyph_info_t) (asked : Bool) (read : List hb_glyph_info_t) (place : ℕ) → asked ≡ circles → read ≡ gs → length read ≤ place → KeptBefore font asked read place → gs ≡ preprocessed font circles level gs
+stays_by font circles level gs asked read place same_circles same_glyphs past kept =
+    sym same_glyphs
+    ∙ sym (preprocessed-stays font asked level read place past kept)
+    ∙ ap (λ b. preprocessed font b level read) same_circles
+    ∙ ap (preprocessed font circles level) same_glyphs
 
 pub preprocessed-read : (font : Font) (circles asked : Bool) (level kept : BufferClusterLevel) (gs read list : List hb_glyph_info_t) → asked ≡ circles → kept ≡ level → read ≡ gs → list ≡ preprocessed font asked kept read → list ≡ preprocessed font circles level gs
 preprocessed-read font circles asked level kept gs read list same_circles same_level same_glyphs is =
     is ∙ ap (λ b. preprocessed font b kept read) same_circles ∙ ap (λ l. preprocessed font circles l read) same_level ∙ ap (preprocessed font circles level) same_glyphs
-
-pub fits_by : (font : Font) (circles : Bool) (level : BufferClusterLevel) (limit : ℕ) (gs : List hb_glyph_info_t) (asked : Bool) (most : ℕ) (read : List hb_glyph_info_t) → asked ≡ circles → most ≡ limit → read ≡ gs → length (outputs glyph_copies (items font asked (characters read)) read) ≤ most → length (preprocessed font circles level gs) ≤ limit
-fits_by font circles level limit gs asked most read same_circles same_limit same_glyphs fits =
-    omega (arith, length-preprocessed font circles level gs, fits, same_limit, ap (λ b. length (outputs glyph_copies (items font b (characters read)) read)) same_circles, ap (λ (xs : List hb_glyph_info_t). length (outputs glyph_copies (items font circles (characters xs)) xs)) same_glyphs)
 
 pub told_memory : {T : Type 0} (limit wanted : ℕ) (r : Result T ShaperError) → r ≡ Err Memory → wanted ≤ limit → RefusesLength limit wanted r
 told_memory limit wanted r is fits = subst (RefusesLength limit wanted) (sym is) fits

@@ -1,8 +1,8 @@
 -- The walks of the code over the items: what is written, what is merged, what changes.
-use Rattle.std.proofs.Common.{◌≡◌, ℕ, zero, suc, ◌+◌, ◌<◌, ◌≤◌, ◌||◌, ◌&&◌, ◌==◌, not, nat_lt, Bool, true, false, cond, List, [], ◌∷◌, ◌++◌, length, map, take, drop, refl, sym, ap, subst, ◌∙◌, arith}
+use Rattle.std.proofs.Common.{◌≡◌, ℕ, zero, suc, ◌+◌, ◌<◌, ◌≤◌, ◌||◌, ◌&&◌, ◌==◌, not, nat_lt, Bool, true, false, cond, List, [], ◌∷◌, ◌++◌, length, map, take, drop, refl, sym, ap, ◌∙◌, arith}
 use Rattle.std.specs.Prelude.{slice_index_or}
 use Rattle.std.proofs.lemmas.Bool.{eqb-true}
-use Rattle.std.proofs.lemmas.List.{append_assoc, append-nil, length-append, length-map, drop-map, take-append-drop, drop-drop}
+use Rattle.std.proofs.lemmas.List.{append_assoc, append-nil, length-append, length-map, drop-map}
 use Rattle.shapers_buffer.specs.declared.buffer.glyph.hb_glyph_info_t.{hb_glyph_info_t}
 use Rattle.shapers_buffer.specs.declared.buffer.level.BufferClusterLevel.{BufferClusterLevel}
 use Rattle.shapers_buffer.specs.Clusters.{merge, merge_all}
@@ -19,8 +19,8 @@ use Rattle.shapers_hangul.specs.declared.ot_shaper_hangul.item.JoinedTone.{Joine
 use Rattle.shapers_hangul.specs.declared.ot_shaper_hangul.item.JoinedTone.TheVariants.{Absent, Before, Behind}
 use Rattle.shapers_hangul.specs.declared.ot_shaper_hangul.item.Unit.{Unit}
 use Rattle.shapers_hangul.specs.declared.ot_shaper_hangul.item.Unit.TheVariants.{ComposedTwo, ComposedThree, JamoTwo, JamoThree, PartsTwo, PartsThree, PartsBeforeT, Syllable, ToneCircle, CircleTone, Other}
-use Rattle.shapers_hangul.specs.Hangul.{taken, output_len, tone_len, item_len, keeps, is_kept, first_item, items, Fit, Copying, unit_output, with_tone, item_output, outputs, is_merged, item_stretches, stretches, unsafe_stretches, item_joined, all_joined, glyph_copies, characters, Stays}
-use Rattle.shapers_hangul.proofs.Items.{items_at, items_at_next, items_at_end}
+use Rattle.shapers_hangul.specs.Hangul.{taken, output_len, tone_len, item_len, keeps, is_kept, first_item, Fit, Copying, unit_output, with_tone, item_output, outputs, is_merged, item_stretches, stretches, unsafe_stretches, item_joined, all_joined, glyph_copies, characters, items_at, KeptBefore}
+use Rattle.shapers_hangul.proofs.Items.{items_at_next, items_at_end}
 
 pub characters-merge_all : (level : BufferClusterLevel) (sts : List (ℕ × ℕ)) (gs : List hb_glyph_info_t) → characters (merge_all level sts gs) ≡ characters gs
 characters-merge_all level sts gs = map-merge_all (λ g. g.glyph_id) (λ g. refl) level sts gs
@@ -145,21 +145,6 @@ pub length_end : (font : Font) (circles : Bool) (gs : List hb_glyph_info_t) (pla
 length_end font circles gs place past = ap (λ cut. length (outputs glyph_copies cut gs)) (glyphs_end font circles gs (characters gs) place refl past)
 
 -- WHAT STAYS
--- from a place on: nothing is merged, and every output is what it was
-pub record StaysFrom (cut : List (ℕ × Item)) (place : ℕ) (gs : List hb_glyph_info_t) : Type 0 where
-  pub unjoined : (level : BufferClusterLevel) → all_joined level cut gs ≡ gs
-  pub same : outputs glyph_copies cut gs ≡ drop place gs
-
-drop_none : {X : Type 0} (n : ℕ) (xs : List X) → length xs ≤ n → drop n xs ≡ []
-drop_none zero [] past = refl
-drop_none zero (x ∷ xs) past = absurd (omega arith)
-drop_none (suc n) [] past = refl
-drop_none (suc n) (x ∷ xs) past = drop_none n xs (omega arith)
-
-pub stays_end : (font : Font) (circles : Bool) (gs : List hb_glyph_info_t) (place : ℕ) → length gs ≤ place → StaysFrom (items_at font circles (characters gs) place) place gs
-stays_end font circles gs place past =
-    subst (λ (cut : List (ℕ × Item)). StaysFrom cut place gs) (sym (glyphs_end font circles gs (characters gs) place refl past)) (record { unjoined = λ level. refl; same = sym (drop_none place gs past) })
-
 -- one place merges nothing
 alone : (level : BufferClusterLevel) (s : ℕ) (gs : List hb_glyph_info_t) → merge level s (s + 1) gs ≡ gs
 alone level s gs = merge_cases (λ (xs : List hb_glyph_info_t). xs ≡ gs) level s (s + 1) gs refl (λ two. absurd (omega arith))
@@ -203,24 +188,34 @@ kept_stays item kept =
     (record { one = refl; unjoined = λ level s gs. one_unjoined level s gs (is_merged level Other) (not (is_merged level Other) || false); itself = λ gs. refl })
     item.unit item.tone item.unsafe_len kept
 
-pub stays_next : (font : Font) (circles : Bool) (gs : List hb_glyph_info_t) (place : ℕ) (item : Item) → place < length gs → item ≡ first_item font circles (characters (drop place gs)) → is_kept item ≡ true → StaysFrom (items_at font circles (characters gs) (place + item_len item)) (place + item_len item) gs → StaysFrom (items_at font circles (characters gs) place) place gs
-stays_next font circles gs place item inside is kept later =
-    let cut = items_at font circles (characters gs) (place + item_len item) in
+one_more : {X : Type 0} (n : ℕ) (xs : List X) → take n xs ++ take 1 (drop n xs) ≡ take (suc n) xs
+one_more zero xs = refl
+one_more (suc n) [] = refl
+one_more (suc n) (x ∷ xs) = ap (λ l. x ∷ l) (one_more n xs)
+
+pub kept_start : (font : Font) (circles : Bool) (gs : List hb_glyph_info_t) → KeptBefore font circles gs 0
+kept_start font circles gs = record { within = omega arith; unjoined = λ level. refl; same = λ xs. refl }
+
+pub kept_next : (font : Font) (circles : Bool) (gs : List hb_glyph_info_t) (place : ℕ) (item : Item) → place < length gs → item ≡ first_item font circles (characters (drop place gs)) → is_kept item ≡ true → KeptBefore font circles gs place → KeptBefore font circles gs (place + 1)
+kept_next font circles gs place item inside is kept so_far =
+    let us = characters gs in
+    let cut = items_at font circles us (place + 1) in
     let keeps = kept_stays item kept in
-    let next = glyphs_next font circles gs (characters gs) place item refl inside is in
-    subst (λ (cut : List (ℕ × Item)). StaysFrom cut place gs) (sym next) (record {
-      unjoined = λ level. ap (all_joined level cut) (keeps.unjoined level place gs) ∙ later.unjoined level;
-      same =
-          ap (λ l. l ++ outputs glyph_copies cut gs) (keeps.itself (drop place gs))
-          ∙ ap (λ l. take 1 (drop place gs) ++ l) (later.same ∙ ap (λ n. drop (place + n) gs) keeps.one ∙ sym (drop-drop 1 place gs))
-          ∙ take-append-drop 1 (drop place gs);
-    })
-
-pub neither : (a b : Bool) → a || not b ≡ false → (a ≡ false) × (b ≡ true)
-neither true b h = absurd cc
-neither false true h = (refl, refl)
-neither false false h = absurd cc
-
--- the whole
-pub stays_all : (font : Font) (circles : Bool) (gs : List hb_glyph_info_t) → StaysFrom (items_at font circles (characters gs) 0) 0 gs → Stays (items font circles (characters gs)) gs
-stays_all font circles gs stays = record { unjoined = stays.unjoined; same = stays.same }
+    let next : items_at font circles us place ≡ (place, item) ∷ cut =
+    glyphs_next font circles gs us place item refl inside is
+    ∙ ap (λ n. (place, item) ∷ items_at font circles us (place + n)) keeps.one in
+    let on : suc place ≡ place + 1 = omega arith in
+    record {
+      within = omega (arith, inside);
+      unjoined = λ level.
+          so_far.unjoined level
+          ∙ ap (λ (l : List (ℕ × Item)). all_joined level l gs) next
+          ∙ ap (all_joined level cut) (keeps.unjoined level place gs);
+      same = λ xs.
+          let rest = outputs glyph_copies cut xs in
+          so_far.same xs
+          ∙ ap (λ (l : List (ℕ × Item)). take place xs ++ outputs glyph_copies l xs) next
+          ∙ ap (λ (l : List hb_glyph_info_t). take place xs ++ (l ++ rest)) (keeps.itself (drop place xs))
+          ∙ sym (append_assoc (take place xs) (take 1 (drop place xs)) rest)
+          ∙ ap (λ l. l ++ rest) (one_more place xs ∙ ap (λ n. take n xs) on);
+    }

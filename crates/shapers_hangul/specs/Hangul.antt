@@ -1,5 +1,5 @@
 -- Hangul: jamo, syllables and tones (The Unicode Standard, "Conjoining Jamo Behavior"; OpenType's notes on Hangul).
-use Rattle.std.specs.Prelude.{ℕ, ◌+◌, ◌-◌, ◌*◌, ◌/◌, ◌%◌, ◌==◌, ◌≡◌, ◌≤◌, nat_le, nat_lt, nat_abs, zero, suc, get_or, not, Bool, true, false, ◌||◌, ◌&&◌, List, [], ◌∷◌, ◌++◌, map, flat_map, take, drop, if◌then◌else◌}
+use Rattle.std.specs.Prelude.{ℕ, ◌+◌, ◌-◌, ◌*◌, ◌/◌, ◌%◌, ◌==◌, ◌≡◌, ◌≤◌, nat_le, nat_lt, nat_abs, zero, suc, get_or, not, Bool, true, false, ◌||◌, ◌&&◌, List, [], ◌∷◌, ◌++◌, map, flat_map, length, take, drop, if◌then◌else◌}
 use Rattle.std.specs.Option.{option_map_or}
 use Rattle.std.specs.List.{AllByRecursion}
 use Rattle.shapers_buffer.specs.declared.buffer.glyph.hb_glyph_info_t.{hb_glyph_info_t}
@@ -213,6 +213,10 @@ items_from read place (suc skip) (u ∷ us) = items_from read (place + 1) skip u
 abbrev pub items : Font → Bool → List ℕ → List (ℕ × Item)
 items font circles us = items_from (first_item font circles) 0 0 us
 
+-- in the code: the items from a place of a text on
+abbrev pub items_at : Font → Bool → List ℕ → ℕ → List (ℕ × Item)
+items_at font circles us place = items_from (first_item font circles) place 0 (drop place us)
+
 -- in the code: items that stand within n characters, with what they flag
 abbrev pub Fit : ℕ → List (ℕ × Item) → Type 0
 Fit n cut = AllByRecursion (λ p. (p.0 + item_len p.1 ≤ n) × (p.0 + p.1.unsafe_len ≤ n)) cut
@@ -317,7 +321,9 @@ wants_circles b = not (asks 0x20 b)
 abbrev pub rewritten : Font → Buffer → Buffer
 rewritten font b = record b { glyphs = preprocessed font (wants_circles b) b.level b.glyphs }
 
--- where nothing is flagged or merged and every output is what it was: at any level
-pub record Stays (cut : List (ℕ × Item)) (gs : List hb_glyph_info_t) : Type 0 where
-  pub unjoined : (level : BufferClusterLevel) → all_joined level cut gs ≡ gs
-  pub same : outputs glyph_copies cut gs ≡ gs
+-- in the code: up to this place every item is one character that stays as it is
+pub record KeptBefore (font : Font) (circles : Bool) (gs : List hb_glyph_info_t) (place : ℕ) : Type 0 where
+  pub within : place ≤ length gs
+  pub unjoined : (level : BufferClusterLevel) → all_joined level (items font circles (characters gs)) gs ≡ all_joined level (items_at font circles (characters gs) place) gs
+  pub same : (xs : List hb_glyph_info_t) →
+      outputs glyph_copies (items font circles (characters gs)) xs ≡ take place xs ++ outputs glyph_copies (items_at font circles (characters gs) place) xs

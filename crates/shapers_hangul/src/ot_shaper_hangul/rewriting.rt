@@ -1,8 +1,8 @@
 //! The text rewritten, item after item.
-ghost use Rattle.std.specs.Prelude.{◌≡◌, ◌+◌, ◌<◌, ◌≤◌, ◌++◌, ◌∷◌, [], true, drop, length, None, IfSome, OnOk, OnErr, IfOk, IfErr, IsOkUnless, not};
+ghost use Rattle.std.specs.Prelude.{◌≡◌, ◌+◌, ◌<◌, ◌≤◌, ◌++◌, ◌∷◌, [], true, drop, length, take, OnOk, OnErr, IfOk, IfErr, IsOkUnless};
 ghost use Rattle.shapers_buffer.specs.Refusals.{RefusesLength};
 ghost use Rattle.shapers_buffer.specs.declared.buffer.refusal.ShaperError.TheVariants.{Memory, TooLong};
-ghost use Rattle.shapers_hangul.specs.Hangul.{first_item, item_len, items, characters, glyph_copies, outputs, Fit, all_joined, rewritten, wants_circles, Stays};
+ghost use Rattle.shapers_hangul.specs.Hangul.{first_item, item_len, items_at, characters, glyph_copies, outputs, Fit, all_joined, rewritten, wants_circles, KeptBefore};
 
 use super::item::{Item, first_item};
 use bitflags::Flags;
@@ -31,7 +31,22 @@ fn rest_from(glyphs: &[hb_glyph_info_t], place: usize) -> &[hb_glyph_info_t]
     &glyphs[place..]
 }
 
-// The items of a text, each with the place of its first character, as long as memory was found.
+// How far the text stays as it is: the place of the first item that changes it, or its end.
+fn kept_len<F: hb_font_t>(face: &F, circles: bool, glyphs: &[hb_glyph_info_t]) -> usize
+    ensures { KeptBefore (F.font face.now) circles glyphs.now result }
+{
+    let mut place = 0;
+    while place < glyphs.len() {
+        if !item_at(face, circles, glyphs, place).is_kept() {
+            return place;
+        }
+        place += 1;
+    }
+    place
+}
+
+// The items of a text from a place on, each with the place of its first character, as long as
+// memory was found.
 #[derive(Drop)]
 struct Cut {
     items: Vec<(usize, Item)>,
@@ -61,41 +76,37 @@ impl Cut {
     }
 }
 
-// The length of the result where the text changes, None where it stays, and the items. Refuses
-// where the result would be longer than `limit`, and for nothing else.
+// The length of the result, where the text stays up to the place `kept`, and the items from there
+// on. Refuses where the result would be longer than `limit`, and for nothing else.
 fn measure<F: hb_font_t>(
     face: &F,
     circles: bool,
     glyphs: &[hb_glyph_info_t],
+    kept: usize,
     limit: usize,
     cut: &mut Cut,
-) -> Result<Option<usize>, ShaperError>
-    requires { cut.old.items.items ≡ [] }
-    ensures length { let cut = items (F.font face.now) circles (characters glyphs.now) in
-        RefusesLength limit (length (outputs glyph_copies cut glyphs.now)) result }
-    ensures unchanged { let cut = items (F.font face.now) circles (characters glyphs.now) in
-        IfOk result (λ len. len ≡ None → Stays cut glyphs.now) }
-    ensures items { let all = items (F.font face.now) circles (characters glyphs.now) in
-        IfOk result (λ len. cut.new.is_whole ≡ true → cut.new.items.items ≡ all) }
+) -> Result<usize, ShaperError>
+    requires none { cut.old.items.items ≡ [] }
+    requires fits { kept ≤ limit }
+    requires within { kept ≤ length glyphs.now }
+    ensures length { let cut = items_at (F.font face.now) circles (characters glyphs.now) kept in
+        RefusesLength limit (kept + length (outputs glyph_copies cut glyphs.now)) result }
+    ensures items { let rest = items_at (F.font face.now) circles (characters glyphs.now) kept in
+        IfOk result (λ len. cut.new.is_whole ≡ true → cut.new.items.items ≡ rest) }
     ensures refusal { IfErr result (λ e. e ≡ TooLong) }
 {
-    let mut room = limit;
-    let mut changed = false;
-    let mut place = 0;
+    let mut room = limit - kept;
+    let mut place = kept;
     while place < glyphs.len() {
         let item = item_at(face, circles, glyphs, place);
         if room < item.output_len() {
             return Err(ShaperError::TooLong);
         }
         room -= item.output_len();
-        changed |= !item.is_kept();
         cut.add(place, item);
         place += item.len();
     }
-    if !changed {
-        return Ok(None);
-    }
-    Ok(Some(limit - room))
+    Ok(limit - room)
 }
 
 // Flags and merges what the items flag and merge, one after another.
@@ -126,22 +137,25 @@ fn write_items(
 }
 
 // The text rewritten, to a length that is known: what its items flag and merge, on the old places,
-// and then what they become.
+// and then what they become, behind what stays.
 fn rewritten(
     cut: &[(usize, Item)],
     level: BufferClusterLevel,
     glyphs: &[hb_glyph_info_t],
+    kept: usize,
     len: usize,
     alloc: Global,
 ) -> Result<Vec<hb_glyph_info_t>, ShaperError>
-    requires { Fit (length glyphs.now) cut.now }
-    ensures ok { let text = outputs glyph_copies cut.now (all_joined level cut.now glyphs.now) in
-        IfOk result (λ list. list.items ≡ text) }
+    requires fit { Fit (length glyphs.now) cut.now }
+    requires within { kept ≤ length glyphs.now }
+    ensures ok { let joined = all_joined level cut.now glyphs.now in
+        IfOk result (λ list. list.items ≡ take kept joined ++ outputs glyph_copies cut.now joined) }
     ensures refusal { IsOkUnless result Memory }
 {
     let mut joined = Vec::from_slice(alloc, glyphs)?;
     join_items(cut, level, &mut joined);
     let mut list = Vec::with_capacity(alloc, len)?;
+    list.extend_from_slice(&joined[..kept])?;
     write_items(cut, joined.as_slice(), &mut list)?;
     Ok(list)
 }
@@ -165,14 +179,16 @@ pub(super) fn rewrite<F: hb_font_t>(face: &F, buffer: &mut hb_buffer_t) -> Resul
 {
     let circles = wants_circles(buffer);
     let (level, alloc) = (buffer.cluster_level(), buffer.alloc());
-    let mut cut = Cut::new(alloc);
     let glyphs = buffer.glyphs();
-    let Some(len) = measure(face, circles, glyphs, buffer.max_len(), &mut cut)? else {
+    let kept = kept_len(face, circles, glyphs);
+    if kept == buffer.len() {
         return Ok(());
-    };
+    }
+    let mut cut = Cut::new(alloc);
+    let len = measure(face, circles, glyphs, kept, buffer.max_len(), &mut cut)?;
     if !cut.is_whole {
         return Err(ShaperError::Memory);
     }
-    let list = rewritten(cut.items.as_slice(), level, glyphs, len, alloc)?;
+    let list = rewritten(cut.items.as_slice(), level, glyphs, kept, len, alloc)?;
     buffer.replace_glyphs(list)
 }
