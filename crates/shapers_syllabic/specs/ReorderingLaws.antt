@@ -34,12 +34,16 @@ abbrev pub ReorderingLosesNothing : Type 0
 ReorderingLosesNothing = (meaning : List hb_glyph_info_t → List hb_glyph_info_t) (steps : List hb_glyph_info_t → List Step) →
     ReorderLaws meaning steps → (gs : List hb_glyph_info_t) → NothingLost meaning gs
 
+-- the steps of each syllable move only inside what they merged first
+abbrev pub MoveMerged : (List hb_glyph_info_t → List Step) → Type 0
+MoveMerged steps = (gs : List hb_glyph_info_t) → AllByRecursion (MovesMerged (length gs)) (steps gs)
+
 -- What holds of any text whose syllables are reordered: no glyph is lost, and the laws of steps, through the view. If the steps of each syllable move
 -- only inside what they merged first: the laws of a hook that reorders, exact cuts and the cluster law among them.
 pub record TextReordered (steps : List hb_glyph_info_t → List Step) (old new : Buffer) : Type 0 where
   pub kept : IsPermutation (seen carried old.glyphs) (seen carried new.glyphs)
   pub glyphs : SeenStepsHold carried old.level (text_steps steps (order_view old.glyphs)) old.glyphs new.glyphs
-  pub merged : ((gs : List hb_glyph_info_t) → AllByRecursion (MovesMerged (length gs)) (steps gs)) →
+  pub merged : MoveMerged steps →
       ReorderedHold carried old.level (text_steps steps (order_view old.glyphs)) old.glyphs new.glyphs
 
 abbrev pub TextReorderedLaw : Type 0

@@ -1,9 +1,11 @@
 //! Laws of the reordering, each the contract of a function without a body.
-ghost use Rattle.shapers_myanmar.specs.MyanmarLaws.{MyanmarCutsBetweenSpans, MyanmarReadsNoSerials, MyanmarReorderLaws};
+ghost use Rattle.shapers_myanmar.specs.MyanmarLaws.{MyanmarCutsBetweenSpans, MyanmarMovesMerged, MyanmarReadsNoSerials, MyanmarReorderLaws};
 
-/// The steps of a syllable take each of its places once and lead to its order.
+/// The steps of a syllable take each of its places once, lead to its order, and move only inside
+/// what they merged first.
 pub fn myanmar_reorder_laws()
-    ensures { MyanmarReorderLaws }
+    ensures laws { MyanmarReorderLaws }
+    ensures merged { MyanmarMovesMerged }
 {}
 
 /// The order of a syllable doesn't read the serial of its byte, so that pauses can be cut between
