@@ -15,14 +15,18 @@ use Rattle.shapers_base.specs.Map.{Map}
 use Rattle.shapers_clusters.specs.Steps.{Step, run_steps, steps_along}
 use Rattle.shapers_indic.specs.Glyphs.{at_position, has_position, number}
 use Rattle.shapers_indic_initial.specs.InitialFont.{all_by_virama, by_virama, consonant_position, positions_by_font, virama_glyph}
-use Rattle.shapers_indic_initial.specs.InitialPause.{InitiallyReordered, initial_circles, order_by_font, steps_by_font}
+use Rattle.shapers_indic_initial.specs.InitialPause.{InitiallyReordered, initial_circles, order_by_font, steps_by_font, with_positions_and_circles}
+use Rattle.shapers_indic_initial.specs.InitialLaws.{InitialCutsBetweenSpans, InitiallyAsPause}
 use Rattle.shapers_indic_initial.specs.InitialReordering.{initial_order, initial_steps}
 use Rattle.shapers_indic_initial.specs.InitialRules.{rules_of}
-use Rattle.shapers_indic_initial.proofs.FontPositions.{by_virama-syllable, font_positions-carried, font_positions-viewed, length-font_positions}
+use Rattle.shapers_indic_initial.proofs.FontPositions.{by_virama-syllable, font_positions-carried, font_positions-viewed, laws_by_font, length-font_positions}
+use Rattle.shapers_indic_initial.proofs.InitialSerialsStay.{order_by_font_reads_no_serials}
 use Rattle.shapers_syllabic.specs.declared.ot_shaper_syllabic.circles.DottedCircles.{DottedCircles}
 use Rattle.shapers_syllabic.specs.Circles.{circle_in, circled, circled_syllable, circles_for, is_of_kind, rephas_len, wants_circles, with_circle}
 use Rattle.shapers_syllabic.specs.Reordering.{PauseReordered, carried, text_order, text_steps}
 use Rattle.shapers_syllabic.proofs.Borders.{syllables-viewed}
+use Rattle.shapers_syllabic.proofs.HiddenCuts.{pauses_cut_between_spans}
+use Rattle.shapers_syllabic.specs.Borders.{spans_set_up}
 use Rattle.shapers_syllabic.proofs.ReorderingLemmas.{run_steps-carried}
 
 -- circles whose position isn't BASE_C, so that the font gives them none
@@ -106,9 +110,15 @@ pieces_after first steps long (x ∷ ps) =
     let put : ℕ → ℕ × List Step = λ n. (n, steps (first x)) in
     ap (λ n. put n ∷ map (piece_of steps) (map first ps)) (long x) ∙ ap (λ ys. put (length x) ∷ ys) (pieces_after first steps long ps)
 
--- the pause by syllables is that of the whole text
-pub initially_reordered : (font : Font) (m : Map) (p : indic_shape_plan_t) (old new : Buffer) → PauseReordered (initial_circles font old) (order_by_font font m p old.script) (steps_by_font font m p old.script) old new → InitiallyReordered font m p old new
-initially_reordered font m p old new done =
+-- The pause by syllables and that of the whole text: what they make of a text, and where their steps lead.
+record SamePause (font : Font) (m : Map) (p : indic_shape_plan_t) (old : Buffer) : Type 0 where
+  pub order : text_order (initial_order (rules_of font m p) old.script) (order_view (with_positions_and_circles font m p old).glyphs) ≡ text_order (order_by_font font m p old.script) (order_view (circled (initial_circles font old) old.glyphs))
+  pub moved :
+      map carried (run_steps old.level (text_steps (initial_steps (rules_of font m p) old.script) (order_view (with_positions_and_circles font m p old).glyphs)) (with_positions_and_circles font m p old).glyphs)
+      ≡ map carried (run_steps old.level (text_steps (steps_by_font font m p old.script) (order_view (circled (initial_circles font old) old.glyphs))) (circled (initial_circles font old) old.glyphs))
+
+same_pause : (font : Font) (m : Map) (p : indic_shape_plan_t) (old : Buffer) → SamePause font m p old
+same_pause font m p old =
     let A = positions_by_font font m p in
     let v = virama_glyph font p in
     let r = rules_of font m p in
@@ -117,19 +127,36 @@ initially_reordered font m p old new done =
     let c = initial_circles font old in
     let zs = circled c old.glyphs in
     let xs = order_view zs in
-    let past : circled c (A old.glyphs) ≡ A zs = circled_by_font font m p v c (circles_not_at_base (font.nominal 0x25CC) old) old.glyphs in
-    let view : order_view (circled c (A old.glyphs)) ≡ A xs = ap order_view past ∙ font_positions-viewed font m p v zs in
+    let opened = circled c (A old.glyphs) in
+    let past : opened ≡ A zs = circled_by_font font m p v c (circles_not_at_base (font.nominal 0x25CC) old) old.glyphs in
+    let view : order_view opened ≡ A xs = ap order_view past ∙ font_positions-viewed font m p v zs in
     let pieces : syllables (A xs) ≡ map A (syllables xs) = syllables_by_font font m p v xs in
-    let meant : text_order I (order_view (circled c (A old.glyphs))) ≡ text_order (order_by_font font m p old.script) xs = ap (text_order I) view ∙ ap (flat_map I) pieces ∙ joined_after A I (syllables xs) in
-    let led : text_steps S (order_view (circled c (A old.glyphs))) ≡ text_steps (steps_by_font font m p old.script) xs =
+    let led : text_steps S (order_view opened) ≡ text_steps (steps_by_font font m p old.script) xs =
     ap (text_steps S) view
     ∙ ap (λ ps. steps_along (length (A xs)) 0 (map (piece_of S) ps)) pieces
     ∙ ap (steps_along (length (A xs)) 0) (pieces_after A S (length-font_positions font m p v) (syllables xs))
     ∙ ap (λ n. steps_along n 0 (map (piece_of (λ ys. S (A ys))) (syllables xs))) (length-font_positions font m p v xs) in
     record {
-      others = done.others;
-      order = done.order ∙ sym meant;
-      moved = done.moved
-          ∙ sym (ap (λ sts. map carried (run_steps old.level sts zs)) led)
-          ∙ run_steps-carried old.level (text_steps S (order_view (circled c (A old.glyphs)))) zs (circled c (A old.glyphs)) (sym (ap (map carried) past ∙ font_positions-carried font m p v zs));
+      order = ap (text_order I) view ∙ ap (flat_map I) pieces ∙ joined_after A I (syllables xs);
+      moved = run_steps-carried old.level (text_steps S (order_view opened)) opened zs (ap (map carried) past ∙ font_positions-carried font m p v zs)
+          ∙ ap (λ sts. map carried (run_steps old.level sts zs)) led;
     }
+
+-- the one is the other
+pub initially_reordered : (font : Font) (m : Map) (p : indic_shape_plan_t) (old new : Buffer) → PauseReordered (initial_circles font old) (order_by_font font m p old.script) (steps_by_font font m p old.script) old new → InitiallyReordered font m p old new
+initially_reordered font m p old new done = let same = same_pause font m p old in record { others = done.others; order = done.order ∙ sym same.order; moved = done.moved ∙ sym same.moved }
+
+pub paused_by_font : (font : Font) (m : Map) (p : indic_shape_plan_t) (old new : Buffer) → InitiallyReordered font m p old new → PauseReordered (initial_circles font old) (order_by_font font m p old.script) (steps_by_font font m p old.script) old new
+paused_by_font font m p old new done = let same = same_pause font m p old in record { others = done.others; order = done.order ∙ same.order; moved = done.moved ∙ same.moved }
+
+pub initially_as_pause : InitiallyAsPause
+initially_as_pause font m p old new = (paused_by_font font m p old new, initially_reordered font m p old new)
+
+-- so it may be cut between spans, directly behind a set-up
+pub initial_cuts_between_spans : InitialCutsBetweenSpans
+initial_cuts_between_spans font m p spans old new kinds done =
+    let script = old.script in
+    let mid = spans_set_up spans BROKEN_CLUSTER old in
+    let laws = laws_by_font font m p (virama_glyph font p) script in
+    pauses_cut_between_spans (order_by_font font m p script) (steps_by_font font m p script) BROKEN_CLUSTER laws (order_by_font_reads_no_serials font m p script)
+    (initial_circles font mid) spans old new kinds (paused_by_font font m p mid new done)

@@ -11,7 +11,8 @@ use Rattle.shapers_buffer.proofs.ClusterLemmas.{map-stretch}
 use Rattle.shapers_clusters.specs.Steps.{Step, still_step}
 use Rattle.shapers_clusters.proofs.Picks.{pick-map}
 use Rattle.shapers_khmer.specs.declared.ot_shaper_khmer.reordering.KhmerOrder.{KhmerOrder}
-use Rattle.shapers_khmer.specs.Khmer.{KhmerReadsNoSerials, Move, Pair, Vowel, is_reordered, khmer_masked, khmer_moves, khmer_order, khmer_places, khmer_step, masked, masked_all, masked_for, merged_for, moved, moved_all, sorts_of, with_mask}
+use Rattle.shapers_khmer.specs.Khmer.{Move, Pair, Vowel, is_reordered, khmer_masked, khmer_moves, khmer_order, khmer_places, khmer_step, masked, masked_all, masked_for, merged_for, moved, moved_all, sorts_of, with_mask}
+use Rattle.shapers_khmer.specs.KhmerLaws.{KhmerReadsNoSerials}
 use Rattle.shapers_khmer.specs.KhmerWalk.{moves_from}
 use Rattle.shapers_khmer.proofs.KhmerCases.{khmer_walk}
 use Rattle.shapers_syllabic.specs.Borders.{unnumbered}

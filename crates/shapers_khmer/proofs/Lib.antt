@@ -1,4 +1,5 @@
 mod ConstantRows
+pub mod KhmerByMovers
 pub mod KhmerCases
 pub mod KhmerLaws
 pub mod KhmerListing

@@ -2,8 +2,9 @@
 use Rattle.std.specs.Prelude.{ℕ, ◌+◌, ◌≡◌, nat_lt, true, Bool, ◌&&◌, ◌||◌, ◌==◌, not, List, [], ◌∷◌, ◌++◌, drop, filter, flat_map, map, reverse, if◌then◌else◌}
 use Rattle.std.specs.List.{enumerate_from, list_all, list_any, prefix_len, zip}
 use Rattle.shapers_buffer.specs.Lists.{each_after}
+use Rattle.shapers_buffer.specs.Places.{pick}
 use Rattle.shapers_buffer.specs.declared.buffer.glyph.hb_glyph_info_t.{hb_glyph_info_t}
-use Rattle.shapers_khmer.specs.Khmer.{is_coeng, is_left_vowel, is_ro, khmer_masked, khmer_moves, khmer_places, merged_for, sorts_of, with_mask}
+use Rattle.shapers_khmer.specs.Khmer.{is_coeng, is_left_vowel, is_reordered, is_ro, khmer_masked, khmer_moves, khmer_order, khmer_places, merged_for, sorts_of, with_mask}
 use Rattle.shapers_khmer.specs.declared.ot_shaper_khmer.reordering.KhmerOrder.{KhmerOrder}
 
 -- whether a syllable of these categories is regular: its first is neither Coeng nor a left vowel, and each Coeng is last or
@@ -81,6 +82,14 @@ masked_by_movers r gs = map (λ e. masked_at r (moving_coengs (sorts_of gs)) e.0
 -- the masks by cases of a regular syllable are those by its movers
 abbrev pub KhmerMoversMasksLaw : Type 0
 KhmerMoversMasksLaw = (r : KhmerOrder) (gs : List hb_glyph_info_t) → is_regular (sorts_of gs) ≡ true → khmer_masked r gs ≡ masked_by_movers r gs
+
+-- what a syllable becomes, by its movers: the glyphs with their masks, in that order
+abbrev pub khmer_by_movers : KhmerOrder → List hb_glyph_info_t → List hb_glyph_info_t
+khmer_by_movers r gs = if is_reordered gs then pick (order_by_movers (sorts_of gs)) (masked_by_movers r gs) else gs
+
+-- so a regular syllable becomes
+abbrev pub KhmerByMoversLaw : Type 0
+KhmerByMoversLaw = (r : KhmerOrder) (gs : List hb_glyph_info_t) → is_regular (sorts_of gs) ≡ true → khmer_order r gs ≡ khmer_by_movers r gs
 
 -- MERGES. What merges for a part that moves: from the syllable's start to its end, this included
 abbrev pub merged_over : Part → ℕ × ℕ

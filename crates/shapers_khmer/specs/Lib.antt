@@ -1,4 +1,5 @@
 pub mod Khmer
+pub mod KhmerLaws
 pub mod KhmerMovers
 pub mod KhmerWalk
 pub mod Plan

@@ -19,10 +19,14 @@ use shapers_base::plan::{
 use shapers_syllabic::ot_shaper_syllabic;
 
 pub mod khmer_feature;
+mod laws;
 mod pause;
 mod reordering;
 
-pub use pause::{khmer_orders_by_movers, khmer_reads_no_serials, reorder_khmer};
+pub use laws::{
+    khmer_cuts_between_spans, khmer_orders_by_movers, khmer_reads_no_serials, khmer_reorder_laws,
+};
+pub use pause::reorder_khmer;
 pub use reordering::KhmerOrder;
 
 // The basic features run at once, after the reordering.

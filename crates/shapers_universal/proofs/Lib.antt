@@ -6,6 +6,7 @@ mod SyllableWalks
 mod UniversalCuts
 pub mod UniversalLists
 mod UniversalRows
+pub mod UniversalSerials
 pub mod UniversalSteps
 pub mod UniversalView
 mod UniversalWalks

@@ -1,6 +1,6 @@
--- The order and its steps: what the steps lead to is the order, and neither sees clusters and glyph flags.
-use Rattle.std.proofs.Common.{◌≡◌, ℕ, suc, Bool, true, false, if◌then◌else◌, List, [], ◌∷◌, ◌++◌, map, filter, reverse, not, nat_eq, length, take, drop, Option, None, Some, refl, ap, sym, ◌∙◌, arith}
-use Rattle.std.specs.List.{flat_map, range_with_len, slice_get}
+-- The order and its steps: what the steps lead to is the order, and neither sees clusters, masks and serials.
+use Rattle.std.proofs.Common.{◌≡◌, ℕ, suc, Bool, true, false, if◌then◌else◌, List, [], ◌∷◌, ◌++◌, map, filter, reverse, not, nat_eq, ◌==◌, length, take, drop, Option, None, Some, refl, ap, sym, ◌∙◌, arith}
+use Rattle.std.specs.List.{flat_map, list_any, range_with_len, slice_get}
 use Rattle.std.specs.Option.{option_map, option_map_or}
 use Rattle.std.proofs.lemmas.List.{length-map, map-append, take_at, drop_at}
 use Rattle.std.proofs.lemmas.Option.{slice_get-map}
@@ -18,6 +18,7 @@ use Rattle.shapers_clusters.proofs.Widened.{order_view-along}
 use Rattle.shapers_syllabic.specs.Reordering.{carried}
 use Rattle.shapers_syllabic.specs.ReorderingLaws.{ReorderLaws}
 use Rattle.shapers_syllabic.proofs.ReorderingLemmas.{old_places_one}
+use Rattle.shapers_syllabic.proofs.Views.{KeepsKinds, View, plain_view, seen_by, shown}
 use Rattle.shapers_universal.specs.Universal.{first_behind, goes_front, goes_front_at, is_halant, is_passed, is_reordered, piece_step, piece_steps, pieces, places_of, reph_moved, reph_run, reph_step, reversed_first, universal_order, universal_steps}
 use Rattle.shapers_universal.proofs.UniversalLists.{cut_after-concat, filter-same, first_behind-map, length-first_behind, mapped_twice, pick-first_behind, pick-reversed_first, reversed_first-map}
 use Rattle.shapers_universal.proofs.UniversalSteps.{all_pieces, piece_fits, pieces_sum, reph_run-within, universal_fits, universal_permutes}
@@ -88,74 +89,90 @@ universal_agrees gs =
 pub universal_laws : ReorderLaws universal_order universal_steps
 universal_laws = record { fits = universal_fits; permutes = universal_permutes; agrees = universal_agrees }
 
--- clusters and glyph flags are not seen
-reph_run-view : (gs : List hb_glyph_info_t) → reph_run (order_view gs) ≡ reph_run gs
-reph_run-view [] = refl
-reph_run-view (g ∷ gs) = ap (λ k. if nat_eq g.category 18 then suc k else 0) (prefix_len-map is_passed plain gs)
+-- clusters, masks and serials are not seen
+reph_run-seen : (v : View) (gs : List hb_glyph_info_t) → reph_run (seen_by v gs) ≡ reph_run gs
+reph_run-seen v [] = refl
+reph_run-seen v (g ∷ gs) = ap (λ k. if nat_eq g.category 18 then suc k else 0) (prefix_len-map is_passed (shown v) gs)
 
-is_reordered-view : (gs : List hb_glyph_info_t) → is_reordered (order_view gs) ≡ is_reordered gs
-is_reordered-view [] = refl
-is_reordered-view (g ∷ gs) = refl
+is_reordered-seen : (v : View) → KeepsKinds v → (gs : List hb_glyph_info_t) → is_reordered (seen_by v gs) ≡ is_reordered gs
+is_reordered-seen v kinds [] = refl
+is_reordered-seen v kinds (g ∷ gs) = ap (λ k. list_any (λ sort. sort == k) (0 ∷ (1 ∷ (2 ∷ (7 ∷ []))))) (kinds g.syllable)
 
-reph_moved-view : (gs : List hb_glyph_info_t) → reph_moved (order_view gs) ≡ order_view (reph_moved gs)
-reph_moved-view gs = ap (λ k. first_behind k (order_view gs)) (reph_run-view gs) ∙ first_behind-map plain (reph_run gs) gs
+reph_moved-seen : (v : View) (gs : List hb_glyph_info_t) → reph_moved (seen_by v gs) ≡ seen_by v (reph_moved gs)
+reph_moved-seen v gs = ap (λ k. first_behind k (seen_by v gs)) (reph_run-seen v gs) ∙ first_behind-map (shown v) (reph_run gs) gs
 
-pub pieces_cut-view : (gs : List hb_glyph_info_t) → cut_after is_halant (order_view gs) ≡ map order_view (cut_after is_halant gs)
-pieces_cut-view gs = cut_after-map is_halant plain gs
+pub pieces_cut-seen : (v : View) (gs : List hb_glyph_info_t) → cut_after is_halant (seen_by v gs) ≡ map (seen_by v) (cut_after is_halant gs)
+pieces_cut-seen v gs = cut_after-map is_halant (shown v) gs
 
-pieces-view : (gs : List hb_glyph_info_t) → pieces (order_view gs) ≡ map order_view (pieces gs)
-pieces-view gs = ap (cut_after is_halant) (reph_moved-view gs) ∙ pieces_cut-view (reph_moved gs)
+pieces-seen : (v : View) (gs : List hb_glyph_info_t) → pieces (seen_by v gs) ≡ map (seen_by v) (pieces gs)
+pieces-seen v gs = ap (cut_after is_halant) (reph_moved-seen v gs) ∙ pieces_cut-seen v (reph_moved gs)
 
-at_view : (o : Option hb_glyph_info_t) → option_map_or goes_front (option_map plain o) false ≡ option_map_or goes_front o false
-at_view None = refl
-at_view (Some g) = refl
+at_seen : (v : View) (o : Option hb_glyph_info_t) → option_map_or goes_front (option_map (shown v) o) false ≡ option_map_or goes_front o false
+at_seen v None = refl
+at_seen v (Some g) = refl
 
-pub goes_front_at-view : (gs : List hb_glyph_info_t) (i : ℕ) → goes_front_at (order_view gs) i ≡ goes_front_at gs i
-goes_front_at-view gs i = ap (λ o. option_map_or goes_front o false) (slice_get-map plain gs i) ∙ at_view (slice_get gs i)
+pub goes_front_at-seen : (v : View) (gs : List hb_glyph_info_t) (i : ℕ) → goes_front_at (seen_by v gs) i ≡ goes_front_at gs i
+goes_front_at-seen v gs i = ap (λ o. option_map_or goes_front o false) (slice_get-map (shown v) gs i) ∙ at_seen v (slice_get gs i)
 
-pub piece_step-view : (gs : List hb_glyph_info_t) → piece_step (order_view gs) ≡ piece_step gs
-piece_step-view gs =
+pub piece_step-seen : (v : View) (gs : List hb_glyph_info_t) → piece_step (seen_by v gs) ≡ piece_step gs
+piece_step-seen v gs =
     let step : List ℕ → (ℕ → Bool) → Step = λ ps t. record { merged_first = map (λ i. (0, suc i)) (filter t ps); places = reversed_first t ps; merged_then = [] } in
     let made : List ℕ → List ℕ → List ℕ → Step = λ yes no ps. record { merged_first = map (λ i. (0, suc i)) yes; places = reverse yes ++ no; merged_then = [] } in
-    let t = goes_front_at (order_view gs) in
+    let t = goes_front_at (seen_by v gs) in
     let u = goes_front_at gs in
     let ps = places_of gs in
-    let same = goes_front_at-view gs in
-    ap (λ n. step (range_with_len 0 n) t) (length-map gs plain)
+    let same = goes_front_at-seen v gs in
+    ap (λ n. step (range_with_len 0 n) t) (length-map gs (shown v))
     ∙ ap (λ yes. made yes (filter (λ x. not (t x)) ps) ps) (filter-same t u ps same)
     ∙ ap (λ no. made (filter u ps) no ps) (filter-same (λ x. not (t x)) (λ x. not (u x)) ps (λ x. ap not (same x)))
 
-pub piece_steps-view : (ps : List (List hb_glyph_info_t)) → piece_steps (map order_view ps) ≡ piece_steps ps
-piece_steps-view [] = refl
-piece_steps-view (piece ∷ ps) =
-    ap (λ n. (n, piece_step (order_view piece) ∷ []) ∷ piece_steps (map order_view ps)) (length-map piece plain)
-    ∙ ap (λ s. (length piece, s ∷ []) ∷ piece_steps (map order_view ps)) (piece_step-view piece)
-    ∙ ap (λ qs. (length piece, piece_step piece ∷ []) ∷ qs) (piece_steps-view ps)
+pub piece_steps-seen : (v : View) (ps : List (List hb_glyph_info_t)) → piece_steps (map (seen_by v) ps) ≡ piece_steps ps
+piece_steps-seen v [] = refl
+piece_steps-seen v (piece ∷ ps) =
+    ap (λ n. (n, piece_step (seen_by v piece) ∷ []) ∷ piece_steps (map (seen_by v) ps)) (length-map piece (shown v))
+    ∙ ap (λ s. (length piece, s ∷ []) ∷ piece_steps (map (seen_by v) ps)) (piece_step-seen v piece)
+    ∙ ap (λ qs. (length piece, piece_step piece ∷ []) ∷ qs) (piece_steps-seen v ps)
 
-pub reph_step-view : (gs : List hb_glyph_info_t) → reph_step (order_view gs) ≡ reph_step gs
-reph_step-view gs =
+pub reph_step-seen : (v : View) (gs : List hb_glyph_info_t) → reph_step (seen_by v gs) ≡ reph_step gs
+reph_step-seen v gs =
     let step : ℕ → ℕ → Step = λ k n. record { merged_first = (0, k) ∷ []; places = first_behind k (range_with_len 0 n); merged_then = [] } in
-    ap (λ k. step k (length (order_view gs))) (reph_run-view gs) ∙ ap (step (reph_run gs)) (length-map gs plain)
+    ap (λ k. step k (length (seen_by v gs))) (reph_run-seen v gs) ∙ ap (step (reph_run gs)) (length-map gs (shown v))
 
-pub universal_steps-view : (gs : List hb_glyph_info_t) → universal_steps (order_view gs) ≡ universal_steps gs
-universal_steps-view gs =
+pub universal_steps-seen : (v : View) → KeepsKinds v → (gs : List hb_glyph_info_t) → universal_steps (seen_by v gs) ≡ universal_steps gs
+universal_steps-seen v kinds gs =
     let made : Bool → Step → ℕ → List (ℕ × List Step) → List Step = λ b reph n ps. if b then reph ∷ steps_along n 0 ps else [] in
-    ap (λ b. made b (reph_step (order_view gs)) (length (order_view gs)) (piece_steps (pieces (order_view gs)))) (is_reordered-view gs)
-    ∙ ap (λ s. made (is_reordered gs) s (length (order_view gs)) (piece_steps (pieces (order_view gs)))) (reph_step-view gs)
-    ∙ ap (λ n. made (is_reordered gs) (reph_step gs) n (piece_steps (pieces (order_view gs)))) (length-map gs plain)
-    ∙ ap (λ ps. made (is_reordered gs) (reph_step gs) (length gs) ps) (ap piece_steps (pieces-view gs) ∙ piece_steps-view (pieces gs))
+    ap (λ b. made b (reph_step (seen_by v gs)) (length (seen_by v gs)) (piece_steps (pieces (seen_by v gs)))) (is_reordered-seen v kinds gs)
+    ∙ ap (λ s. made (is_reordered gs) s (length (seen_by v gs)) (piece_steps (pieces (seen_by v gs)))) (reph_step-seen v gs)
+    ∙ ap (λ n. made (is_reordered gs) (reph_step gs) n (piece_steps (pieces (seen_by v gs)))) (length-map gs (shown v))
+    ∙ ap (λ ps. made (is_reordered gs) (reph_step gs) (length gs) ps) (ap piece_steps (pieces-seen v gs) ∙ piece_steps-seen v (pieces gs))
 
-ordered-view : (ps : List (List hb_glyph_info_t)) → flat_map (reversed_first goes_front) (map order_view ps) ≡ order_view (flat_map (reversed_first goes_front) ps)
-ordered-view [] = refl
-ordered-view (piece ∷ ps) =
-    ap (λ ys. ys ++ flat_map (reversed_first goes_front) (map order_view ps)) (reversed_first-map goes_front plain piece)
-    ∙ ap (λ ys. order_view (reversed_first goes_front piece) ++ ys) (ordered-view ps)
-    ∙ sym (map-append plain (reversed_first goes_front piece) (flat_map (reversed_first goes_front) ps))
+ordered-seen : (v : View) (ps : List (List hb_glyph_info_t)) → flat_map (reversed_first goes_front) (map (seen_by v) ps) ≡ seen_by v (flat_map (reversed_first goes_front) ps)
+ordered-seen v [] = refl
+ordered-seen v (piece ∷ ps) =
+    ap (λ ys. ys ++ flat_map (reversed_first goes_front) (map (seen_by v) ps)) (reversed_first-map goes_front (shown v) piece)
+    ∙ ap (λ ys. seen_by v (reversed_first goes_front piece) ++ ys) (ordered-seen v ps)
+    ∙ sym (map-append (shown v) (reversed_first goes_front piece) (flat_map (reversed_first goes_front) ps))
 
-pub universal_order-view : (gs : List hb_glyph_info_t) → universal_order (order_view gs) ≡ order_view (universal_order gs)
-universal_order-view gs =
-    ap (λ b. if b then flat_map (reversed_first goes_front) (pieces (order_view gs)) else order_view gs) (is_reordered-view gs)
-    ∙ elim (is_reordered gs) as (λ b. (if b then flat_map (reversed_first goes_front) (pieces (order_view gs)) else order_view gs) ≡ order_view (if b then flat_map (reversed_first goes_front) (pieces gs) else gs)) [
-      | true ↦ ap (flat_map (reversed_first goes_front)) (pieces-view gs) ∙ ordered-view (pieces gs)
+pub universal_order-seen : (v : View) → KeepsKinds v → (gs : List hb_glyph_info_t) → universal_order (seen_by v gs) ≡ seen_by v (universal_order gs)
+universal_order-seen v kinds gs =
+    ap (λ b. if b then flat_map (reversed_first goes_front) (pieces (seen_by v gs)) else seen_by v gs) (is_reordered-seen v kinds gs)
+    ∙ elim (is_reordered gs) as (λ b. (if b then flat_map (reversed_first goes_front) (pieces (seen_by v gs)) else seen_by v gs) ≡ seen_by v (if b then flat_map (reversed_first goes_front) (pieces gs) else gs)) [
+      | true ↦ ap (flat_map (reversed_first goes_front)) (pieces-seen v gs) ∙ ordered-seen v (pieces gs)
       | false ↦ refl
     ]
+
+-- so the order view
+pub goes_front_at-view : (gs : List hb_glyph_info_t) (i : ℕ) → goes_front_at (order_view gs) i ≡ goes_front_at gs i
+goes_front_at-view gs i = goes_front_at-seen plain_view gs i
+
+pub pieces_cut-view : (gs : List hb_glyph_info_t) → cut_after is_halant (order_view gs) ≡ map order_view (cut_after is_halant gs)
+pieces_cut-view gs = pieces_cut-seen plain_view gs
+
+pub piece_steps-view : (ps : List (List hb_glyph_info_t)) → piece_steps (map order_view ps) ≡ piece_steps ps
+piece_steps-view ps = piece_steps-seen plain_view ps
+
+pub universal_steps-view : (gs : List hb_glyph_info_t) → universal_steps (order_view gs) ≡ universal_steps gs
+universal_steps-view gs = universal_steps-seen plain_view (λ b. refl) gs
+
+pub universal_order-view : (gs : List hb_glyph_info_t) → universal_order (order_view gs) ≡ order_view (universal_order gs)
+universal_order-view gs = universal_order-seen plain_view (λ b. refl) gs

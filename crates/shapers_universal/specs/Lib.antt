@@ -2,6 +2,7 @@ pub mod PlanData
 pub mod Requests
 pub mod Universal
 pub mod UniversalCuts
+pub mod UniversalLaws
 pub mod UniversalMasks
 pub mod UniversalSyllables
 pub mod UniversalText

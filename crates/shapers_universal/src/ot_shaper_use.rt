@@ -12,6 +12,7 @@ use shapers_base::plan::{Pause, Request, ShaperError, hb_ot_shape_planner_t};
 pub mod category;
 mod data;
 mod forms;
+mod laws;
 mod masks;
 mod ordering;
 mod records;
@@ -20,6 +21,9 @@ mod set_up;
 mod syllable_walk;
 
 pub use data::create_data;
+pub use laws::{
+    universal_cuts_between_spans, universal_reads_no_serials, universal_reorder_laws,
+};
 pub use masks::setup_masks;
 pub use ordering::UniversalOrder;
 pub use records::{record_pref, record_rphf};

@@ -1,10 +1,23 @@
 //! Laws of the initial reordering, each the contract of a function without a body.
 ghost use Rattle.shapers_indic_initial.specs.InitialClusters.{InitialClustersLaw, OrderMergesLaw};
-ghost use Rattle.shapers_indic_initial.specs.InitialLaws.{InitialReorderLaws, InitialTextMerges, OrderByFontReadsNoSerials};
+ghost use Rattle.shapers_indic_initial.specs.InitialLaws.{InitialCutsBetweenSpans, InitialReorderLaws, InitialTextMerges, InitiallyAsPause, OrderByFontLaws, OrderByFontReadsNoSerials};
 
-/// The steps of a syllable take each of its places once and lead to its order.
+/// The steps of a syllable take each of its places once and lead to its order, also where positions
+/// by the font come first.
 pub fn initial_reorder_laws()
-    ensures { InitialReorderLaws }
+    ensures order { InitialReorderLaws }
+    ensures by_font { OrderByFontLaws }
+{}
+
+/// The pause is one of dotted circles and syllables, each with its positions by the font first.
+pub fn initially_as_pause()
+    ensures { InitiallyAsPause }
+{}
+
+/// A set-up and the pause directly after it, cut between any two spans, give what they give on the
+/// halves, serials apart, whose own serials may be others.
+pub fn initial_cuts_between_spans()
+    ensures { InitialCutsBetweenSpans }
 {}
 
 /// What the order of a syllable merges: places from the base on that a glyph moved over share one

@@ -4,9 +4,9 @@ ghost use Rattle.shapers_buffer.specs.Glyph.{order_view};
 ghost use Rattle.shapers_buffer.specs.Refusals.{Refuses};
 ghost use Rattle.shapers_buffer.specs.Syllables.{unknown_refusal};
 ghost use Rattle.shapers_clusters.specs.Laws.{ReorderedHold};
-ghost use Rattle.shapers_khmer.specs.Khmer.{KhmerReadsNoSerials, khmer_circles, khmer_order, khmer_steps, order_in, with_khmer_circles};
-ghost use Rattle.shapers_khmer.specs.KhmerMovers.{KhmerMoversLaw, KhmerMoversMasksLaw, KhmerMoversMergesLaw};
+ghost use Rattle.shapers_khmer.specs.Khmer.{khmer_circles, khmer_order, khmer_steps, order_in, with_khmer_circles};
 ghost use Rattle.shapers_khmer.specs.Plan.{is_khmer_data};
+ghost use Rattle.shapers_syllabic.specs.CircleLaws.{NoNewCluster};
 ghost use Rattle.shapers_syllabic.specs.Reordering.{PauseReordered, carried, circles_of_sort, text_steps};
 ghost use Rattle.shapers_syllabic.specs.ReorderingLaws.{PauseCutsAtBorders};
 
@@ -29,9 +29,9 @@ const CIRCLES: CircleSort = CircleSort {
 
 /// Gives broken syllables their dotted circles, and then brings Coeng Ro and the vowels that stand
 /// before their base to the front of each syllable, with the masks of the plan. Answers whether
-/// circles were wanted. Refuses with `UnknownSyllable`, before anything changes; with `TooLong`;
-/// and with `Memory`, but not where no circle opens. (OpenType, "Developing OpenType Fonts for
-/// Khmer".)
+/// circles were wanted. Every cluster afterwards is one that the text had. Refuses with
+/// `UnknownSyllable`, before anything changes; with `TooLong`; and with `Memory`, but not where no
+/// circle opens. (OpenType, "Developing OpenType Fonts for Khmer".)
 pub fn reorder_khmer<F: hb_font_t>(
     plan: &hb_ot_shape_plan_t,
     face: &F,
@@ -50,6 +50,7 @@ pub fn reorder_khmer<F: hb_font_t>(
     ensures laws { let opened = (with_khmer_circles (F.font face.now) buffer.old).glyphs in
         OnOk result (ReorderedHold carried buffer.old.level
         (text_steps khmer_steps (order_view opened)) opened buffer.new.glyphs) }
+    ensures clusters { OnOk result (NoNewCluster buffer.old.glyphs buffer.new.glyphs) }
     ensures refusal { let opened = (with_khmer_circles (F.font face.now) buffer.old).glyphs in
         Refuses (unknown_refusal 2 buffer.old.glyphs) buffer.old.max_len (length opened) result }
     ensures err { OnErr result (buffer.new ≡ buffer.old) }
@@ -78,20 +79,3 @@ fn order_of(plan_data: &PlanData) -> KhmerOrder
         _ => unreachable!(),
     }
 }
-
-/// The order of a syllable doesn't read the serial of its byte, so that pauses can be cut between
-/// any two spans.
-pub fn khmer_reads_no_serials()
-    ensures { KhmerReadsNoSerials }
-{}
-
-/// What the cases make of a regular syllable, by its movers. They are the left vowels, and, if the
-/// first Coeng with Ro is among the first three, each Coeng with its Ro from that one to the first
-/// without. First stand the movers, the last first, and then the rest in order. Pref goes to the
-/// moving pairs, cfar to all behind the first of them, the other masks to all but the first glyph.
-/// For each mover merges the stretch from the syllable's start to its end.
-pub fn khmer_orders_by_movers()
-    ensures order { KhmerMoversLaw }
-    ensures masks { KhmerMoversMasksLaw }
-    ensures merges { KhmerMoversMergesLaw }
-{}
