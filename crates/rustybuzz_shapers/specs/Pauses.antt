@@ -1,5 +1,5 @@
 -- What each pause does to the buffer.
-use Rattle.std.specs.Prelude.{◌≡◌, Bool, true, false, List, map, length, Option, None, is_some, Result, IsOk}
+use Rattle.std.specs.Prelude.{◌≡◌, Bool, true, false, List, [], ◌∷◌, All, map, length, Option, None, Some, unwrap_or, is_some, Result, IsOk}
 use Rattle.shapers_arabic.specs.PlanData.{IsArabic}
 use Rattle.shapers_buffer.specs.Glyph.{order_view}
 use Rattle.shapers_buffer.specs.declared.buffer.glyph.hb_glyph_info_t.{hb_glyph_info_t}
@@ -37,25 +37,34 @@ use Rattle.shapers_buffer.specs.declared.buffer.refusal.ShaperError.{ShaperError
 use Rattle.shapers_buffer.specs.declared.buffer.syllables.Span.{Span}
 use Rattle.shapers_base.specs.declared.plan.hb_ot_shape_plan_t.{hb_ot_shape_plan_t}
 use Rattle.shapers_base.specs.declared.plan.pause.Pause.{Pause}
+use Rattle.shapers_base.specs.declared.plan.planner.Request.{Request}
+use Rattle.shapers_base.specs.declared.plan.planner.Request.TheVariants as request
+use Rattle.shapers_buffer.specs.declared.buffer.tag.Script.{Script}
+use Rattle.rustybuzz_shapers.specs.Records.{collected, overridden}
+use Rattle.rustybuzz_shapers.specs.declared.shaper.hb_ot_shaper_t.{hb_ot_shaper_t}
 use Rattle.shapers_base.specs.declared.plan.pause.Pause.TheVariants.{SetupSyllablesIndic, SetupSyllablesKhmer, SetupSyllablesMyanmar, SetupSyllablesUse, InitialReordering, ReorderKhmer, ReorderMyanmar, ReorderUse, FinalReordering, RecordStch, RecordRphf, RecordPref, SyllabicClearVar, ClearSubstitutionFlags, ArabicFallbackShape}
 
 -- the plan's data are of the kind that the pause reads
 abbrev pub PauseFits : Pause → hb_ot_shape_plan_t → Type 0
-PauseFits SetupSyllablesIndic plan = Unit {0}
-PauseFits SetupSyllablesKhmer plan = Unit {0}
-PauseFits SetupSyllablesMyanmar plan = Unit {0}
 PauseFits SetupSyllablesUse plan = is_universal plan.plan_data ≡ true
 PauseFits InitialReordering plan = is_indic_data plan.plan_data ≡ true
 PauseFits ReorderKhmer plan = is_khmer_data plan.plan_data ≡ true
-PauseFits ReorderMyanmar plan = Unit {0}
-PauseFits ReorderUse plan = Unit {0}
 PauseFits FinalReordering plan = is_indic_data plan.plan_data ≡ true
 PauseFits RecordStch plan = IsArabic plan.plan_data
 PauseFits RecordRphf plan = is_universal plan.plan_data ≡ true
-PauseFits RecordPref plan = Unit {0}
-PauseFits SyllabicClearVar plan = Unit {0}
-PauseFits ClearSubstitutionFlags plan = Unit {0}
-PauseFits ArabicFallbackShape plan = Unit {0}
+PauseFits _ plan = Unit {0}
+
+-- the pauses among requests
+abbrev pub pauses_in : List Request → List Pause
+pauses_in [] = []
+pauses_in (request.Pause (Some pause) ∷ rs) = pause ∷ pauses_in rs
+pauses_in (request.Pause None ∷ rs) = pauses_in rs
+pauses_in (request.Feature tag flags value ∷ rs) = pauses_in rs
+
+-- the plan's data are of the kind that each pause reads that a shaper's lists ask for, for any script, and a font with rclt or without
+abbrev pub PausesFit : hb_ot_shaper_t → hb_ot_shape_plan_t → Type 0
+PausesFit shaper plan = (script : Option Script) (has_rclt : Bool) →
+    All (λ pause. PauseFits pause plan) (pauses_in (unwrap_or (collected shaper script has_rclt) [])) × All (λ pause. PauseFits pause plan) (pauses_in (unwrap_or (overridden shaper) []))
 
 -- the dotted circles that a reordering pause opens: of Indic, Khmer and the universal shaper behind rephas, of Myanmar in front
 abbrev pub circles_of : Pause → Font → Buffer → Option DottedCircles
