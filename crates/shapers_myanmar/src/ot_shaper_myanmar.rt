@@ -8,6 +8,7 @@ ghost use Rattle.shapers_clusters.specs.Laws.{ReorderedHold};
 ghost use Rattle.shapers_buffer.specs.Refusals.{Refuses};
 ghost use Rattle.shapers_buffer.specs.Syllables.{unknown_refusal};
 ghost use Rattle.shapers_syllabic.specs.Characters.{with_category};
+ghost use Rattle.shapers_syllabic.specs.CircleLaws.{NoNewCluster};
 ghost use Rattle.shapers_syllabic.specs.Circles.{circled};
 ghost use Rattle.shapers_syllabic.specs.Reordering.{PauseReordered, carried, circles_of_sort, text_steps};
 ghost use Rattle.shapers_syllabic.specs.ReorderingLaws.{PauseCutsAtBorders};
@@ -79,7 +80,7 @@ const CIRCLES: CircleSort = CircleSort {
 
 /// Gives broken syllables their dotted circles, and then brings each syllable into the order in
 /// which it is drawn. (OpenType, Myanmar script development.) Answers whether circles were wanted.
-/// Refuses with `UnknownSyllable` where a kind is unknown, with `TooLong`, and with `Memory`, but
+/// Every cluster afterwards is one that the text had. Refuses with `UnknownSyllable` where a kind is unknown, with `TooLong`, and with `Memory`, but
 /// that not where no circle opens.
 pub fn reorder_myanmar<F: hb_font_t>(
     face: &F,
@@ -96,6 +97,7 @@ pub fn reorder_myanmar<F: hb_font_t>(
         let opened = record buffer.old { glyphs = circled circles buffer.old.glyphs } in
         let steps = text_steps myanmar_steps (order_view opened.glyphs) in
         OnOk result (ReorderedHold carried opened.level steps opened.glyphs buffer.new.glyphs) }
+    ensures clusters { OnOk result (NoNewCluster buffer.old.glyphs buffer.new.glyphs) }
     ensures refusal { let circles = circles_of_sort myanmar_circles (F.font face.now) buffer.old in
         Refuses (unknown_refusal 3 buffer.old.glyphs)
         buffer.old.max_len (length (circled circles buffer.old.glyphs)) result }

@@ -4,7 +4,7 @@ use Rattle.std.specs.List.{flat_map, prefix_len}
 use Rattle.std.proofs.Common.{ap, sym, subst, ◌∙◌, arith, get_or, length-append, length-drop, length-take-le}
 use Rattle.std.proofs.lemmas.Bool.Decides.{nat_tests}
 use Rattle.std.proofs.lemmas.List.{drop-drop, drop_all, drop_more, take_all, length-map, take_at, drop_at, take-append-drop}
-use Rattle.std.proofs.lemmas.List.Elements.{All-append, All-cons, All-head, All-take, All-drop, All-map, All-weaker, All-contains_itself}
+use Rattle.std.proofs.lemmas.List.Elements.{All-append, All-cons, All-head, All-take, All-drop, All-map, All-weaker, All-contains, All-contains_itself}
 use Rattle.std.proofs.lemmas.List.Sums.{prefix_len-le-length, prefix_len_stops, sum_by-cons}
 use Rattle.std.proofs.lemmas.Bool.{not-false}
 use Rattle.shapers_buffer.specs.declared.buffer.glyph.hb_glyph_info_t.{hb_glyph_info_t}
@@ -12,8 +12,8 @@ use Rattle.shapers_syllabic.specs.declared.ot_shaper_syllabic.circles.DottedCirc
 use Rattle.shapers_buffer.specs.Buffer.{Buffer}
 use Rattle.shapers_buffer.specs.Glyph.{clusters, default_glyph}
 use Rattle.shapers_buffer.specs.Syllables.{syllables, with_opening, first_syllable_len, kind_of}
-use Rattle.shapers_syllabic.specs.Circles.{is_of_kind, rephas_len, circle_in, with_circle, with_circles, circled_syllable, count_of_kind}
-use Rattle.shapers_syllabic.specs.CircleLaws.{unmarked, marked, no_marks, marks_in, CirclesCanBeErased, CirclesKeepClusters}
+use Rattle.shapers_syllabic.specs.Circles.{is_of_kind, rephas_len, circle_in, with_circle, with_circles, circled, circled_syllable, count_of_kind}
+use Rattle.shapers_syllabic.specs.CircleLaws.{unmarked, marked, no_marks, marks_in, CirclesCanBeErased, CirclesKeepClusters, NoNewCluster}
 use Rattle.shapers_syllabic.specs.FirstBroken.{IsFirstBroken, is_of_other_kind}
 use Rattle.shapers_buffer.proofs.MappedLists.{Contains-map}
 use Rattle.shapers_buffer.proofs.SyllableLaws.{syllables_are_runs}
@@ -287,6 +287,14 @@ circles_keep_clusters rule gs =
     let start : InAll P gs = All-weaker (Contains gs) Q (λ g among. Contains-map (λ (h : hb_glyph_info_t). h.cluster) gs g among) gs (All-contains_itself gs) in
     let joined_start : InAll P (joined (syllables gs)) = subst (All Q) (sym (joined-syllables gs)) start in
     All-map P (λ (h : hb_glyph_info_t). h.cluster) (with_circles rule gs) (keeps_all P rule (syllables gs) joined_start)
+
+-- so where circles may be wanted, and of what brings no cluster to the text with its circles
+pub no_new_cluster : (circles : Option DottedCircles) (gs new : List hb_glyph_info_t) → NoNewCluster (circled circles gs) new → NoNewCluster gs new
+no_new_cluster None gs new none = none
+no_new_cluster (Some rule) gs new none =
+    let old = clusters gs in
+    let opened = clusters (with_circles rule gs) in
+    All-weaker (Contains opened) (Contains old) (λ c among. All-contains (Contains old) opened c (circles_keep_clusters rule gs) among) (clusters new) none
 
 -- a slice from a place to the end of a list
 pub to_end : {X : Type 0} (xs : List X) (i : ℕ) → take (length xs - i) (drop i xs) ≡ drop i xs

@@ -18,7 +18,7 @@ use Rattle.shapers_syllabic.proofs.Serials.{serials_dont_count}
 use Rattle.shapers_syllabic.proofs.SpanCuts.{spans_cut}
 
 -- a set-up keeps the clusters
-clusters-flagged : (pieces : List (List hb_glyph_info_t)) → clusters (flat_map (flagged 3) pieces) ≡ clusters (flat_map (λ piece. piece) pieces)
+pub clusters-flagged : (pieces : List (List hb_glyph_info_t)) → clusters (flat_map (flagged 3) pieces) ≡ clusters (flat_map (λ piece. piece) pieces)
 clusters-flagged [] = refl
 clusters-flagged (piece ∷ pieces) =
     let cluster : hb_glyph_info_t → ℕ = λ g. g.cluster in
@@ -33,7 +33,7 @@ clusters-with_bytes [] bytes = refl
 clusters-with_bytes (g ∷ gs) [] = refl
 clusters-with_bytes (g ∷ gs) (byte ∷ bytes) = ap (λ cs. g.cluster ∷ cs) (clusters-with_bytes gs bytes)
 
-clusters-set_up : (spans : List Span) (broken_kind : ℕ) (b : Buffer) → clusters (spans_set_up spans broken_kind b).glyphs ≡ clusters b.glyphs
+pub clusters-set_up : (spans : List Span) (broken_kind : ℕ) (b : Buffer) → clusters (spans_set_up spans broken_kind b).glyphs ≡ clusters b.glyphs
 clusters-set_up spans broken_kind b =
     let cut = with_bytes b.glyphs (span_bytes 0 spans) in
     clusters-flagged (syllables cut) ∙ ap clusters (joined-syllables cut) ∙ clusters-with_bytes b.glyphs (span_bytes 0 spans)

@@ -38,6 +38,10 @@ circles_of rule gs = map (λ piece. circle_in piece rule.circle) (filter (is_of_
 abbrev pub CirclesCanBeErased : Type 0
 CirclesCanBeErased = (rule : DottedCircles) (gs : List hb_glyph_info_t) → (unmarked (circle_marks rule gs) (with_circles rule gs) ≡ gs) × (marked (circle_marks rule gs) (with_circles rule gs) ≡ circles_of rule gs)
 
--- each cluster of the text with its circles is one that the text had
+-- each cluster of the new glyphs is one that the old ones had
+abbrev pub NoNewCluster : List hb_glyph_info_t → List hb_glyph_info_t → Type 0
+NoNewCluster old new = All (Contains (clusters old)) (clusters new)
+
+-- so of the text with its circles
 abbrev pub CirclesKeepClusters : Type 0
-CirclesKeepClusters = (rule : DottedCircles) (gs : List hb_glyph_info_t) → All (Contains (clusters gs)) (clusters (with_circles rule gs))
+CirclesKeepClusters = (rule : DottedCircles) (gs : List hb_glyph_info_t) → NoNewCluster gs (with_circles rule gs)

@@ -8,11 +8,13 @@ use Rattle.std.proofs.lemmas.Bool.{cases_lt}
 use Rattle.std.proofs.lemmas.List.{length-map, map-append, take-map, drop-map, take-append-drop}
 use Rattle.std.proofs.lemmas.List.Concat.{flat_map-append}
 use Rattle.std.proofs.lemmas.List.Elements.{All-append, All-drop, All-map, All-take}
+use Rattle.std.proofs.lemmas.Simd.{map-map}
 use Rattle.std.proofs.lemmas.Nat.{and_or_apart, and_le_r}
 use Rattle.std.proofs.lemmas.Nat.Bits.{bit_at-lt, bit_at-zero, bit_at_above, bit_at_and, bit_at_not, bit_at_or, same_from_bits}
 use Rattle.shapers_buffer.specs.declared.buffer.glyph.hb_glyph_info_t.{hb_glyph_info_t}
 use Rattle.shapers_buffer.specs.declared.buffer.syllables.Span.{Span}
 use Rattle.shapers_buffer.specs.Buffer.{Buffer}
+use Rattle.shapers_buffer.specs.Glyph.{clusters}
 use Rattle.shapers_buffer.specs.GlyphFlags.{with_bits}
 use Rattle.shapers_buffer.specs.Syllables.{syllables}
 use Rattle.shapers_buffer.proofs.MappedLists.{map-seen}
@@ -28,7 +30,7 @@ use Rattle.shapers_syllabic.proofs.Serials.{KeepsSame, pieces_same}
 use Rattle.shapers_syllabic.proofs.SpanCuts.{spans_cut}
 use Rattle.shapers_universal.specs.PlanData.{arabic_of, rphf_of}
 use Rattle.shapers_universal.specs.UniversalCuts.{UniversalSetUpCutsAtSpans, formless_for}
-use Rattle.shapers_universal.specs.UniversalSyllables.{all_forms, first_joins, form_masks, formed, in_forms, joins_runs, mask_between, reph_len, syllables_set_up, with_forms_for, with_instead, with_rphf}
+use Rattle.shapers_universal.specs.UniversalSyllables.{all_forms, first_joins, form_masks, formed, in_forms, joins_runs, mask_between, reph_len, syllables_set_up, with_forms_for, with_instead, with_rphf, with_syllable_masks}
 use Rattle.shapers_universal.specs.declared.ot_shaper_use.forms.FormMasks.{FormMasks}
 
 -- bits among those that are hidden don't show
@@ -155,6 +157,41 @@ unfolding set_on
 set_on_same arabic m rphf gs hs same =
     let told : (xs : List hb_glyph_info_t) → map unnumbered (map (formless_for arabic m) (with_rphf rphf xs)) ≡ map (formless_for arabic m) (with_rphf rphf (map unnumbered xs)) = λ xs. formless_same arabic m (with_rphf rphf xs) ∙ ap (map (formless_for arabic m)) (rphf_same rphf xs) in
     told gs ∙ ap (λ xs. map (formless_for arabic m) (with_rphf rphf xs)) same ∙ sym (told hs)
+
+-- masks change no cluster
+clusters-formless : (arabic : Option arabic_shape_plan_t) (m : Map) (gs : List hb_glyph_info_t) → clusters (map (formless_for arabic m) gs) ≡ clusters gs
+clusters-formless arabic m [] = refl
+clusters-formless (Some p) m (g ∷ gs) = ap (λ cs. g.cluster ∷ cs) (clusters-formless (Some p) m gs)
+clusters-formless None m (g ∷ gs) = ap (λ cs. g.cluster ∷ cs) (clusters-formless None m gs)
+
+clusters-rphf : (rphf : ℕ) (gs : List hb_glyph_info_t) → clusters (with_rphf rphf gs) ≡ clusters gs
+clusters-rphf rphf gs =
+    let cluster : hb_glyph_info_t → ℕ = λ g. g.cluster in
+    let n = reph_len gs in
+    map-append cluster (map (with_bits rphf) (take n gs)) (drop n gs)
+    ∙ ap (λ cs. cs ++ clusters (drop n gs)) (map-map cluster (with_bits rphf) (take n gs))
+    ∙ sym (map-append cluster (take n gs) (drop n gs))
+    ∙ ap clusters (take-append-drop n gs)
+
+clusters-flat : (f : List hb_glyph_info_t → List hb_glyph_info_t) → ((gs : List hb_glyph_info_t) → clusters (f gs) ≡ clusters gs) → (pieces : List (List hb_glyph_info_t)) → clusters (flat_map f pieces) ≡ clusters (flat_map (λ p. p) pieces)
+clusters-flat f same [] = refl
+clusters-flat f same (p ∷ pieces) =
+    let cluster : hb_glyph_info_t → ℕ = λ g. g.cluster in
+    map-append cluster (f p) (flat_map f pieces)
+    ∙ ap (λ cs. cs ++ clusters (flat_map f pieces)) (same p)
+    ∙ ap (λ cs. clusters p ++ cs) (clusters-flat f same pieces)
+    ∙ sym (map-append cluster p (flat_map (λ p. p) pieces))
+
+pub clusters-masks : (kept : PlanData) (m : Map) (gs : List hb_glyph_info_t) → clusters (with_syllable_masks kept m gs) ≡ clusters gs
+clusters-masks kept m gs =
+    let arabic = arabic_of kept in
+    let f = with_rphf (rphf_of kept) in
+    let masked = flat_map f (syllables gs) in
+    sym (clusters-formless arabic m (with_forms_for arabic m masked))
+    ∙ ap clusters (masks_hidden arabic m masked)
+    ∙ clusters-formless arabic m masked
+    ∙ clusters-flat f (clusters-rphf (rphf_of kept)) (syllables gs)
+    ∙ ap clusters (joined-syllables gs)
 
 pub universal_set_up_cuts : (kept : PlanData) (m : Map) (spans : List Span) (old : Buffer) → All (λ span. span.kind ≤ 15) spans → UniversalSetUpCutsAtSpans kept m spans old (syllables_set_up kept m spans old)
 universal_set_up_cuts kept m spans old kinds ss ts gs hs whole text first second =

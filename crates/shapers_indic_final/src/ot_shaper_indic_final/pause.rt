@@ -4,6 +4,7 @@ ghost use Rattle.shapers_indic.specs.Plan.{indic_in, is_indic_data};
 ghost use Rattle.shapers_indic_final.specs.FinalLaws.{FinallyKept};
 ghost use Rattle.shapers_indic_final.specs.FinalOpening.{FinallyReordered};
 ghost use Rattle.shapers_indic_final.specs.FinalRules.{rules_of};
+ghost use Rattle.shapers_syllabic.specs.CircleLaws.{NoNewCluster};
 
 use super::reordering::reorder_text;
 use super::rules::Rules;
@@ -14,14 +15,15 @@ use shapers_indic::ot_shaper_indic::indic_in;
 
 /// Reorders each syllable again, now that the basic features formed its glyphs: its base, its left
 /// matras, its reph and a glyph that `pref` formed; and gives a left matra at the start of a word
-/// `init`. It refuses nothing and takes no memory. (OpenType, development of Indic scripts: "Final
-/// reordering".)
+/// `init`. Every cluster afterwards is one that the text had. It refuses nothing and takes no memory.
+/// (OpenType, development of Indic scripts: "Final reordering".)
 pub fn final_reordering<F: hb_font_t>(plan: &hb_ot_shape_plan_t, face: &F, buffer: &mut hb_buffer_t)
     requires kept { is_indic_data plan.now.plan_data ≡ true }
     ensures reordered { let rules = rules_of (F.font face.now) (indic_in plan.now) in
         FinallyReordered rules buffer.old buffer.new }
     ensures laws { let rules = rules_of (F.font face.now) (indic_in plan.now) in
         FinallyKept rules buffer.old buffer.new }
+    ensures clusters { NoNewCluster buffer.old.glyphs buffer.new.glyphs }
 {
     let rules = Rules::new(indic_in(plan), face);
     let script = buffer.script();

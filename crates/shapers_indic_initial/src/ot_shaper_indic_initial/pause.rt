@@ -5,6 +5,7 @@ ghost use Rattle.shapers_indic.specs.Plan.{indic_in, is_indic_data};
 ghost use Rattle.shapers_indic_initial.specs.InitialPause.{InitiallyReordered, initial_circles, initial_refusal, order_by_font, steps_by_font, with_positions_and_circles};
 ghost use Rattle.shapers_indic_initial.specs.InitialReordering.{initial_steps};
 ghost use Rattle.shapers_indic_initial.specs.InitialRules.{rules_of};
+ghost use Rattle.shapers_syllabic.specs.CircleLaws.{NoNewCluster};
 ghost use Rattle.shapers_syllabic.specs.Circles.{circled};
 ghost use Rattle.shapers_syllabic.specs.ReorderingLaws.{PauseCutsAtBorders, TextReordered};
 
@@ -29,9 +30,9 @@ const CIRCLES: CircleSort = CircleSort {
 
 /// Gives consonants positions by the font and broken syllables their dotted circles, and then
 /// reorders each syllable: its base, what goes with which glyph, the order by positions, the masks
-/// of the basic features. Answers whether circles were wanted. Refuses with `UnknownSyllable`,
-/// before anything changes; with `TooLong`; and with `Memory`, but not where no circle opens.
-/// (OpenType, development of Indic scripts.)
+/// of the basic features. Answers whether circles were wanted. Every cluster afterwards is one that
+/// the text had. Refuses with `UnknownSyllable`, before anything changes; with `TooLong`; and with
+/// `Memory`, but not where no circle opens. (OpenType, development of Indic scripts.)
 pub fn initial_reordering<F: hb_font_t>(
     plan: &hb_ot_shape_plan_t,
     face: &F,
@@ -53,6 +54,7 @@ pub fn initial_reordering<F: hb_font_t>(
         let opened = with_positions_and_circles font plan.now.ot_map (indic_in plan.now)
         buffer.old in
         OnOk result (TextReordered (initial_steps rules buffer.old.script) opened buffer.new) }
+    ensures clusters { OnOk result (NoNewCluster buffer.old.glyphs buffer.new.glyphs) }
     ensures refusal { let circles = initial_circles (F.font face.now) buffer.old in
         let opened = circled circles buffer.old.glyphs in
         Refuses (initial_refusal buffer.old) buffer.old.max_len (length opened) result }

@@ -7,6 +7,7 @@ ghost use Rattle.shapers_clusters.specs.Laws.{ReorderedHold};
 ghost use Rattle.shapers_khmer.specs.Khmer.{KhmerReadsNoSerials, khmer_circles, khmer_order, khmer_steps, order_in, with_khmer_circles};
 ghost use Rattle.shapers_khmer.specs.KhmerMovers.{KhmerMoversLaw, KhmerMoversMasksLaw, KhmerMoversMergesLaw};
 ghost use Rattle.shapers_khmer.specs.Plan.{is_khmer_data};
+ghost use Rattle.shapers_syllabic.specs.CircleLaws.{NoNewCluster};
 ghost use Rattle.shapers_syllabic.specs.Reordering.{PauseReordered, carried, circles_of_sort, text_steps};
 ghost use Rattle.shapers_syllabic.specs.ReorderingLaws.{PauseCutsAtBorders};
 
@@ -29,9 +30,9 @@ const CIRCLES: CircleSort = CircleSort {
 
 /// Gives broken syllables their dotted circles, and then brings Coeng Ro and the vowels that stand
 /// before their base to the front of each syllable, with the masks of the plan. Answers whether
-/// circles were wanted. Refuses with `UnknownSyllable`, before anything changes; with `TooLong`;
-/// and with `Memory`, but not where no circle opens. (OpenType, "Developing OpenType Fonts for
-/// Khmer".)
+/// circles were wanted. Every cluster afterwards is one that the text had. Refuses with
+/// `UnknownSyllable`, before anything changes; with `TooLong`; and with `Memory`, but not where no
+/// circle opens. (OpenType, "Developing OpenType Fonts for Khmer".)
 pub fn reorder_khmer<F: hb_font_t>(
     plan: &hb_ot_shape_plan_t,
     face: &F,
@@ -50,6 +51,7 @@ pub fn reorder_khmer<F: hb_font_t>(
     ensures laws { let opened = (with_khmer_circles (F.font face.now) buffer.old).glyphs in
         OnOk result (ReorderedHold carried buffer.old.level
         (text_steps khmer_steps (order_view opened)) opened buffer.new.glyphs) }
+    ensures clusters { OnOk result (NoNewCluster buffer.old.glyphs buffer.new.glyphs) }
     ensures refusal { let opened = (with_khmer_circles (F.font face.now) buffer.old).glyphs in
         Refuses (unknown_refusal 2 buffer.old.glyphs) buffer.old.max_len (length opened) result }
     ensures err { OnErr result (buffer.new ≡ buffer.old) }

@@ -3,6 +3,7 @@ ghost use Rattle.std.specs.Prelude.{◌≡◌, [], All, IfOk, IsOk, OnErr, OnOk,
 ghost use Rattle.shapers_buffer.specs.Glyph.{order_view};
 ghost use Rattle.shapers_buffer.specs.Refusals.{Refuses};
 ghost use Rattle.shapers_buffer.specs.Syllables.{syllables};
+ghost use Rattle.shapers_syllabic.specs.CircleLaws.{NoNewCluster};
 ghost use Rattle.shapers_syllabic.specs.Circles.{circled};
 ghost use Rattle.shapers_syllabic.specs.Reordering.{PauseReordered, circles_of_sort, first_unknown, kind_refusal};
 ghost use Rattle.shapers_syllabic.specs.ReorderingLaws.{PauseCutsAtBorders, PausesCutAtSpans, ReorderLaws, TextReordered};
@@ -25,7 +26,7 @@ pub struct CircleSort {
 /// Gives broken syllables their dotted circles and then reorders each syllable. Answers whether
 /// circles were wanted. Refuses with `UnknownSyllable` where a kind is above the last known one, if
 /// there is one; with `TooLong`; and with `Memory`, but not where no circle opens. The order itself
-/// never refuses.
+/// never refuses. Every cluster afterwards is one that the text had before its circles.
 pub fn reorder_pause<F: hb_font_t, R: Reorder>(
     face: &F,
     order: &R,
@@ -52,6 +53,7 @@ pub fn reorder_pause<F: hb_font_t, R: Reorder>(
     ensures laws { let circles = circles_of_sort sort.now (F.font face.now) buffer.old in
         let opened = record buffer.old { glyphs = circled circles buffer.old.glyphs } in
         OnOk result (TextReordered (R.steps order.now buffer.old.script) opened buffer.new) }
+    ensures clusters { OnOk result (NoNewCluster buffer.old.glyphs buffer.new.glyphs) }
     ensures refusal { let circles = circles_of_sort sort.now (F.font face.now) buffer.old in
         Refuses (kind_refusal last_kind buffer.old.glyphs)
         buffer.old.max_len (length (circled circles buffer.old.glyphs)) result }

@@ -2,6 +2,7 @@
 ghost use Rattle.std.specs.Prelude.{◌≡◌, ◌==◌, ◌≤◌, All, IfErr, IsTrue, OnErr, OnOk, is_ok, length, map};
 ghost use Rattle.std.specs.List.{list_any};
 ghost use Rattle.shapers_buffer.specs.Clusters.{with_stretch};
+ghost use Rattle.shapers_buffer.specs.Glyph.{clusters};
 ghost use Rattle.shapers_buffer.specs.GlyphFlags.{with_bits_off};
 ghost use Rattle.shapers_syllabic.specs.Borders.{SetUpCutsAtSpans, SpansCutLaw};
 ghost use Rattle.shapers_syllabic.specs.Syllabic.{in_unsafe_syllable, unsafe_spans, with_unsafe_syllables};
@@ -16,7 +17,8 @@ use shapers_base::buffer::{
 
 /// Cuts the text into the syllables of these spans, marks whether one is of the broken kind, and
 /// flags the inside of each syllable as unsafe to break. Refuses with `SpansDontCover` where a span
-/// is empty or the lengths don't add up to the buffer's. It takes no memory.
+/// is empty or the lengths don't add up to the buffer's. It takes no memory and leaves the clusters
+/// as they are.
 pub fn set_up_syllables(
     spans: &[Span],
     broken_kind: u8,
@@ -28,6 +30,7 @@ pub fn set_up_syllables(
         OnOk result (buffer.new ≡ with_unsafe_syllables cut) }
     ensures cut { OnOk result
         (SetUpCutsAtSpans spans.now broken_kind buffer.old buffer.new) }
+    ensures clusters { clusters buffer.new.glyphs ≡ clusters buffer.old.glyphs }
     ensures err { OnErr result (buffer.new ≡ buffer.old) }
 {
     if !spans_cover(buffer.len(), spans) {

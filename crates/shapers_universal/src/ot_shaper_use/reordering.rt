@@ -1,6 +1,7 @@
 //! The reordering of a text in the universal shaper.
 ghost use Rattle.std.specs.Prelude.{◌≡◌, [], IfOk, IsOk, OnErr, OnOk, is_some, length};
 ghost use Rattle.shapers_buffer.specs.Refusals.{RefusesLength};
+ghost use Rattle.shapers_syllabic.specs.CircleLaws.{NoNewCluster};
 ghost use Rattle.shapers_syllabic.specs.Reordering.{PauseReordered, circles_of_sort};
 ghost use Rattle.shapers_syllabic.specs.ReorderingLaws.{PauseCutsAtBorders};
 ghost use Rattle.shapers_universal.specs.Universal.{universal_order, universal_steps};
@@ -22,9 +23,9 @@ const CIRCLES: CircleSort = CircleSort {
 };
 
 /// Gives each broken syllable a dotted circle, behind its leading rephas, and then each syllable
-/// its order; answers whether circles are wanted. Refuses with `TooLong` where the text would be
-/// longer than `max_len`, and with `Memory`; where no circle opens it takes none. (OpenType, the
-/// Universal Shaping Engine.)
+/// its order; answers whether circles are wanted. Every cluster afterwards is one that the text had.
+/// Refuses with `TooLong` where the text would be longer than `max_len`, and with `Memory`; where no
+/// circle opens it takes none. (OpenType, the Universal Shaping Engine.)
 pub fn reorder_use<F: hb_font_t>(face: &F, buffer: &mut hb_buffer_t) -> Result<bool, ShaperError>
     requires { buffer.old.positions ≡ [] }
     ensures answer { let circles = circles_of_sort universal_circles (F.font face.now) buffer.old in
@@ -36,6 +37,7 @@ pub fn reorder_use<F: hb_font_t>(face: &F, buffer: &mut hb_buffer_t) -> Result<b
     ensures cut { let circles = circles_of_sort universal_circles (F.font face.now) buffer.old in
         OnOk result
         (PauseCutsAtBorders circles universal_order universal_steps buffer.old buffer.new) }
+    ensures clusters { OnOk result (NoNewCluster buffer.old.glyphs buffer.new.glyphs) }
     ensures length { let text = circled_use (F.font face.now) buffer.old in
         RefusesLength buffer.old.max_len (length text) result }
     ensures err { OnErr result (buffer.new ≡ buffer.old) }

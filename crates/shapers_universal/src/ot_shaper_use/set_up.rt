@@ -1,6 +1,7 @@
 //! Cutting a text into the syllables of the universal shaper.
 ghost use Rattle.std.specs.Prelude.{◌≡◌, ◌≤◌, All, OnErr, OnOk, length, map, true};
 ghost use Rattle.std.specs.List.{flat_map};
+ghost use Rattle.shapers_buffer.specs.Glyph.{clusters};
 ghost use Rattle.shapers_buffer.specs.GlyphFlags.{with_bits};
 ghost use Rattle.shapers_buffer.specs.Refusals.{RefusesInput};
 ghost use Rattle.shapers_buffer.specs.Syllables.{spans_refusal, syllables};
@@ -20,7 +21,7 @@ use shapers_syllabic::ot_shaper_syllabic::use_syllable::BROKEN_CLUSTER;
 /// Gives the mask of `rphf` to the first glyph of each syllable if it is a reph, else to its first
 /// three, and, where the plan has no plan of Arabic, the masks of forms by the places of syllables.
 /// Refuses with `SpansDontCover` where a span is empty or the lengths don't add up to the buffer's.
-/// It takes no memory.
+/// It takes no memory and leaves the clusters as they are.
 pub fn setup_syllables_use(
     plan: &hb_ot_shape_plan_t,
     spans: &[Span],
@@ -34,6 +35,7 @@ pub fn setup_syllables_use(
     ensures cut { let kept = plan.now.plan_data in
         OnOk result
         (UniversalSetUpCutsAtSpans kept plan.now.ot_map spans.now buffer.old buffer.new) }
+    ensures clusters { clusters buffer.new.glyphs ≡ clusters buffer.old.glyphs }
     ensures err { OnErr result (buffer.new ≡ buffer.old) }
 {
     set_up_syllables(spans, BROKEN_CLUSTER, buffer)?;

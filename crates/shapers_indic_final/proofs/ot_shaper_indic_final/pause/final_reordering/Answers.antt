@@ -11,3 +11,6 @@ returns-clause-laws g c =
     let new = c.reorder_text.new.buffer in
     let same = c.new-rules.ensures ∙ ap (rules_of (g.F.hb_font_t.font c.args.face.now)) c.indic_in.ensures in
     subst (λ (r : Rules). FinallyKept r old new) same (finally_kept c.new-rules.result old new c.reorder_text.ensures)
+
+pub returns-clause-clusters : goal.returns-clause-clusters
+returns-clause-clusters g c = let laws = returns-clause-laws g c in laws.in_clusters.old_clusters

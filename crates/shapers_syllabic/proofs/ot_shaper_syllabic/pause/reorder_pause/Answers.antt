@@ -1,6 +1,7 @@
 use Rattle.shapers_buffer.specs.Buffer.{Buffer}
 use Rattle.shapers_syllabic.specs.Circles.{circled}
 use Rattle.shapers_syllabic.specs.Reordering.{circles_of_sort}
+use Rattle.shapers_syllabic.proofs.CircleLaws.{no_new_cluster}
 use Rattle.shapers_syllabic.proofs.ReorderingCuts.{cuts_at_borders}
 use Rattle.shapers_syllabic.proofs.ReorderingLaws.{text_reordered}
 use Rattle.shapers_syllabic.proofs.ReorderingWalk.{pause_reordered}
@@ -24,3 +25,11 @@ returns-clause-laws g c =
     let opened : Buffer = record old { glyphs = circled circles old.glyphs } in
     text_reordered (g.R.Reorder.meaning order old.script) (g.R.Reorder.steps order old.script) opened new c.requires.laws
     (pause_reordered circles (g.R.Reorder.meaning order) (g.R.Reorder.steps order) old c.insert_dotted_circles.new.buffer new c.in_ok-circles.ensures.ok c.in_ok-reorder_syllables.ensures.ok)
+
+pub returns-clause-clusters : goal.returns-clause-clusters
+returns-clause-clusters g c =
+    let old = c.args.buffer.now in
+    let new = c.reorder_syllables.new.buffer in
+    let circles = circles_of_sort c.args.sort.now (g.F.hb_font_t.font c.args.face.now) old in
+    let law = returns-clause-laws g c in
+    no_new_cluster circles old.glyphs new.glyphs law.glyphs.in_clusters.old_clusters

@@ -1,8 +1,9 @@
 use Rattle.std.proofs.Common.{subst, sym, ◌∙◌, ap}
 use Rattle.shapers_buffer.specs.Buffer.{Buffer}
+use Rattle.shapers_buffer.specs.Glyph.{clusters}
 use Rattle.shapers_universal.specs.UniversalCuts.{UniversalSetUpCutsAtSpans}
 use Rattle.shapers_universal.specs.UniversalSyllables.{with_syllable_masks}
-use Rattle.shapers_universal.proofs.UniversalCuts.{universal_set_up_cuts}
+use Rattle.shapers_universal.proofs.UniversalCuts.{clusters-masks, universal_set_up_cuts}
 use Rattle.shapers_universal.proofs.ot_shaper_use.set_up.setup_syllables_use.Goals as goal
 
 -- what the law says of the buffer that the definition names
@@ -14,3 +15,9 @@ returns-clause-cut c =
     let old = c.args.buffer.now in
     let masked : Buffer → Buffer = λ b. record b { glyphs = with_syllable_masks kept m b.glyphs } in
     subst (UniversalSetUpCutsAtSpans kept m spans old) (sym (c.set_masks.ensures ∙ ap masked c.in_ok-set_up_syllables.ensures.ok)) (universal_set_up_cuts kept m spans old c.requires.kinds)
+
+-- masks change no cluster
+pub returns-clause-clusters : goal.returns-clause-clusters
+returns-clause-clusters c =
+    let mid = c.set_up_syllables.new.buffer in
+    ap (λ (b : Buffer). clusters b.glyphs) c.set_masks.ensures ∙ clusters-masks c.args.plan.now.plan_data c.args.plan.now.ot_map mid.glyphs ∙ c.in_ok-set_up_syllables.ensures.clusters
