@@ -1,10 +1,12 @@
 //! Laws of the initial reordering, each the contract of a function without a body.
 ghost use Rattle.shapers_indic_initial.specs.InitialClusters.{InitialClustersLaw, OrderMergesLaw};
-ghost use Rattle.shapers_indic_initial.specs.InitialLaws.{InitialReorderLaws, InitialTextMerges, OrderByFontReadsNoSerials};
+ghost use Rattle.shapers_indic_initial.specs.InitialLaws.{InitialReorderLaws, InitialTextMerges, OrderByFontLaws, OrderByFontReadsNoSerials};
 
-/// The steps of a syllable take each of its places once and lead to its order.
+/// The steps of a syllable take each of its places once and lead to its order, also with positions
+/// by the font given to it first.
 pub fn initial_reorder_laws()
-    ensures { InitialReorderLaws }
+    ensures syllable { InitialReorderLaws }
+    ensures by_font { OrderByFontLaws }
 {}
 
 /// What the order of a syllable merges: places from the base on that a glyph moved over share one

@@ -1,5 +1,9 @@
-use Rattle.shapers_indic_initial.proofs.InitialLaws as proofs
+use Rattle.shapers_indic_initial.proofs.FontPositions.{order_by_font_laws}
+use Rattle.shapers_indic_initial.proofs.InitialLaws.{initial_laws}
 use Rattle.shapers_indic_initial.proofs.ot_shaper_indic_initial.laws.initial_reorder_laws.Goals as goal
 
-pub returns : goal.returns
-returns c = proofs.initial_laws
+pub returns-clause-syllable : goal.returns-clause-syllable
+returns-clause-syllable c = initial_laws
+
+pub returns-clause-by_font : goal.returns-clause-by_font
+returns-clause-by_font c = order_by_font_laws
