@@ -1,5 +1,5 @@
 -- The pauses, computed: what they do to a small buffer.
-use Rattle.std.specs.Prelude.{◌≡◌, ℕ, ◌+◌, true, false, List, [], ◌∷◌, Result, Err, IsOk, refl}
+use Rattle.std.specs.Prelude.{◌≡◌, ℕ, ◌+◌, true, false, List, [], ◌∷◌, map, None, is_some, Result, Err, IsOk, refl}
 use Rattle.shapers_buffer.specs.declared.buffer.category.hb_unicode_general_category_t.TheVariants.{Mn}
 use Rattle.shapers_buffer.specs.declared.buffer.glyph.hb_glyph_info_t.{hb_glyph_info_t}
 use Rattle.shapers_buffer.specs.declared.buffer.refusal.ShaperError.{ShaperError}
@@ -7,11 +7,27 @@ use Rattle.shapers_buffer.specs.declared.buffer.refusal.ShaperError.TheVariants.
 use Rattle.shapers_buffer.specs.declared.buffer.syllables.Span.{Span}
 use Rattle.shapers_base.specs.declared.plan.hb_ot_shape_plan_t.{hb_ot_shape_plan_t}
 use Rattle.shapers_base.specs.declared.plan.pause.Pause.{Pause}
-use Rattle.shapers_base.specs.declared.plan.pause.Pause.TheVariants.{SetupSyllablesIndic, SetupSyllablesKhmer, SetupSyllablesMyanmar, SetupSyllablesUse, InitialReordering, ReorderKhmer, ReorderMyanmar, FinalReordering, RecordStch, RecordRphf, RecordPref, SyllabicClearVar, ClearSubstitutionFlags, ArabicFallbackShape}
+use Rattle.shapers_base.specs.declared.plan.pause.Pause.TheVariants.{SetupSyllablesIndic, SetupSyllablesKhmer, SetupSyllablesMyanmar, SetupSyllablesUse, InitialReordering, ReorderKhmer, ReorderMyanmar, ReorderUse, FinalReordering, RecordStch, RecordRphf, RecordPref, SyllabicClearVar, ClearSubstitutionFlags, ArabicFallbackShape}
 use Rattle.shapers_buffer.specs.Buffer.{Buffer, new_buffer}
 use Rattle.shapers_base.specs.Font.{Font}
 use Rattle.shapers_buffer.specs.Glyph.{default_glyph}
-use Rattle.rustybuzz_shapers.specs.Pauses.{PauseAnswers, Paused, RefusesPause, circles_of, opened}
+use Rattle.shapers_arabic.specs.PlanData.{IsArabic}
+use Rattle.shapers_arabic.specs.Requests.{arabic_list}
+use Rattle.shapers_hangul.specs.Requests.{hangul_list}
+use Rattle.shapers_indic.specs.Plan.{is_indic_data}
+use Rattle.shapers_indic.specs.Requests.{indic_list, indic_overrides}
+use Rattle.shapers_indic_initial.specs.InitialPause.{initial_circles}
+use Rattle.shapers_khmer.specs.Khmer.{khmer_circles}
+use Rattle.shapers_khmer.specs.Plan.{is_khmer_data}
+use Rattle.shapers_khmer.specs.Requests.{khmer_list, khmer_overrides}
+use Rattle.shapers_myanmar.specs.Myanmar.{myanmar_circles}
+use Rattle.shapers_myanmar.specs.Requests.{myanmar_list}
+use Rattle.shapers_syllabic.specs.Circles.{circled}
+use Rattle.shapers_syllabic.specs.Reordering.{circles_of_sort}
+use Rattle.shapers_universal.specs.PlanData.{is_universal}
+use Rattle.shapers_universal.specs.Requests.{universal_list}
+use Rattle.shapers_universal.specs.UniversalText.{universal_circles}
+use Rattle.rustybuzz_shapers.specs.Pauses.{PauseFits, Paused, RefusesPause, circles_of, pauses_in, reordering_of}
 
 -- three glyphs, each with its cluster, byte and mask
 abbrev glyph : ℕ → ℕ → ℕ → hb_glyph_info_t
@@ -80,9 +96,25 @@ unknown_in_indic font r h = h.0
 unknown_in_myanmar : (font : Font) → (r : Result (Unit {0}) ShaperError) → RefusesPause ReorderMyanmar font [] (kinds_of 4 4) r → r ≡ Err (UnknownSyllable 0)
 unknown_in_myanmar font r h = h.0
 
-known : (font : Font) → (r : Result (Unit {0}) ShaperError) → RefusesPause ReorderMyanmar font [] (kinds_of 3 2) r → opened (circles_of ReorderMyanmar font (kinds_of 3 2)) (kinds_of 3 2) ≡ (kinds_of 3 2).glyphs → IsOk r
+known : (font : Font) → (r : Result (Unit {0}) ShaperError) → RefusesPause ReorderMyanmar font [] (kinds_of 3 2) r → circled (circles_of_sort myanmar_circles font (kinds_of 3 2)) (kinds_of 3 2).glyphs ≡ (kinds_of 3 2).glyphs → IsOk r
 known font r h stays = h.1 refl stays
 
--- none of them answers that circles were wanted
-answered : (font : Font) → PauseAnswers SetupSyllablesIndic font text false × PauseAnswers SetupSyllablesKhmer font text false × PauseAnswers SetupSyllablesMyanmar font text false × PauseAnswers SetupSyllablesUse font text false × PauseAnswers FinalReordering font text false × PauseAnswers RecordStch font text false × PauseAnswers RecordRphf font text false × PauseAnswers RecordPref font text false × PauseAnswers SyllabicClearVar font text false × PauseAnswers ClearSubstitutionFlags font text false × PauseAnswers ArabicFallbackShape font text false
-answered font = (refl, refl, refl, refl, refl, refl, refl, refl, refl, refl, refl)
+-- the pauses that reorder, and no others
+abbrev fifteen : List Pause
+fifteen = SetupSyllablesIndic ∷ SetupSyllablesKhmer ∷ SetupSyllablesMyanmar ∷ SetupSyllablesUse ∷ InitialReordering ∷ ReorderKhmer ∷ ReorderMyanmar ∷ ReorderUse ∷ FinalReordering ∷ RecordStch ∷ RecordRphf ∷ RecordPref ∷ SyllabicClearVar ∷ ClearSubstitutionFlags ∷ ArabicFallbackShape ∷ []
+
+which_reorder : (plan : hb_ot_shape_plan_t) (font : Font) (b : Buffer) → map (λ pause. is_some (reordering_of pause plan font b)) fifteen ≡ false ∷ false ∷ false ∷ false ∷ true ∷ true ∷ true ∷ true ∷ true ∷ false ∷ false ∷ false ∷ false ∷ false ∷ false ∷ []
+which_reorder plan font b = refl
+
+-- which circles each of them opens, where the font has a glyph for them: none but the four before substitutions
+circles_are : (plan : hb_ot_shape_plan_t) (font : Font) (b : Buffer) → map (λ pause. circles_of pause plan font b) fifteen ≡ None ∷ None ∷ None ∷ None ∷ initial_circles font b ∷ circles_of_sort khmer_circles font b ∷ circles_of_sort myanmar_circles font b ∷ circles_of_sort universal_circles font b ∷ None ∷ None ∷ None ∷ None ∷ None ∷ None ∷ None ∷ []
+circles_are plan font b = refl
+
+-- the pauses that shapers ask for, in their order
+asked_for : map pauses_in (arabic_list true false ∷ arabic_list false true ∷ hangul_list ∷ indic_list ∷ indic_overrides ∷ khmer_list ∷ khmer_overrides ∷ myanmar_list ∷ universal_list ∷ [])
+    ≡ (RecordStch ∷ ArabicFallbackShape ∷ []) ∷ (RecordStch ∷ []) ∷ [] ∷ (SetupSyllablesIndic ∷ InitialReordering ∷ FinalReordering ∷ []) ∷ (SyllabicClearVar ∷ []) ∷ (SetupSyllablesKhmer ∷ ReorderKhmer ∷ SyllabicClearVar ∷ []) ∷ [] ∷ (SetupSyllablesMyanmar ∷ ReorderMyanmar ∷ SyllabicClearVar ∷ []) ∷ (SetupSyllablesUse ∷ ClearSubstitutionFlags ∷ RecordRphf ∷ ClearSubstitutionFlags ∷ RecordPref ∷ ReorderUse ∷ SyllabicClearVar ∷ []) ∷ []
+asked_for = refl
+
+-- what they read of the plan
+data_read : (plan : hb_ot_shape_plan_t) → (PauseFits SetupSyllablesUse plan ≡ (is_universal plan.plan_data ≡ true)) × (PauseFits RecordRphf plan ≡ (is_universal plan.plan_data ≡ true)) × (PauseFits InitialReordering plan ≡ (is_indic_data plan.plan_data ≡ true)) × (PauseFits FinalReordering plan ≡ (is_indic_data plan.plan_data ≡ true)) × (PauseFits ReorderKhmer plan ≡ (is_khmer_data plan.plan_data ≡ true)) × (PauseFits RecordStch plan ≡ IsArabic plan.plan_data)
+data_read plan = (refl, refl, refl, refl, refl, refl)

@@ -1,5 +1,5 @@
 -- The records of the nine shapers, computed: each constant by its name, and which lists they have.
-use Rattle.std.specs.Prelude.{◌≡◌, true, false, List, [], ◌∷◌, map, None, Some, codes, is_some, refl}
+use Rattle.std.specs.Prelude.{◌≡◌, true, false, List, [], ◌∷◌, map, None, Some, codes, refl}
 use Rattle.shapers_buffer.specs.declared.buffer.tag.hb_tag_t.{hb_tag_t}
 use Rattle.shapers_base.specs.declared.plan.record.NormalizationMode.TheVariants as mode
 use Rattle.shapers_base.specs.declared.plan.record.ZeroWidthMarks.TheVariants as zeroing
@@ -10,7 +10,7 @@ use Rattle.shapers_myanmar.specs.Requests.{myanmar_list}
 use Rattle.shapers_universal.specs.Requests.{universal_list}
 use Rattle.shapers_arabic.specs.Requests.{arabic_list}
 use Rattle.shapers_hangul.specs.Requests.{hangul_list, hangul_overrides}
-use Rattle.rustybuzz_shapers.specs.Records.{asked, collected, if_there, normalizes, overridden, places_marks, wants_gpos_script, zeroes_marks}
+use Rattle.rustybuzz_shapers.specs.Records.{asked, collected, normalizes, overridden, places_marks, wants_gpos_script, zeroes_marks}
 use Rattle.rustybuzz_shapers.specs.declared.shaper.hb_ot_shaper_t.{hb_ot_shaper_t}
 use Rattle.rustybuzz_shapers.specs.declared.shaper.hb_ot_shaper_t.TheVariants.{Arabic, Hangul, Hebrew, Indic, Khmer, Myanmar, MyanmarZawgyi, Thai, Universal}
 
@@ -49,6 +49,3 @@ requests_behind = refl
 
 no_requests : asked None (record { script = None; requests = enabled 0 "locl" ∷ [] }) ≡ record { script = None; requests = enabled 0 "locl" ∷ [] }
 no_requests = refl
-
-answers : map (λ shaper. is_some (if_there (overridden shaper))) nine ≡ false ∷ true ∷ false ∷ true ∷ true ∷ false ∷ false ∷ false ∷ false ∷ []
-answers = refl

@@ -1,8 +1,7 @@
 -- Each pause that reorders regroups each syllable by itself.
-use Rattle.std.proofs.Common.{sym, List, map, subst}
+use Rattle.std.proofs.Common.{List, map, subst}
 use Rattle.std.specs.List.Sorted.{IsPermutation}
 use Rattle.std.proofs.lemmas.List.Sorted.{IsPermutation-map}
-use Rattle.std.proofs.lemmas.Bool.{true≢false}
 use Rattle.shapers_buffer.specs.declared.buffer.glyph.hb_glyph_info_t.{hb_glyph_info_t}
 use Rattle.shapers_buffer.specs.Buffer.{Buffer}
 use Rattle.shapers_base.specs.declared.plan.pause.Pause.TheVariants.{SetupSyllablesIndic, SetupSyllablesKhmer, SetupSyllablesMyanmar, SetupSyllablesUse, InitialReordering, ReorderKhmer, ReorderMyanmar, ReorderUse, FinalReordering, RecordStch, RecordRphf, RecordPref, SyllabicClearVar, ClearSubstitutionFlags, ArabicFallbackShape}
@@ -14,8 +13,7 @@ use Rattle.shapers_syllabic.proofs.ReorderingLaws.{numbers-seen, text_reordered}
 use Rattle.shapers_indic.specs.Plan.{indic_in}
 use Rattle.shapers_indic_final.proofs.FinalKept.{finally_kept}
 use Rattle.shapers_indic_final.specs.FinalRules.{rules_of as final_rules}
-use Rattle.shapers_indic_initial.specs.InitialRules.{rules_of as initial_rules}
-use Rattle.shapers_indic_initial.proofs.InitialLaws.{initial_laws}
+use Rattle.shapers_indic_initial.proofs.FontPositions.{order_by_font_laws}
 use Rattle.shapers_khmer.specs.Khmer.{order_in}
 use Rattle.shapers_khmer.proofs.KhmerLaws.{khmer_laws}
 use Rattle.shapers_myanmar.proofs.MyanmarLaws.{myanmar_laws}
@@ -32,19 +30,19 @@ numbers_by : (meaning : List hb_glyph_info_t → List hb_glyph_info_t) (steps : 
 numbers_by meaning steps old new laws done = numbers_kept old.glyphs new.glyphs (text_reordered meaning steps old new laws done).kept
 
 pub syllables_regrouped : SyllablesRegrouped
-syllables_regrouped InitialReordering plan font spans old new is done =
-    record { order = done.order; numbers = numbers_by _ _ _ new (initial_laws (initial_rules font plan.ot_map (indic_in plan)) old.script) done }
-syllables_regrouped ReorderKhmer plan font spans old new is done = record { order = done.order; numbers = numbers_by _ _ _ new (khmer_laws (order_in plan.plan_data)) done }
-syllables_regrouped ReorderMyanmar plan font spans old new is done = record { order = done.order; numbers = numbers_by _ _ _ new myanmar_laws done }
-syllables_regrouped ReorderUse plan font spans old new is done = record { order = done.order; numbers = numbers_by _ _ _ new universal_laws done }
-syllables_regrouped FinalReordering plan font spans old new is done = record { order = done.order; numbers = (finally_kept (final_rules font (indic_in plan)) old new done).numbers }
-syllables_regrouped SetupSyllablesIndic plan font spans old new is done = absurd (true≢false (sym is))
-syllables_regrouped SetupSyllablesKhmer plan font spans old new is done = absurd (true≢false (sym is))
-syllables_regrouped SetupSyllablesMyanmar plan font spans old new is done = absurd (true≢false (sym is))
-syllables_regrouped SetupSyllablesUse plan font spans old new is done = absurd (true≢false (sym is))
-syllables_regrouped RecordStch plan font spans old new is done = absurd (true≢false (sym is))
-syllables_regrouped RecordRphf plan font spans old new is done = absurd (true≢false (sym is))
-syllables_regrouped RecordPref plan font spans old new is done = absurd (true≢false (sym is))
-syllables_regrouped SyllabicClearVar plan font spans old new is done = absurd (true≢false (sym is))
-syllables_regrouped ClearSubstitutionFlags plan font spans old new is done = absurd (true≢false (sym is))
-syllables_regrouped ArabicFallbackShape plan font spans old new is done = absurd (true≢false (sym is))
+syllables_regrouped InitialReordering plan font spans old new done =
+    record { order = done.0.order; numbers = numbers_by _ _ _ new (order_by_font_laws font plan.ot_map (indic_in plan) old.script) done.0 }
+syllables_regrouped ReorderKhmer plan font spans old new done = record { order = done.order; numbers = numbers_by _ _ _ new (khmer_laws (order_in plan.plan_data)) done }
+syllables_regrouped ReorderMyanmar plan font spans old new done = record { order = done.order; numbers = numbers_by _ _ _ new myanmar_laws done }
+syllables_regrouped ReorderUse plan font spans old new done = record { order = done.order; numbers = numbers_by _ _ _ new universal_laws done }
+syllables_regrouped FinalReordering plan font spans old new done = record { order = done.order; numbers = (finally_kept (final_rules font (indic_in plan)) old new done).numbers }
+syllables_regrouped SetupSyllablesIndic plan font spans old new done = tt
+syllables_regrouped SetupSyllablesKhmer plan font spans old new done = tt
+syllables_regrouped SetupSyllablesMyanmar plan font spans old new done = tt
+syllables_regrouped SetupSyllablesUse plan font spans old new done = tt
+syllables_regrouped RecordStch plan font spans old new done = tt
+syllables_regrouped RecordRphf plan font spans old new done = tt
+syllables_regrouped RecordPref plan font spans old new done = tt
+syllables_regrouped SyllabicClearVar plan font spans old new done = tt
+syllables_regrouped ClearSubstitutionFlags plan font spans old new done = tt
+syllables_regrouped ArabicFallbackShape plan font spans old new done = tt

@@ -1,47 +1,39 @@
 -- Which shaper has which hook, computed: the whole table.
-use Rattle.std.specs.Prelude.{◌≡◌, true, false, List, [], ◌∷◌, map, refl}
-use Rattle.rustybuzz_shapers.specs.Standing.{is_there, standing}
+use Rattle.std.specs.Prelude.{◌≡◌, Bool, true, false, List, [], ◌∷◌, map, refl}
+use Rattle.rustybuzz_shapers.specs.Standing.{Standing, standing}
 use Rattle.rustybuzz_shapers.specs.declared.shaper.hb_ot_shaper_t.{hb_ot_shaper_t}
 use Rattle.rustybuzz_shapers.specs.declared.shaper.hb_ot_shaper_t.TheVariants.{Arabic, Hangul, Hebrew, Indic, Khmer, Myanmar, MyanmarZawgyi, Thai, Universal}
-use Rattle.rustybuzz_shapers.specs.declared.shaper.standing.Hook.{Hook}
-use Rattle.rustybuzz_shapers.specs.declared.shaper.standing.Hook.TheVariants.{CollectFeatures, OverrideFeatures, CreateData, PreprocessText, PostprocessGlyphs, Compose, Decompose, SetupMasks, ReorderMarks}
-use Rattle.rustybuzz_shapers.specs.declared.shaper.standing.Standing.{Standing}
-use Rattle.rustybuzz_shapers.specs.declared.shaper.standing.Standing.TheVariants.{Lacks, Has}
 
--- the nine hooks; each list below has a value for each of them
-abbrev nine : List Hook
-nine = CollectFeatures ∷ OverrideFeatures ∷ CreateData ∷ PreprocessText ∷ PostprocessGlyphs ∷ Compose ∷ Decompose ∷ SetupMasks ∷ ReorderMarks ∷ []
+-- the nine shapers; each list below has a value for each of them
+abbrev nine : List hb_ot_shaper_t
+nine = Arabic ∷ Hangul ∷ Hebrew ∷ Indic ∷ Khmer ∷ Myanmar ∷ MyanmarZawgyi ∷ Thai ∷ Universal ∷ []
 
-abbrev row : hb_ot_shaper_t → List Standing
-row shaper = map (standing shaper) nine
+abbrev which : (Standing → Bool) → List Bool
+which hook = map (λ shaper. hook (standing shaper)) nine
 
-row_of_arabic : row Arabic ≡ Has ∷ Lacks ∷ Has ∷ Lacks ∷ Has ∷ Lacks ∷ Lacks ∷ Has ∷ Has ∷ []
-row_of_arabic = refl
+collect : which (λ s. s.collect_features) ≡ true ∷ true ∷ false ∷ true ∷ true ∷ true ∷ false ∷ false ∷ true ∷ []
+collect = refl
 
-row_of_hangul : row Hangul ≡ Has ∷ Has ∷ Has ∷ Has ∷ Lacks ∷ Lacks ∷ Lacks ∷ Has ∷ Lacks ∷ []
-row_of_hangul = refl
+override : which (λ s. s.override_features) ≡ false ∷ true ∷ false ∷ true ∷ true ∷ false ∷ false ∷ false ∷ false ∷ []
+override = refl
 
-row_of_hebrew : row Hebrew ≡ Lacks ∷ Lacks ∷ Lacks ∷ Lacks ∷ Lacks ∷ Has ∷ Lacks ∷ Lacks ∷ Has ∷ []
-row_of_hebrew = refl
+data_kept : which (λ s. s.create_data) ≡ true ∷ true ∷ false ∷ true ∷ true ∷ false ∷ false ∷ false ∷ true ∷ []
+data_kept = refl
 
-row_of_indic : row Indic ≡ Has ∷ Has ∷ Has ∷ Has ∷ Lacks ∷ Has ∷ Has ∷ Has ∷ Lacks ∷ []
-row_of_indic = refl
+preprocess : which (λ s. s.preprocess_text) ≡ false ∷ true ∷ false ∷ true ∷ false ∷ false ∷ false ∷ true ∷ true ∷ []
+preprocess = refl
 
-row_of_khmer : row Khmer ≡ Has ∷ Has ∷ Has ∷ Lacks ∷ Lacks ∷ Has ∷ Has ∷ Has ∷ Lacks ∷ []
-row_of_khmer = refl
+postprocess : which (λ s. s.postprocess_glyphs) ≡ true ∷ false ∷ false ∷ false ∷ false ∷ false ∷ false ∷ false ∷ false ∷ []
+postprocess = refl
 
-row_of_myanmar : row Myanmar ≡ Has ∷ Lacks ∷ Lacks ∷ Lacks ∷ Lacks ∷ Lacks ∷ Lacks ∷ Has ∷ Lacks ∷ []
-row_of_myanmar = refl
+composes : which (λ s. s.compose) ≡ false ∷ false ∷ true ∷ true ∷ true ∷ false ∷ false ∷ false ∷ true ∷ []
+composes = refl
 
-row_of_myanmarzawgyi : row MyanmarZawgyi ≡ Lacks ∷ Lacks ∷ Lacks ∷ Lacks ∷ Lacks ∷ Lacks ∷ Lacks ∷ Lacks ∷ Lacks ∷ []
-row_of_myanmarzawgyi = refl
+decomposes : which (λ s. s.decompose) ≡ false ∷ false ∷ false ∷ true ∷ true ∷ false ∷ false ∷ false ∷ false ∷ []
+decomposes = refl
 
-row_of_thai : row Thai ≡ Lacks ∷ Lacks ∷ Lacks ∷ Has ∷ Lacks ∷ Lacks ∷ Lacks ∷ Lacks ∷ Lacks ∷ []
-row_of_thai = refl
+sets_masks : which (λ s. s.setup_masks) ≡ true ∷ true ∷ false ∷ true ∷ true ∷ true ∷ false ∷ false ∷ true ∷ []
+sets_masks = refl
 
-row_of_universal : row Universal ≡ Has ∷ Lacks ∷ Has ∷ Has ∷ Lacks ∷ Has ∷ Lacks ∷ Has ∷ Lacks ∷ []
-row_of_universal = refl
-
--- it is there, or it isn't
-there : map is_there (Lacks ∷ Has ∷ []) ≡ false ∷ true ∷ []
-there = refl
+orders_marks : which (λ s. s.reorder_marks) ≡ true ∷ false ∷ true ∷ false ∷ false ∷ false ∷ false ∷ false ∷ false ∷ []
+orders_marks = refl

@@ -1,4 +1,4 @@
--- What each hook does, shaper by shaper. Where a shaper lacks a hook, nothing changes and the answer is None.
+-- What each hook does, of each shaper that has it. Of the others, which lack it by their `standing`: nothing changes and the answer is None.
 use Rattle.std.specs.Prelude.{ℕ, ◌+◌, ◌≤◌, List, map, true, false, ◌≡◌, length, Option, None, Some, Result, IsOk}
 use Rattle.std.specs.List.{All, list_any}
 use Rattle.shapers_buffer.specs.Buffer.{Buffer}
@@ -34,128 +34,83 @@ use Rattle.shapers_text.specs.Hebrew.{composed_in_hebrew, mark_step}
 use Rattle.shapers_text.specs.Thai.{characters, is_sara_am, glyphs_in_two}
 use Rattle.shapers_text.specs.ThaiForms.{asks_for_forms, preprocessed_in_thai}
 use Rattle.shapers_text.specs.ThaiLaws.{ClustersInTwo, KeptInTwo}
+use Rattle.rustybuzz_shapers.specs.Standing.{Lacking, standing}
 use Rattle.rustybuzz_shapers.specs.declared.shaper.hb_ot_shaper_t.{hb_ot_shaper_t}
 use Rattle.rustybuzz_shapers.specs.declared.shaper.hb_ot_shaper_t.TheVariants.{Arabic, Hangul, Hebrew, Indic, Khmer, Myanmar, MyanmarZawgyi, Thai, Universal}
 
--- what the shaper keeps in the plan
-abbrev pub DataCreated : hb_ot_shaper_t → hb_ot_shape_plan_t → Option PlanData → Type 0
-DataCreated Arabic plan answer = answer ≡ Some (data_of.Arabic (arabic_plan plan.stretch_start plan.ot_map))
-DataCreated Hangul plan answer = answer ≡ Some (data_of.Hangul (record { mask_array = jamo_masks plan.ot_map }))
-DataCreated Hebrew plan answer = answer ≡ None
-DataCreated Indic plan answer = answer ≡ Some (data_of.Indic (indic_plan plan.script plan.ot_map))
-DataCreated Khmer plan answer = answer ≡ Some (data_of.Khmer (record { mask_array = khmer_masks plan.ot_map }))
-DataCreated Myanmar plan answer = answer ≡ None
-DataCreated MyanmarZawgyi plan answer = answer ≡ None
-DataCreated Thai plan answer = answer ≡ None
-DataCreated Universal plan answer = answer ≡ Some (data_of.Universal (universal_plan plan.stretch_start plan.script plan.ot_map))
+-- what the shaper keeps in the plan, if it keeps anything
+abbrev pub data_created : hb_ot_shaper_t → hb_ot_shape_plan_t → Option PlanData
+data_created Arabic plan = Some (data_of.Arabic (arabic_plan plan.stretch_start plan.ot_map))
+data_created Hangul plan = Some (data_of.Hangul (record { mask_array = jamo_masks plan.ot_map }))
+data_created Indic plan = Some (data_of.Indic (indic_plan plan.script plan.ot_map))
+data_created Khmer plan = Some (data_of.Khmer (record { mask_array = khmer_masks plan.ot_map }))
+data_created Universal plan = Some (data_of.Universal (universal_plan plan.stretch_start plan.script plan.ot_map))
+data_created _ plan = None
 
--- the plan's data are of the kind that the shaper reads
+-- the plan with these data, if there are any
+abbrev pub with_created : Option PlanData → hb_ot_shape_plan_t → hb_ot_shape_plan_t
+with_created None plan = plan
+with_created (Some kept) plan = record plan { plan_data = kept }
+
+-- the plan's data are of the kind that the shaper's hooks read; the others read none
 abbrev pub PlanFits : hb_ot_shaper_t → hb_ot_shape_plan_t → Type 0
 PlanFits Arabic plan = IsArabic plan.plan_data
 PlanFits Hangul plan = is_hangul_data plan.plan_data ≡ true
-PlanFits Hebrew plan = Unit {0}
-PlanFits Indic plan = Unit {0}
-PlanFits Khmer plan = Unit {0}
-PlanFits Myanmar plan = Unit {0}
-PlanFits MyanmarZawgyi plan = Unit {0}
-PlanFits Thai plan = Unit {0}
 PlanFits Universal plan = is_universal plan.plan_data ≡ true
+PlanFits _ plan = Unit {0}
 
 -- what setting masks asks of the glyphs: for Arabic, and the universal shaper where letters join, they are characters
 abbrev pub GlyphsFit : hb_ot_shaper_t → hb_ot_shape_plan_t → List hb_glyph_info_t → Type 0
 GlyphsFit Arabic plan gs = AreCharacters gs
-GlyphsFit Hangul plan gs = Unit {0}
-GlyphsFit Hebrew plan gs = Unit {0}
-GlyphsFit Indic plan gs = Unit {0}
-GlyphsFit Khmer plan gs = Unit {0}
-GlyphsFit Myanmar plan gs = Unit {0}
-GlyphsFit MyanmarZawgyi plan gs = Unit {0}
-GlyphsFit Thai plan gs = Unit {0}
 GlyphsFit Universal plan gs = CanJoin (arabic_of plan.plan_data) gs
+GlyphsFit _ plan gs = Unit {0}
 
 -- what reordering marks asks of the stretch: for Arabic at most 32 places
 abbrev pub MarksFit : hb_ot_shaper_t → ℕ → ℕ → Type 0
 MarksFit Arabic start end = end ≤ start + 32
-MarksFit Hangul start end = Unit {0}
-MarksFit Hebrew start end = Unit {0}
-MarksFit Indic start end = Unit {0}
-MarksFit Khmer start end = Unit {0}
-MarksFit Myanmar start end = Unit {0}
-MarksFit MyanmarZawgyi start end = Unit {0}
-MarksFit Thai start end = Unit {0}
-MarksFit Universal start end = Unit {0}
+MarksFit _ start end = Unit {0}
 
 -- what postprocessing asks of the plan and the glyphs: for Arabic its data, and glyph numbers of a font
 abbrev pub PostprocessFits : hb_ot_shaper_t → hb_ot_shape_plan_t → List hb_glyph_info_t → Type 0
 PostprocessFits Arabic plan gs = IsArabic plan.plan_data × All (λ g. g.glyph_id ≤ 65535) gs
-PostprocessFits Hangul plan gs = Unit {0}
-PostprocessFits Hebrew plan gs = Unit {0}
-PostprocessFits Indic plan gs = Unit {0}
-PostprocessFits Khmer plan gs = Unit {0}
-PostprocessFits Myanmar plan gs = Unit {0}
-PostprocessFits MyanmarZawgyi plan gs = Unit {0}
-PostprocessFits Thai plan gs = Unit {0}
-PostprocessFits Universal plan gs = Unit {0}
+PostprocessFits _ plan gs = Unit {0}
 
 -- what preprocessing answers
 abbrev pub preprocess_answer : hb_ot_shaper_t → Option Preprocess
-preprocess_answer Arabic = None
 preprocess_answer Hangul = Some Done
-preprocess_answer Hebrew = None
 preprocess_answer Indic = Some CallerRunsVowelConstraints
-preprocess_answer Khmer = None
-preprocess_answer Myanmar = None
-preprocess_answer MyanmarZawgyi = None
 preprocess_answer Thai = Some Done
 preprocess_answer Universal = Some CallerRunsVowelConstraints
+preprocess_answer _ = None
 
 -- the buffer before and after preprocessing
 abbrev pub Preprocessed : hb_ot_shaper_t → hb_ot_shape_plan_t → Font → Buffer → Buffer → Type 0
-Preprocessed Arabic plan font old new = new ≡ old
 Preprocessed Hangul plan font old new = new ≡ hangul.rewritten font old
-Preprocessed Hebrew plan font old new = new ≡ old
 Preprocessed Indic plan font old new = new ≡ old
-Preprocessed Khmer plan font old new = new ≡ old
-Preprocessed Myanmar plan font old new = new ≡ old
-Preprocessed MyanmarZawgyi plan font old new = new ≡ old
 Preprocessed Thai plan font old new = new ≡ preprocessed_in_thai plan font old
 Preprocessed Universal plan font old new = new ≡ old
+Preprocessed shaper plan font old new = Lacking (standing shaper).preprocess_text (new ≡ old)
 
 -- the laws of its clusters, and that no glyph is lost
 abbrev pub PreprocessKeeps : hb_ot_shaper_t → hb_ot_shape_plan_t → Font → Buffer → Buffer → Type 0
-PreprocessKeeps Arabic plan font old new = new ≡ old
 PreprocessKeeps Hangul plan font old new = KeepsClusters font old new × SpellsSame old new
-PreprocessKeeps Hebrew plan font old new = new ≡ old
 PreprocessKeeps Indic plan font old new = new ≡ old
-PreprocessKeeps Khmer plan font old new = new ≡ old
-PreprocessKeeps Myanmar plan font old new = new ≡ old
-PreprocessKeeps MyanmarZawgyi plan font old new = new ≡ old
 PreprocessKeeps Thai plan font old new = ClustersInTwo old.level (characters old.glyphs) (clusters old.glyphs) (clusters new.glyphs) × KeptInTwo (asks_for_forms plan) old.glyphs new.glyphs
 PreprocessKeeps Universal plan font old new = new ≡ old
+PreprocessKeeps shaper plan font old new = Lacking (standing shaper).preprocess_text (new ≡ old)
 
 -- when it refuses: Hangul and Thai as a growth to the result's length does, Thai never without a SARA AM; the others never
 abbrev pub RefusesPreprocess : {T : Type 0} → hb_ot_shaper_t → Font → Buffer → Result T ShaperError → Type 0
-RefusesPreprocess Arabic font old r = IsOk r
 RefusesPreprocess Hangul font old r = RefusesLength old.max_len (length (hangul.rewritten font old).glyphs) r
-RefusesPreprocess Hebrew font old r = IsOk r
 RefusesPreprocess Indic font old r = IsOk r
-RefusesPreprocess Khmer font old r = IsOk r
-RefusesPreprocess Myanmar font old r = IsOk r
-RefusesPreprocess MyanmarZawgyi font old r = IsOk r
 RefusesPreprocess Thai font old r = RefusesLength old.max_len (length (glyphs_in_two old.glyphs)) r × (list_any (λ g. is_sara_am g.glyph_id) old.glyphs ≡ false → IsOk r)
 RefusesPreprocess Universal font old r = IsOk r
+RefusesPreprocess shaper font old r = Lacking (standing shaper).preprocess_text (IsOk r)
 
 -- the buffer before and after postprocessing
 abbrev pub Postprocessed : hb_ot_shaper_t → hb_ot_shape_plan_t → Font → Buffer → Buffer → Type 0
 Postprocessed Arabic plan font old new = new ≡ marks_stretched font (start_of plan.plan_data) old
-Postprocessed Hangul plan font old new = new ≡ old
-Postprocessed Hebrew plan font old new = new ≡ old
-Postprocessed Indic plan font old new = new ≡ old
-Postprocessed Khmer plan font old new = new ≡ old
-Postprocessed Myanmar plan font old new = new ≡ old
-Postprocessed MyanmarZawgyi plan font old new = new ≡ old
-Postprocessed Thai plan font old new = new ≡ old
-Postprocessed Universal plan font old new = new ≡ old
+Postprocessed shaper plan font old new = Lacking (standing shaper).postprocess_glyphs (new ≡ old)
 
 -- when it refuses: for Arabic where a number doesn't fit, and then as a growth to the result's length does, but never without a mark that
 -- stretches; the others never
@@ -163,71 +118,40 @@ abbrev pub RefusesPostprocess : {T : Type 0} → hb_ot_shaper_t → hb_ot_shape_
 RefusesPostprocess Arabic plan font old r =
     let choice = start_of plan.plan_data in
     Refuses (stretch_refusal font choice old) old.max_len (length (marks_stretched font choice old).glyphs) r × (old.stch ≡ false → IsOk r)
-RefusesPostprocess Hangul plan font old r = IsOk r
-RefusesPostprocess Hebrew plan font old r = IsOk r
-RefusesPostprocess Indic plan font old r = IsOk r
-RefusesPostprocess Khmer plan font old r = IsOk r
-RefusesPostprocess Myanmar plan font old r = IsOk r
-RefusesPostprocess MyanmarZawgyi plan font old r = IsOk r
-RefusesPostprocess Thai plan font old r = IsOk r
-RefusesPostprocess Universal plan font old r = IsOk r
+RefusesPostprocess shaper plan font old r = Lacking (standing shaper).postprocess_glyphs (IsOk r)
 
 -- what two characters compose to
 abbrev pub Composed : hb_ot_shaper_t → hb_ot_shape_plan_t → CharacterTables → ℕ → ℕ → Option (Option ℕ) → Type 0
-Composed Arabic plan tables a b answer = answer ≡ None
-Composed Hangul plan tables a b answer = answer ≡ None
 Composed Hebrew plan tables a b answer = answer ≡ Some (composed_in_hebrew (tables.composed a b) plan.has_gpos_mark a b)
 Composed Indic plan tables a b answer = answer ≡ Some (composed_in_indic tables a b)
 Composed Khmer plan tables a b answer = answer ≡ Some (composed_behind tables a b)
-Composed Myanmar plan tables a b answer = answer ≡ None
-Composed MyanmarZawgyi plan tables a b answer = answer ≡ None
-Composed Thai plan tables a b answer = answer ≡ None
 Composed Universal plan tables a b answer = answer ≡ Some (composed_behind tables a b)
+Composed shaper plan tables a b answer = Lacking (standing shaper).compose (answer ≡ None)
 
 -- what a character decomposes to
 abbrev pub Decomposed : hb_ot_shaper_t → hb_ot_shape_plan_t → CharacterTables → ℕ → Option (Option (ℕ × ℕ)) → Type 0
-Decomposed Arabic plan tables ab answer = answer ≡ None
-Decomposed Hangul plan tables ab answer = answer ≡ None
-Decomposed Hebrew plan tables ab answer = answer ≡ None
 Decomposed Indic plan tables ab answer = answer ≡ Some (decomposed_in_indic tables ab)
 Decomposed Khmer plan tables ab answer = answer ≡ Some (decomposed_in_khmer tables ab)
-Decomposed Myanmar plan tables ab answer = answer ≡ None
-Decomposed MyanmarZawgyi plan tables ab answer = answer ≡ None
-Decomposed Thai plan tables ab answer = answer ≡ None
-Decomposed Universal plan tables ab answer = answer ≡ None
+Decomposed shaper plan tables ab answer = Lacking (standing shaper).decompose (answer ≡ None)
 
 -- the buffer before and after masks are set
 abbrev pub MasksSet : hb_ot_shaper_t → hb_ot_shape_plan_t → CharacterTables → Buffer → Buffer → Type 0
 MasksSet Arabic plan tables old new = IsJoined (masks_of plan.plan_data) plan.script tables.joining tables.general old new × CutsAsHalves plan.script tables.joining tables.general old new
 MasksSet Hangul plan tables old new = new ≡ with_jamo_masks plan.plan_data old
-MasksSet Hebrew plan tables old new = new ≡ old
 MasksSet Indic plan tables old new = new ≡ record old { glyphs = map (with_category_and_position tables) old.glyphs }
 MasksSet Khmer plan tables old new = new ≡ record old { glyphs = map (with_category tables) old.glyphs }
 MasksSet Myanmar plan tables old new = new ≡ record old { glyphs = map (with_category tables) old.glyphs }
-MasksSet MyanmarZawgyi plan tables old new = new ≡ old
-MasksSet Thai plan tables old new = new ≡ old
 MasksSet Universal plan tables old new = MasksAreSet (arabic_of plan.plan_data) plan.script tables old new
+MasksSet shaper plan tables old new = Lacking (standing shaper).setup_masks (new ≡ old)
 
 -- the buffer before and after the marks from start to end are reordered
 abbrev pub MarksReordered : hb_ot_shaper_t → ℕ → ℕ → Buffer → Buffer → Type 0
 MarksReordered Arabic start end old new = new ≡ record old { glyphs = marks_reordered start end (marks_merged old.level start end old.glyphs) }
-MarksReordered Hangul start end old new = new ≡ old
 MarksReordered Hebrew start end old new = new ≡ record old { glyphs = run_step old.level (mark_step start end old.glyphs) old.glyphs }
-MarksReordered Indic start end old new = new ≡ old
-MarksReordered Khmer start end old new = new ≡ old
-MarksReordered Myanmar start end old new = new ≡ old
-MarksReordered MyanmarZawgyi start end old new = new ≡ old
-MarksReordered Thai start end old new = new ≡ old
-MarksReordered Universal start end old new = new ≡ old
+MarksReordered shaper start end old new = Lacking (standing shaper).reorder_marks (new ≡ old)
 
 -- that no mark is lost, exact cuts, the cluster law and the flag law
 abbrev pub MarksKeep : hb_ot_shaper_t → ℕ → ℕ → Buffer → Buffer → Type 0
 MarksKeep Arabic start end old new = arabic.MarksReordered start end old new
-MarksKeep Hangul start end old new = new ≡ old
 MarksKeep Hebrew start end old new = hebrew.MarksReordered start end old new
-MarksKeep Indic start end old new = new ≡ old
-MarksKeep Khmer start end old new = new ≡ old
-MarksKeep Myanmar start end old new = new ≡ old
-MarksKeep MyanmarZawgyi start end old new = new ≡ old
-MarksKeep Thai start end old new = new ≡ old
-MarksKeep Universal start end old new = new ≡ old
+MarksKeep shaper start end old new = Lacking (standing shaper).reorder_marks (new ≡ old)

@@ -3,6 +3,21 @@ pub mod Pauses
 pub mod Records
 pub mod Standing
 pub mod Regrouped
+-- the words of each crate below, under its name
+pub use Rattle.shapers_buffer.specs as buffer
+pub use Rattle.shapers_clusters.specs as clusters
+pub use Rattle.shapers_base.specs as base
+pub use Rattle.shapers_syllabic.specs as syllabic
+pub use Rattle.shapers_text.specs as text
+pub use Rattle.shapers_arabic.specs as arabic
+pub use Rattle.shapers_stretch.specs as stretch
+pub use Rattle.shapers_hangul.specs as hangul
+pub use Rattle.shapers_khmer.specs as khmer
+pub use Rattle.shapers_myanmar.specs as myanmar
+pub use Rattle.shapers_universal.specs as universal
+pub use Rattle.shapers_indic.specs as indic
+pub use Rattle.shapers_indic_initial.specs as indic_initial
+pub use Rattle.shapers_indic_final.specs as indic_final
 -- what the public clauses cite of the crates below
 pub use Rattle.shapers_arabic.specs.JoinedText
 pub use Rattle.shapers_arabic.specs.Marks

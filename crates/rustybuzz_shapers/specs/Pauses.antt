@@ -1,24 +1,24 @@
 -- What each pause does to the buffer.
-use Rattle.std.specs.Prelude.{◌≡◌, Bool, true, false, List, map, length, Option, None, is_some, Result, IsOk}
+use Rattle.std.specs.Option.{option_and_then}
+use Rattle.std.specs.Prelude.{◌≡◌, Bool, true, false, List, [], ◌∷◌, All, map, length, Option, None, Some, unwrap_or, Result, IsOk}
 use Rattle.shapers_arabic.specs.PlanData.{IsArabic}
-use Rattle.shapers_buffer.specs.Glyph.{order_view}
+use Rattle.shapers_buffer.specs.Glyph.{clusters, order_view}
 use Rattle.shapers_buffer.specs.declared.buffer.glyph.hb_glyph_info_t.{hb_glyph_info_t}
 use Rattle.shapers_clusters.specs.Laws.{ReorderedHold}
 use Rattle.shapers_clusters.specs.Steps.{Step}
-use Rattle.shapers_base.specs.Map.{Map}
-use Rattle.shapers_base.specs.declared.plan.indic.indic_shape_plan_t.{indic_shape_plan_t}
 use Rattle.shapers_indic.specs.Plan.{indic_in, is_indic_data}
 use Rattle.shapers_indic_final.specs.FinalLaws.{FinallyKept}
 use Rattle.shapers_indic_final.specs.FinalOpening.{FinallyReordered}
+use Rattle.shapers_indic_final.specs.FinalReordering.{final_order, final_steps}
 use Rattle.shapers_indic_final.specs.FinalRules as final
-use Rattle.shapers_indic_initial.specs.InitialPause.{InitiallyReordered, initial_circles, initial_refusal, order_by_font, steps_by_font, with_positions_and_circles}
-use Rattle.shapers_indic_initial.specs.InitialReordering.{initial_steps}
-use Rattle.shapers_indic_initial.specs.InitialRules.{rules_of}
+use Rattle.shapers_indic_initial.specs.InitialLaws.{InitiallyMerged}
+use Rattle.shapers_indic_initial.specs.InitialPause.{InitiallyReordered, initial_circles, initial_refusal, order_by_font, steps_by_font}
 use Rattle.shapers_khmer.specs.Khmer.{khmer_circles, khmer_order, khmer_steps, order_in}
 use Rattle.shapers_khmer.specs.Plan.{is_khmer_data}
 use Rattle.shapers_myanmar.specs.Myanmar.{myanmar_circles, myanmar_order, myanmar_steps}
 use Rattle.shapers_stretch.specs.Recorded.{tiles_recorded}
 use Rattle.shapers_syllabic.specs.Borders.{SetUpCutsAtSpans, spans_set_up}
+use Rattle.shapers_syllabic.specs.CircleLaws.{NoNewCluster}
 use Rattle.shapers_syllabic.specs.Circles.{circled}
 use Rattle.shapers_syllabic.specs.Reordering.{PauseReordered, carried, circles_of_sort, text_steps}
 use Rattle.shapers_syllabic.specs.ReorderingLaws.{PauseCutsAtBorders, TextReordered}
@@ -37,37 +37,104 @@ use Rattle.shapers_buffer.specs.declared.buffer.refusal.ShaperError.{ShaperError
 use Rattle.shapers_buffer.specs.declared.buffer.syllables.Span.{Span}
 use Rattle.shapers_base.specs.declared.plan.hb_ot_shape_plan_t.{hb_ot_shape_plan_t}
 use Rattle.shapers_base.specs.declared.plan.pause.Pause.{Pause}
+use Rattle.shapers_base.specs.declared.plan.planner.Request.{Request}
+use Rattle.shapers_base.specs.declared.plan.planner.Request.TheVariants as request
+use Rattle.shapers_buffer.specs.declared.buffer.tag.Script.{Script}
+use Rattle.rustybuzz_shapers.specs.Records.{collected, overridden}
+use Rattle.rustybuzz_shapers.specs.declared.shaper.hb_ot_shaper_t.{hb_ot_shaper_t}
 use Rattle.shapers_base.specs.declared.plan.pause.Pause.TheVariants.{SetupSyllablesIndic, SetupSyllablesKhmer, SetupSyllablesMyanmar, SetupSyllablesUse, InitialReordering, ReorderKhmer, ReorderMyanmar, ReorderUse, FinalReordering, RecordStch, RecordRphf, RecordPref, SyllabicClearVar, ClearSubstitutionFlags, ArabicFallbackShape}
 
 -- the plan's data are of the kind that the pause reads
 abbrev pub PauseFits : Pause → hb_ot_shape_plan_t → Type 0
-PauseFits SetupSyllablesIndic plan = Unit {0}
-PauseFits SetupSyllablesKhmer plan = Unit {0}
-PauseFits SetupSyllablesMyanmar plan = Unit {0}
 PauseFits SetupSyllablesUse plan = is_universal plan.plan_data ≡ true
 PauseFits InitialReordering plan = is_indic_data plan.plan_data ≡ true
 PauseFits ReorderKhmer plan = is_khmer_data plan.plan_data ≡ true
-PauseFits ReorderMyanmar plan = Unit {0}
-PauseFits ReorderUse plan = Unit {0}
 PauseFits FinalReordering plan = is_indic_data plan.plan_data ≡ true
 PauseFits RecordStch plan = IsArabic plan.plan_data
 PauseFits RecordRphf plan = is_universal plan.plan_data ≡ true
-PauseFits RecordPref plan = Unit {0}
-PauseFits SyllabicClearVar plan = Unit {0}
-PauseFits ClearSubstitutionFlags plan = Unit {0}
-PauseFits ArabicFallbackShape plan = Unit {0}
+PauseFits _ plan = Unit {0}
 
--- the dotted circles that a reordering pause opens: of Indic, Khmer and the universal shaper behind rephas, of Myanmar in front
-abbrev pub circles_of : Pause → Font → Buffer → Option DottedCircles
-circles_of InitialReordering font b = initial_circles font b
-circles_of ReorderKhmer font b = circles_of_sort khmer_circles font b
-circles_of ReorderMyanmar font b = circles_of_sort myanmar_circles font b
-circles_of ReorderUse font b = circles_of_sort universal_circles font b
-circles_of _ font b = None
+-- the pauses among requests
+abbrev pub pauses_in : List Request → List Pause
+pauses_in [] = []
+pauses_in (request.Pause (Some pause) ∷ rs) = pause ∷ pauses_in rs
+pauses_in (request.Pause None ∷ rs) = pauses_in rs
+pauses_in (request.Feature tag flags value ∷ rs) = pauses_in rs
 
--- the text after its circles
-abbrev pub opened : Option DottedCircles → Buffer → List hb_glyph_info_t
-opened circles b = circled circles b.glyphs
+-- the plan's data are of the kind that each pause reads that a shaper's lists ask for, for any script, and a font with rclt or without
+abbrev pub PausesFit : hb_ot_shaper_t → hb_ot_shape_plan_t → Type 0
+PausesFit shaper plan = (script : Option Script) (has_rclt : Bool) →
+    All (λ pause. PauseFits pause plan) (pauses_in (unwrap_or (collected shaper script has_rclt) [])) × All (λ pause. PauseFits pause plan) (pauses_in (unwrap_or (overridden shaper) []))
+
+-- What a pause that reorders goes by: the circles that it opens first, what each syllable of the text with them becomes, and the
+-- merges and moves that lead there.
+pub record Reordering : Type 0 where
+  pub circles : Option DottedCircles
+  pub order : List hb_glyph_info_t → List hb_glyph_info_t
+  pub steps : List hb_glyph_info_t → List Step
+
+-- the initial reordering of Indic, each syllable with positions by the font; and the final one
+abbrev pub by_initial : hb_ot_shape_plan_t → Font → Buffer → Reordering
+by_initial plan font b = record {
+  circles = initial_circles font b;
+  order = order_by_font font plan.ot_map (indic_in plan) b.script;
+  steps = steps_by_font font plan.ot_map (indic_in plan) b.script;
+}
+
+abbrev pub by_final : hb_ot_shape_plan_t → Font → Buffer → Reordering
+by_final plan font b = record {
+  circles = None;
+  order = final_order (final.rules_of font (indic_in plan)) b.script;
+  steps = final_steps (final.rules_of font (indic_in plan)) b.script;
+}
+
+-- those of Khmer, Myanmar and the universal shaper
+abbrev pub by_khmer : hb_ot_shape_plan_t → Font → Buffer → Reordering
+by_khmer plan font b = record {
+  circles = circles_of_sort khmer_circles font b;
+  order = khmer_order (order_in plan.plan_data);
+  steps = khmer_steps;
+}
+
+abbrev pub by_myanmar : Font → Buffer → Reordering
+by_myanmar font b = record {
+  circles = circles_of_sort myanmar_circles font b;
+  order = myanmar_order;
+  steps = myanmar_steps;
+}
+
+abbrev pub by_universal : Font → Buffer → Reordering
+by_universal font b = record {
+  circles = circles_of_sort universal_circles font b;
+  order = universal_order;
+  steps = universal_steps;
+}
+
+-- what each pause goes by, if it reorders
+abbrev pub reordering_of : Pause → hb_ot_shape_plan_t → Font → Buffer → Option Reordering
+reordering_of InitialReordering plan font b = Some (by_initial plan font b)
+reordering_of ReorderKhmer plan font b = Some (by_khmer plan font b)
+reordering_of ReorderMyanmar plan font b = Some (by_myanmar font b)
+reordering_of ReorderUse plan font b = Some (by_universal font b)
+reordering_of FinalReordering plan font b = Some (by_final plan font b)
+reordering_of SetupSyllablesIndic plan font b = None
+reordering_of SetupSyllablesKhmer plan font b = None
+reordering_of SetupSyllablesMyanmar plan font b = None
+reordering_of SetupSyllablesUse plan font b = None
+reordering_of RecordStch plan font b = None
+reordering_of RecordRphf plan font b = None
+reordering_of RecordPref plan font b = None
+reordering_of SyllabicClearVar plan font b = None
+reordering_of ClearSubstitutionFlags plan font b = None
+reordering_of ArabicFallbackShape plan font b = None
+
+-- the dotted circles that it opens, if any: true is answered exactly where circles are wanted
+abbrev pub circles_of : Pause → hb_ot_shape_plan_t → Font → Buffer → Option DottedCircles
+circles_of pause plan font b = option_and_then (λ r. r.circles) (reordering_of pause plan font b)
+
+-- the buffer before and after a reordering: circles come into the text, and each syllable becomes what it goes by
+abbrev pub Reordered : Reordering → Buffer → Buffer → Type 0
+Reordered r old new = PauseReordered r.circles r.order r.steps old new
 
 -- the buffer before and after the pause: broken kinds are Indic 4, Khmer 1, Myanmar 2
 abbrev pub Paused : Pause → hb_ot_shape_plan_t → Font → List Span → Buffer → Buffer → Type 0
@@ -75,10 +142,10 @@ Paused SetupSyllablesIndic plan font spans old new = new ≡ spans_set_up spans 
 Paused SetupSyllablesKhmer plan font spans old new = new ≡ spans_set_up spans 1 old
 Paused SetupSyllablesMyanmar plan font spans old new = new ≡ spans_set_up spans 2 old
 Paused SetupSyllablesUse plan font spans old new = new ≡ syllables_set_up plan.plan_data plan.ot_map spans old
-Paused InitialReordering plan font spans old new = InitiallyReordered font plan.ot_map (indic_in plan) old new
-Paused ReorderKhmer plan font spans old new = PauseReordered (circles_of ReorderKhmer font old) (khmer_order (order_in plan.plan_data)) khmer_steps old new
-Paused ReorderMyanmar plan font spans old new = PauseReordered (circles_of ReorderMyanmar font old) myanmar_order myanmar_steps old new
-Paused ReorderUse plan font spans old new = PauseReordered (circles_of ReorderUse font old) universal_order universal_steps old new
+Paused InitialReordering plan font spans old new = Reordered (by_initial plan font old) old new × InitiallyReordered font plan.ot_map (indic_in plan) old new
+Paused ReorderKhmer plan font spans old new = Reordered (by_khmer plan font old) old new
+Paused ReorderMyanmar plan font spans old new = Reordered (by_myanmar font old) old new
+Paused ReorderUse plan font spans old new = Reordered (by_universal font old) old new
 Paused FinalReordering plan font spans old new = FinallyReordered (final.rules_of font (indic_in plan)) old new
 Paused RecordStch plan font spans old new = new ≡ tiles_recorded plan.plan_data old
 Paused RecordRphf plan font spans old new = new ≡ with_rphf_recorded (rphf_of plan.plan_data) old
@@ -87,25 +154,36 @@ Paused SyllabicClearVar plan font spans old new = new ≡ record old { glyphs = 
 Paused ClearSubstitutionFlags plan font spans old new = new ≡ record old { glyphs = map unsubstituted old.glyphs }
 Paused ArabicFallbackShape plan font spans old new = new ≡ old
 
--- what a reordering pause keeps: a text cut at any border of syllables gives the halves' results joined; no glyph is lost, exact cuts, the cluster law and the flag law
-abbrev pub ReorderingKeeps : Option DottedCircles → (List hb_glyph_info_t → List hb_glyph_info_t) → (List hb_glyph_info_t → List Step) → Buffer → Buffer → Type 0
-ReorderingKeeps circles meaning steps old new = PauseCutsAtBorders circles meaning steps old new × ReorderedHold carried old.level (text_steps steps (order_view (opened circles old))) (opened circles old) new.glyphs
+-- What every reordering keeps. A text cut at any border of syllables gives the halves' results joined. No glyph is lost, no cluster
+-- rises, glyph flags stay unless it fell, and what shared a cluster still does: the laws of steps, from after circles on. Every
+-- cluster is one that the text had before its circles.
+pub record ReorderingKeeps (r : Reordering) (old new : Buffer) : Type 0 where
+  pub cuts : PauseCutsAtBorders r.circles r.order r.steps old new
+  pub text : TextReordered r.steps (record old { glyphs = circled r.circles old.glyphs }) new
+  pub old_clusters : NoNewCluster old.glyphs new.glyphs
 
--- so the initial reordering of Indic, which merges what it moves over only after the moves: no glyph is lost, no cluster rises, glyph flags stay unless it fell, and what shared a cluster still does
-abbrev pub InitialKeeps : Font → Map → indic_shape_plan_t → Buffer → Buffer → Type 0
-InitialKeeps font m p old new = PauseCutsAtBorders (circles_of InitialReordering font old) (order_by_font font m p old.script) (steps_by_font font m p old.script) old new × TextReordered (initial_steps (rules_of font m p) old.script) (with_positions_and_circles font m p old) new
+-- and where syllables move only inside what they merged first, as but for Indic they do: exact cuts and the cluster law besides
+abbrev pub MergedFirst : Reordering → Buffer → Buffer → Type 0
+MergedFirst r old new =
+    let opened = circled r.circles old.glyphs in
+    ReorderedHold carried old.level (text_steps r.steps (order_view opened)) opened new.glyphs
 
--- the laws of a pause: spans may be cut between any two, and texts at any border of syllables
+-- no cluster changes
+abbrev pub ClustersStay : Buffer → Buffer → Type 0
+ClustersStay old new = clusters new.glyphs ≡ clusters old.glyphs
+
+-- The laws of a pause: spans may be cut between any two, and texts at any border of syllables; what becomes of clusters. In the initial
+-- reordering of Indic they merge by the cycles of its order, in the final one by its moves.
 abbrev pub PauseKeeps : Pause → hb_ot_shape_plan_t → Font → List Span → Buffer → Buffer → Type 0
-PauseKeeps SetupSyllablesIndic plan font spans old new = SetUpCutsAtSpans spans 4 old new
-PauseKeeps SetupSyllablesKhmer plan font spans old new = SetUpCutsAtSpans spans 1 old new
-PauseKeeps SetupSyllablesMyanmar plan font spans old new = SetUpCutsAtSpans spans 2 old new
-PauseKeeps SetupSyllablesUse plan font spans old new = UniversalSetUpCutsAtSpans plan.plan_data plan.ot_map spans old new
-PauseKeeps InitialReordering plan font spans old new = InitialKeeps font plan.ot_map (indic_in plan) old new
-PauseKeeps ReorderKhmer plan font spans old new = ReorderingKeeps (circles_of ReorderKhmer font old) (khmer_order (order_in plan.plan_data)) khmer_steps old new
-PauseKeeps ReorderMyanmar plan font spans old new = ReorderingKeeps (circles_of ReorderMyanmar font old) myanmar_order myanmar_steps old new
-PauseKeeps ReorderUse plan font spans old new = ReorderingKeeps (circles_of ReorderUse font old) universal_order universal_steps old new
-PauseKeeps FinalReordering plan font spans old new = FinallyKept (final.rules_of font (indic_in plan)) old new
+PauseKeeps SetupSyllablesIndic plan font spans old new = SetUpCutsAtSpans spans 4 old new × ClustersStay old new
+PauseKeeps SetupSyllablesKhmer plan font spans old new = SetUpCutsAtSpans spans 1 old new × ClustersStay old new
+PauseKeeps SetupSyllablesMyanmar plan font spans old new = SetUpCutsAtSpans spans 2 old new × ClustersStay old new
+PauseKeeps SetupSyllablesUse plan font spans old new = UniversalSetUpCutsAtSpans plan.plan_data plan.ot_map spans old new × ClustersStay old new
+PauseKeeps InitialReordering plan font spans old new = ReorderingKeeps (by_initial plan font old) old new × InitiallyMerged font plan.ot_map (indic_in plan) old new
+PauseKeeps ReorderKhmer plan font spans old new = ReorderingKeeps (by_khmer plan font old) old new × MergedFirst (by_khmer plan font old) old new
+PauseKeeps ReorderMyanmar plan font spans old new = ReorderingKeeps (by_myanmar font old) old new × MergedFirst (by_myanmar font old) old new
+PauseKeeps ReorderUse plan font spans old new = ReorderingKeeps (by_universal font old) old new × MergedFirst (by_universal font old) old new
+PauseKeeps FinalReordering plan font spans old new = FinallyKept (final.rules_of font (indic_in plan)) old new × NoNewCluster old.glyphs new.glyphs
 PauseKeeps RecordStch plan font spans old new = Unit {0}
 PauseKeeps RecordRphf plan font spans old new = Unit {0}
 PauseKeeps RecordPref plan font spans old new = Unit {0}
@@ -113,42 +191,20 @@ PauseKeeps SyllabicClearVar plan font spans old new = Unit {0}
 PauseKeeps ClearSubstitutionFlags plan font spans old new = Unit {0}
 PauseKeeps ArabicFallbackShape plan font spans old new = Unit {0}
 
--- whether it answers that circles were wanted
-abbrev pub PauseAnswers : Pause → Font → Buffer → Bool → Type 0
-PauseAnswers SetupSyllablesIndic font old answer = answer ≡ false
-PauseAnswers SetupSyllablesKhmer font old answer = answer ≡ false
-PauseAnswers SetupSyllablesMyanmar font old answer = answer ≡ false
-PauseAnswers SetupSyllablesUse font old answer = answer ≡ false
-PauseAnswers InitialReordering font old answer = answer ≡ is_some (circles_of InitialReordering font old)
-PauseAnswers ReorderKhmer font old answer = answer ≡ is_some (circles_of ReorderKhmer font old)
-PauseAnswers ReorderMyanmar font old answer = answer ≡ is_some (circles_of ReorderMyanmar font old)
-PauseAnswers ReorderUse font old answer = answer ≡ is_some (circles_of ReorderUse font old)
-PauseAnswers FinalReordering font old answer = answer ≡ false
-PauseAnswers RecordStch font old answer = answer ≡ false
-PauseAnswers RecordRphf font old answer = answer ≡ false
-PauseAnswers RecordPref font old answer = answer ≡ false
-PauseAnswers SyllabicClearVar font old answer = answer ≡ false
-PauseAnswers ClearSubstitutionFlags font old answer = answer ≡ false
-PauseAnswers ArabicFallbackShape font old answer = answer ≡ false
-
 -- when a reordering refuses: an unknown kind first; then as a growth to the text with its circles does; never where no circle opens
 abbrev pub RefusesReordering : {T : Type 0} → Option ShaperError → Option DottedCircles → Buffer → Result T ShaperError → Type 0
-RefusesReordering unknown circles old r = Refuses unknown old.max_len (length (opened circles old)) r × (unknown ≡ None → opened circles old ≡ old.glyphs → IsOk r)
+RefusesReordering unknown circles old r =
+    let opened = circled circles old.glyphs in
+    Refuses unknown old.max_len (length opened) r × (unknown ≡ None → opened ≡ old.glyphs → IsOk r)
 
--- when it refuses
+-- when it refuses; what isn't named never does
 abbrev pub RefusesPause : {T : Type 0} → Pause → Font → List Span → Buffer → Result T ShaperError → Type 0
 RefusesPause SetupSyllablesIndic font spans old r = RefusesInput (spans_refusal spans old) r
 RefusesPause SetupSyllablesKhmer font spans old r = RefusesInput (spans_refusal spans old) r
 RefusesPause SetupSyllablesMyanmar font spans old r = RefusesInput (spans_refusal spans old) r
 RefusesPause SetupSyllablesUse font spans old r = RefusesInput (spans_refusal spans old) r
-RefusesPause InitialReordering font spans old r = RefusesReordering (initial_refusal old) (circles_of InitialReordering font old) old r
-RefusesPause ReorderKhmer font spans old r = RefusesReordering (unknown_refusal 2 old.glyphs) (circles_of ReorderKhmer font old) old r
-RefusesPause ReorderMyanmar font spans old r = RefusesReordering (unknown_refusal 3 old.glyphs) (circles_of ReorderMyanmar font old) old r
-RefusesPause ReorderUse font spans old r = RefusesReordering None (circles_of ReorderUse font old) old r
-RefusesPause FinalReordering font spans old r = IsOk r
-RefusesPause RecordStch font spans old r = IsOk r
-RefusesPause RecordRphf font spans old r = IsOk r
-RefusesPause RecordPref font spans old r = IsOk r
-RefusesPause SyllabicClearVar font spans old r = IsOk r
-RefusesPause ClearSubstitutionFlags font spans old r = IsOk r
-RefusesPause ArabicFallbackShape font spans old r = IsOk r
+RefusesPause InitialReordering font spans old r = RefusesReordering (initial_refusal old) (initial_circles font old) old r
+RefusesPause ReorderKhmer font spans old r = RefusesReordering (unknown_refusal 2 old.glyphs) (circles_of_sort khmer_circles font old) old r
+RefusesPause ReorderMyanmar font spans old r = RefusesReordering (unknown_refusal 3 old.glyphs) (circles_of_sort myanmar_circles font old) old r
+RefusesPause ReorderUse font spans old r = RefusesReordering None (circles_of_sort universal_circles font old) old r
+RefusesPause _ font spans old r = IsOk r

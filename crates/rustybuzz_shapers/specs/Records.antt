@@ -1,6 +1,5 @@
 -- The records of the shapers: their constants, and what they ask of the map.
 use Rattle.std.specs.Prelude.{Bool, true, false, List, Option, None, Some, codes}
-use Rattle.std.specs.Option.{option_map}
 use Rattle.shapers_base.specs.Planner.{Planner, with_requests}
 use Rattle.shapers_buffer.specs.declared.buffer.tag.hb_tag_t.{hb_tag_t}
 use Rattle.shapers_buffer.specs.declared.buffer.tag.Script.{Script}
@@ -57,13 +56,11 @@ places_marks _ = false
 abbrev pub collected : hb_ot_shaper_t → Option Script → Bool → Option (List Request)
 collected Arabic s has_rclt = Some (arabic_list (is_arabic s) has_rclt)
 collected Hangul s has_rclt = Some hangul_list
-collected Hebrew s has_rclt = None
 collected Indic s has_rclt = Some indic_list
 collected Khmer s has_rclt = Some khmer_list
 collected Myanmar s has_rclt = Some myanmar_list
-collected MyanmarZawgyi s has_rclt = None
-collected Thai s has_rclt = None
 collected Universal s has_rclt = Some universal_list
+collected _ s has_rclt = None
 
 -- what it asks after the lists of all
 abbrev pub overridden : hb_ot_shaper_t → Option (List Request)
@@ -71,10 +68,6 @@ overridden Hangul = Some hangul_overrides
 overridden Indic = Some indic_overrides
 overridden Khmer = Some khmer_overrides
 overridden _ = None
-
--- the answer of a hook that is there, or isn't
-abbrev pub if_there : {X : Type 0} → Option X → Option (Unit {0})
-if_there o = option_map (λ _. tt) o
 
 -- the planner after these requests, if there are any
 abbrev pub asked : Option (List Request) → Planner → Planner

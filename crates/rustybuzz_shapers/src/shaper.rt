@@ -1,11 +1,11 @@
 //! The shapers behind one enum, a method a hook. Where a shaper lacks a hook, its method answers
 //! None and changes nothing.
-ghost use Rattle.std.specs.Prelude.{◌≡◌, ◌≤◌, [], length, IfOk, IsOk, IsNone, is_some, IsOkUnless, OnOk, OnErr};
+ghost use Rattle.std.specs.Prelude.{◌≡◌, ◌≤◌, [], length, IfOk, IsOk, false, is_some, IsOkUnless, OnOk, OnErr};
 ghost use Rattle.shapers_buffer.specs.declared.buffer.refusal.ShaperError.TheVariants.{Memory};
 ghost use Rattle.shapers_arabic.specs.Requests.{rclt};
-ghost use Rattle.rustybuzz_shapers.specs.Hooks.{Composed, DataCreated, Decomposed, GlyphsFit, MasksSet, MarksFit, MarksKeep, MarksReordered, PlanFits, PostprocessFits, Postprocessed, Preprocessed, PreprocessKeeps, preprocess_answer, RefusesPostprocess, RefusesPreprocess};
-ghost use Rattle.rustybuzz_shapers.specs.Records.{asked, collected, if_there, normalizes, overridden, places_marks, wants_gpos_script, zeroes_marks};
-ghost use Rattle.rustybuzz_shapers.specs.Standing.{is_there, standing};
+ghost use Rattle.rustybuzz_shapers.specs.Hooks.{Composed, Decomposed, GlyphsFit, MasksSet, MarksFit, MarksKeep, MarksReordered, PlanFits, PostprocessFits, Postprocessed, Preprocessed, PreprocessKeeps, data_created, preprocess_answer, RefusesPostprocess, RefusesPreprocess};
+ghost use Rattle.rustybuzz_shapers.specs.Records.{asked, collected, normalizes, overridden, places_marks, wants_gpos_script, zeroes_marks};
+ghost use Rattle.rustybuzz_shapers.specs.Standing.{standing};
 
 use shapers_base::buffer::{ShaperError, hb_buffer_t, hb_tag_t};
 use shapers_base::font::{Tables, hb_font_t};
@@ -13,7 +13,6 @@ use shapers_base::plan::{hb_ot_shape_plan_t, hb_ot_shape_planner_t};
 
 mod conditions;
 mod pauses;
-mod standing;
 
 pub use conditions::pause_fits;
 pub use pauses::{run_pause, syllables_regrouped_law};
@@ -26,7 +25,6 @@ use shapers_myanmar::ot_shaper_myanmar;
 use shapers_stretch::ot_shaper_arabic_stretch;
 use shapers_text::{ot_shaper_hebrew, ot_shaper_thai};
 use shapers_universal::ot_shaper_use;
-pub use standing::{Hook, Hooks, Standing};
 
 /// A script shaper.
 #[derive(Clone, Copy, Debug, PartialEq, Eq)]
@@ -125,17 +123,14 @@ impl hb_ot_shaper_t {
         face: &F,
         planner: &mut hb_ot_shape_planner_t,
     ) -> Result<Option<()>, ShaperError>
-        ensures answer { let has_rclt = (F.font face.now).offers rclt in
-            let list = collected self planner.old.script has_rclt in
-            IfOk result (λ answer. answer ≡ if_there list) }
+        ensures answer { let there = (standing self).collect_features in
+            IfOk result (λ answer. is_some answer ≡ there) }
         ensures ok { let has_rclt = (F.font face.now).offers rclt in
             let list = collected self planner.old.script has_rclt in
             OnOk result (planner.new ≡ asked list planner.old) }
         ensures refusal { IsOkUnless result Memory }
         ensures err { OnErr result (planner.new ≡ planner.old) }
-        ensures absent { let has_rclt = (F.font face.now).offers rclt in
-            let list = collected self planner.old.script has_rclt in
-            IsNone list → IsOk result }
+        ensures absent { (standing self).collect_features ≡ false → IsOk result }
     {
         match self {
             Self::Arabic => Ok(Some(ot_shaper_arabic::collect_features(face, planner)?)),
@@ -154,11 +149,12 @@ impl hb_ot_shaper_t {
         self,
         planner: &mut hb_ot_shape_planner_t,
     ) -> Result<Option<()>, ShaperError>
-        ensures answer { IfOk result (λ answer. answer ≡ if_there (overridden self)) }
+        ensures answer { let there = (standing self).override_features in
+            IfOk result (λ answer. is_some answer ≡ there) }
         ensures ok { OnOk result (planner.new ≡ asked (overridden self) planner.old) }
         ensures refusal { IsOkUnless result Memory }
         ensures err { OnErr result (planner.new ≡ planner.old) }
-        ensures absent { IsNone (overridden self) → IsOk result }
+        ensures absent { (standing self).override_features ≡ false → IsOk result }
     {
         match self {
             Self::Hangul => Ok(Some(ot_shaper_hangul::override_features(planner)?)),
@@ -170,7 +166,8 @@ impl hb_ot_shaper_t {
 
     /// What the shaper keeps in the plan.
     pub fn create_data(self, plan: &hb_ot_shape_plan_t) -> Option<PlanData>
-        ensures { DataCreated self plan.now result }
+        ensures data { result ≡ data_created self plan.now }
+        ensures answer { is_some result ≡ (standing self).create_data }
     {
         match self {
             Self::Arabic => Some(ot_shaper_arabic::create_data(plan)),
@@ -195,6 +192,7 @@ impl hb_ot_shaper_t {
     ) -> Result<Option<Preprocess>, ShaperError>
         requires without_positions { buffer.old.positions ≡ [] }
         ensures answer { IfOk result (λ answer. answer ≡ preprocess_answer self) }
+        ensures there { is_some (preprocess_answer self) ≡ (standing self).preprocess_text }
         ensures ok { let font = F.font face.now in
             OnOk result (Preprocessed self plan.now font buffer.old buffer.new) }
         ensures laws { let font = F.font face.now in
@@ -228,8 +226,8 @@ impl hb_ot_shaper_t {
     ) -> Result<Option<()>, ShaperError>
         requires with_positions { length buffer.old.positions ≡ length buffer.old.glyphs }
         requires fits { PostprocessFits self plan.now buffer.old.glyphs }
-        ensures answer { let standing = standing self Hook.PostprocessGlyphs in
-            IfOk result (λ answer. is_some answer ≡ is_there standing) }
+        ensures answer { let there = (standing self).postprocess_glyphs in
+            IfOk result (λ answer. is_some answer ≡ there) }
         ensures ok { let font = F.font face.now in
             OnOk result (Postprocessed self plan.now font buffer.old buffer.new) }
         ensures refusal { RefusesPostprocess self plan.now (F.font face.now) buffer.old result }
@@ -261,7 +259,8 @@ impl hb_ot_shaper_t {
         a: char,
         b: char,
     ) -> Option<Option<char>>
-        ensures { Composed self plan.now (T.tables tables.now) a b result }
+        ensures pair { Composed self plan.now (T.tables tables.now) a b result }
+        ensures answer { is_some result ≡ (standing self).compose }
     {
         match self {
             Self::Hebrew => Some(ot_shaper_hebrew::compose(plan, tables, a, b)),
@@ -280,7 +279,8 @@ impl hb_ot_shaper_t {
         tables: &T,
         ab: char,
     ) -> Option<Option<(char, char)>>
-        ensures { Decomposed self plan.now (T.tables tables.now) ab result }
+        ensures parts { Decomposed self plan.now (T.tables tables.now) ab result }
+        ensures answer { is_some result ≡ (standing self).decompose }
     {
         match self {
             Self::Indic => Some(ot_shaper_indic::decompose(tables, ab)),
@@ -309,7 +309,7 @@ impl hb_ot_shaper_t {
         requires without_positions { buffer.old.positions ≡ [] }
         requires data { PlanFits self plan.now }
         requires glyphs { GlyphsFit self plan.now buffer.old.glyphs }
-        ensures answer { is_some result ≡ is_there (standing self Hook.SetupMasks) }
+        ensures answer { is_some result ≡ (standing self).setup_masks }
         ensures masks { MasksSet self plan.now (T.tables tables.now) buffer.old buffer.new }
     {
         match self {
@@ -337,7 +337,7 @@ impl hb_ot_shaper_t {
         requires in_order { start ≤ end }
         requires in_range { end ≤ length buffer.old.glyphs }
         requires few { MarksFit self start end }
-        ensures answer { is_some result ≡ is_there (standing self Hook.ReorderMarks) }
+        ensures answer { is_some result ≡ (standing self).reorder_marks }
         ensures marks { MarksReordered self start end buffer.old buffer.new }
         ensures laws { MarksKeep self start end buffer.old buffer.new }
     {

@@ -19,14 +19,14 @@ pub fn thai_glyphs<F: hb_font_t>(
     ensures { IfOk result (λ buffer. All (λ cluster. cluster < length text.now)
         (clusters buffer.glyphs)) }
 {
-    let plan = thai_plan(alloc);
+    let plan = plain_plan(alloc, Script(*b"Thai"));
     let mut buffer = buffer_of(alloc, text)?;
     THAI_SHAPER.preprocess_text(&plan, face, &mut buffer)?;
     Ok(buffer)
 }
 
-// The plan for Thai where the font has no features.
-fn thai_plan(alloc: Global) -> hb_ot_shape_plan_t {
+// The plan for a script where the font has no features.
+pub(crate) fn plain_plan(alloc: Global, script: Script) -> hb_ot_shape_plan_t {
     let map = hb_ot_map_t::new(
         Vec::new(alloc),
         Vec::new(alloc),
@@ -36,7 +36,7 @@ fn thai_plan(alloc: Global) -> hb_ot_shape_plan_t {
         false,
     );
     hb_ot_shape_plan_t {
-        script: Some(Script(*b"Thai")),
+        script: Some(script),
         ot_map: map.unwrap(),
         has_gpos_mark: false,
         stretch_start: StretchStart::AsCode,
@@ -45,7 +45,7 @@ fn thai_plan(alloc: Global) -> hb_ot_shape_plan_t {
 }
 
 // A buffer with a glyph for each character, whose cluster is the character's place.
-fn buffer_of(alloc: Global, text: &[char]) -> Result<hb_buffer_t, ShaperError>
+pub(crate) fn buffer_of(alloc: Global, text: &[char]) -> Result<hb_buffer_t, ShaperError>
     ensures places { IfOk result (λ buffer. All (λ cluster. cluster < length text.now)
         (clusters buffer.glyphs)) }
     ensures unplaced { IfOk result (λ buffer. buffer.positions ≡ []) }

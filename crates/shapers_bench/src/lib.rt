@@ -1,5 +1,6 @@
 //! The vectors: each call that may want memory run once with plenty, and rows that no line of the
-//! program can say. Their values come from the rules. `calling` shows how a pipeline calls a hook.
+//! program can say. Their values come from the rules. `calling` shows how a pipeline calls a hook, and
+//! `reordering` how it calls pauses.
 #![tactic(auto)]
 
 #[cfg(test)]
@@ -15,5 +16,6 @@ mod font;
 mod joining;
 #[cfg(test)]
 mod planner;
+pub mod reordering;
 #[cfg(test)]
 mod shapers;

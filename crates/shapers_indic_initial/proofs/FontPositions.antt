@@ -12,10 +12,11 @@ use Rattle.shapers_base.specs.declared.plan.ot_position_t.TheConstants.{POS_BASE
 use Rattle.shapers_base.specs.Font.{Font}
 use Rattle.shapers_base.specs.Map.{Map}
 use Rattle.shapers_indic.specs.Glyphs.{at_position, has_position, number}
-use Rattle.shapers_indic_initial.specs.InitialFont.{all_by_virama, by_virama, consonant_position}
+use Rattle.shapers_indic_initial.specs.InitialFont.{all_by_virama, by_virama, consonant_position, virama_glyph}
 use Rattle.shapers_buffer.specs.declared.buffer.tag.Script.{Script}
 use Rattle.shapers_clusters.specs.Flags.{seen}
 use Rattle.shapers_clusters.proofs.Picks.{pick-all}
+use Rattle.shapers_indic_initial.specs.InitialLaws.{OrderByFontLaws}
 use Rattle.shapers_indic_initial.specs.InitialReordering.{initial_order, initial_steps}
 use Rattle.shapers_indic_initial.specs.InitialRules.{rules_of}
 use Rattle.shapers_indic_initial.proofs.InitialLaws.{initial_laws}
@@ -83,3 +84,6 @@ font_laws font m p v = record {
 
 pub laws_by_font : (font : Font) (m : Map) (p : indic_shape_plan_t) (v : Option GlyphId) (script : Option Script) → ReorderLaws (λ gs. initial_order (rules_of font m p) script (all_by_virama font m p v gs)) (λ gs. initial_steps (rules_of font m p) script (all_by_virama font m p v gs))
 laws_by_font font m p v script = laws_then (all_by_virama font m p v) (initial_order (rules_of font m p) script) (λ _. []) (initial_steps (rules_of font m p) script) (font_laws font m p v) (initial_laws (rules_of font m p) script)
+
+pub order_by_font_laws : OrderByFontLaws
+order_by_font_laws font m p script = laws_by_font font m p (virama_glyph font p) script

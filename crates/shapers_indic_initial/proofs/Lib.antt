@@ -4,7 +4,7 @@ pub mod CycleSteps
 pub mod CycleWays
 pub mod Cycles
 mod FontCircles
-mod FontPositions
+pub mod FontPositions
 pub mod Groups
 mod InitialBaseRows
 mod InitialClusterRows

@@ -33,12 +33,15 @@ InitiallyAsPause = (font : Font) (m : Map) (p : indic_shape_plan_t) (old new : B
     (InitiallyReordered font m p old new → PauseReordered (initial_circles font old) (order_by_font font m p old.script) (steps_by_font font m p old.script) old new)
     × (PauseReordered (initial_circles font old) (order_by_font font m p old.script) (steps_by_font font m p old.script) old new → InitiallyReordered font m p old new)
 
--- After the pause, at the levels that merge: each syllable's clusters by what its order moves.
-abbrev pub InitialTextMerges : Type 0
-InitialTextMerges = (font : Font) (m : Map) (p : indic_shape_plan_t) (old new : Buffer) →
-    InitiallyReordered font m p old new → merges old.level ≡ true →
+-- After the pause, at the levels that merge: each syllable's clusters by what its order moves. All places from the base on that a glyph
+-- moved over share one cluster; where the syllable's clusters are its own no more is merged, and each run has its least.
+abbrev pub InitiallyMerged : Font → Map → indic_shape_plan_t → Buffer → Buffer → Type 0
+InitiallyMerged font m p old new =
     let gs = (with_positions_and_circles font m p old).glyphs in
-    EachSyllableMerges (rules_of font m p) old.script old.level (order_view gs) (clusters gs) (clusters new.glyphs)
+    merges old.level ≡ true → EachSyllableMerges (rules_of font m p) old.script old.level (order_view gs) (clusters gs) (clusters new.glyphs)
+
+abbrev pub InitialTextMerges : Type 0
+InitialTextMerges = (font : Font) (m : Map) (p : indic_shape_plan_t) (old new : Buffer) → InitiallyReordered font m p old new → InitiallyMerged font m p old new
 
 -- What a syllable becomes, with positions by the font, hangs on the kind in its bytes and not on their serials, so that the pause can
 -- be cut between any two spans.

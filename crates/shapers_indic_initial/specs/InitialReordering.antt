@@ -1,22 +1,20 @@
 -- The initial reordering of a syllable: what it becomes, and the merges and moves that lead there. (OpenType, development of Indic scripts.)
-use Rattle.std.specs.Prelude.{ℕ, ◌==◌, Bool, false, List, [], ◌∷◌, ◌++◌, length, Option, if◌then◌else◌}
-use Rattle.std.specs.List.{list_any}
+use Rattle.std.specs.Prelude.{ℕ, Bool, List, [], ◌∷◌, ◌++◌, length, Option, if◌then◌else◌}
 use Rattle.shapers_buffer.specs.declared.buffer.glyph.hb_glyph_info_t.{hb_glyph_info_t}
 use Rattle.shapers_buffer.specs.declared.buffer.tag.Script.{Script}
 use Rattle.shapers_buffer.specs.Places.{pick}
-use Rattle.shapers_buffer.specs.Syllables.{kind_of}
 use Rattle.shapers_clusters.specs.Steps.{Step, still_step, swap_step}
 use Rattle.shapers_indic_initial.specs.InitialBase.{base_place, has_reph, joiner_comes_first}
 use Rattle.shapers_indic_initial.specs.InitialMasks.{with_initial_masks}
 use Rattle.shapers_indic_initial.specs.InitialOrder.{ordered_base, ordered_places, ordered_stretches}
 use Rattle.shapers_indic_initial.specs.InitialPositions.{by_base, halant_places, with_marks_attached, with_owners_after}
 use Rattle.shapers_indic_initial.specs.InitialRules.{Rules}
+use Rattle.shapers_syllabic.specs.Circles.{is_of_kinds}
 use Rattle.shapers_syllabic.specs.declared.ot_shaper_syllabic.kinds.indic_syllable.TheConstants.{BROKEN_CLUSTER, CONSONANT_SYLLABLE, STANDALONE_CLUSTER, VOWEL_SYLLABLE}
 
 -- whether a syllable is reordered: one of a consonant or a vowel, a standalone one, or a broken one
 abbrev pub is_reordered : List hb_glyph_info_t → Bool
-is_reordered [] = false
-is_reordered (g ∷ gs) = list_any (λ kind. kind == kind_of g.syllable) (CONSONANT_SYLLABLE ∷ VOWEL_SYLLABLE ∷ STANDALONE_CLUSTER ∷ BROKEN_CLUSTER ∷ [])
+is_reordered gs = is_of_kinds (CONSONANT_SYLLABLE ∷ VOWEL_SYLLABLE ∷ STANDALONE_CLUSTER ∷ BROKEN_CLUSTER ∷ []) gs
 
 -- the step of Kannada: H and a ZWJ behind it merge and change places
 abbrev pub joiner_step : Option Script → List hb_glyph_info_t → Step

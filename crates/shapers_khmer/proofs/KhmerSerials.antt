@@ -1,6 +1,6 @@
 -- The order of a syllable doesn't read the serial of its byte.
-use Rattle.std.proofs.Common.{ℕ, ◌+◌, ◌-◌, ◌≡◌, ◌==◌, ◌||◌, true, false, inl, inr, List, [], ◌∷◌, ◌++◌, map, length, take, drop, get_or, refl, sym, ◌∙◌, ap, arith}
-use Rattle.std.specs.List.{range_with_len}
+use Rattle.std.proofs.Common.{ℕ, ◌+◌, ◌-◌, ◌≡◌, ◌==◌, true, false, inl, inr, List, [], ◌∷◌, ◌++◌, map, length, take, drop, get_or, refl, sym, ◌∙◌, ap, arith}
+use Rattle.std.specs.List.{list_any, range_with_len}
 use Rattle.std.proofs.lemmas.Bool.{cases_Bool}
 use Rattle.std.proofs.lemmas.List.{length-map, take-map, drop-map, map-append}
 use Rattle.shapers_buffer.specs.declared.buffer.glyph.hb_glyph_info_t.{hb_glyph_info_t}
@@ -20,7 +20,7 @@ use Rattle.shapers_syllabic.specs.Borders.{unnumbered}
 -- without serials, the kind, the categories and the length stay
 kind_stays : (gs : List hb_glyph_info_t) → is_reordered (map unnumbered gs) ≡ is_reordered gs
 kind_stays [] = refl
-kind_stays (g ∷ gs) = let same : kind_of (kind_of g.syllable) ≡ kind_of g.syllable = omega arith in ap (λ (k : ℕ). k == 0 || k == 1) same
+kind_stays (g ∷ gs) = let same : kind_of (kind_of g.syllable) ≡ kind_of g.syllable = omega arith in ap (λ (k : ℕ). list_any (λ kind. kind == k) (0 ∷ 1 ∷ [])) same
 
 sorts_stay : (gs : List hb_glyph_info_t) → sorts_of (map unnumbered gs) ≡ sorts_of gs
 sorts_stay [] = refl

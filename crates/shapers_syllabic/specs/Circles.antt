@@ -1,6 +1,6 @@
 -- Dotted circles: each broken syllable gets one, and where it stands.
 use Rattle.std.specs.Prelude.{ℕ, ◌==◌, Bool, ◌&&◌, false, not, List, [], ◌∷◌, ◌++◌, take, drop, count_by, Option, Some, None, unwrap_or, if◌then◌else◌}
-use Rattle.std.specs.List.{flat_map, prefix_len}
+use Rattle.std.specs.List.{flat_map, list_any, prefix_len}
 use Rattle.shapers_buffer.specs.declared.buffer.glyph.hb_glyph_info_t.{hb_glyph_info_t}
 use Rattle.shapers_base.specs.declared.font.GlyphId.{GlyphId}
 use Rattle.shapers_syllabic.specs.declared.ot_shaper_syllabic.circles.DottedCircles.{DottedCircles}
@@ -12,6 +12,11 @@ use Rattle.shapers_buffer.specs.Syllables.{syllables, kind_of}
 abbrev pub is_of_kind : ℕ → List hb_glyph_info_t → Bool
 is_of_kind k [] = false
 is_of_kind k (g ∷ gs) = kind_of g.syllable == k
+
+-- whether it is of one of these kinds
+abbrev pub is_of_kinds : List ℕ → List hb_glyph_info_t → Bool
+is_of_kinds kinds [] = false
+is_of_kinds kinds (g ∷ gs) = list_any (λ kind. kind == kind_of g.syllable) kinds
 
 -- how many glyphs of a syllable stand in front of its circle: the leading rephas, where there is a category of rephas
 abbrev pub rephas_len : Option ℕ → List hb_glyph_info_t → ℕ

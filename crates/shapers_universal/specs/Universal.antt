@@ -5,8 +5,8 @@ use Rattle.std.specs.Option.{option_map_or}
 use Rattle.shapers_buffer.specs.declared.buffer.glyph.hb_glyph_info_t.{hb_glyph_info_t}
 use Rattle.shapers_buffer.specs.Lists.{cut_after}
 use Rattle.shapers_buffer.specs.Marks.{is_ligated}
-use Rattle.shapers_buffer.specs.Syllables.{kind_of}
 use Rattle.shapers_clusters.specs.Steps.{Step, steps_along}
+use Rattle.shapers_syllabic.specs.Circles.{is_of_kinds}
 use Rattle.shapers_syllabic.specs.declared.ot_shaper_syllabic.kinds.use_syllable.TheConstants.{BROKEN_CLUSTER, SAKOT_TERMINATED_CLUSTER, STANDARD_CLUSTER, VIRAMA_TERMINATED_CLUSTER}
 use Rattle.shapers_universal.specs.declared.ot_shaper_use.category.TheConstants.{FAbv, FBlw, FMAbv, FMBlw, FMPst, FPst, H, HVM, IS, MAbv, MBlw, MPre, MPst, R, VAbv, VBlw, VMAbv, VMBlw, VMPre, VMPst, VPre, VPst}
 
@@ -54,8 +54,7 @@ reversed_first test xs = reverse (filter test xs) ++ filter (λ x. not (test x))
 
 -- whether syllables of this kind are reordered
 abbrev pub is_reordered : List hb_glyph_info_t → Bool
-is_reordered [] = false
-is_reordered (g ∷ gs) = list_any (λ sort. sort == kind_of g.syllable) (VIRAMA_TERMINATED_CLUSTER ∷ SAKOT_TERMINATED_CLUSTER ∷ STANDARD_CLUSTER ∷ BROKEN_CLUSTER ∷ [])
+is_reordered gs = is_of_kinds (VIRAMA_TERMINATED_CLUSTER ∷ SAKOT_TERMINATED_CLUSTER ∷ STANDARD_CLUSTER ∷ BROKEN_CLUSTER ∷ []) gs
 
 -- the pieces of a syllable: once its reph has moved it is cut after each halant
 abbrev pub pieces : List hb_glyph_info_t → List (List hb_glyph_info_t)

@@ -15,12 +15,15 @@ use shapers_khmer::ot_shaper_khmer;
 use shapers_universal::ot_shaper_use;
 
 impl hb_ot_shaper_t {
-    ghost use Rattle.rustybuzz_shapers.specs.Hooks.{GlyphsFit, MarksFit, PlanFits, PostprocessFits};
+    ghost use Rattle.rustybuzz_shapers.specs.Hooks.{GlyphsFit, MarksFit, PlanFits, PostprocessFits, data_created, with_created};
+    ghost use Rattle.rustybuzz_shapers.specs.Pauses.{PausesFit};
 
-    /// The plan with the data that the shaper's hooks read, where it keeps any.
+    /// The plan with the data that the shaper keeps, if it keeps any. So it fits the shaper's hooks
+    /// and each pause that its lists ask for.
     pub fn with_data(self, mut plan: hb_ot_shape_plan_t) -> hb_ot_shape_plan_t
+        ensures data { result ≡ with_created (data_created self plan) plan }
         ensures fits { PlanFits self result }
-        ensures others { result ≡ record plan { plan_data = result.plan_data } }
+        ensures pauses { PausesFit self result }
     {
         match self {
             Self::Arabic => plan.plan_data = ot_shaper_arabic::create_data(&plan),

@@ -1,7 +1,7 @@
 //! The pauses behind one dispatcher.
-ghost use Rattle.std.specs.Prelude.{◌≡◌, ◌≤◌, [], All, IfOk, OnOk, OnErr};
+ghost use Rattle.std.specs.Prelude.{◌≡◌, ◌≤◌, [], All, IfOk, OnOk, OnErr, is_some};
 ghost use Rattle.rustybuzz_shapers.specs.Regrouped.{SyllablesRegrouped};
-ghost use Rattle.rustybuzz_shapers.specs.Pauses.{PauseAnswers, PauseFits, PauseKeeps, Paused, RefusesPause};
+ghost use Rattle.rustybuzz_shapers.specs.Pauses.{PauseFits, PauseKeeps, Paused, RefusesPause, circles_of};
 
 use shapers_base::buffer::{ShaperError, Span, hb_buffer_t};
 use shapers_base::font::hb_font_t;
@@ -32,7 +32,8 @@ pub fn run_pause<F: hb_font_t>(
     requires without_positions { buffer.old.positions ≡ [] }
     requires kinds { All (λ span. span.kind ≤ 15) spans.now }
     requires data { PauseFits pause plan.now }
-    ensures answer { IfOk result (PauseAnswers pause (F.font face.now) buffer.old) }
+    ensures answer { let circles = circles_of pause plan.now (F.font face.now) buffer.old in
+        IfOk result (λ answer. answer ≡ is_some circles) }
     ensures ok { let font = F.font face.now in
         OnOk result (Paused pause plan.now font spans.now buffer.old buffer.new) }
     ensures laws { let font = F.font face.now in

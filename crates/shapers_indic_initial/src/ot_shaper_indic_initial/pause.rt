@@ -2,11 +2,11 @@
 ghost use Rattle.std.specs.Prelude.{◌≡◌, [], IfOk, IsOk, None, OnErr, OnOk, is_some, length, true};
 ghost use Rattle.shapers_buffer.specs.Refusals.{Refuses};
 ghost use Rattle.shapers_indic.specs.Plan.{indic_in, is_indic_data};
-ghost use Rattle.shapers_indic_initial.specs.InitialPause.{InitiallyReordered, initial_circles, initial_refusal, order_by_font, steps_by_font, with_positions_and_circles};
-ghost use Rattle.shapers_indic_initial.specs.InitialReordering.{initial_steps};
-ghost use Rattle.shapers_indic_initial.specs.InitialRules.{rules_of};
+ghost use Rattle.shapers_indic_initial.specs.InitialLaws.{InitiallyMerged};
+ghost use Rattle.shapers_indic_initial.specs.InitialPause.{InitiallyReordered, initial_circles, initial_refusal, order_by_font, steps_by_font};
 ghost use Rattle.shapers_syllabic.specs.CircleLaws.{NoNewCluster};
 ghost use Rattle.shapers_syllabic.specs.Circles.{circled};
+ghost use Rattle.shapers_syllabic.specs.Reordering.{PauseReordered};
 ghost use Rattle.shapers_syllabic.specs.ReorderingLaws.{PauseCutsAtBorders, TextReordered};
 
 use super::font_positions::virama_glyph;
@@ -30,8 +30,9 @@ const CIRCLES: CircleSort = CircleSort {
 
 /// Gives consonants positions by the font and broken syllables their dotted circles, and then
 /// reorders each syllable: its base, what goes with which glyph, the order by positions, the masks
-/// of the basic features. Answers whether circles were wanted. Every cluster afterwards is one that
-/// the text had. Refuses with `UnknownSyllable`, before anything changes; with `TooLong`; and with
+/// of the basic features. At the levels that merge, places from the base on that a glyph moved over
+/// share one cluster, and where a syllable's clusters are its own no more is merged. Answers whether
+/// circles were wanted. Every cluster afterwards is one that the text had. Refuses with `UnknownSyllable`, before anything changes; with `TooLong`; and with
 /// `Memory`, but not where no circle opens. (OpenType, development of Indic scripts.)
 pub fn initial_reordering<F: hb_font_t>(
     plan: &hb_ot_shape_plan_t,
@@ -44,16 +45,23 @@ pub fn initial_reordering<F: hb_font_t>(
         IfOk result (λ answer. answer ≡ is_some circles) }
     ensures ok { OnOk result (InitiallyReordered
         (F.font face.now) plan.now.ot_map (indic_in plan.now) buffer.old buffer.new) }
+    ensures syllables { let font = F.font face.now in
+        let kept = indic_in plan.now in
+        OnOk result (PauseReordered (initial_circles font buffer.old)
+        (order_by_font font plan.now.ot_map kept buffer.old.script)
+        (steps_by_font font plan.now.ot_map kept buffer.old.script) buffer.old buffer.new) }
     ensures cut { let font = F.font face.now in
         let kept = indic_in plan.now in
         OnOk result (PauseCutsAtBorders (initial_circles font buffer.old)
         (order_by_font font plan.now.ot_map kept buffer.old.script)
         (steps_by_font font plan.now.ot_map kept buffer.old.script) buffer.old buffer.new) }
     ensures laws { let font = F.font face.now in
-        let rules = rules_of font plan.now.ot_map (indic_in plan.now) in
-        let opened = with_positions_and_circles font plan.now.ot_map (indic_in plan.now)
-        buffer.old in
-        OnOk result (TextReordered (initial_steps rules buffer.old.script) opened buffer.new) }
+        let circles = initial_circles font buffer.old in
+        let opened = record buffer.old { glyphs = circled circles buffer.old.glyphs } in
+        let steps = steps_by_font font plan.now.ot_map (indic_in plan.now) buffer.old.script in
+        OnOk result (TextReordered steps opened buffer.new) }
+    ensures merged { OnOk result (InitiallyMerged
+        (F.font face.now) plan.now.ot_map (indic_in plan.now) buffer.old buffer.new) }
     ensures clusters { OnOk result (NoNewCluster buffer.old.glyphs buffer.new.glyphs) }
     ensures refusal { let circles = initial_circles (F.font face.now) buffer.old in
         let opened = circled circles buffer.old.glyphs in

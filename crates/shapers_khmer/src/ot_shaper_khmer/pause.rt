@@ -4,9 +4,10 @@ ghost use Rattle.shapers_buffer.specs.Glyph.{order_view};
 ghost use Rattle.shapers_buffer.specs.Refusals.{Refuses};
 ghost use Rattle.shapers_buffer.specs.Syllables.{unknown_refusal};
 ghost use Rattle.shapers_clusters.specs.Laws.{ReorderedHold};
-ghost use Rattle.shapers_khmer.specs.Khmer.{khmer_circles, khmer_order, khmer_steps, order_in, with_khmer_circles};
+ghost use Rattle.shapers_khmer.specs.Khmer.{khmer_circles, khmer_order, khmer_steps, order_in};
 ghost use Rattle.shapers_khmer.specs.Plan.{is_khmer_data};
 ghost use Rattle.shapers_syllabic.specs.CircleLaws.{NoNewCluster};
+ghost use Rattle.shapers_syllabic.specs.Circles.{circled};
 ghost use Rattle.shapers_syllabic.specs.Reordering.{PauseReordered, carried, circles_of_sort, text_steps};
 ghost use Rattle.shapers_syllabic.specs.ReorderingLaws.{PauseCutsAtBorders};
 
@@ -47,16 +48,19 @@ pub fn reorder_khmer<F: hb_font_t>(
     ensures cut { let circles = circles_of_sort khmer_circles (F.font face.now) buffer.old in
         OnOk result (PauseCutsAtBorders circles
         (khmer_order (order_in plan.now.plan_data)) khmer_steps buffer.old buffer.new) }
-    ensures laws { let opened = (with_khmer_circles (F.font face.now) buffer.old).glyphs in
+    ensures laws { let circles = circles_of_sort khmer_circles (F.font face.now) buffer.old in
+        let opened = circled circles buffer.old.glyphs in
         OnOk result (ReorderedHold carried buffer.old.level
         (text_steps khmer_steps (order_view opened)) opened buffer.new.glyphs) }
     ensures clusters { OnOk result (NoNewCluster buffer.old.glyphs buffer.new.glyphs) }
-    ensures refusal { let opened = (with_khmer_circles (F.font face.now) buffer.old).glyphs in
-        Refuses (unknown_refusal 2 buffer.old.glyphs) buffer.old.max_len (length opened) result }
+    ensures refusal { let circles = circles_of_sort khmer_circles (F.font face.now) buffer.old in
+        Refuses (unknown_refusal 2 buffer.old.glyphs)
+        buffer.old.max_len (length (circled circles buffer.old.glyphs)) result }
     ensures err { OnErr result (buffer.new ≡ buffer.old) }
-    ensures without_memory { let opened = with_khmer_circles (F.font face.now) buffer.old in
+    ensures without_memory { let circles =
+        circles_of_sort khmer_circles (F.font face.now) buffer.old in
         unknown_refusal 2 buffer.old.glyphs ≡ None →
-        opened.glyphs ≡ buffer.old.glyphs → IsOk result }
+        circled circles buffer.old.glyphs ≡ buffer.old.glyphs → IsOk result }
 {
     let order = order_of(&plan.plan_data);
     reorder_pause(face, &order, &CIRCLES, Some(NON_KHMER_CLUSTER), buffer)

@@ -1,11 +1,14 @@
 //! The reordering of a text in the universal shaper.
 ghost use Rattle.std.specs.Prelude.{◌≡◌, [], IfOk, IsOk, OnErr, OnOk, is_some, length};
+ghost use Rattle.shapers_buffer.specs.Glyph.{order_view};
 ghost use Rattle.shapers_buffer.specs.Refusals.{RefusesLength};
+ghost use Rattle.shapers_clusters.specs.Laws.{ReorderedHold};
 ghost use Rattle.shapers_syllabic.specs.CircleLaws.{NoNewCluster};
-ghost use Rattle.shapers_syllabic.specs.Reordering.{PauseReordered, circles_of_sort};
+ghost use Rattle.shapers_syllabic.specs.Circles.{circled};
+ghost use Rattle.shapers_syllabic.specs.Reordering.{PauseReordered, carried, circles_of_sort, text_steps};
 ghost use Rattle.shapers_syllabic.specs.ReorderingLaws.{PauseCutsAtBorders};
 ghost use Rattle.shapers_universal.specs.Universal.{universal_order, universal_steps};
-ghost use Rattle.shapers_universal.specs.UniversalText.{TextOrdered, circled_use, universal_circles};
+ghost use Rattle.shapers_universal.specs.UniversalText.{universal_circles};
 
 use super::category;
 use super::ordering::UniversalOrder;
@@ -32,17 +35,20 @@ pub fn reorder_use<F: hb_font_t>(face: &F, buffer: &mut hb_buffer_t) -> Result<b
         IfOk result (λ answer. answer ≡ is_some circles) }
     ensures ok { let circles = circles_of_sort universal_circles (F.font face.now) buffer.old in
         OnOk result (PauseReordered circles universal_order universal_steps buffer.old buffer.new) }
-    ensures laws { let text = circled_use (F.font face.now) buffer.old in
-        OnOk result (TextOrdered buffer.old.level text buffer.new.glyphs) }
+    ensures laws { let circles = circles_of_sort universal_circles (F.font face.now) buffer.old in
+        let opened = circled circles buffer.old.glyphs in
+        OnOk result (ReorderedHold carried buffer.old.level
+        (text_steps universal_steps (order_view opened)) opened buffer.new.glyphs) }
     ensures cut { let circles = circles_of_sort universal_circles (F.font face.now) buffer.old in
         OnOk result
         (PauseCutsAtBorders circles universal_order universal_steps buffer.old buffer.new) }
     ensures clusters { OnOk result (NoNewCluster buffer.old.glyphs buffer.new.glyphs) }
-    ensures length { let text = circled_use (F.font face.now) buffer.old in
-        RefusesLength buffer.old.max_len (length text) result }
+    ensures length { let circles = circles_of_sort universal_circles (F.font face.now) buffer.old in
+        RefusesLength buffer.old.max_len (length (circled circles buffer.old.glyphs)) result }
     ensures err { OnErr result (buffer.new ≡ buffer.old) }
-    ensures without_memory { let text = circled_use (F.font face.now) buffer.old in
-        text ≡ buffer.old.glyphs → IsOk result }
+    ensures without_memory { let circles =
+        circles_of_sort universal_circles (F.font face.now) buffer.old in
+        circled circles buffer.old.glyphs ≡ buffer.old.glyphs → IsOk result }
 {
     reorder_pause(face, &UniversalOrder, &CIRCLES, None, buffer)
 }

@@ -1,5 +1,4 @@
-use Rattle.shapers_indic_initial.specs.InitialFont.{virama_glyph}
-use Rattle.shapers_indic_initial.proofs.FontPositions.{laws_by_font}
+use Rattle.shapers_indic_initial.proofs.FontPositions.{order_by_font_laws}
 use Rattle.shapers_indic_initial.proofs.InitialLaws.{initial_laws}
 use Rattle.shapers_indic_initial.proofs.ot_shaper_indic_initial.laws.initial_reorder_laws.Goals as goal
 
@@ -7,4 +6,4 @@ pub returns-clause-order : goal.returns-clause-order
 returns-clause-order c = initial_laws
 
 pub returns-clause-by_font : goal.returns-clause-by_font
-returns-clause-by_font c = λ font m p script. laws_by_font font m p (virama_glyph font p) script
+returns-clause-by_font c = order_by_font_laws
