@@ -3,6 +3,7 @@ pub mod Pauses
 pub mod Records
 pub mod Standing
 pub mod Regrouped
+pub mod Stretched
 -- what the public clauses cite of the crates below
 pub use Rattle.shapers_arabic.specs.JoinedText
 pub use Rattle.shapers_arabic.specs.Marks
