@@ -18,6 +18,7 @@ pub use Rattle.shapers_universal.specs as universal
 pub use Rattle.shapers_indic.specs as indic
 pub use Rattle.shapers_indic_initial.specs as indic_initial
 pub use Rattle.shapers_indic_final.specs as indic_final
+pub mod Stretched
 -- what the public clauses cite of the crates below
 pub use Rattle.shapers_arabic.specs.JoinedText
 pub use Rattle.shapers_arabic.specs.Marks

@@ -77,6 +77,9 @@ pub const THAI_SHAPER: hb_ot_shaper_t = hb_ot_shaper_t::Thai;
 pub const UNIVERSAL_SHAPER: hb_ot_shaper_t = hb_ot_shaper_t::Universal;
 
 impl hb_ot_shaper_t {
+    ghost use Rattle.std.specs.Prelude.{◌+◌};
+    ghost use Rattle.rustybuzz_shapers.specs.Stretched.{glyphs_added};
+
     /// How the text is normalized before the font's mapping.
     pub fn normalization_preference(self) -> NormalizationMode
         ensures { result ≡ normalizes self }
@@ -217,7 +220,7 @@ impl hb_ot_shaper_t {
     }
 
     /// Rewrites the glyphs after positioning: for Arabic, marks stretch over the words before them,
-    /// by the widths of `widths_law`.
+    /// by the widths of `stretches_cover_law`.
     pub fn postprocess_glyphs<F: hb_font_t>(
         self,
         plan: &hb_ot_shape_plan_t,
@@ -230,6 +233,8 @@ impl hb_ot_shaper_t {
             IfOk result (λ answer. is_some answer ≡ there) }
         ensures ok { let font = F.font face.now in
             OnOk result (Postprocessed self plan.now font buffer.old buffer.new) }
+        ensures longer { let added = glyphs_added self (F.font face.now) buffer.old in
+            OnOk result (length buffer.new.glyphs ≡ length buffer.old.glyphs + added) }
         ensures refusal { RefusesPostprocess self plan.now (F.font face.now) buffer.old result }
         ensures err { OnErr result (buffer.new ≡ buffer.old) }
     {
@@ -354,3 +359,13 @@ impl hb_ot_shaper_t {
         }
     }
 }
+
+ghost use Rattle.rustybuzz_shapers.specs.Stretched.{StretchesCover};
+
+/// What postprocessing makes of an Arabic text is its parts, one after another, each with its run
+/// of tiles laid: as wide as the numbers of the run say, and where the repeating tiles have a width
+/// and fit into what the fixed ones leave, as the word, or wider by less than one unit for each
+/// added copy.
+pub fn stretches_cover_law()
+    ensures { StretchesCover }
+{}

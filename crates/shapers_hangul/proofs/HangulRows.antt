@@ -1,5 +1,5 @@
 -- Worked rows of Hangul, computed: ranges, syllable characters, units with their tones, masks.
-use Rattle.std.specs.Prelude.{codes, ◌≡◌, ℕ, ◌==◌, true, false, pos, Some, None, List, [], ◌∷◌, map, refl, if◌then◌else◌}
+use Rattle.std.specs.Prelude.{codes, ◌≡◌, ℕ, ℤ, ◌==◌, true, false, pos, negsuc, Some, None, List, [], ◌∷◌, map, refl, if◌then◌else◌}
 use Rattle.std.specs.List.{list_any, enumerate_from}
 use Rattle.shapers_buffer.specs.declared.buffer.glyph.hb_glyph_info_t.{hb_glyph_info_t}
 use Rattle.shapers_buffer.specs.declared.buffer.level.BufferClusterLevel.{BufferClusterLevel}
@@ -65,19 +65,19 @@ trails : map trail (0xAC01 ∷ 0xAC1B ∷ 0xD7A3 ∷ []) ≡ 0x11A8 ∷ 0x11C2 �
 trails = refl
 
 -- TEXTS. A font with these characters, all 500 wide; one whose glyphs have advance 0
-abbrev of_characters : (ℕ → ℕ) → List ℕ → Font
+abbrev of_characters : (ℕ → ℤ) → List ℕ → Font
 of_characters width us = record {
   nominal = λ c. if list_any (λ u. u == c) us then Some (record { 0 = c }) else None;
-  advance = λ glyph. pos (width glyph.0);
+  advance = λ glyph. width glyph.0;
   applies = λ lookup glyphs zero. false;
   offers = λ tag. false;
 }
 
 abbrev wide : List ℕ → Font
-wide us = of_characters (λ g. 500) us
+wide us = of_characters (λ g. pos 500) us
 
 abbrev narrow : List ℕ → Font
-narrow us = of_characters (λ g. 0) us
+narrow us = of_characters (λ g. pos 0) us
 
 -- the characters in clusters 0, 1, ..; of the result each character, its feature and its cluster
 abbrev text : List ℕ → List hb_glyph_info_t
@@ -115,6 +115,13 @@ old_hangul_2 = refl
 -- case 2: LV and T in one
 joined : shown (wide (0xAC00 ∷ 0xAC01 ∷ 0x1100 ∷ 0x1161 ∷ [])) MonotoneCharacters (0xAC00 ∷ 0x11A8 ∷ []) ≡ (0xAC01, 0, 0) ∷ []
 joined = refl
+
+-- the whole alone, of an LV that the font lacks
+whole_of_lv : shown (wide (0xAC01 ∷ [])) MonotoneGraphemes (0xAC00 ∷ 0x11A8 ∷ []) ≡ (0xAC01, 0, 0) ∷ []
+whole_of_lv = refl
+
+whole_before_parts : shown (wide (0xAC01 ∷ 0x1100 ∷ 0x1161 ∷ 0x11A8 ∷ [])) Characters (0xAC00 ∷ 0x11A8 ∷ []) ≡ (0xAC01, 0, 0) ∷ []
+whole_before_parts = refl
 
 -- case 3: a syllable character by its jamo; an LV with the T behind it, only if the font has the LV
 parted : shown (wide (0x1100 ∷ 0x1161 ∷ 0x11A8 ∷ [])) MonotoneGraphemes (0xAC01 ∷ []) ≡ (0x1100, 1, 0) ∷ (0x1161, 2, 0) ∷ (0x11A8, 3, 0) ∷ []
@@ -157,6 +164,16 @@ tone_composed = refl
 
 tone_narrow : shown (narrow (0xAC01 ∷ 0x302E ∷ [])) MonotoneGraphemes (0x1100 ∷ 0x1161 ∷ 0x11A8 ∷ 0x302E ∷ []) ≡ (0xAC01, 0, 0) ∷ (0x302E, 0, 3) ∷ []
 tone_narrow = refl
+
+-- an advance below 0 is none of 0
+abbrev backward : List ℕ → Font
+backward us = of_characters (λ g. negsuc 0) us
+
+tone_backward : shown (backward (0xAC00 ∷ 0x302E ∷ [])) MonotoneGraphemes (0xAC00 ∷ 0x302E ∷ []) ≡ (0x302E, 0, 0) ∷ (0xAC00, 0, 0) ∷ []
+tone_backward = refl
+
+tone_alone_backward : shown (backward (0x25CC ∷ 0x302E ∷ [])) MonotoneGraphemes (0x302E ∷ []) ≡ (0x302E, 0, 0) ∷ (0x25CC, 0, 0) ∷ []
+tone_alone_backward = refl
 
 -- a tone that the font lacks has no advance, and moves
 tone_lacks : shown (wide (0xAC00 ∷ [])) MonotoneGraphemes (0xAC00 ∷ 0x302F ∷ []) ≡ (0x302F, 0, 0) ∷ (0xAC00, 0, 0) ∷ []

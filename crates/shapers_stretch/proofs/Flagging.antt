@@ -111,7 +111,7 @@ id_if : (b : Bool) (g h : hb_glyph_info_t) → h.glyph_id ≡ g.glyph_id → (co
 id_if true g h e = refl
 id_if false g h e = e
 
-same_id : (m : ℕ) (g : hb_glyph_info_t) → (with_bits_off 3 m g).glyph_id ≡ g.glyph_id
+pub same_id : (m : ℕ) (g : hb_glyph_info_t) → (with_bits_off 3 m g).glyph_id ≡ g.glyph_id
 same_id m g = id_if (g.cluster == m) g (with_bits 3 g) refl
 
 repeats_if : (b : Bool) (g h : hb_glyph_info_t) → repeats h ≡ repeats g → repeats (cond b g h) ≡ repeats g

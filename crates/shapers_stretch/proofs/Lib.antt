@@ -1,6 +1,7 @@
 mod MeasureRows
 mod RecordedRows
 mod StretchRows
+mod WidthRows
 pub mod Moves
 pub mod Numbers
 pub mod PartCounts
@@ -9,6 +10,7 @@ pub mod PartLaying
 pub mod Pen
 pub mod Counts
 pub mod Flagging
+pub mod LaidText
 pub mod LastParts
 pub mod LayBounds
 pub mod Laying

@@ -116,12 +116,13 @@ flat_moves choice right_to_left font z (c ∷ cs) =
     let lay = lay_of choice right_to_left z in
     map-append (λ copy. copy.move) (copies_of font z c) (flat_map (copies_of font z) cs) ∙ ap (λ ms. ms ++ map (λ copy. copy.move) (flat_map (copies_of font z) cs)) (tile_moves choice right_to_left font z c) ∙ ap (λ ms. moves_of font lay c.0 ++ ms) (flat_moves choice right_to_left font z cs)
 
+pub moved_copies : (how : Laying) (z : Run) (tiles : List Cell) → map (λ copy. copy.move) (copies how.font z tiles) ≡ run_moves how.font (lay_of how.choice how.right_to_left z) (glyphs_of tiles)
+moved_copies how z tiles = flat_moves how.choice how.right_to_left how.font z (reverse tiles) ∙ ap (flat_map (moves_of how.font (lay_of how.choice how.right_to_left z))) (map-reverse (λ c. c.0) tiles)
+
 pub run_offsets : (how : Laying) (z : Run) (tiles : List Cell) → map (λ c. c.1.x_offset) (laid_run how z tiles) ≡ offsets_on how.right_to_left (start how.choice how.right_to_left z) (run_moves how.font (lay_of how.choice how.right_to_left z) (glyphs_of tiles))
 run_offsets how z tiles =
     let from = start how.choice how.right_to_left z in
-    let lay = lay_of how.choice how.right_to_left z in
-    let moved_by : map (λ copy. copy.move) (copies how.font z tiles) ≡ run_moves how.font lay (glyphs_of tiles) = flat_moves how.choice how.right_to_left how.font z (reverse tiles) ∙ ap (flat_map (moves_of how.font lay)) (map-reverse (λ c. c.0) tiles) in
-    ap (map (λ c. c.1.x_offset)) (laid_is how.right_to_left from (copies how.font z tiles)) ∙ on_offsets how.right_to_left from (copies how.font z tiles) ∙ ap (offsets_on how.right_to_left from) moved_by
+    ap (map (λ c. c.1.x_offset)) (laid_is how.right_to_left from (copies how.font z tiles)) ∙ on_offsets how.right_to_left from (copies how.font z tiles) ∙ ap (offsets_on how.right_to_left from) (moved_copies how z tiles)
 
 -- whether all numbers of a part's run fit
 abbrev all_fit : Laying → Run → List hb_glyph_info_t → Bool

@@ -62,7 +62,7 @@ room_made gs ps n both none =
     }
 
 -- cells backwards
-zipped : (cs : List Cell) → zip (glyphs_of cs) (positions_of cs) ≡ cs
+pub zipped : (cs : List Cell) → zip (glyphs_of cs) (positions_of cs) ≡ cs
 zipped [] = refl
 zipped (c ∷ cs) = ap (λ ds. c ∷ ds) (zipped cs)
 

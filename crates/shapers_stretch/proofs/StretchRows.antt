@@ -5,7 +5,7 @@ use Rattle.shapers_buffer.specs.declared.buffer.category.hb_unicode_general_cate
 use Rattle.shapers_buffer.specs.declared.buffer.glyph.GlyphPosition.{GlyphPosition}
 use Rattle.shapers_buffer.specs.declared.buffer.glyph.hb_glyph_info_t.{hb_glyph_info_t}
 use Rattle.shapers_buffer.specs.declared.buffer.level.Direction.{Direction}
-use Rattle.shapers_buffer.specs.declared.buffer.level.Direction.TheVariants.{LeftToRight, RightToLeft, TopToBottom}
+use Rattle.shapers_buffer.specs.declared.buffer.level.Direction.TheVariants.{BottomToTop, Invalid, LeftToRight, RightToLeft, TopToBottom}
 use Rattle.shapers_buffer.specs.declared.buffer.refusal.ShaperError.{ShaperError}
 use Rattle.shapers_buffer.specs.declared.buffer.refusal.ShaperError.TheVariants.{StretchOverflow}
 use Rattle.shapers_buffer.specs.Buffer.{Buffer, new_buffer}
@@ -17,11 +17,11 @@ use Rattle.shapers_stretch.specs.Cells.{Cell, parts, tiles_of, word_of, before_w
 use Rattle.shapers_stretch.specs.Stretch.{cells, marks_stretched, stretch_refusal}
 
 -- a font by the advances of its glyphs
-abbrev font : (ℕ → ℤ) → Font
+abbrev pub font : (ℕ → ℤ) → Font
 font widths = record { nominal = λ c. None; advance = λ g. widths g.0; applies = λ lookup gs zero. false; offers = λ tag. false }
 
 -- glyph 2 is a fixed tile of 100, glyph 3 a repeating one of 200, glyph 4 a repeating one of 1
-abbrev widths : ℕ → ℤ
+abbrev pub widths : ℕ → ℤ
 widths n = if n == 2 then pos 100 else if n == 3 then pos 200 else if n == 4 then pos 1 else pos 999
 
 -- a cell by its glyph, its cluster, its category, its action and its advance; other fields are set, to be kept
@@ -31,16 +31,16 @@ cell n cluster category action advance =
     let p : GlyphPosition = record { x_advance = advance; y_advance = pos 12; x_offset = pos 13; y_offset = negsuc 13 } in
     (g, p)
 
-abbrev letter : ℕ → ℤ → Cell
+abbrev pub letter : ℕ → ℤ → Cell
 letter cluster advance = cell 1 cluster Lo 7 advance
 
-abbrev space : Cell
+abbrev pub space : Cell
 space = cell 5 0 Zs 7 (pos 55)
 
-abbrev fixed_tile : Cell
+abbrev pub fixed_tile : Cell
 fixed_tile = cell 2 0 Lo 8 (pos 100)
 
-abbrev repeating_tile : Cell
+abbrev pub repeating_tile : Cell
 repeating_tile = cell 3 0 Lo 9 (pos 200)
 
 -- the same cell, with these mask bits, and laid at this offset
@@ -50,7 +50,7 @@ flags mask c = let g : hb_glyph_info_t = record c.0 { mask = mask } in (g, c.1)
 abbrev at : ℤ → Cell → Cell
 at x c = let p : GlyphPosition = record c.1 { x_advance = pos 0; x_offset = x } in (c.0, p)
 
-abbrev text : Direction → List Cell → Buffer
+abbrev pub text : Direction → List Cell → Buffer
 text direction cs = record (new_buffer 99) { glyphs = map (λ c. c.0) cs; positions = map (λ c. c.1) cs; direction = direction; stch = true }
 
 abbrev after : StretchStart → Buffer → List Cell
@@ -60,13 +60,22 @@ after choice b = cells (marks_stretched (font widths) choice b)
 seven : after AsCode (text RightToLeft (letter 0 (pos 1000) ∷ fixed_tile ∷ repeating_tile ∷ [])) ≡ letter 0 (pos 1000) ∷ at (negsuc 999) fixed_tile ∷ at (negsuc 899) repeating_tile ∷ at (negsuc 724) repeating_tile ∷ at (negsuc 549) repeating_tile ∷ at (negsuc 374) repeating_tile ∷ at (negsuc 199) repeating_tile ∷ []
 seven = refl
 
-seven_leftward : after AsCode (text LeftToRight (repeating_tile ∷ fixed_tile ∷ letter 0 (pos 1000) ∷ [])) ≡ at (pos 0) repeating_tile ∷ at (pos 200) repeating_tile ∷ at (pos 375) repeating_tile ∷ at (pos 550) repeating_tile ∷ at (pos 725) repeating_tile ∷ at (pos 900) fixed_tile ∷ letter 0 (pos 1000) ∷ []
+abbrev seven_backwards : List Cell
+seven_backwards = at (pos 0) repeating_tile ∷ at (pos 200) repeating_tile ∷ at (pos 375) repeating_tile ∷ at (pos 550) repeating_tile ∷ at (pos 725) repeating_tile ∷ at (pos 900) fixed_tile ∷ letter 0 (pos 1000) ∷ []
+
+seven_leftward : after AsCode (text LeftToRight (repeating_tile ∷ fixed_tile ∷ letter 0 (pos 1000) ∷ [])) ≡ seven_backwards
 seven_leftward = refl
 
 seven_centred : after Centred (text RightToLeft (letter 0 (pos 1000) ∷ fixed_tile ∷ repeating_tile ∷ [])) ≡ after AsCode (text RightToLeft (letter 0 (pos 1000) ∷ fixed_tile ∷ repeating_tile ∷ []))
 seven_centred = refl
 
--- any direction but right to left is in order backwards
+-- any direction but right to left is in order backwards, also upward and none
+upward : map (λ d. after AsCode (text d (repeating_tile ∷ fixed_tile ∷ letter 0 (pos 1000) ∷ []))) (BottomToTop ∷ Invalid ∷ TopToBottom ∷ []) ≡ seven_backwards ∷ seven_backwards ∷ seven_backwards ∷ []
+upward = refl
+
+upward_centred : map (λ d. after Centred (text d (fixed_tile ∷ letter 0 (pos 160) ∷ []))) (BottomToTop ∷ Invalid ∷ RightToLeft ∷ []) ≡ (at (pos 30) fixed_tile ∷ letter 0 (pos 160) ∷ []) ∷ (at (pos 30) fixed_tile ∷ letter 0 (pos 160) ∷ []) ∷ (at (negsuc 49) fixed_tile ∷ letter 0 (pos 160) ∷ []) ∷ []
+upward_centred = refl
+
 downward : after AsCode (text TopToBottom (repeating_tile ∷ letter 0 (pos 200) ∷ [])) ≡ at (pos 100) repeating_tile ∷ letter 0 (pos 200) ∷ []
 downward = refl
 
@@ -81,7 +90,7 @@ alone_leftward : after Centred (text LeftToRight (fixed_tile ∷ letter 0 (pos 1
 alone_leftward = refl
 
 -- two tiles that repeat: each is laid as often as it repeats before the next one is
-abbrev second_tile : Cell
+abbrev pub second_tile : Cell
 second_tile = cell 2 0 Lo 9 (pos 100)
 
 two_repeat : after AsCode (text LeftToRight (second_tile ∷ repeating_tile ∷ letter 0 (pos 600) ∷ [])) ≡ at (pos 300) second_tile ∷ at (pos 400) second_tile ∷ at (pos 500) repeating_tile ∷ at (pos 700) repeating_tile ∷ letter 0 (pos 600) ∷ []
@@ -90,6 +99,13 @@ two_repeat = refl
 -- word and run have no break, their clusters 0, 1 and 2; what stands before the word and behind the run is left alone
 flagged_word : after AsCode (text RightToLeft (cell 5 0 Zs 7 (pos 55) ∷ letter 0 (pos 200) ∷ letter 1 (pos 200) ∷ cell 3 2 Lo 9 (pos 200) ∷ cell 5 3 Zs 7 (pos 55) ∷ [])) ≡ cell 5 0 Zs 7 (pos 55) ∷ letter 0 (pos 200) ∷ flags 19 (letter 1 (pos 200)) ∷ flags 19 (at (negsuc 199) (cell 3 2 Lo 9 (pos 200))) ∷ flags 19 (at (pos 0) (cell 3 2 Lo 9 (pos 200))) ∷ cell 5 3 Zs 7 (pos 55) ∷ []
 flagged_word = refl
+
+-- two tiles of different clusters: each copy has that of its own tile, and in both directions the least cluster has no flags
+two_clusters : after AsCode (text RightToLeft (letter 0 (pos 400) ∷ cell 2 1 Lo 9 (pos 100) ∷ cell 3 2 Lo 9 (pos 200) ∷ [])) ≡ letter 0 (pos 400) ∷ flags 19 (at (negsuc 399) (cell 2 1 Lo 9 (pos 100))) ∷ flags 19 (at (negsuc 399) (cell 2 1 Lo 9 (pos 100))) ∷ flags 19 (at (negsuc 299) (cell 3 2 Lo 9 (pos 200))) ∷ flags 19 (at (negsuc 199) (cell 3 2 Lo 9 (pos 200))) ∷ []
+two_clusters = refl
+
+two_clusters_backwards : after AsCode (text LeftToRight (cell 3 0 Lo 9 (pos 200) ∷ cell 2 1 Lo 9 (pos 100) ∷ letter 2 (pos 400) ∷ [])) ≡ at (pos 0) (cell 3 0 Lo 9 (pos 200)) ∷ at (pos 200) (cell 3 0 Lo 9 (pos 200)) ∷ flags 19 (at (pos 300) (cell 2 1 Lo 9 (pos 100))) ∷ flags 19 (at (pos 400) (cell 2 1 Lo 9 (pos 100))) ∷ flags 19 (letter 2 (pos 400)) ∷ []
+two_clusters_backwards = refl
 
 -- two runs, each with its own word; a run directly behind another has no word
 two_runs : after AsCode (text RightToLeft (letter 0 (pos 300) ∷ repeating_tile ∷ letter 0 (pos 200) ∷ repeating_tile ∷ [])) ≡ letter 0 (pos 300) ∷ at (negsuc 299) repeating_tile ∷ at (negsuc 199) repeating_tile ∷ letter 0 (pos 200) ∷ at (negsuc 99) repeating_tile ∷ []

@@ -1,6 +1,6 @@
 -- Stretched marks: the tiles of a run are laid, and laid again, over the word before it. (OpenType `stch`.)
-use Rattle.std.specs.Prelude.{nat_lt, ℤ, pos, ◌+ℤ◌, ◌-ℤ◌, Bool, not, ◌&&◌, List, [], ◌∷◌, ◌++◌, length, map, filter, flat_map, replicate, reverse, take, drop, Option, None, Some, if◌then◌else◌}
-use Rattle.std.specs.List.{list_all, list_any, zip}
+use Rattle.std.specs.Prelude.{ℕ, nat_lt, ℤ, pos, ◌+ℤ◌, ◌-ℤ◌, Bool, not, ◌&&◌, List, [], ◌∷◌, ◌++◌, length, map, filter, flat_map, replicate, reverse, take, drop, Option, None, Some, if◌then◌else◌}
+use Rattle.std.specs.List.{list_all, list_any, sum_by, zip}
 use Rattle.shapers_buffer.specs.declared.buffer.glyph.GlyphPosition.{GlyphPosition}
 use Rattle.shapers_buffer.specs.declared.buffer.glyph.hb_glyph_info_t.{hb_glyph_info_t}
 use Rattle.shapers_buffer.specs.declared.buffer.level.Direction.{Direction}
@@ -14,7 +14,7 @@ use Rattle.shapers_base.specs.declared.plan.arabic.StretchStart.{StretchStart}
 use Rattle.shapers_base.specs.Font.{Font}
 use Rattle.shapers_stretch.specs.Cells.{Cell, glyphs_of, positions_of, repeats, parts, tiles_of, word_of, before_word}
 use Rattle.shapers_stretch.specs.declared.ot_shaper_arabic_stretch.measuring.Run.{Run}
-use Rattle.shapers_stretch.specs.Measure.{added, overlap, start, numbers, fits_i32, total}
+use Rattle.shapers_stretch.specs.Measure.{added, copies_added, overlap, start, numbers, fits_i32, total}
 use Rattle.std.specs.Prelude.{true, false}
 
 -- how a font's tiles are laid: from which start, and in which direction
@@ -124,6 +124,14 @@ in_order right_to_left xs = if right_to_left then xs else reverse xs
 abbrev pub cells : Buffer → List Cell
 cells b = zip b.glyphs b.positions
 
+abbrev pub cells_in_order : Buffer → List Cell
+cells_in_order b = in_order (runs_leftward b.direction) (cells b)
+
+-- how many copies are added to the runs of a buffer together
+abbrev pub copies_in : Font → Buffer → ℕ
+copies_in font b =
+    if b.stch then sum_by (λ part. copies_added (run_of font part)) (parts (cells_in_order b)) else 0
+
 -- how the tiles of a buffer are laid
 abbrev pub laying : Font → StretchStart → Buffer → Laying
 laying font choice b = record { font = font; choice = choice; right_to_left = runs_leftward b.direction }
@@ -131,7 +139,7 @@ laying font choice b = record { font = font; choice = choice; right_to_left = ru
 abbrev pub stretched_cells : Font → StretchStart → Buffer → List Cell
 stretched_cells font choice b =
     let how = laying font choice b in
-    in_order how.right_to_left (stretched how (in_order how.right_to_left (cells b)))
+    in_order how.right_to_left (stretched how (cells_in_order b))
 
 -- the buffer stretched: nothing without the mark "has stch"
 abbrev pub with_cells : List Cell → Buffer → Buffer
@@ -144,4 +152,4 @@ marks_stretched font choice b = if b.stch then with_cells (stretched_cells font 
 abbrev pub stretch_refusal : Font → StretchStart → Buffer → Option ShaperError
 stretch_refusal font choice b =
     let how = laying font choice b in
-    if b.stch && overflows how (in_order how.right_to_left (cells b)) then Some StretchOverflow else None
+    if b.stch && overflows how (cells_in_order b) then Some StretchOverflow else None

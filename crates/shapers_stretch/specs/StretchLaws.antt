@@ -1,10 +1,17 @@
--- The law of widths.
-use Rattle.std.specs.Prelude.{◌≡◌, List, pos, ◌+ℤ◌, ◌≤ℤ◌, ◌<ℤ◌, ◌⊎◌}
+-- The law of widths: how wide the laid stretches of a text are, read from the text after.
+use Rattle.std.specs.Prelude.{◌≡◌, ℕ, suc, true, false, Bool, List, [], ◌∷◌, ◌++◌, length, map, flat_map, replicate, reverse, pos, ℤ, ◌+ℤ◌, ◌-ℤ◌, ◌≤ℤ◌, ◌<ℤ◌, ◌⊎◌, ◌+◌, if◌then◌else◌}
+use Rattle.std.specs.List.{AllZip}
+use Rattle.shapers_buffer.specs.declared.buffer.glyph.hb_glyph_info_t.{hb_glyph_info_t}
+use Rattle.shapers_buffer.specs.Buffer.{Buffer}
+use Rattle.shapers_buffer.specs.Lists.{each_after}
+use Rattle.shapers_base.specs.declared.plan.arabic.StretchStart.{StretchStart}
 use Rattle.shapers_base.specs.Font.{Font}
-use Rattle.shapers_stretch.specs.Cells.{Cell, tiles_of}
+use Rattle.shapers_stretch.specs.Cells.{Cell, before_tiles, glyphs_of, parts, positions_of, repeats, tiles_of}
+use Rattle.shapers_stretch.specs.CountingWalk.{run_moves}
 use Rattle.shapers_stretch.specs.declared.ot_shaper_arabic_stretch.measuring.Run.{Run}
-use Rattle.shapers_stretch.specs.Measure.{left, laid_width, copies_added}
-use Rattle.shapers_stretch.specs.Stretch.{run_of, copies, moves}
+use Rattle.shapers_stretch.specs.Lays.{lay_of}
+use Rattle.shapers_stretch.specs.Measure.{added, left, laid_width, copies_added, start, total}
+use Rattle.shapers_stretch.specs.Stretch.{Laying, cells_in_order, has_run, laying, marks_stretched, run_of}
 
 -- the repeating tiles have a width, and fit into what the fixed ones leave of the word
 abbrev pub TilesFit : Run → Type 0
@@ -12,10 +19,73 @@ TilesFit z = (pos 0 <ℤ z.repeating) × (z.repeating ≤ℤ left z)
 
 -- What is laid is as wide as the word, or wider by less than one unit for each added copy.
 abbrev pub CoversTheWord : Run → Type 0
-CoversTheWord z = (z.word ≤ℤ laid_width z) × ((laid_width z ≡ z.word) ⊎ (laid_width z <ℤ (z.word +ℤ pos (copies_added z))))
+CoversTheWord z =
+    let width = laid_width z in
+    (z.word ≤ℤ width) × ((width ≡ z.word) ⊎ (width <ℤ (z.word +ℤ pos (copies_added z))))
 
--- The copies of a run move the pen by the laid width together; and where the tiles fit, that covers the word.
+-- the glyph numbers of cells
+abbrev pub ids : List Cell → List ℕ
+ids cs = map (λ c. c.0.glyph_id) cs
+
+-- the glyphs that are laid for tiles, from the last tile to the first: a fixed one once, a
+-- repeating one these times more
+abbrev pub laid_ids : ℕ → List hb_glyph_info_t → List ℕ
+laid_ids more tiles =
+    flat_map (λ g. replicate (if repeats g then suc more else 1) g.glyph_id) (reverse tiles)
+
+-- where copies stand that move the pen so far: right to left behind their own move, else before it
+abbrev pub stands : Bool → ℤ → List ℤ → ℤ → ℤ
+stands right_to_left from before move =
+    if right_to_left then from -ℤ total (before ++ move ∷ []) else from +ℤ total before
+
+abbrev pub offsets_by : Bool → ℤ → List ℤ → List ℤ
+offsets_by right_to_left from moves =
+    map (λ p. stands right_to_left from p.0 p.1) (each_after [] moves)
+
+-- how far the copies of a part's run move it, each by the font's advance, and an added one by the
+-- overlap less; and where the first begins
+abbrev pub moves_in : Laying → List Cell → List ℤ
+moves_in how part =
+    let z = run_of how.font part in
+    run_moves how.font (lay_of how.choice how.right_to_left z) (glyphs_of (tiles_of part))
+
+abbrev pub start_in : Laying → List Cell → ℤ
+start_in how part = start how.choice how.right_to_left (run_of how.font part)
+
+-- What a part with a run became. In front stands what stood before the run, with its positions, and
+-- so with the word's advance. Behind it stand the copies, the one that is laid first last. They have
+-- no advance, and stand where their moves lead. All moves together are the laid width, and where the
+-- tiles fit, that covers the word.
+pub record RunIsLaid (how : Laying) (part piece : List Cell) : Type 0 where
+  pub front : List Cell
+  pub copies : List Cell
+  pub joined : piece ≡ front ++ reverse copies
+  pub front_ids : ids front ≡ ids (before_tiles part)
+  pub front_positions : positions_of front ≡ positions_of (before_tiles part)
+  pub tiles : ids copies ≡ laid_ids (added (run_of how.font part)) (glyphs_of (tiles_of part))
+  pub many : length copies ≡ length (tiles_of part) + copies_added (run_of how.font part)
+  pub advances : map (λ c. c.1.x_advance) copies ≡ replicate (length copies) (pos 0)
+  pub offsets : map (λ c. c.1.x_offset) copies
+      ≡ offsets_by how.right_to_left (start_in how part) (moves_in how part)
+  pub width : total (moves_in how part) ≡ laid_width (run_of how.font part)
+  pub covers : TilesFit (run_of how.font part) → CoversTheWord (run_of how.font part)
+
+-- a part without a run stays
+abbrev pub PartIsLaid : Laying → List Cell → List Cell → Type 0
+PartIsLaid how part piece =
+    (has_run part ≡ false → piece ≡ part) × (has_run part ≡ true → RunIsLaid how part piece)
+
+-- The text before is its parts, and the text after what each of them became, one after another.
+pub record TextIsLaid (how : Laying) (old new : List Cell) : Type 0 where
+  pub pieces : List (List Cell)
+  pub before : flat_map (λ part. part) (parts old) ≡ old
+  pub after : flat_map (λ piece. piece) pieces ≡ new
+  pub each : AllZip (PartIsLaid how) (parts old) pieces
+
+-- So it is, in working order, for what stretching makes of a buffer that is marked to have stretches.
 abbrev pub WidthsHold : Type 0
-WidthsHold = (font : Font) (part : List Cell) →
-    let z = run_of font part in
-    (moves (copies font z (tiles_of part)) ≡ laid_width z) × (TilesFit z → CoversTheWord z)
+WidthsHold = (font : Font) (choice : StretchStart) (old new : Buffer) →
+    old.stch ≡ true → length old.positions ≡ length old.glyphs →
+    new ≡ marks_stretched font choice old →
+    (length new.positions ≡ length new.glyphs)
+    × TextIsLaid (laying font choice old) (cells_in_order old) (cells_in_order new)

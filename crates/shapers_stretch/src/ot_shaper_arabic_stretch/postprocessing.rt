@@ -6,7 +6,7 @@ ghost use Rattle.shapers_arabic.specs.PlanData.{IsArabic};
 ghost use Rattle.shapers_stretch.specs.CountingWalk.{text_refusal};
 ghost use Rattle.shapers_stretch.specs.LayingWalk.{laying_by};
 ghost use Rattle.shapers_stretch.specs.Recorded.{start_of};
-ghost use Rattle.shapers_stretch.specs.Stretch.{cells, marks_stretched, stretch_refusal, stretched, with_cells};
+ghost use Rattle.shapers_stretch.specs.Stretch.{cells, copies_in, marks_stretched, stretch_refusal, stretched, with_cells};
 
 use super::counting::count_added;
 use super::laying::TileLaying;
@@ -17,7 +17,8 @@ use shapers_base::plan::{PlanData, StretchStart, hb_ot_shape_plan_t};
 /// Stretches marks: where the buffer is marked to have some, the tiles of each run of them are
 /// laid, and laid again, over the word before it, and no break is left inside. Refuses with
 /// `StretchOverflow` where a number of a run doesn't fit 32 bits, and then as a growth to the
-/// length of the result does; what is laid is as wide as `widths_law` says. (OpenType `stch`.)
+/// length of the result does: longer by the copies that are added. What is laid is as wide as
+/// `widths_law` says. (OpenType `stch`.)
 pub fn postprocess_glyphs<F: hb_font_t>(
     plan: &hb_ot_shape_plan_t,
     face: &F,
@@ -32,6 +33,8 @@ pub fn postprocess_glyphs<F: hb_font_t>(
         let after = marks_stretched (F.font face.now) choice buffer.old in
         Refuses (stretch_refusal (F.font face.now) choice buffer.old) buffer.old.max_len
         (length after.glyphs) result }
+    ensures longer { let added = copies_in (F.font face.now) buffer.old in
+        OnOk result (length buffer.new.glyphs ≡ length buffer.old.glyphs + added) }
     ensures err { OnErr result (buffer.new ≡ buffer.old) }
     ensures unmarked { buffer.old.stch ≡ false → IsOk result }
 {

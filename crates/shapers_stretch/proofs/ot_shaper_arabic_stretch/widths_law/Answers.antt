@@ -1,5 +1,5 @@
-use Rattle.shapers_stretch.proofs.Moves.{moves_hold, widths_hold}
+use Rattle.shapers_stretch.proofs.LaidText.{stretch_is_as_wide}
 use Rattle.shapers_stretch.proofs.ot_shaper_arabic_stretch.widths_law.Goals as goal
 
 pub returns : goal.returns
-returns c = λ font part. (moves_hold font part, widths_hold font part)
+returns c = stretch_is_as_wide
