@@ -3,6 +3,7 @@ pub mod Pauses
 pub mod Records
 pub mod Standing
 pub mod Regrouped
+pub mod Stretched
 -- the words of each crate below, under its name
 pub use Rattle.shapers_buffer.specs as buffer
 pub use Rattle.shapers_clusters.specs as clusters
@@ -18,7 +19,6 @@ pub use Rattle.shapers_universal.specs as universal
 pub use Rattle.shapers_indic.specs as indic
 pub use Rattle.shapers_indic_initial.specs as indic_initial
 pub use Rattle.shapers_indic_final.specs as indic_final
-pub mod Stretched
 -- what the public clauses cite of the crates below
 pub use Rattle.shapers_arabic.specs.JoinedText
 pub use Rattle.shapers_arabic.specs.Marks
