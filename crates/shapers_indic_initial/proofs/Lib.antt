@@ -29,6 +29,7 @@ mod Opening
 pub mod OrderClusters
 pub mod OrderListing
 pub mod OrderShifted
+mod PositionsPresent
 mod OrderedBase
 pub mod OrderedPlaces
 pub mod OrderedSyllable

@@ -55,33 +55,26 @@ fn attach(glyphs: &mut [hb_glyph_info_t])
 {
     let mut carrier = 0;
     for glyph in glyphs.iter_mut() {
-        let position = attached_position(glyph, carrier);
-        carrier = next_carrier(glyph, carrier);
+        let (position, next) = attach_to(glyph, carrier);
+        carrier = next;
         glyph.auxiliary = position;
     }
 }
 
-// The position of a glyph behind a carrier of this position.
-fn attached_position(glyph: &hb_glyph_info_t, carrier: u8) -> u8
-    ensures { result ≡ (if is_attached glyph.now then carrier else glyph.now.auxiliary) }
+// The position of a glyph behind a carrier of this position, and that of the nearest carrier before
+// what follows the glyph.
+fn attach_to(glyph: &hb_glyph_info_t, carrier: u8) -> (u8, u8)
+    ensures position { result.0 ≡ (if is_attached glyph.now then carrier else glyph.now.auxiliary) }
+    ensures next { result.1 ≡ (if carries glyph.now then glyph.now.auxiliary else carrier) }
 {
+    let position = glyph.auxiliary;
     if is_attached(glyph) {
-        carrier
-    } else {
-        glyph.auxiliary
+        return (carrier, carrier);
     }
-}
-
-// The position of the nearest carrier before what follows a glyph, where it is this one before the
-// glyph.
-fn next_carrier(glyph: &hb_glyph_info_t, carrier: u8) -> u8
-    ensures { result ≡ (if carries glyph.now then glyph.now.auxiliary else carrier) }
-{
-    if is_attached(glyph) || glyph.auxiliary == POS_SMVD {
-        carrier
-    } else {
-        glyph.auxiliary
+    if position == POS_SMVD {
+        return (position, carrier);
     }
+    (position, position)
 }
 
 // Whether a glyph goes with what stands before it.
