@@ -1,10 +1,16 @@
 mod ConstantRows
 mod MaskLemmas
+mod Pieces
+mod Reordered
 mod RequestRows
+mod StepsAtOnce
 mod SyllableRows
 mod SyllableWalks
 mod UniversalCuts
+mod UniversalFronts
+mod UniversalListing
 pub mod UniversalLists
+mod UniversalPlaces
 mod UniversalRows
 pub mod UniversalSerials
 pub mod UniversalSteps

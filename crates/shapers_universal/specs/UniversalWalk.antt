@@ -1,11 +1,46 @@
--- Words of the walk over the pieces of a syllable.
-use Rattle.std.specs.Prelude.{ℕ, suc, ◌-◌, Bool, List, [], ◌∷◌, ◌++◌, length, take, drop, if◌then◌else◌}
+-- Words of the walk over the places of a syllable.
+use Rattle.std.specs.Prelude.{ℕ, suc, ◌-◌, ◌==◌, Bool, false, not, List, [], ◌∷◌, ◌++◌, filter, reverse, if◌then◌else◌}
+use Rattle.std.specs.List.{flat_map, range_with_len, slice_get}
+use Rattle.std.specs.Option.{option_map_or}
+use Rattle.shapers_buffer.specs.declared.buffer.glyph.hb_glyph_info_t.{hb_glyph_info_t}
+use Rattle.shapers_buffer.specs.Lists.{cut_after}
+use Rattle.shapers_universal.specs.Universal.{first_behind, first_last, goes_front, goes_front_at, is_halant, reversed_first}
+use Rattle.shapers_universal.specs.declared.ot_shaper_use.category.TheConstants.{R}
+
+-- whether a reph stands in front
+abbrev pub has_reph : List hb_glyph_info_t → Bool
+has_reph [] = false
+has_reph (g ∷ gs) = g.category == R
 
 -- how long the first piece is of a list that is cut after each element that passes the test
 abbrev pub first_piece_len : {X : Type 0} → (X → Bool) → List X → ℕ
 first_piece_len test [] = 0
 first_piece_len test (x ∷ xs) = if test x then 1 else suc (first_piece_len test xs)
 
--- the list with its last in front of the others
-abbrev pub last_first : {X : Type 0} → List X → List X
-last_first xs = drop (length xs - 1) xs ++ take (length xs - 1) xs
+-- whether a halant stands at a place
+abbrev pub is_halant_at : List hb_glyph_info_t → ℕ → Bool
+is_halant_at gs i = option_map_or is_halant (slice_get gs i) false
+
+-- whether a glyph stays behind what goes to the front of its piece
+abbrev pub stays_at : List hb_glyph_info_t → ℕ → Bool
+stays_at gs i = not (goes_front_at gs i)
+
+-- the places of a syllable from s to e in their new order, where the reph and what it passes end at `behind`
+abbrev pub places_in_order : ℕ → ℕ → ℕ → List hb_glyph_info_t → List ℕ
+places_in_order s behind e gs =
+    let places = first_behind (behind - s) (range_with_len s (e - s)) in
+    flat_map (reversed_first (goes_front_at gs)) (cut_after (is_halant_at gs) places)
+
+-- the same of its first piece
+abbrev pub piece_places : ℕ → ℕ → ℕ → List hb_glyph_info_t → List ℕ
+piece_places s behind e gs =
+    let places = range_with_len behind (e - behind) in
+    let reph = first_last (range_with_len s (behind - s)) in
+    reverse (filter (goes_front_at gs) places) ++ (reph ++ filter (stays_at gs) places)
+
+-- what merges from place i on, in a piece that starts at `start`: each glyph that goes to the front, from there to its place
+abbrev pub fronts_from : ℕ → ℕ → List hb_glyph_info_t → List (ℕ × ℕ)
+fronts_from start i [] = []
+fronts_from start i (g ∷ gs) =
+    if goes_front g then (start, suc i) ∷ fronts_from start (suc i) gs
+    else fronts_from (if is_halant g then suc i else start) (suc i) gs

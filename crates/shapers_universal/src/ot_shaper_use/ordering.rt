@@ -1,16 +1,15 @@
-//! The order of a syllable, over the slice that the buffer keeps it in.
-ghost use Rattle.std.specs.Prelude.{◌≡◌, ◌==◌, ◌+◌, ◌<◌, ◌≤◌, length, map};
-ghost use Rattle.std.specs.List.{list_any, prefix_len};
-ghost use Rattle.shapers_buffer.specs.Clusters.{merge_all, stretch_of, with_stretch};
-ghost use Rattle.shapers_buffer.specs.Lists.{cut_after};
-ghost use Rattle.shapers_clusters.specs.Steps.{run_step, run_steps, shifted, steps_along, widened};
-ghost use Rattle.shapers_universal.specs.Universal.{first_behind, goes_front, is_halant, is_passed, is_reordered, piece_step, piece_steps, post_base, reph_run, reph_step, reversed_first, universal_steps};
-ghost use Rattle.shapers_universal.specs.UniversalWalk.{first_piece_len, last_first};
+//! The order of a syllable: the places of its glyphs are listed in their new order, what moves merges
+//! with what it passes, and then the syllable is written once.
+ghost use Rattle.std.specs.Prelude.{◌≡◌, ◌==◌, ◌&&◌, ◌||◌, ◌+◌, ◌-◌, ◌<◌, ◌≤◌, ◌^◌, true, length, filter, reverse};
+ghost use Rattle.std.specs.List.{list_any, prefix_len, range_with_len};
+ghost use Rattle.shapers_buffer.specs.Clusters.{merge_all, stretch_of};
+ghost use Rattle.shapers_buffer.specs.ListingWalk.{with_listed};
+ghost use Rattle.shapers_syllabic.specs.Reordering.{SyllableReordered};
+ghost use Rattle.shapers_universal.specs.Universal.{first_last, goes_front, goes_front_at, is_halant, is_passed, is_reordered, post_base, reph_run, universal_order, universal_steps};
+ghost use Rattle.shapers_universal.specs.UniversalWalk.{first_piece_len, fronts_from, has_reph, piece_places, places_in_order, stays_at};
 
 use super::category;
-use shapers_base::buffer::{
-    BufferClusterLevel, GlyphWalk, ShaperError, hb_buffer_t, hb_glyph_info_t, merge_clusters_in,
-};
+use shapers_base::buffer::{ShaperError, hb_buffer_t, hb_glyph_info_t};
 use shapers_syllabic::ot_shaper_syllabic::Reorder;
 use shapers_syllabic::ot_shaper_syllabic::use_syllable::{
     BROKEN_CLUSTER, SAKOT_TERMINATED_CLUSTER, STANDARD_CLUSTER, VIRAMA_TERMINATED_CLUSTER,
@@ -62,49 +61,183 @@ impl Reorder for UniversalOrder {
         start: usize,
         end: usize,
     ) -> Result<(), ShaperError> {
-        let level = buffer.cluster_level();
-        buffer.walk(&mut SyllableOrder { level, start, end });
+        if something_moves(&buffer.glyphs()[start..end]) {
+            reorder_syllable(buffer, start, end);
+        }
         Ok(())
     }
 }
 
-// Where the syllable stands, and whether clusters merge.
-#[derive(Clone, Copy)]
-struct SyllableOrder {
-    level: BufferClusterLevel,
-    start: usize,
-    end: usize,
-}
-
-impl GlyphWalk for SyllableOrder {
-    ghost use Rattle.std.specs.Prelude.{◌≡◌, ◌≤◌, length, map};
-    ghost use Rattle.shapers_buffer.specs.Clusters.{stretch_of};
-    ghost use Rattle.shapers_clusters.specs.Steps.{run_steps, widened};
-    ghost use Rattle.shapers_universal.specs.Universal.{universal_steps};
-
-    ghost can_walk = { λ w gs. (w.start ≤ w.end) × (w.end ≤ length gs) };
-
-    ghost walks = { λ v w gs hs.
-        let steps = universal_steps (stretch_of v.start v.end gs) in
-        hs ≡ run_steps v.level (map (widened v.start v.end (length gs)) steps) gs };
-
-    fn walk(&mut self, glyphs: &mut [hb_glyph_info_t]) {
-        order_syllable(self.level, glyphs, self.start, self.end);
-    }
-}
-
-// Orders the syllable from `s` to `e`.
-fn order_syllable(level: BufferClusterLevel, glyphs: &mut [hb_glyph_info_t], s: usize, e: usize)
-    requires in_order { s ≤ e }
-    requires in_range { e ≤ length glyphs.old }
-    ensures { let steps = universal_steps (stretch_of s e glyphs.old) in
-        glyphs.new ≡ run_steps level (map (widened s e (length glyphs.old)) steps) glyphs.old }
+// Whether something moves in a syllable: it is of a kind that is reordered, and a reph stands in
+// front or a glyph goes to the front.
+fn something_moves(syllable: &[hb_glyph_info_t]) -> bool
+    ensures { let some = has_reph syllable.now || list_any goes_front syllable.now in
+        result ≡ (is_reordered syllable.now && some) }
 {
-    if !is_reordered(&glyphs[s..e]) {
-        return;
+    is_reordered(syllable) && (has_reph(syllable) || some_go_front(syllable))
+}
+
+// Whether some glyph goes to the front of its piece.
+fn some_go_front(glyphs: &[hb_glyph_info_t]) -> bool
+    ensures { result ≡ list_any goes_front glyphs.now }
+{
+    glyphs.iter().any(|glyph| goes_front(glyph))
+}
+
+// Whether a reph stands in front.
+fn has_reph(syllable: &[hb_glyph_info_t]) -> bool
+    ensures { result ≡ has_reph syllable.now }
+{
+    match syllable.first() {
+        None => false,
+        Some(glyph) => glyph.category == category::R,
     }
-    move_reph(level, glyphs, s, e);
-    order_pieces(level, glyphs, s, e);
+}
+
+// Reorders the syllable from `s` to `e`.
+fn reorder_syllable(buffer: &mut hb_buffer_t, s: usize, e: usize)
+    requires in_order { s ≤ e }
+    requires in_range { e ≤ length buffer.old.glyphs }
+    requires kind { is_reordered (stretch_of s e buffer.old.glyphs) ≡ true }
+    ensures { SyllableReordered universal_order universal_steps s e buffer.old buffer.new }
+{
+    let behind = s + reph_run(&buffer.glyphs()[s..e]);
+    list_order(buffer, s, behind, e);
+    buffer.merge_clusters(s, behind);
+    merge_fronts(buffer, s, behind, e);
+    buffer.apply(s, e);
+}
+
+// Merges each glyph from `behind` to `e` that goes to the front with all of its piece before it,
+// where the first piece starts at `s`.
+fn merge_fronts(buffer: &mut hb_buffer_t, s: usize, behind: usize, e: usize)
+    requires in_order { s ≤ behind }
+    requires inside { behind ≤ e }
+    requires in_range { e ≤ length buffer.old.glyphs }
+    ensures { let fronts = fronts_from s behind (stretch_of behind e buffer.old.glyphs) in
+        buffer.new ≡ record buffer.old {
+          glyphs = merge_all buffer.old.level fronts buffer.old.glyphs;
+        } }
+{
+    // where the piece starts, and the place up to which it has merged
+    let mut start = s;
+    let mut last = s;
+    for i in behind..e {
+        if goes_front(&buffer.glyphs()[i]) {
+            buffer.merge_further(start, last + 1, i + 1);
+            last = i;
+        } else if is_halant(&buffer.glyphs()[i]) {
+            start = i + 1;
+            last = i + 1;
+        }
+    }
+}
+
+// Lists the order of the syllable from `s` to `e`, of which the reph and what it passes end at
+// `behind`.
+fn list_order(buffer: &mut hb_buffer_t, s: usize, behind: usize, e: usize)
+    requires in_order { s < e }
+    requires in_range { e ≤ length buffer.old.glyphs }
+    requires reph { behind ≡ s + reph_run (stretch_of s e buffer.old.glyphs) }
+    requires inside { behind ≤ e }
+    ensures { let order = places_in_order s behind e buffer.old.glyphs in
+        buffer.new ≡ record buffer.old { places = with_listed s order buffer.old.places } }
+{
+    let end = behind + piece_len(&buffer.glyphs()[behind..e]);
+    list_piece(buffer, s, behind, end);
+    list_pieces(buffer, end, e);
+}
+
+// Lists the order of the pieces from `s` to `e`, where a piece ends with a halant.
+fn list_pieces(buffer: &mut hb_buffer_t, s: usize, e: usize)
+    requires in_order { s ≤ e }
+    requires in_range { e ≤ length buffer.old.glyphs }
+    ensures { let order = places_in_order s s e buffer.old.glyphs in
+        buffer.new ≡ record buffer.old { places = with_listed s order buffer.old.places } }
+{
+    let mut start = s;
+    while start < e {
+        let end = start + piece_len(&buffer.glyphs()[start..e]);
+        list_piece(buffer, start, start, end);
+        start = end;
+    }
+}
+
+// Lists the order of the piece from `s` to `e`: what goes to the front, last first; the reph and
+// what it passes, which end at `behind`, with the reph last; and the rest.
+fn list_piece(buffer: &mut hb_buffer_t, s: usize, behind: usize, e: usize)
+    requires in_order { s ≤ behind }
+    requires inside { behind ≤ e }
+    requires in_range { e ≤ length buffer.old.glyphs }
+    ensures { let order = piece_places s behind e buffer.old.glyphs in
+        buffer.new ≡ record buffer.old { places = with_listed s order buffer.old.places } }
+{
+    let at = list_fronts(buffer, s, behind, e);
+    let at = list_reph(buffer, s, behind, at);
+    list_rest(buffer, behind, e, at);
+}
+
+// Lists what goes to the front of those from `behind` to `e`, last first, from place `s` on.
+// Answers the place behind them.
+fn list_fronts(buffer: &mut hb_buffer_t, s: usize, behind: usize, e: usize) -> usize
+    requires in_order { s ≤ behind }
+    requires inside { behind ≤ e }
+    requires in_range { e ≤ length buffer.old.glyphs }
+    ensures listed { let places = range_with_len behind (e - behind) in
+        let fronts = reverse (filter (goes_front_at buffer.old.glyphs) places) in
+        buffer.new ≡ record buffer.old { places = with_listed s fronts buffer.old.places } }
+    ensures behind { let places = range_with_len behind (e - behind) in
+        let fronts = reverse (filter (goes_front_at buffer.old.glyphs) places) in
+        result ≡ s + length fronts }
+{
+    let mut at = s;
+    for i in (behind..e).rev() {
+        if goes_front(&buffer.glyphs()[i]) {
+            buffer.set_place(at, i);
+            at += 1;
+        }
+    }
+    at
+}
+
+// Lists the places from `s` to `behind` from place `at` on, the first of them last. Answers the
+// place behind them.
+fn list_reph(buffer: &mut hb_buffer_t, s: usize, behind: usize, at: usize) -> usize
+    requires in_order { s ≤ behind }
+    requires in_range { at + (behind - s) ≤ length buffer.old.glyphs }
+    requires fits { at + (behind - s) < 2 ^ 64 }
+    ensures listed { let run = first_last (range_with_len s (behind - s)) in
+        buffer.new ≡ record buffer.old { places = with_listed at run buffer.old.places } }
+    ensures behind { result ≡ at + (behind - s) }
+{
+    if s == behind {
+        return at;
+    }
+    let mut at = at;
+    for i in s + 1..behind {
+        buffer.set_place(at, i);
+        at += 1;
+    }
+    buffer.set_place(at, s);
+    at + 1
+}
+
+// Lists what doesn't go to the front of those from `s` to `e`, from place `at` on.
+fn list_rest(buffer: &mut hb_buffer_t, s: usize, e: usize, at: usize)
+    requires in_order { s ≤ e }
+    requires in_range { e ≤ length buffer.old.glyphs }
+    requires room { let rest = filter (stays_at buffer.old.glyphs) (range_with_len s (e - s)) in
+        at + length rest ≤ e }
+    ensures { let rest = filter (stays_at buffer.old.glyphs) (range_with_len s (e - s)) in
+        buffer.new ≡ record buffer.old { places = with_listed at rest buffer.old.places } }
+{
+    let mut at = at;
+    for i in s..e {
+        if !goes_front(&buffer.glyphs()[i]) {
+            buffer.set_place(at, i);
+            at += 1;
+        }
+    }
 }
 
 // Whether syllables of this kind are reordered.
@@ -121,18 +254,6 @@ fn is_reordered(syllable: &[hb_glyph_info_t]) -> bool
                 || kind == BROKEN_CLUSTER
         }
     }
-}
-
-// Moves the reph of the syllable from `s` to `e` behind what it passes, and merges it with that.
-fn move_reph(level: BufferClusterLevel, glyphs: &mut [hb_glyph_info_t], s: usize, e: usize)
-    requires in_order { s ≤ e }
-    requires in_range { e ≤ length glyphs.old }
-    ensures { let step = widened s e (length glyphs.old) (reph_step (stretch_of s e glyphs.old)) in
-        glyphs.new ≡ run_step level step glyphs.old }
-{
-    let run = reph_run(&glyphs[s..e]);
-    merge_clusters_in(level, glyphs, s, s + run);
-    put_first_behind_in(glyphs, s, e, run);
 }
 
 // How many glyphs the reph in front and what it passes are, 0 where no reph stands in front.
@@ -177,42 +298,8 @@ fn is_halant(glyph: &hb_glyph_info_t) -> bool
         && !glyph.marks.is_ligated()
 }
 
-// Puts the first of `n` glyphs of the stretch from `s` to `e` behind the others of them.
-fn put_first_behind_in(glyphs: &mut [hb_glyph_info_t], s: usize, e: usize, n: usize)
-    requires in_order { s + n ≤ e }
-    requires in_range { e ≤ length glyphs.old }
-    ensures { glyphs.new ≡ with_stretch s e (first_behind n) glyphs.old }
-{
-    put_first_behind(&mut glyphs[s..e], n);
-}
-
-// Puts the first of the first `n` glyphs behind the others of them.
-fn put_first_behind(glyphs: &mut [hb_glyph_info_t], n: usize)
-    requires { n ≤ length glyphs.old }
-    ensures { glyphs.new ≡ first_behind n glyphs.old }
-{
-    glyphs[..n].rotate_left(n.min(1));
-}
-
-// Orders each piece of the stretch from `s` to `e`, where a piece ends with a halant.
-fn order_pieces(level: BufferClusterLevel, glyphs: &mut [hb_glyph_info_t], s: usize, e: usize)
-    requires in_order { s ≤ e }
-    requires in_range { e ≤ length glyphs.old }
-    ensures { let steps = piece_steps (cut_after is_halant (stretch_of s e glyphs.old)) in
-        glyphs.new ≡ run_steps level (steps_along (length glyphs.old) s steps) glyphs.old }
-{
-    let mut start = s;
-    while start < e {
-        let end = start + piece_len(&glyphs[start..e]);
-        order_piece(level, glyphs, start, end);
-        start = end;
-    }
-}
-
 // How long the first piece is: up to the first halant, or all.
 fn piece_len(glyphs: &[hb_glyph_info_t]) -> usize
-    requires { 0 < length glyphs.now }
-    ensures some { 0 < result }
     ensures len { result ≡ first_piece_len is_halant glyphs.now }
     ensures within { result ≤ length glyphs.now }
 {
@@ -222,60 +309,6 @@ fn piece_len(glyphs: &[hb_glyph_info_t]) -> usize
         }
     }
     glyphs.len()
-}
-
-// Brings what goes to the front of the piece from `s` to `e` there, merged with what it passes.
-fn order_piece(level: BufferClusterLevel, glyphs: &mut [hb_glyph_info_t], s: usize, e: usize)
-    requires in_order { s ≤ e }
-    requires in_range { e ≤ length glyphs.old }
-    ensures { let step = widened s e (length glyphs.old) (piece_step (stretch_of s e glyphs.old)) in
-        glyphs.new ≡ run_step level step glyphs.old }
-{
-    merge_fronts(level, glyphs, s, e);
-    bring_fronts_in(glyphs, s, e);
-}
-
-// Merges each glyph that goes to the front of the piece from `s` to `e` with all before it.
-fn merge_fronts(level: BufferClusterLevel, glyphs: &mut [hb_glyph_info_t], s: usize, e: usize)
-    requires in_order { s ≤ e }
-    requires in_range { e ≤ length glyphs.old }
-    ensures { let first = (piece_step (stretch_of s e glyphs.old)).merged_first in
-        glyphs.new ≡ merge_all level (shifted s first) glyphs.old }
-{
-    for i in 0..e - s {
-        if goes_front(&glyphs[s + i]) {
-            merge_clusters_in(level, glyphs, s, s + i + 1);
-        }
-    }
-}
-
-// Brings what goes to the front of the piece from `s` to `e` there.
-fn bring_fronts_in(glyphs: &mut [hb_glyph_info_t], s: usize, e: usize)
-    requires in_order { s ≤ e }
-    requires in_range { e ≤ length glyphs.old }
-    ensures { glyphs.new ≡ with_stretch s e (reversed_first goes_front) glyphs.old }
-{
-    bring_fronts(&mut glyphs[s..e]);
-}
-
-// Brings what goes to the front of a piece there, each before the one that came before it.
-fn bring_fronts(piece: &mut [hb_glyph_info_t])
-    ensures { piece.new ≡ reversed_first goes_front piece.old }
-{
-    for i in 0..piece.len() {
-        if goes_front(&piece[i]) {
-            bring_last(piece, i + 1);
-        }
-    }
-}
-
-// Brings the last of the first `n` glyphs before the others of them.
-fn bring_last(glyphs: &mut [hb_glyph_info_t], n: usize)
-    requires some { 0 < n }
-    requires in_range { n ≤ length glyphs.old }
-    ensures { glyphs.new ≡ with_stretch 0 n last_first glyphs.old }
-{
-    glyphs[..n].rotate_right(1);
 }
 
 // Whether a glyph goes to the front of its piece.

@@ -1,33 +1,32 @@
--- One glyph more: it merges, or stays.
-use Rattle.std.proofs.Common.{◌≡◌, ◌+◌, ◌<◌, length, ap, arith, sym, ◌∙◌}
-use Rattle.shapers_buffer.specs.Glyph.{default_glyph, order_view}
-use Rattle.shapers_clusters.proofs.Merging.{order_view-merge}
-use Rattle.shapers_universal.proofs.UniversalWalks.{merged_next, unmerged_next}
+-- One glyph more: it goes to the front, ends its piece, or stays.
+use Rattle.std.proofs.Common.{ap, arith, sym, ◌∙◌}
+use Rattle.shapers_universal.specs.Universal.{goes_front, is_halant}
+use Rattle.shapers_universal.proofs.UniversalFronts.{merging_ends, merging_front, merging_halant, merging_rest, merging_starts}
+use Rattle.shapers_universal.proofs.UniversalPlaces.{at}
 use Rattle.shapers_universal.proofs.ot_shaper_use.ordering.merge_fronts.Goals as goal
-use Rattle.shapers_universal.proofs.ot_shaper_use.ordering.merge_fronts.Goals.{then-goes_front, else-goes_front}
+use Rattle.shapers_universal.proofs.ot_shaper_use.ordering.merge_fronts.Goals.{then-goes_front, else-goes_front+then-is_halant, else-goes_front+else-is_halant}
+
+pub loop-i-init : goal.loop-i-init
+loop-i-init c = merging_starts c.args.s c.args.behind c.args.e c.args.buffer.now c.requires.in_order
 
 pub loop-i-preserved : goal.loop-i-preserved
 loop-i-preserved c =
-    let level = c.args.level in
+    let l = c.loop-i in
     let s = c.args.s in
+    let behind = c.args.behind in
     let e = c.args.e in
-    let gs = c.args.glyphs.now in
-    let hs = c.loop-i.glyphs in
-    let i = c.loop-i.i in
-    let here : s + i < e = omega (arith, c.loop-i-test.true, c.requires.in_order) in
-    let view = c.loop-i.invariant.view in
-    let as_long : length c.if-goes_front.glyphs ≡ length gs = c.if-goes_front.auto.glyphs ∙ c.loop-i.invariant.as_long in
+    let b0 = c.args.buffer.now in
+    let b1 = c.if-goes_front.buffer in
     elim c.if-goes_front.branch [
       | then-goes_front w ↦
-          record {
-            left = merged_next level s e i gs hs c.if-goes_front.glyphs default_glyph here c.requires.in_range view (sym c.goes_front.ensures ∙ w.if-goes_front.true) (w.glyphs-is ∙ w.merge_clusters_in.ensures) ∙ c.loop-i.invariant.left;
-            view = ap order_view (w.glyphs-is ∙ w.merge_clusters_in.ensures) ∙ order_view-merge level s (s + i + 1) hs ∙ view;
-            as_long = as_long;
-          }
-      | else-goes_front w ↦
-          rw w.glyphs-is (record {
-            left = unmerged_next level s e i gs hs default_glyph here c.requires.in_range view (sym c.goes_front.ensures ∙ w.if-goes_front.false) ∙ c.loop-i.invariant.left;
-            view = view;
-            as_long = c.loop-i.invariant.as_long;
-          })
+          rw (w.start-is, w.last-is) (merging_front s behind e l.start l.last l.i b0 l.buffer b1 c.loop-i-test.true c.requires.in_range l.invariant (ap (λ xs. goes_front (at xs l.i)) (sym c.glyphs.ensures) ∙ sym c.goes_front.ensures ∙ w.if-goes_front.true) (w.buffer-is ∙ w.merge_further.ensures.glyphs) (rw w.buffer-is w.merge_further.ensures.one))
+      | else-goes_front+then-is_halant w ↦
+          rw (w.start-is, w.last-is) (merging_halant s behind e l.start l.last l.i b0 l.buffer b1 c.loop-i-test.true c.requires.in_range l.invariant (ap (λ xs. goes_front (at xs l.i)) (sym c.glyphs.ensures) ∙ sym c.goes_front.ensures ∙ w.if-goes_front.false) (ap (λ xs. is_halant (at xs l.i)) (sym w.glyphs-else-goes_front.ensures) ∙ sym w.is_halant.ensures ∙ w.if-is_halant.true) w.buffer-is)
+      | else-goes_front+else-is_halant w ↦
+          rw (w.start-is, w.last-is) (merging_rest s behind e l.start l.last l.i b0 l.buffer b1 c.loop-i-test.true c.requires.in_range l.invariant (ap (λ xs. goes_front (at xs l.i)) (sym c.glyphs.ensures) ∙ sym c.goes_front.ensures ∙ w.if-goes_front.false) (ap (λ xs. is_halant (at xs l.i)) (sym w.glyphs-else-goes_front.ensures) ∙ sym w.is_halant.ensures ∙ w.if-is_halant.false) w.buffer-is)
     ]
+
+pub returns : goal.returns
+returns c =
+    let l = c.loop-i in
+    merging_ends c.args.s c.args.behind c.args.e l.start l.last l.i c.args.buffer.now l.buffer (omega (arith, c.loop-i-test.false)) l.invariant

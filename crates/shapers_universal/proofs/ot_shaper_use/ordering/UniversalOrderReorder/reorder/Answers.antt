@@ -1,14 +1,15 @@
--- The walk runs the steps of the syllable.
-use Rattle.std.proofs.Common.{ap, map, length, ◌∙◌}
+-- A syllable in which nothing moves.
+use Rattle.std.proofs.Common.{◌&&◌, ◌||◌, ap, sym, ◌∙◌}
+use Rattle.std.specs.List.{list_any}
 use Rattle.shapers_buffer.specs.Clusters.{stretch_of}
-use Rattle.shapers_clusters.specs.Steps.{run_steps, widened}
-use Rattle.shapers_universal.specs.Universal.{universal_steps}
-use Rattle.shapers_universal.proofs.UniversalWalks.{syllable_reordered}
+use Rattle.shapers_universal.specs.Universal.{goes_front, is_reordered}
+use Rattle.shapers_universal.specs.UniversalWalk.{has_reph}
+use Rattle.shapers_universal.proofs.Reordered.{still_reordered}
 use Rattle.shapers_universal.proofs.ot_shaper_use.ordering.UniversalOrderReorder.reorder.Goals as goal
 
-pub returns-clause-ok : goal.returns-clause-ok
-returns-clause-ok c =
-    let old = c.args.buffer.now in
+pub returns-else-something_moves-clause-ok : goal.returns-else-something_moves-clause-ok
+returns-else-something_moves-clause-ok c =
     let s = c.args.start in
     let e = c.args.end in
-    syllable_reordered s e old c.walk.new.self c.requires.in_order c.requires.in_range c.walk.ensures.others (c.walk.ensures.walked ∙ ap (λ level. run_steps level (map (widened s e (length old.glyphs)) (universal_steps (stretch_of s e old.glyphs))) old.glyphs) c.cluster_level-level.ensures)
+    still_reordered s e c.args.buffer.now c.requires.in_order c.requires.in_range
+    (sym (ap (λ gs. let zs = stretch_of s e gs in is_reordered zs && (has_reph zs || list_any goes_front zs)) c.glyphs.ensures) ∙ sym c.something_moves.ensures ∙ c.if-something_moves.false)

@@ -1,0 +1,16 @@
+-- What is left to list of the reph and what it passes.
+use Rattle.std.proofs.Common.{◌+◌, ◌-◌, ◌≤◌, ◌++◌, ◌∷◌, [], length, suc}
+use Rattle.std.specs.List.{range_with_len}
+use Rattle.shapers_buffer.specs.ListingWalk.{with_listed}
+use Rattle.shapers_universal.specs.Universal.{first_last}
+use Rattle.shapers_universal.proofs.UniversalListing.{Left}
+use Rattle.shapers_universal.proofs.ot_shaper_use.ordering.list_reph.Given as goal
+
+abbrev pub invariant-loop-i : goal.invariant-loop-i
+invariant-loop-i l =
+    let all = first_last (range_with_len l.s (l.behind - l.s)) in
+    record {
+      left : Left (range_with_len l.i (l.behind - l.i) ++ l.s ∷ []) l.at (with_listed l.fn.at all l.initial.buffer.places) (l.fn.at + length all) l.initial.buffer l.buffer;
+      from : suc l.s ≤ l.i;
+      within : l.i ≤ l.behind;
+    }
