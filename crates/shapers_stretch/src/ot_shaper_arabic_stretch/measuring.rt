@@ -148,7 +148,7 @@ fn times_more(run: Run, left: i128) -> usize
     ensures value { result ≡ nat_abs (int_div left run.repeating) - 1 }
     ensures bound { result < 2 ^ 31 }
 {
-    (left.unsigned_abs() / run.repeating.unsigned_abs()) as usize - 1
+    (left.unsigned_abs() as u64 / run.repeating.unsigned_abs() as u64) as usize - 1
 }
 
 // How often the repeating tiles are laid besides once, and whether these copies overlap.
@@ -214,6 +214,7 @@ fn added_fits(run: Run, added: usize) -> bool
     requires bound { added ≤ 2 ^ 31 }
     ensures value { result ≡ list_all fits_i32 (reach run added ∷ pos (added * run.repeaters)
         ∷ []) }
+    ensures reach { IsTrue result → FitsSigned w32 (reach run added) }
 {
     fits_i32(reach(run, added)) && fits_i32(copies(run, added))
 }
@@ -224,6 +225,8 @@ fn overlap(run: Run, rounds: Rounds) -> i128
     requires bound { rounds.added ≤ 2 ^ 31 }
     requires added { rounds.added ≡ added run }
     requires squeezes { rounds.squeezes ≡ squeezes run }
+    requires reach { FitsSigned w32 (reach run rounds.added) }
+    requires copies { rounds.added * run.repeaters < 2 ^ 31 }
     ensures value { result ≡ overlap run }
     ensures low { pos 0 ≤ℤ result }
     ensures high { result <ℤ pos (2 ^ 66) }
@@ -264,7 +267,7 @@ fn start_as_code(run: Run, shares: bool) -> i128
     requires squeezes { shares ≡ squeezes run }
     ensures { result ≡ start StretchStart.AsCode false run }
 {
-    if shares { 0 } else { quotient(left_of(run), 2) }
+    if shares { 0 } else { half(left_of(run)) }
 }
 
 // What the fixed tiles leave of the word.
@@ -353,10 +356,12 @@ fn shared_by(copies: i128, shared: i128) -> i128
     copies * shared
 }
 
-// The quotient of two numbers, rounded toward zero.
+// The quotient of two numbers that fit 64 bits, rounded toward zero.
 fn quotient(a: i128, b: i128) -> i128
-    requires { pos 0 <ℤ b }
+    requires above { pos 0 <ℤ b }
+    requires a { FitsSigned w64 a }
+    requires b { FitsSigned w64 b }
     ensures value { result ≡ int_div a b }
 {
-    a / b
+    i128::from(a as i64 / b as i64)
 }
