@@ -16,11 +16,8 @@ use Rattle.shapers_indic_final.specs.FinalReordering.{based, final_order, final_
 use Rattle.shapers_indic_final.specs.FinalReph.{base_after_reph, reph_steps, with_reph}
 use Rattle.shapers_indic_final.specs.FinalRules.{rules_of}
 use Rattle.shapers_indic_final.specs.declared.ot_shaper_indic_final.rules.Rules.{Rules}
-use Rattle.shapers_indic_final.proofs.FinalReads.{KeepsMask, View, base_after_stays, base_seen, based_stays, final_steps_stay, matra_steps_stay, order_stays, pref_steps_stay, reph_steps_stay, viramas_stay, with_base_stays, with_matras_stays, with_pref_stays, with_reph_stays}
-
--- the order view as a view
-abbrev pub plain_view : View
-plain_view = record { in_clusters = λ c. 0; in_masks = without_flags; in_syllables = λ s. s }
+use Rattle.shapers_indic_final.proofs.FinalReads.{KeepsMask, base_after_stays, base_seen, based_stays, final_steps_stay, matra_steps_stay, order_stays, pref_steps_stay, reph_steps_stay, viramas_stay, with_base_stays, with_matras_stays, with_pref_stays, with_reph_stays}
+use Rattle.shapers_syllabic.proofs.Views.{plain_view}
 
 -- a mask without the bits of flags
 abbrev pub TouchesNoFlag : ℕ → Type 0

@@ -26,6 +26,7 @@ use Rattle.shapers_indic_final.specs.FinalReordering.{after_matras, after_pref, 
 use Rattle.shapers_indic_final.specs.FinalReph.{at_end, base_after_reph, behind_base, carried_along, end_of_run, is_with_main, is_with_sub, last_but_signs, matras_between, opens_with_reph, reph_step, reph_steps, reph_target, with_joiner, with_reph}
 use Rattle.shapers_indic_final.specs.FinalRules.{has_no_half_forms, is_malayalam}
 use Rattle.shapers_indic_final.specs.declared.ot_shaper_indic_final.rules.Rules.{Rules}
+use Rattle.shapers_syllabic.proofs.Views.{View, seen_by, shown}
 
 -- functions at several equal arguments
 same_two : {A B C : Type 0} (f : A → B → C) {a b : A} {c d : B} → a ≡ b → c ≡ d → f a c ≡ f b d
@@ -34,22 +35,9 @@ same_two f {a} {b} {c} {d} p q = ap (λ x. f x c) p ∙ ap (f b) q
 same_three : {A B C D : Type 0} (f : A → B → C → D) {a b : A} {c d : B} {e g : C} → a ≡ b → c ≡ d → e ≡ g → f a c e ≡ f b d g
 same_three f {a} {b} {c} {d} {e} {g} p q r = ap (λ x. f x c e) p ∙ same_two (f b) q r
 
--- a view of glyphs: other clusters, masks and syllables' bytes, all else as it is
-pub record View : Type 0 where
-  pub in_clusters : ℕ → ℕ
-  pub in_masks : ℕ → ℕ
-  pub in_syllables : ℕ → ℕ
-
-abbrev pub shown : View → hb_glyph_info_t → hb_glyph_info_t
-shown v g = record g { cluster = v.in_clusters g.cluster; mask = v.in_masks g.mask; syllable = v.in_syllables g.syllable }
-
 -- the bits of a mask that show the same
 abbrev pub KeepsMask : View → ℕ → Type 0
 KeepsMask v bits = (m : ℕ) → bit_and (v.in_masks m) bits ≡ bit_and m bits
-
--- a list in that view
-abbrev pub seen_by : View → List hb_glyph_info_t → List hb_glyph_info_t
-seen_by v gs = map (shown v) gs
 
 -- a test that shows the same
 abbrev pub ReadsShown : View → (hb_glyph_info_t → Bool) → Type 0

@@ -1,16 +1,59 @@
--- The final reordering doesn't read the serials of syllables.
-use Rattle.std.proofs.Common.{refl}
-use Rattle.shapers_buffer.specs.Syllables.{kind_of}
-use Rattle.shapers_indic_final.specs.FinalLaws.{FinalReadsNoSerials}
+-- The final reordering doesn't read the serials of syllables, in one syllable and in a text.
+use Rattle.std.proofs.Common.{ℕ, ◌≡◌, ◌&&◌, not, Bool, true, false, if◌then◌else◌, List, [], ◌∷◌, ◌++◌, map, Option, None, Some, refl, sym, ◌∙◌, ap}
+use Rattle.std.specs.Option.{option_map}
+use Rattle.std.proofs.lemmas.List.{map-append}
+use Rattle.shapers_buffer.specs.declared.buffer.glyph.hb_glyph_info_t.{hb_glyph_info_t}
+use Rattle.shapers_buffer.specs.declared.buffer.tag.Script.{Script}
+use Rattle.shapers_buffer.specs.GlyphFlags.{with_bits}
+use Rattle.shapers_buffer.specs.Syllables.{syllables}
+use Rattle.shapers_indic_final.specs.FinalLaws.{FinalReadsNoSerials, FinalTextReadsNoSerials}
+use Rattle.shapers_indic_final.specs.FinalMatras.{is_left}
+use Rattle.shapers_indic_final.specs.FinalOpening.{in_word, last_or, with_init, with_inits}
 use Rattle.shapers_indic_final.specs.FinalReordering.{final_order, final_steps}
-use Rattle.shapers_indic_final.proofs.FinalReads.{View, final_steps_stay, order_stays}
+use Rattle.shapers_indic_final.proofs.FinalReads.{final_steps_stay, order_stays}
+use Rattle.shapers_syllabic.specs.Borders.{unnumbered}
+use Rattle.shapers_syllabic.proofs.HiddenCuts.{clusters_paused-same}
 use Rattle.shapers_syllabic.proofs.LawsThen.{reads_by_view}
-
--- glyphs without the serials of their syllables
-abbrev unnumbered_view : View
-unnumbered_view = record { in_clusters = λ c. c; in_masks = λ m. m; in_syllables = kind_of }
+use Rattle.shapers_syllabic.proofs.Serials.{pieces_same}
+use Rattle.shapers_syllabic.proofs.Views.{unnumbered_view}
 
 pub final_reads_no_serials : FinalReadsNoSerials
 final_reads_no_serials r script =
     let v = unnumbered_view in
     reads_by_view (final_order r script) (final_steps r script) (order_stays v r (λ m. refl) script) (final_steps_stay v r (λ m. refl) script)
+
+-- init goes by what stands before, not by its serial
+word_stays : (o : Option hb_glyph_info_t) → in_word (option_map unnumbered o) ≡ in_word o
+word_stays None = refl
+word_stays (Some g) = refl
+
+last_stays : (o : Option hb_glyph_info_t) (gs : List hb_glyph_info_t) → option_map unnumbered (last_or o gs) ≡ last_or (option_map unnumbered o) (map unnumbered gs)
+last_stays o [] = refl
+last_stays o (g ∷ gs) = last_stays (Some g) gs
+
+init_stays : (bits : ℕ) (o : Option hb_glyph_info_t) (gs : List hb_glyph_info_t) → map unnumbered (with_init bits o gs) ≡ with_init bits (option_map unnumbered o) (map unnumbered gs)
+init_stays bits o [] = refl
+init_stays bits o (g ∷ gs) =
+    (elim (is_left g && not (in_word o)) as (λ b. map unnumbered (if b then with_bits bits g ∷ gs else g ∷ gs) ≡ (if b then with_bits bits (unnumbered g) ∷ map unnumbered gs else unnumbered g ∷ map unnumbered gs)) [ true ↦ refl | false ↦ refl ])
+    ∙ ap (λ w. if is_left g && not w then with_bits bits (unnumbered g) ∷ map unnumbered gs else unnumbered g ∷ map unnumbered gs) (sym (word_stays o))
+
+inits_stay : (bits : ℕ) (o : Option hb_glyph_info_t) (ps : List (List hb_glyph_info_t)) → map unnumbered (with_inits bits o ps) ≡ with_inits bits (option_map unnumbered o) (map (map unnumbered) ps)
+inits_stay bits o [] = refl
+inits_stay bits o (p ∷ ps) =
+    let opened = with_init bits (option_map unnumbered o) (map unnumbered p) in
+    map-append unnumbered (with_init bits o p) (with_inits bits (last_or o p) ps)
+    ∙ ap (λ xs. xs ++ map unnumbered (with_inits bits (last_or o p) ps)) (init_stays bits o p)
+    ∙ ap (λ xs. opened ++ xs) (inits_stay bits (last_or o p) ps)
+    ∙ ap (λ l. opened ++ with_inits bits l (map (map unnumbered) ps)) (last_stays o p)
+
+pub final_text_reads_no_serials : FinalTextReadsNoSerials
+final_text_reads_no_serials r script gs hs same =
+    let f = final_order r script in
+    let reads = final_reads_no_serials r script in
+    record {
+      order = λ o.
+          inits_stay r.init o (map f (syllables gs))
+          ∙ ap (with_inits r.init (option_map unnumbered o)) (pieces_same f reads.meant (syllables gs) (syllables hs) same)
+          ∙ sym (inits_stay r.init o (map f (syllables hs)));
+      in_clusters = λ level. clusters_paused-same None f (final_steps r script) level gs hs reads same;
+    }

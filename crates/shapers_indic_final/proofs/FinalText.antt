@@ -3,6 +3,7 @@ use Rattle.std.proofs.Common.{ℕ, ◌+◌, ◌-◌, ◌%◌, ◌<◌, ◌≤◌
 use Rattle.std.specs.Prelude.{bit_or}
 use Rattle.std.specs.List.{AllByRecursion, AllZip, flat_map, sum_by}
 use Rattle.std.proofs.lemmas.List.{length-map, map-append}
+use Rattle.std.proofs.lemmas.List.Folds.{flat_map-map}
 use Rattle.std.proofs.lemmas.List.Sums.{fold-append}
 use Rattle.shapers_buffer.specs.declared.buffer.glyph.hb_glyph_info_t.{hb_glyph_info_t}
 use Rattle.shapers_buffer.specs.declared.buffer.level.BufferClusterLevel.{BufferClusterLevel}
@@ -12,6 +13,7 @@ use Rattle.shapers_buffer.specs.GlyphFlags.{with_bits}
 use Rattle.shapers_buffer.specs.Marks.{no_marks}
 use Rattle.shapers_buffer.specs.Places.{pick}
 use Rattle.shapers_buffer.specs.Syllables.{syllables}
+use Rattle.shapers_buffer.proofs.MaskBits.{or_twice}
 use Rattle.shapers_clusters.specs.Flags.{FallsTo, seen}
 use Rattle.shapers_clusters.specs.Steps.{FitSteps, FitsStep, Step, joined_step, joined_steps, old_places, run_step, run_steps, steps_along, widened}
 use Rattle.shapers_clusters.proofs.FlagCalls.{map-unsafe_inside}
@@ -20,7 +22,7 @@ use Rattle.shapers_clusters.proofs.Picks.{pick-all, pick-pick}
 use Rattle.shapers_clusters.proofs.Proved.{along_holds, steps_hold}
 use Rattle.shapers_clusters.proofs.Views.{seen-run_steps}
 use Rattle.shapers_clusters.proofs.Widened.{all_fit-widened}
-use Rattle.shapers_indic_final.specs.FinalLaws.{BreaksNowhere, FinallyOfHalves, SameButFirstMask, final_clusters, final_text_behind, final_text_steps, unmasked}
+use Rattle.shapers_indic_final.specs.FinalLaws.{BreaksNowhere, FinallyOfHalves, SameButFirstBits, final_clusters, final_text_behind, final_text_steps, with_first_bits}
 use Rattle.shapers_indic_final.specs.FinalMatras.{is_left}
 use Rattle.shapers_indic_final.specs.FinalOpening.{bound_at, final_text, in_word, is_bound, last_or, syllable_run, text_run, with_init, with_inits}
 use Rattle.shapers_indic_final.specs.FinalReordering.{final_order, final_steps}
@@ -185,18 +187,39 @@ text-append r script gs hs border =
     let f = final_order r script in
     ap (λ ps. with_inits r.init None (map f ps)) (syllables-append gs hs border) ∙ inits-append r.init f None (syllables gs) (syllables hs)
 
--- a glyph before it counts for the mask of the first glyph alone
-pub but_first : (bits : ℕ) (one two : Option hb_glyph_info_t) (ps : List (List hb_glyph_info_t)) → SameButFirstMask (with_inits bits one ps) (with_inits bits two ps)
-but_first bits one two [] = record { first = refl; rest = refl }
+-- a glyph before it counts for the bits of init of the first glyph alone
+bits_twice : (bits : ℕ) (g : hb_glyph_info_t) → with_bits bits (with_bits bits g) ≡ with_bits bits g
+bits_twice bits g = ap (λ (m : ℕ). record g { mask = m }) (or_twice g.mask bits)
+
+pub but_first : (bits : ℕ) (one two : Option hb_glyph_info_t) (ps : List (List hb_glyph_info_t)) → SameButFirstBits bits (with_inits bits one ps) (with_inits bits two ps)
+but_first bits one two [] = refl
 but_first bits one two ([] ∷ ps) = but_first bits one two ps
 but_first bits one two ((g ∷ gs) ∷ ps) =
     let more = gs ++ with_inits bits (last_or (Some g) gs) ps in
     let F : Bool → List hb_glyph_info_t = λ b. (if b then with_bits bits g ∷ gs else g ∷ gs) ++ with_inits bits (last_or (Some g) gs) ps in
-    let view : (b : Bool) → map unmasked (F b) ≡ map unmasked (g ∷ more) = λ b. elim b as (λ b. map unmasked (F b) ≡ map unmasked (g ∷ more)) [ true ↦ refl | false ↦ refl ] in
-    let tail : (b : Bool) → drop 1 (F b) ≡ more = λ b. elim b as (λ b. drop 1 (F b) ≡ more) [ true ↦ refl | false ↦ refl ] in
-    let a = is_left g && not (in_word one) in
-    let b = is_left g && not (in_word two) in
-    record { first = view a ∙ sym (view b); rest = tail a ∙ sym (tail b) }
+    let given : (b : Bool) → with_first_bits bits (F b) ≡ with_bits bits g ∷ more = λ b. elim b as (λ b. with_first_bits bits (F b) ≡ with_bits bits g ∷ more) [ true ↦ ap (λ x. x ∷ more) (bits_twice bits g) | false ↦ refl ] in
+    given (is_left g && not (in_word one)) ∙ sym (given (is_left g && not (in_word two)))
+
+-- with the bits of init on all glyphs, it is the text order
+bits_init : (bits : ℕ) (before : Option hb_glyph_info_t) (gs : List hb_glyph_info_t) → map (with_bits bits) (with_init bits before gs) ≡ map (with_bits bits) gs
+bits_init bits before [] = refl
+bits_init bits before (g ∷ gs) =
+    elim (is_left g && not (in_word before)) as (λ b. map (with_bits bits) (if b then with_bits bits g ∷ gs else g ∷ gs) ≡ map (with_bits bits) (g ∷ gs)) [ true ↦ ap (λ x. x ∷ map (with_bits bits) gs) (bits_twice bits g) | false ↦ refl ]
+
+bits_inits : (bits : ℕ) (before : Option hb_glyph_info_t) (ps : List (List hb_glyph_info_t)) → map (with_bits bits) (with_inits bits before ps) ≡ map (with_bits bits) (flat_map (λ p. p) ps)
+bits_inits bits before [] = refl
+bits_inits bits before (p ∷ ps) =
+    let add = with_bits bits in
+    let rest = with_inits bits (last_or before p) ps in
+    map-append add (with_init bits before p) rest
+    ∙ ap (λ xs. xs ++ map add rest) (bits_init bits before p)
+    ∙ ap (λ xs. map add p ++ xs) (bits_inits bits (last_or before p) ps)
+    ∙ sym (map-append add p (flat_map (λ p. p) ps))
+
+pub bits_text : (r : Rules) (script : Option Script) (before : Option hb_glyph_info_t) (gs : List hb_glyph_info_t) → map (with_bits r.init) (final_text_behind r script before gs) ≡ map (with_bits r.init) (text_order (final_order r script) gs)
+bits_text r script before gs =
+    let f = final_order r script in
+    bits_inits r.init before (map f (syllables gs)) ∙ ap (map (with_bits r.init)) (flat_map-map (λ p. p) f (syllables gs))
 
 pub halves : (r : Rules) (script : Option Script) (level : BufferClusterLevel) (all new gs hs : List hb_glyph_info_t) → order_view new ≡ final_text r script (order_view all) → clusters new ≡ final_clusters r script level all → all ≡ gs ++ hs → MeetAtBorder gs hs → FinallyOfHalves r script level gs hs new
 halves r script level all new gs hs order in_clusters is border =

@@ -1,5 +1,5 @@
 -- The laws of the final reordering of a text, as statements.
-use Rattle.std.specs.Prelude.{ℕ, Bool, ◌+◌, ◌==◌, ◌&&◌, ◌||◌, ◌%◌, ◌≡◌, ◌≤◌, ◌<◌, ◌⊎◌, bit_or, false, true, List, [], ◌∷◌, ◌++◌, length, map, drop, get_or, Option, None}
+use Rattle.std.specs.Prelude.{ℕ, Bool, ◌+◌, ◌==◌, ◌&&◌, ◌||◌, ◌%◌, ◌≡◌, ◌≤◌, ◌<◌, ◌⊎◌, bit_or, false, true, List, [], ◌∷◌, ◌++◌, length, map, get_or, Option, None}
 use Rattle.std.specs.List.{AllByRecursion, AllZip}
 use Rattle.std.specs.List.Sorted.{IsPermutation}
 use Rattle.shapers_buffer.specs.declared.buffer.glyph.hb_glyph_info_t.{hb_glyph_info_t}
@@ -7,6 +7,7 @@ use Rattle.shapers_buffer.specs.declared.buffer.level.BufferClusterLevel.{Buffer
 use Rattle.shapers_buffer.specs.declared.buffer.tag.Script.{Script}
 use Rattle.shapers_buffer.specs.Buffer.{Buffer}
 use Rattle.shapers_buffer.specs.Glyph.{clusters, default_glyph, order_view}
+use Rattle.shapers_buffer.specs.GlyphFlags.{with_bits}
 use Rattle.shapers_buffer.specs.Places.{pick}
 use Rattle.shapers_buffer.specs.Syllables.{syllables}
 use Rattle.shapers_clusters.specs.Cuts.{InOneCluster, ShareNone}
@@ -18,7 +19,7 @@ use Rattle.shapers_clusters.specs.Steps.{Step, all_merged, joined_steps, old_pla
 use Rattle.shapers_indic_final.specs.FinalOpening.{FinallyReordered, final_text, is_bound, last_or, with_inits}
 use Rattle.shapers_indic_final.specs.FinalReordering.{final_order, final_steps}
 use Rattle.shapers_indic_final.specs.declared.ot_shaper_indic_final.rules.Rules.{Rules}
-use Rattle.shapers_syllabic.specs.Borders.{MeetAtBorder}
+use Rattle.shapers_syllabic.specs.Borders.{MeetAtBorder, SameButSerials, unnumbered}
 use Rattle.shapers_syllabic.specs.Reordering.{carried, text_order, text_steps}
 use Rattle.shapers_syllabic.specs.ReorderingLaws.{ReadsNoSerials, ReorderLaws}
 
@@ -42,6 +43,14 @@ final_text_behind r script before gs = with_inits r.init before (map (final_orde
 abbrev pub final_clusters : Rules → Option Script → BufferClusterLevel → List hb_glyph_info_t → List ℕ
 final_clusters r script level gs = joined_steps level (final_text_steps r script gs) (clusters gs)
 
+-- Texts that are the same but for serials become the same but for serials, whatever stands before both, by the same clusters.
+pub record SameButSerialsFinally (r : Rules) (script : Option Script) (gs hs : List hb_glyph_info_t) : Type 0 where
+  pub order : (before : Option hb_glyph_info_t) → map unnumbered (final_text_behind r script before gs) ≡ map unnumbered (final_text_behind r script before hs)
+  pub in_clusters : (level : BufferClusterLevel) → final_clusters r script level gs ≡ final_clusters r script level hs
+
+abbrev pub FinalTextReadsNoSerials : Type 0
+FinalTextReadsNoSerials = (r : Rules) (script : Option Script) (gs hs : List hb_glyph_info_t) → SameButSerials gs hs → SameButSerialsFinally r script gs hs
+
 -- Glyph flags of an old glyph and a new one: its cluster doesn't rise; if it fell the flags are gone, else they are kept; but the
 -- bits of an unsafe break may come besides.
 pub record FlagsFallButBreaks (old new : hb_glyph_info_t) : Type 0 where
@@ -60,19 +69,19 @@ at_opening r script s before [] i = false
 at_opening r script s before (syl ∷ syls) i =
     is_bound before (final_order r script syl) && (i == s || i + 1 == s) || at_opening r script (s + length syl) (last_or before (final_order r script syl)) syls i
 
--- what is left of a glyph without its mask; two lists that differ in the mask of their first glyph alone
-abbrev pub unmasked : hb_glyph_info_t → hb_glyph_info_t
-unmasked g = record g { mask = 0 }
+-- the glyphs with these bits in the mask of the first; two lists that differ in these bits of their first glyph alone
+abbrev pub with_first_bits : ℕ → List hb_glyph_info_t → List hb_glyph_info_t
+with_first_bits bits [] = []
+with_first_bits bits (g ∷ gs) = with_bits bits g ∷ gs
 
-pub record SameButFirstMask (xs ys : List hb_glyph_info_t) : Type 0 where
-  pub first : map unmasked xs ≡ map unmasked ys
-  pub rest : drop 1 xs ≡ drop 1 ys
+abbrev pub SameButFirstBits : ℕ → List hb_glyph_info_t → List hb_glyph_info_t → Type 0
+SameButFirstBits bits xs ys = with_first_bits bits xs ≡ with_first_bits bits ys
 
 -- A text cut at a border of syllables: the order view is that of the first half, and then that of the second behind its last
--- glyph, which for itself differs in the mask of its first glyph alone; where the halves share no cluster, so are the clusters.
+-- glyph, which for itself differs in the bits of init of its first glyph alone; where the halves share no cluster, so are the clusters.
 pub record FinallyOfHalves (r : Rules) (script : Option Script) (level : BufferClusterLevel) (gs hs new : List hb_glyph_info_t) : Type 0 where
   pub order : order_view new ≡ final_text r script (order_view gs) ++ final_text_behind r script (last_or None (text_order (final_order r script) (order_view gs))) (order_view hs)
-  pub alone : SameButFirstMask (final_text_behind r script (last_or None (text_order (final_order r script) (order_view gs))) (order_view hs)) (final_text r script (order_view hs))
+  pub alone : SameButFirstBits r.init (final_text_behind r script (last_or None (text_order (final_order r script) (order_view gs))) (order_view hs)) (final_text r script (order_view hs))
   pub in_clusters : ShareNone gs hs → clusters new ≡ final_clusters r script level gs ++ final_clusters r script level hs
 
 -- What holds of any text after the pause. Nothing is lost: what is carried along, clusters and glyph flags apart, and glyph numbers

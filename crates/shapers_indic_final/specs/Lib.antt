@@ -1,5 +1,6 @@
 pub mod FinalBase
 pub mod FinalClusters
+pub mod FinalCuts
 pub mod FinalGlyphs
 pub mod FinalLaws
 pub mod FinalMatras

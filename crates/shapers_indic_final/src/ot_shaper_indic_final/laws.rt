@@ -1,6 +1,6 @@
 //! Laws of the final reordering, each the contract of a function without a body.
 ghost use Rattle.shapers_indic_final.specs.FinalClusters.{FinalCutsLaw, FinalMergesLaw};
-ghost use Rattle.shapers_indic_final.specs.FinalLaws.{FinalReadsNoSerials, FinalReorderLaws, FinalTextLaws};
+ghost use Rattle.shapers_indic_final.specs.FinalLaws.{FinalReadsNoSerials, FinalReorderLaws, FinalTextLaws, FinalTextReadsNoSerials};
 
 /// The steps of a syllable take each of its places once and lead to its final order.
 pub fn final_reorder_laws()
@@ -8,9 +8,10 @@ pub fn final_reorder_laws()
 {}
 
 /// What a syllable becomes hangs on the kind in its bytes and not on their serials, so that pauses can
-/// be cut between any two spans.
+/// be cut between any two spans; so does what a text becomes.
 pub fn final_reads_no_serials()
-    ensures { FinalReadsNoSerials }
+    ensures syllable { FinalReadsNoSerials }
+    ensures text { FinalTextReadsNoSerials }
 {}
 
 /// After the pause no glyph is lost, no cluster rises, glyph flags stay unless it fell, but for a break
