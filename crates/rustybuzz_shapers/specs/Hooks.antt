@@ -7,7 +7,7 @@ use Rattle.shapers_buffer.specs.Glyph.{clusters}
 use Rattle.shapers_buffer.specs.Refusals.{Refuses, RefusesLength}
 use Rattle.shapers_arabic.specs.Marks as arabic
 use Rattle.shapers_arabic.specs.Marks.{marks_merged, marks_reordered}
-use Rattle.shapers_arabic.specs.JoinedText.{AreCharacters, CutsAsHalves, IsJoined}
+use Rattle.shapers_arabic.specs.JoinedText.{AreCharacters, CutsAsHalves, joined}
 use Rattle.shapers_arabic.specs.PlanData.{arabic_plan, IsArabic, masks_of}
 use Rattle.shapers_buffer.specs.declared.buffer.glyph.hb_glyph_info_t.{hb_glyph_info_t}
 use Rattle.shapers_buffer.specs.declared.buffer.refusal.ShaperError.{ShaperError}
@@ -136,7 +136,9 @@ Decomposed shaper plan tables ab answer = Lacking (standing shaper).decompose (a
 
 -- the buffer before and after masks are set
 abbrev pub MasksSet : hb_ot_shaper_t → hb_ot_shape_plan_t → CharacterTables → Buffer → Buffer → Type 0
-MasksSet Arabic plan tables old new = IsJoined (masks_of plan.plan_data) plan.script tables.joining tables.general old new × CutsAsHalves plan.script tables.joining tables.general old new
+MasksSet Arabic plan tables old new =
+    (new ≡ joined (masks_of plan.plan_data) plan.script tables.joining tables.general old)
+    × CutsAsHalves plan.script tables.joining tables.general old new
 MasksSet Hangul plan tables old new = new ≡ with_jamo_masks plan.plan_data old
 MasksSet Indic plan tables old new = new ≡ record old { glyphs = map (with_category_and_position tables) old.glyphs }
 MasksSet Khmer plan tables old new = new ≡ record old { glyphs = map (with_category tables) old.glyphs }

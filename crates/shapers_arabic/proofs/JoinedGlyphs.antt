@@ -1,15 +1,26 @@
--- Joining, the selectors and the masks together: each glyph in its form.
-use Rattle.std.proofs.Common.{◌≡◌, ℕ, ◌<◌, Bool, true, false, cond, List, [], ◌∷◌, ◌++◌, map, get_or, Option, None, Some, refl, sym, ap, ◌∙◌, subst, arith}
+-- Joining, the selectors and the masks together: each glyph in its form, with the flags of joining.
+use Rattle.std.proofs.Common.{◌≡◌, ℕ, ◌<◌, Bool, true, false, cond, List, [], ◌∷◌, ◌++◌, length, map, get_or, Option, None, Some, refl, sym, ap, ◌∙◌, subst, arith}
 use Rattle.std.specs.List.{AllByRecursion, zip}
-use Rattle.std.specs.Int.Bits.{bit_or}
+use Rattle.std.proofs.lemmas.List.{length-map}
+use Rattle.std.proofs.lemmas.Simd.{map-map}
+use Rattle.std.proofs.lemmas.Slice.Zip.{firsts-zip, seconds-zip}
+use Rattle.shapers_buffer.specs.Buffer.{has_flag}
+use Rattle.shapers_buffer.specs.GlyphFlags.{FlagCall, flags_called}
+use Rattle.shapers_buffer.specs.declared.buffer.flags.BufferFlags.{BufferFlags}
 use Rattle.shapers_buffer.specs.declared.buffer.glyph.hb_glyph_info_t.{hb_glyph_info_t}
 use Rattle.shapers_buffer.specs.declared.buffer.tag.Script.{Script}
+use Rattle.shapers_buffer.proofs.MaskBits.{or_swap}
+use Rattle.shapers_clusters.specs.Flags.{InOrder}
+use Rattle.shapers_clusters.proofs.FlagCalls.{map-flags_called}
+use Rattle.shapers_clusters.proofs.FlagsThrough.{PassesFlags, flags_called-through}
 use Rattle.shapers_base.specs.declared.plan.joining.hb_arabic_joining_type_t.{hb_arabic_joining_type_t}
 use Rattle.shapers_base.specs.declared.plan.joining.hb_arabic_joining_type_t.TheVariants.{L, R, D, GroupAlaph, GroupDalathRish}
 use Rattle.shapers_arabic.specs.Joining.{nearest, act, form, joins_on, joins_back, alaph_after, forms, is_selector, form_behind, selected}
-use Rattle.shapers_arabic.specs.JoinedText.{is_mongolian, AllFormed, stored_types}
-use Rattle.shapers_arabic.specs.JoiningWalk.{OnlyFormed, HaveMasks, copied, with_copied, with_mask, JoinsAll}
-use Rattle.shapers_arabic.proofs.FormedGlyphs.{form-set, formed-again, characters-formed}
+use Rattle.shapers_arabic.specs.JoiningFlags.{joining_flags}
+use Rattle.shapers_arabic.specs.JoinedText.{Text, is_mongolian, forms_of, stored_types, with_form, with_forms}
+use Rattle.shapers_arabic.specs.JoiningWalk.{FlaggedBy, HaveMasks, JoinsTo, copied, unformed, with_copied, with_mask, JoinsAll}
+use Rattle.shapers_arabic.proofs.FlagLists.{joining-in_order}
+use Rattle.shapers_arabic.proofs.FlaggedGlyphs.{unformed-passes, same-text, map-same_text, length-same_text}
 
 -- every form has a mask
 form-below : (back on : Bool) → form back on < 8
@@ -62,9 +73,9 @@ masks-copied [] all = tt
 masks-copied (g ∷ gs) all = (all.0, copied-masks g.auxiliary gs all.0 all.1)
 
 -- copying only gives forms, and gives those of the selector rule
-pub formed-copied : (previous : Option ℕ) (gs : List hb_glyph_info_t) → OnlyFormed gs (with_copied previous gs)
-formed-copied previous [] = tt
-formed-copied previous (g ∷ gs) = (form-set g (copied previous g), formed-copied (Some (copied previous g)) gs)
+unformed-copied : (previous : Option ℕ) (gs : List hb_glyph_info_t) → map unformed (with_copied previous gs) ≡ map unformed gs
+unformed-copied previous [] = refl
+unformed-copied previous (g ∷ gs) = ap (λ hs. unformed g ∷ hs) (unformed-copied (Some (copied previous g)) gs)
 
 copied-forms : (x : ℕ) (before : List (ℕ × ℕ)) (gs : List hb_glyph_info_t) → ((own : ℕ) → form_behind before own ≡ x) → map (λ g. g.auxiliary) (with_copied (Some x) gs) ≡ selected before (zip (map (λ g. g.glyph_id) gs) (map (λ g. g.auxiliary) gs))
 copied-forms x before [] e = refl
@@ -81,50 +92,86 @@ forms-copied (g ∷ gs) =
     ap (λ fs. g.auxiliary ∷ fs) (copied-forms g.auxiliary ((g.glyph_id, g.auxiliary) ∷ []) gs (λ k. same))
     ∙ ap (λ f. f ∷ selected ((g.glyph_id, g.auxiliary) ∷ []) (zip (map (λ g2. g2.glyph_id) gs) (map (λ g2. g2.auxiliary) gs))) (sym same)
 
--- the masks of the forms, besides what the glyphs gained
-pub all-formed : (masks : List ℕ) (gs hs : List hb_glyph_info_t) → OnlyFormed gs hs → AllFormed masks (map (λ g. g.auxiliary) hs) gs (map (with_mask masks) hs)
-all-formed masks [] [] a = tt
-all-formed masks [] (h ∷ hs) a = absurd a
-all-formed masks (g ∷ gs) [] a = absurd a
-all-formed masks (g ∷ gs) (h ∷ hs) a = (
-  record {
-    bits = a.0.bits;
-    are_flags = a.0.are_flags;
-    formed = ap (λ (k : hb_glyph_info_t). let x : hb_glyph_info_t = record k { mask = bit_or k.mask (get_or masks h.auxiliary 0) } in x) a.0.same;
-  },
-  all-formed masks gs hs a.1,
-)
+-- glyphs are told by their forms and the rest of them
+abbrev put_together : List ℕ → List hb_glyph_info_t → List hb_glyph_info_t
+put_together fs gs = map (λ (p : ℕ × hb_glyph_info_t). let g : hb_glyph_info_t = record p.1 { auxiliary = p.0 } in g) (zip fs gs)
 
--- joining alone, and with the selectors
-pub joins-rule : (masks : List ℕ) (script : Option Script) (joining : ℕ → hb_arabic_joining_type_t) (before after : Option hb_arabic_joining_type_t) (gs hs ks : List hb_glyph_info_t) → is_mongolian script ≡ false → OnlyFormed gs hs → ((front behind : List hb_arabic_joining_type_t) → nearest front ≡ before → nearest behind ≡ after → map (λ g. g.auxiliary) hs ≡ forms front (stored_types joining gs) behind) → ks ≡ map (with_mask masks) hs → JoinsAll masks script joining before after gs ks
-joins-rule masks script joining before after gs hs ks m a f k front behind e d =
-    let by_rule = forms front (stored_types joining gs) behind in
-    let same : map (λ g. g.auxiliary) hs ≡ cond (is_mongolian script) (selected [] (zip (map (λ g. g.glyph_id) gs) by_rule)) by_rule = f front behind e d ∙ sym (ap (λ b. cond b (selected [] (zip (map (λ g. g.glyph_id) gs) by_rule)) by_rule) m) in
-    subst (λ fs. AllFormed masks fs gs ks) same (subst (λ xs. AllFormed masks (map (λ g. g.auxiliary) hs) gs xs) (sym k) (all-formed masks gs hs a))
+together-again : (gs : List hb_glyph_info_t) → put_together (map (λ g. g.auxiliary) gs) (map unformed gs) ≡ gs
+together-again [] = refl
+together-again (g ∷ gs) = ap (λ hs. g ∷ hs) (together-again gs)
 
-pub joins-selected : (masks : List ℕ) (script : Option Script) (joining : ℕ → hb_arabic_joining_type_t) (before after : Option hb_arabic_joining_type_t) (gs hs ks : List hb_glyph_info_t) → is_mongolian script ≡ true → OnlyFormed gs hs → ((front behind : List hb_arabic_joining_type_t) → nearest front ≡ before → nearest behind ≡ after → map (λ g. g.auxiliary) hs ≡ forms front (stored_types joining gs) behind) → ks ≡ map (with_mask masks) (with_copied None hs) → JoinsAll masks script joining before after gs ks
-joins-selected masks script joining before after gs hs ks m a f k front behind e d =
+same_glyphs : (gs hs : List hb_glyph_info_t) → map (λ g. g.auxiliary) gs ≡ map (λ g. g.auxiliary) hs → map unformed gs ≡ map unformed hs → gs ≡ hs
+same_glyphs gs hs f u = sym (together-again gs) ∙ ap (λ fs. put_together fs (map unformed gs)) f ∙ ap (put_together (map (λ g. g.auxiliary) hs)) u ∙ together-again hs
+
+forms-together : (fs : List ℕ) (gs : List hb_glyph_info_t) → length gs ≡ length fs → map (λ g. g.auxiliary) (put_together fs gs) ≡ fs
+forms-together fs gs long = map-map (λ (g : hb_glyph_info_t). g.auxiliary) (λ (p : ℕ × hb_glyph_info_t). let g : hb_glyph_info_t = record p.1 { auxiliary = p.0 } in g) (zip fs gs) ∙ firsts-zip fs gs long
+
+unformed-together : (fs : List ℕ) (gs : List hb_glyph_info_t) → length gs ≡ length fs → map unformed (put_together fs gs) ≡ map unformed gs
+unformed-together fs gs long =
+    map-map unformed (λ (p : ℕ × hb_glyph_info_t). let g : hb_glyph_info_t = record p.1 { auxiliary = p.0 } in g) (zip fs gs)
+    ∙ sym (map-map unformed (λ (p : ℕ × hb_glyph_info_t). p.1) (zip fs gs))
+    ∙ ap (map unformed) (seconds-zip fs gs long)
+
+-- a mask is added to flags as flags are to it
+mask-passes : (masks : List ℕ) → PassesFlags (with_mask masks)
+mask-passes masks = record {
+  cluster = λ g. refl;
+  put = λ bits g. ap (λ (m : ℕ). let h : hb_glyph_info_t = record g { mask = m } in h) (or_swap g.mask (get_or masks g.auxiliary 0) bits);
+}
+
+-- glyphs with these forms, after these flag calls, with the masks of their forms
+formed : (masks fs : List ℕ) (flags : BufferFlags) (calls : List FlagCall) (gs hs : List hb_glyph_info_t) → length gs ≡ length fs → AllByRecursion InOrder calls → map (λ g. g.auxiliary) hs ≡ fs → FlaggedBy flags calls gs hs → map (with_mask masks) hs ≡ flags_called (has_flag 0x40 flags) (has_flag 0x80 flags) calls (with_forms masks fs gs)
+formed masks fs flags calls gs hs long ordered f u =
+    let concat = has_flag 0x40 flags in
+    let tatweel = has_flag 0x80 flags in
+    let placed = put_together fs gs in
+    let has_forms : map (λ g. g.auxiliary) hs ≡ map (λ g. g.auxiliary) (flags_called concat tatweel calls placed) =
+    f ∙ sym (map-flags_called (λ g. g.auxiliary) (λ bits g low. refl) concat tatweel calls placed ordered ∙ forms-together fs gs long) in
+    let has_rest : map unformed hs ≡ map unformed (flags_called concat tatweel calls placed) =
+    u ∙ sym (flags_called-through unformed unformed-passes concat tatweel calls placed ∙ ap (flags_called concat tatweel calls) (unformed-together fs gs long)) in
+    ap (map (with_mask masks)) (same_glyphs hs (flags_called concat tatweel calls placed) has_forms has_rest)
+    ∙ flags_called-through (with_mask masks) (mask-passes masks) concat tatweel calls placed
+    ∙ ap (flags_called concat tatweel calls) (map-map (with_mask masks) (λ (p : ℕ × hb_glyph_info_t). let g : hb_glyph_info_t = record p.1 { auxiliary = p.0 } in g) (zip fs gs))
+
+-- the text of glyphs between two contexts
+abbrev text_between : List hb_arabic_joining_type_t → (ℕ → hb_arabic_joining_type_t) → List hb_glyph_info_t → List hb_arabic_joining_type_t → Text
+text_between front joining gs behind = record { before = front; characters = map (λ g. g.glyph_id) gs; types = stored_types joining gs; after = behind }
+
+-- joining with the selectors, or without
+selected-or : (script : Option Script) (joining : ℕ → hb_arabic_joining_type_t) (front behind : List hb_arabic_joining_type_t) (gs hs : List hb_glyph_info_t) → map (λ g. g.glyph_id) hs ≡ map (λ g. g.glyph_id) gs → map (λ g. g.auxiliary) hs ≡ forms front (stored_types joining gs) behind → map (λ g. g.auxiliary) (cond (is_mongolian script) (with_copied None hs) hs) ≡ forms_of script (text_between front joining gs behind)
+selected-or script joining front behind gs hs c f =
     let by_rule = forms front (stored_types joining gs) behind in
     let chosen = selected [] (zip (map (λ g. g.glyph_id) gs) by_rule) in
-    let same : map (λ g. g.auxiliary) (with_copied None hs) ≡ cond (is_mongolian script) chosen by_rule =
-    forms-copied hs
-    ∙ ap (λ cs. selected [] (zip cs (map (λ g. g.auxiliary) hs))) (characters-formed gs hs a)
-    ∙ ap (λ fs. selected [] (zip (map (λ g. g.glyph_id) gs) fs)) (f front behind e d)
-    ∙ sym (ap (λ b. cond b chosen by_rule) m) in
-    subst (λ fs. AllFormed masks fs gs ks) same (subst (λ xs. AllFormed masks (map (λ g. g.auxiliary) (with_copied None hs)) gs xs) (sym k) (all-formed masks gs (with_copied None hs) (formed-again gs hs (with_copied None hs) a (formed-copied None hs))))
+    elim (is_mongolian script) as (λ b. map (λ g. g.auxiliary) (cond b (with_copied None hs) hs) ≡ cond b chosen by_rule) [
+      | true ↦
+          forms-copied hs
+          ∙ ap (λ cs. selected [] (zip cs (map (λ g. g.auxiliary) hs))) c
+          ∙ ap (λ fs. selected [] (zip (map (λ g. g.glyph_id) gs) fs)) f
+      | false ↦ f
+    ]
 
-pub joins-all : (masks : List ℕ) (script : Option Script) (joining : ℕ → hb_arabic_joining_type_t) (before after : Option hb_arabic_joining_type_t) (gs hs ks : List hb_glyph_info_t) → OnlyFormed gs hs → ((front behind : List hb_arabic_joining_type_t) → nearest front ≡ before → nearest behind ≡ after → map (λ g. g.auxiliary) hs ≡ forms front (stored_types joining gs) behind) → ks ≡ map (with_mask masks) (cond (is_mongolian script) (with_copied None hs) hs) → JoinsAll masks script joining before after gs ks
-joins-all masks script joining before after gs hs ks a f k =
-    elim (is_mongolian script) as (λ b. is_mongolian script ≡ b → ks ≡ map (with_mask masks) (cond b (with_copied None hs) hs) → JoinsAll masks script joining before after gs ks) [
-      | true ↦ λ m e. joins-selected masks script joining before after gs hs ks m a f e
-      | false ↦ λ m e. joins-rule masks script joining before after gs hs ks m a f e
-    ] refl k
+pub joins-all : (masks : List ℕ) (flags : BufferFlags) (script : Option Script) (joining : ℕ → hb_arabic_joining_type_t) (before after : Option hb_arabic_joining_type_t) (gs hs ks : List hb_glyph_info_t) → JoinsTo flags joining before after gs hs → ks ≡ map (with_mask masks) (cond (is_mongolian script) (with_copied None hs) hs) → JoinsAll masks flags script joining before after gs ks
+joins-all masks flags script joining before after gs hs ks joins k front behind e d =
+    let done = joins front behind e d in
+    let calls = joining_flags front (stored_types joining gs) behind in
+    let ordered = joining-in_order front (stored_types joining gs) behind in
+    let same = same-text flags calls gs hs ordered done.flagged in
+    let chosen = cond (is_mongolian script) (with_copied None hs) hs in
+    let characters : map (λ g. g.glyph_id) hs ≡ map (λ g. g.glyph_id) gs = map-same_text (λ g. g.glyph_id) (λ g. refl) gs hs same in
+    let has_forms = selected-or script joining front behind gs hs characters done.forms_are in
+    let has_rest : map unformed chosen ≡ map unformed hs = elim (is_mongolian script) as (λ b. map unformed (cond b (with_copied None hs) hs) ≡ map unformed hs) [ true ↦ unformed-copied None hs | false ↦ refl ] in
+    let long : length gs ≡ length (forms_of script (text_between front joining gs behind)) =
+    sym (length-same_text gs hs same)
+    ∙ sym (length-map hs unformed)
+    ∙ sym (ap length has_rest)
+    ∙ length-map chosen unformed
+    ∙ sym (length-map chosen (λ g. g.auxiliary))
+    ∙ ap length has_forms in
+    k ∙ formed masks (forms_of script (text_between front joining gs behind)) flags calls gs chosen long ordered has_forms (has_rest ∙ done.flagged)
 
 -- the auxiliary bytes are the forms
-pub forms-formed : (masks fs : List ℕ) (gs hs : List hb_glyph_info_t) → AllFormed masks fs gs hs → map (λ g. g.auxiliary) hs ≡ fs
-forms-formed masks [] [] [] a = refl
-forms-formed masks [] [] (h ∷ hs) a = absurd a
-forms-formed masks [] (g ∷ gs) hs a = absurd a
-forms-formed masks (f ∷ fs) [] hs a = absurd a
-forms-formed masks (f ∷ fs) (g ∷ gs) [] a = absurd a
-forms-formed masks (f ∷ fs) (g ∷ gs) (h ∷ hs) a = ap (λ x. x ∷ map (λ k. k.auxiliary) hs) (ap (λ (k : hb_glyph_info_t). k.auxiliary) a.0.formed) ∙ ap (λ xs. f ∷ xs) (forms-formed masks fs gs hs a.1)
+pub forms-joined : (masks fs : List ℕ) (flags : BufferFlags) (calls : List FlagCall) (gs : List hb_glyph_info_t) → length gs ≡ length fs → AllByRecursion InOrder calls → map (λ g. g.auxiliary) (flags_called (has_flag 0x40 flags) (has_flag 0x80 flags) calls (with_forms masks fs gs)) ≡ fs
+forms-joined masks fs flags calls gs long ordered =
+    map-flags_called (λ g. g.auxiliary) (λ bits g low. refl) (has_flag 0x40 flags) (has_flag 0x80 flags) calls (with_forms masks fs gs) ordered
+    ∙ map-map (λ (g : hb_glyph_info_t). g.auxiliary) (λ (p : ℕ × hb_glyph_info_t). with_form masks p.0 p.1) (zip fs gs)
+    ∙ firsts-zip fs gs long

@@ -11,8 +11,10 @@ use Rattle.shapers_buffer.specs.declared.buffer.glyph.hb_glyph_info_t.{hb_glyph_
 use Rattle.shapers_buffer.specs.declared.buffer.tag.Script.{Script}
 use Rattle.shapers_base.specs.declared.plan.joining.hb_arabic_joining_type_t.{hb_arabic_joining_type_t}
 use Rattle.shapers_arabic.specs.Joining.{resolved, nearest, is_transparent, forms, is_selector, form_behind, selected}
-use Rattle.shapers_arabic.specs.JoinedText.{Text, is_mongolian, forms_of, first_half, second_half, opening, HoldsCut, stored_types, context_types, text_of, AllFormed, CutsAsHalves, Shows, AgreesWithTable, first_of, second_of, CopiedContextsShow, CopiedContextsCut}
-use Rattle.shapers_arabic.proofs.JoinedGlyphs.{forms-formed}
+use Rattle.shapers_arabic.specs.JoinedText.{Text, is_mongolian, forms_of, first_half, second_half, opening, HoldsCut, stored_types, context_types, text_of, joined, CutsAsHalves, Shows, AgreesWithTable, first_of, second_of, CopiedContextsShow, CopiedContextsCut}
+use Rattle.shapers_arabic.specs.JoiningFlags.{joining_flags}
+use Rattle.shapers_arabic.proofs.FlagLists.{joining-in_order}
+use Rattle.shapers_arabic.proofs.JoinedGlyphs.{forms-joined}
 use Rattle.shapers_arabic.proofs.JoiningLists.{forms-contexts, length-forms, forms-append}
 
 zip-append : (cs ds : List ℕ) (fs gs : List ℕ) → length fs ≡ length cs → zip (cs ++ ds) (fs ++ gs) ≡ zip cs fs ++ zip ds gs
@@ -92,12 +94,26 @@ holds-cut script text long n inner_after inner_before h s =
     let parts = in-parts (is_mongolian script) n text.characters (forms text.before text.types text.after) (take n text.characters) fs (drop n text.characters) gs (sym (take-append-drop n text.characters)) whole (length-take-le n text.characters (omega arith)) (length-forms text.before ts inner_after ∙ length-take-le n text.types h) in
     record { first = parts.first; second = parts.second }
 
+length-forms_of : (script : Option Script) (text : Text) → length text.characters ≡ length text.types → length (forms_of script text) ≡ length text.types
+length-forms_of script text long =
+    let by_rule = forms text.before text.types text.after in
+    let all : length by_rule ≡ length text.types = length-forms text.before text.types text.after in
+    elim (is_mongolian script) as (λ b. length (cond b (selected [] (zip text.characters by_rule)) by_rule) ≡ length text.types) [
+      | true ↦ length-selected [] (zip text.characters by_rule) ∙ omega (arith, length-zip text.characters by_rule)
+      | false ↦ all
+    ]
+
 -- what joining left is cut as the forms are
-pub cut-formed : (masks : List ℕ) (script : Option Script) (joining : ℕ → hb_arabic_joining_type_t) (general : ℕ → hb_unicode_general_category_t) (old new : Buffer) → AllFormed masks (forms_of script (text_of joining general old)) old.glyphs new.glyphs → CutsAsHalves script joining general old new
-cut-formed masks script joining general old new a =
+pub cut-joined : (masks : List ℕ) (script : Option Script) (joining : ℕ → hb_arabic_joining_type_t) (general : ℕ → hb_unicode_general_category_t) (old new : Buffer) → new ≡ joined masks script joining general old → CutsAsHalves script joining general old new
+cut-joined masks script joining general old new is =
     let text = text_of joining general old in
-    let long : length text.characters ≡ length text.types = length-map old.glyphs (λ g. g.glyph_id) ∙ sym (length-map old.glyphs (λ g. resolved (joining g.glyph_id) g.general_category)) in
-    subst (λ fs. HoldsCut script text fs) (sym (forms-formed masks (forms_of script text) old.glyphs new.glyphs a)) (holds-cut script text long)
+    let calls = joining_flags text.before text.types text.after in
+    let types_long : length text.types ≡ length old.glyphs = length-map old.glyphs (λ g. resolved (joining g.glyph_id) g.general_category) in
+    let long : length text.characters ≡ length text.types = length-map old.glyphs (λ g. g.glyph_id) ∙ sym types_long in
+    let fs_long : length old.glyphs ≡ length (forms_of script text) = sym types_long ∙ sym (length-forms_of script text long) in
+    let same : map (λ g. g.auxiliary) new.glyphs ≡ forms_of script text =
+    ap (λ (b : Buffer). map (λ g. g.auxiliary) b.glyphs) is ∙ forms-joined masks (forms_of script text) old.flags calls old.glyphs fs_long (joining-in_order text.before text.types text.after) in
+    subst (λ fs. HoldsCut script text fs) (sym same) (holds-cut script text long)
 
 -- a front that shows a type shows the nearest
 nearest-of_front : (ts us : List hb_arabic_joining_type_t) → is_some (nearest ts) ≡ true → nearest (ts ++ us) ≡ nearest ts

@@ -34,7 +34,7 @@ given-forms before ts state (Some k) t after l e =
     ∙ sym (ap (λ us. forms before us after) l.split ∙ forms-parts before l.front l.own l.tail after l.letter l.rest)
 
 -- the nearest type at the end of a text is its last letter, or what is nearest before it
-nearest-reverse : (ts : List hb_arabic_joining_type_t) → nearest ts ≡ None → nearest (reverse ts) ≡ None
+pub nearest-reverse : (ts : List hb_arabic_joining_type_t) → nearest ts ≡ None → nearest (reverse ts) ≡ None
 nearest-reverse [] e = refl
 nearest-reverse (t ∷ ts) e =
     let (first, rest) = transparent t ts e in
@@ -110,7 +110,7 @@ pub last-within : (before types : List hb_arabic_joining_type_t) (i state : ℕ)
 last-within before types i state None h l = tt
 last-within before types i state (Some k) h l = omega (arith, l.place, ap length l.split, length-append l.front (l.own ∷ l.tail), length-take-le i types h)
 
-transparent-is : (t : hb_arabic_joining_type_t) → is_transparent t ≡ true → t ≡ T
+pub transparent-is : (t : hb_arabic_joining_type_t) → is_transparent t ≡ true → t ≡ T
 transparent-is T e = refl
 transparent-is U e = cc
 transparent-is _ e = cc

@@ -1,5 +1,8 @@
 mod ConstantRows
-pub mod FormedGlyphs
+pub mod FlagLists
+mod FlagRows
+pub mod FlagWalk
+pub mod FlaggedGlyphs
 pub mod JoinedGlyphs
 pub mod JoiningLaws
 pub mod JoiningLists

@@ -1,15 +1,18 @@
 -- What joining makes of a text: the form of each glyph, and how the halves of a text act.
-use Rattle.std.specs.Prelude.{ℕ, suc, ◌≡◌, ◌+◌, ◌<◌, ◌≤◌, nat_eq, bit_or, Bool, false, List, [], ◌∷◌, ◌++◌, length, map, take, drop, reverse, slice_index, is_some, true, ◌⊎◌, Option, None, Some, codes, if◌then◌else◌}
+use Rattle.std.specs.Prelude.{ℕ, suc, ◌≡◌, ◌+◌, ◌≤◌, nat_eq, bit_or, Bool, false, List, [], ◌∷◌, ◌++◌, length, map, take, drop, reverse, slice_index, is_some, true, ◌⊎◌, Option, None, Some, codes, if◌then◌else◌}
 use Rattle.std.specs.List.{prefix_len, zip}
 use Rattle.std.specs.Char.{IsScalar}
 use Rattle.std.specs.List.{AllByRecursion}
 use Rattle.std.specs.Cmp.Lexicographic.{pointwise}
-use Rattle.shapers_buffer.specs.Buffer.{Buffer}
+use Rattle.shapers_buffer.specs.Buffer.{Buffer, has_flag}
+use Rattle.shapers_buffer.specs.GlyphFlags.{flags_called}
+use Rattle.shapers_buffer.specs.declared.buffer.flags.BufferFlags.{BufferFlags}
 use Rattle.shapers_buffer.specs.declared.buffer.category.hb_unicode_general_category_t.{hb_unicode_general_category_t}
 use Rattle.shapers_buffer.specs.declared.buffer.glyph.hb_glyph_info_t.{hb_glyph_info_t}
 use Rattle.shapers_buffer.specs.declared.buffer.tag.Script.{Script}
 use Rattle.shapers_base.specs.declared.plan.joining.hb_arabic_joining_type_t.{hb_arabic_joining_type_t}
 use Rattle.shapers_arabic.specs.Joining.{resolved, nearest, is_transparent, forms, is_selector, selected}
+use Rattle.shapers_arabic.specs.JoiningFlags.{joining_flags}
 
 -- whether the script is Mongolian
 abbrev pub is_mongolian : Option Script → Bool
@@ -41,17 +44,30 @@ forms_of script text =
     let by_rule = forms text.before text.types text.after in
     if is_mongolian script then selected [] (zip text.characters by_rule) else by_rule
 
--- the glyph in a form: the form in its auxiliary byte, the form's mask and perhaps some glyph flags besides its own; nothing else changes
-pub record IsFormed (masks : List ℕ) (form : ℕ) (g h : hb_glyph_info_t) : Type 0 where
-  pub bits : ℕ
-  pub are_flags : bits < 8
-  pub formed : h ≡ record g { auxiliary = form; mask = bit_or (bit_or g.mask bits) (slice_index masks form) }
+-- the glyph in a form: the form in its auxiliary byte, and the form's mask besides its own
+abbrev pub with_form : List ℕ → ℕ → hb_glyph_info_t → hb_glyph_info_t
+with_form masks form g =
+    record g { auxiliary = form; mask = bit_or g.mask (slice_index masks form) }
 
 -- each glyph in its form
-abbrev pub AllFormed : List ℕ → List ℕ → List hb_glyph_info_t → List hb_glyph_info_t → Type 0
-AllFormed masks [] [] [] = Unit {0}
-AllFormed masks (form ∷ forms) (g ∷ gs) (h ∷ hs) = IsFormed masks form g h × AllFormed masks forms gs hs
-AllFormed masks _ _ _ = ⊥
+abbrev pub with_forms : List ℕ → List ℕ → List hb_glyph_info_t → List hb_glyph_info_t
+with_forms masks forms gs = map (λ p. with_form masks p.0 p.1) (zip forms gs)
+
+-- the glyphs of a text after joining: each in its form, and the flags of joining, as far as the
+-- buffer asks for them
+abbrev pub joined_glyphs :
+    List ℕ → BufferFlags → Option Script → Text → List hb_glyph_info_t → List hb_glyph_info_t
+joined_glyphs masks flags script text gs =
+    let calls = joining_flags text.before text.types text.after in
+    let formed = with_forms masks (forms_of script text) gs in
+    flags_called (has_flag 0x40 flags) (has_flag 0x80 flags) calls formed
+
+-- the buffer after joining: nothing but its glyphs changes
+abbrev pub joined : List ℕ → Option Script → (ℕ → hb_arabic_joining_type_t) →
+    (ℕ → hb_unicode_general_category_t) → Buffer → Buffer
+joined masks script joining general b =
+    let text = text_of joining general b in
+    record b { glyphs = joined_glyphs masks b.flags script text b.glyphs }
 
 -- how many characters of a context are looked up: up to the first that isn't transparent, and that one
 abbrev pub seen : List hb_arabic_joining_type_t → ℕ
@@ -90,11 +106,6 @@ pub record ActAsHalves (script : Option Script) (n : ℕ) (text : Text) (inner_a
 -- the law of the cut: at every place, for all inner contexts that show the neighbours
 abbrev pub HoldsCut : Option Script → Text → List ℕ → Type 0
 HoldsCut script text whole = (n : ℕ) (inner_after inner_before : List hb_arabic_joining_type_t) → n ≤ length text.types → ShowNeighbours n text inner_after inner_before → ActAsHalves script n text inner_after inner_before whole
-
--- a buffer after joining: each glyph is in its form, and nothing else changed
-pub record IsJoined (masks : List ℕ) (script : Option Script) (joining : ℕ → hb_arabic_joining_type_t) (general : ℕ → hb_unicode_general_category_t) (old new : Buffer) : Type 0 where
-  pub formed : AllFormed masks (forms_of script (text_of joining general old)) old.glyphs new.glyphs
-  pub others : new ≡ record old { glyphs = new.glyphs }
 
 -- the law of the cut for what joining left in the auxiliary bytes
 abbrev pub CutsAsHalves : Option Script → (ℕ → hb_arabic_joining_type_t) → (ℕ → hb_unicode_general_category_t) → Buffer → Buffer → Type 0

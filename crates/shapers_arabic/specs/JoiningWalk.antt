@@ -1,6 +1,9 @@
 -- Words for the walk along the letters of a text, which the contracts of its steps cite: the table's cells and states, and what holds after some places.
-use Rattle.std.specs.Prelude.{◌≡◌, ℕ, ◌+◌, ◌<◌, ◌==◌, map, bit_or, false, List, [], ◌∷◌, ◌++◌, length, take, reverse, slice_set, slice_index, slice_index_or, Option, None, Some, if◌then◌else◌}
-use Rattle.std.specs.List.{AllZip, AllByRecursion}
+use Rattle.std.specs.Prelude.{◌≡◌, ℕ, ◌+◌, ◌<◌, ◌==◌, nat_le, map, bit_or, Bool, false, ◌&&◌, ◌||◌, List, [], ◌∷◌, ◌++◌, length, take, reverse, slice_set, slice_index, slice_index_or, Option, None, Some, if◌then◌else◌}
+use Rattle.std.specs.List.{AllByRecursion}
+use Rattle.shapers_buffer.specs.Buffer.{has_flag}
+use Rattle.shapers_buffer.specs.GlyphFlags.{FlagCall, UnsafeToConcat, SafeToInsertTatweel, flags_called}
+use Rattle.shapers_buffer.specs.declared.buffer.flags.BufferFlags.{BufferFlags}
 use Rattle.shapers_buffer.specs.declared.buffer.glyph.hb_glyph_info_t.{hb_glyph_info_t}
 use Rattle.shapers_base.specs.declared.plan.joining.hb_arabic_joining_type_t.{hb_arabic_joining_type_t}
 use Rattle.shapers_base.specs.declared.plan.joining.hb_arabic_joining_type_t.TheVariants.{U, L, R, D, GroupAlaph, GroupDalathRish}
@@ -9,7 +12,8 @@ use Rattle.shapers_arabic.specs.declared.ot_shaper_arabic.arabic_action_t.TheCon
 use Rattle.shapers_arabic.specs.declared.ot_shaper_arabic.joining.TheConstants.{STATE_TABLE}
 use Rattle.shapers_arabic.specs.declared.ot_shaper_arabic.joining.Letters.{Letters}
 use Rattle.shapers_arabic.specs.declared.ot_shaper_arabic.joining.Transition.{Transition}
-use Rattle.shapers_arabic.specs.JoinedText.{AllFormed, forms_of, stored_types}
+use Rattle.shapers_arabic.specs.JoinedText.{joined_glyphs, stored_types}
+use Rattle.shapers_arabic.specs.JoiningFlags.{flags_along, joining_flags}
 use Rattle.shapers_arabic.specs.Joining.{is_transparent, nearest, forms, is_selector, joins_on}
 
 -- the column of a letter
@@ -91,31 +95,78 @@ pub record Walked (before types : List hb_arabic_joining_type_t) (i state : ℕ)
   pub forms_are : take i fs ≡ forms before (take i types) []
   pub long : length fs ≡ length types
 
+-- whether the form of the last letter may still change, by the state that it left
+abbrev pub waits : ℕ → Bool
+waits state = nat_le 2 state && nat_le state 5
+
+-- the flag calls where a letter that ends at the place end gives the last one, at k, this form, or
+-- NONE, where that one's form may depend on such a letter
+abbrev pub given_flags : ℕ → ℕ → ℕ → Bool → List FlagCall
+given_flags k end given depends =
+    if given == NONE then (if depends then UnsafeToConcat k end ∷ [] else [])
+    else SafeToInsertTatweel k end ∷ []
+
+-- the same, where there may be no last letter, and by whether the letter joins back
+abbrev pub step_flags : Option ℕ → ℕ → ℕ → ℕ → Bool → List FlagCall
+step_flags None state end given joins = if joins then UnsafeToConcat 0 end ∷ [] else []
+step_flags (Some k) state end given joins = given_flags k end given (joins || waits state)
+
+-- the glyph without its form
+abbrev pub unformed : hb_glyph_info_t → hb_glyph_info_t
+unformed g = record g { auxiliary = 0 }
+
+-- forms apart, the glyphs after these flag calls
+abbrev pub FlaggedBy :
+    BufferFlags → List FlagCall → List hb_glyph_info_t → List hb_glyph_info_t → Type 0
+FlaggedBy flags calls gs hs =
+    map unformed hs ≡ flags_called (has_flag 0x40 flags) (has_flag 0x80 flags) calls (map unformed gs)
+
+-- what joining never changes of a glyph: all but its form and its mask
+abbrev pub unjoined : hb_glyph_info_t → hb_glyph_info_t
+unjoined g = record g { auxiliary = 0; mask = 0 }
+
+abbrev pub SameText : List hb_glyph_info_t → List hb_glyph_info_t → Type 0
+SameText gs hs = map unjoined hs ≡ map unjoined gs
+
+-- what holds after i places of the first glyphs, which are gs by now: forms and flags of the text so far
+pub record WalkedTo (flags : BufferFlags) (before types : List hb_arabic_joining_type_t)
+    (first : List hb_glyph_info_t) (i state : ℕ) (last : Option ℕ)
+    (gs : List hb_glyph_info_t) : Type 0 where
+  pub walked : Walked before types i state last (written gs)
+  pub flagged : FlaggedBy flags (flags_along before [] (take i types)) first gs
+
 -- a step over the glyph at place i, which has this type: what held before it holds after it
-abbrev pub WalksOn : ℕ → hb_arabic_joining_type_t → Letters → List hb_glyph_info_t → Letters → List hb_glyph_info_t → Type 0
-WalksOn i t letters gs next hs = (before types : List hb_arabic_joining_type_t) → i < length types → slice_index_or types i U ≡ t → Walked before types i letters.state letters.last (written gs) → Walked before types (i + 1) next.state next.last (written hs)
+abbrev pub WalksOn : BufferFlags → ℕ → hb_arabic_joining_type_t → Letters → List hb_glyph_info_t →
+    Letters → List hb_glyph_info_t → Type 0
+WalksOn flags i t letters gs next hs =
+    (before types : List hb_arabic_joining_type_t) (first : List hb_glyph_info_t) → i < length types →
+    slice_index_or types i U ≡ t → WalkedTo flags before types first i letters.state letters.last gs →
+    WalkedTo flags before types first (i + 1) next.state next.last hs
 
 -- the walk over all glyphs from this state on, behind all contexts that leave it
-abbrev pub WalksAll : (ℕ → hb_arabic_joining_type_t) → ℕ → List hb_glyph_info_t → Letters → List hb_glyph_info_t → Type 0
-WalksAll joining state gs letters hs = (before : List hb_arabic_joining_type_t) → state ≡ state_at_start (nearest before) → Walked before (stored_types joining gs) (length gs) letters.state letters.last (written hs)
+abbrev pub WalksAll : BufferFlags → (ℕ → hb_arabic_joining_type_t) → ℕ → List hb_glyph_info_t →
+    Letters → List hb_glyph_info_t → Type 0
+WalksAll flags joining state gs letters hs =
+    (before : List hb_arabic_joining_type_t) → state ≡ state_at_start (nearest before) →
+    WalkedTo flags before (stored_types joining gs) gs (length gs) letters.state letters.last hs
 
--- the forms by the joining rule, between all contexts with these nearest types
-abbrev pub JoinsTo : (ℕ → hb_arabic_joining_type_t) → Option hb_arabic_joining_type_t → Option hb_arabic_joining_type_t → List hb_glyph_info_t → List hb_glyph_info_t → Type 0
-JoinsTo joining before after gs hs = (front behind : List hb_arabic_joining_type_t) → nearest front ≡ before → nearest behind ≡ after → written hs ≡ forms front (stored_types joining gs) behind
+-- glyphs with the forms and the flags of a text, before any mask
+pub record HasJoined (flags : BufferFlags) (before types after : List hb_arabic_joining_type_t)
+    (gs hs : List hb_glyph_info_t) : Type 0 where
+  pub forms_are : written hs ≡ forms before types after
+  pub flagged : FlaggedBy flags (joining_flags before types after) gs hs
+
+-- these, between all contexts with these nearest types
+abbrev pub JoinsTo : BufferFlags → (ℕ → hb_arabic_joining_type_t) → Option hb_arabic_joining_type_t →
+    Option hb_arabic_joining_type_t → List hb_glyph_info_t → List hb_glyph_info_t → Type 0
+JoinsTo flags joining before after gs hs =
+    (front behind : List hb_arabic_joining_type_t) → nearest front ≡ before → nearest behind ≡ after →
+    HasJoined flags front (stored_types joining gs) behind gs hs
 
 -- the last letter stands before place i
 abbrev pub IsWithin : Option ℕ → ℕ → Type 0
 IsWithin None i = Unit {0}
 IsWithin (Some k) i = k < i
-
--- the glyph with another form, and perhaps more glyph flags
-pub record OnlyForm (g h : hb_glyph_info_t) : Type 0 where
-  pub bits : ℕ
-  pub are_flags : bits < 8
-  pub same : h ≡ record g { auxiliary = h.auxiliary; mask = bit_or g.mask bits }
-
-abbrev pub OnlyFormed : List hb_glyph_info_t → List hb_glyph_info_t → Type 0
-OnlyFormed gs hs = AllZip OnlyForm gs hs
 
 -- the form that the nearest letter after the text gives
 abbrev pub given_by : ℕ → Option hb_arabic_joining_type_t → ℕ
@@ -144,6 +195,15 @@ HaveMasks gs = AllByRecursion (λ g. g.auxiliary < 8) gs
 abbrev pub IsNearest : Option hb_arabic_joining_type_t → Type 0
 IsNearest o = (ts : List hb_arabic_joining_type_t) × (nearest ts ≡ o)
 
--- each glyph in its form, between all contexts with these nearest types
-abbrev pub JoinsAll : List ℕ → Option Script → (ℕ → hb_arabic_joining_type_t) → Option hb_arabic_joining_type_t → Option hb_arabic_joining_type_t → List hb_glyph_info_t → List hb_glyph_info_t → Type 0
-JoinsAll masks script joining before after gs hs = (front behind : List hb_arabic_joining_type_t) → nearest front ≡ before → nearest behind ≡ after → AllFormed masks (forms_of script (record { before = front; characters = map (λ g. g.glyph_id) gs; types = stored_types joining gs; after = behind })) gs hs
+-- the glyphs after joining, between all contexts with these nearest types
+abbrev pub JoinsAll : List ℕ → BufferFlags → Option Script → (ℕ → hb_arabic_joining_type_t) →
+    Option hb_arabic_joining_type_t → Option hb_arabic_joining_type_t → List hb_glyph_info_t →
+    List hb_glyph_info_t → Type 0
+JoinsAll masks flags script joining before after gs hs =
+    (front behind : List hb_arabic_joining_type_t) → nearest front ≡ before → nearest behind ≡ after →
+    hs ≡ joined_glyphs masks flags script (record {
+      before = front;
+      characters = map (λ g. g.glyph_id) gs;
+      types = stored_types joining gs;
+      after = behind;
+    }) gs

@@ -1,5 +1,6 @@
 pub mod JoinedText
 pub mod Joining
+pub mod JoiningFlags
 pub mod JoiningWalk
 pub mod MarkParts
 pub mod Marks

@@ -3,7 +3,7 @@ ghost use Rattle.std.specs.Prelude.{◌≡◌, ◌+◌, ◌<◌, OnOk, OnErr, Is
 ghost use Rattle.shapers_buffer.specs.declared.buffer.refusal.ShaperError.TheVariants.{Memory};
 ghost use Rattle.shapers_base.specs.Planner.{with_requests};
 ghost use Rattle.shapers_arabic.specs.Requests.{arabic_list, is_arabic, joining_list, rclt};
-ghost use Rattle.shapers_arabic.specs.JoinedText.{AreCharacters, CopiedContextsCut, CopiedContextsShow, CutsAsHalves, IsJoined, look_ups, text_of};
+ghost use Rattle.shapers_arabic.specs.JoinedText.{AreCharacters, CopiedContextsCut, CopiedContextsShow, CutsAsHalves, joined, look_ups, text_of};
 ghost use Rattle.shapers_arabic.specs.PlanData.{IsArabic, masks_of};
 
 use arrayvec::ArrayVec;
@@ -116,8 +116,9 @@ fn joining_requests(flags: u32) -> [Request; 14]
     ]
 }
 
-/// Gives each glyph the form that its neighbours ask for, in its auxiliary byte, and the form's
-/// mask, and counts the joining types that it looks up. It can't refuse and takes no memory.
+/// Gives each glyph the form that its neighbours ask for, in its auxiliary byte, the form's mask
+/// and the glyph flags of joining, and counts the joining types that it looks up. It can't refuse
+/// and takes no memory.
 pub fn setup_masks_counted<T: Tables, L: Ledger>(
     arabic_plan: &arabic_shape_plan_t,
     script: Option<Script>,
@@ -128,7 +129,7 @@ pub fn setup_masks_counted<T: Tables, L: Ledger>(
     requires { AreCharacters buffer.old.glyphs }
     ensures joined { let table = T.tables tables.now in
         let masks = arabic_plan.now.mask_array in
-        IsJoined masks script table.joining table.general buffer.old buffer.new }
+        buffer.new ≡ joined masks script table.joining table.general buffer.old }
     ensures counted { let table = T.tables tables.now in
         count.new ≡ count.old + look_ups (text_of table.joining table.general buffer.old) }
     ensures cut { let table = T.tables tables.now in
@@ -149,9 +150,9 @@ pub fn setup_masks_counted<T: Tables, L: Ledger>(
     buffer.walk(&mut walk);
 }
 
-/// Gives each glyph the form that its neighbours ask for, in its auxiliary byte, and the form's
-/// mask; a text that is cut acts as the whole where the halves see their neighbours. It can't
-/// refuse and takes no memory.
+/// Gives each glyph the form that its neighbours ask for, in its auxiliary byte, the form's mask
+/// and the glyph flags of joining; a text that is cut acts as the whole where the halves see their
+/// neighbours. It can't refuse and takes no memory.
 pub fn setup_masks_inner<T: Tables>(
     arabic_plan: &arabic_shape_plan_t,
     script: Option<Script>,
@@ -161,7 +162,7 @@ pub fn setup_masks_inner<T: Tables>(
     requires { AreCharacters buffer.old.glyphs }
     ensures joined { let table = T.tables tables.now in
         let masks = arabic_plan.now.mask_array in
-        IsJoined masks script table.joining table.general buffer.old buffer.new }
+        buffer.new ≡ joined masks script table.joining table.general buffer.old }
     ensures cut { let table = T.tables tables.now in
         CutsAsHalves script table.joining table.general buffer.old buffer.new }
 {
@@ -182,7 +183,7 @@ fn setup_masks_with<T: Tables, L: Ledger>(
     requires characters { AreCharacters buffer.old.glyphs }
     ensures joined { let table = T.tables tables.now in
         let masks = arabic_plan.now.mask_array in
-        IsJoined masks script table.joining table.general buffer.old buffer.new }
+        buffer.new ≡ joined masks script table.joining table.general buffer.old }
     ensures cut { let table = T.tables tables.now in
         CutsAsHalves script table.joining table.general buffer.old buffer.new }
 {
@@ -190,13 +191,13 @@ fn setup_masks_with<T: Tables, L: Ledger>(
     setup_masks_counted(arabic_plan, script, buffer, tables, &mut count);
 }
 
-/// Gives each glyph its form and the form's mask, with the script and the data of the plan. It
-/// can't refuse and takes no memory.
+/// Gives each glyph its form, the form's mask and the glyph flags of joining, with the script and
+/// the data of the plan. It can't refuse and takes no memory.
 pub fn setup_masks<T: Tables>(plan: &hb_ot_shape_plan_t, tables: &T, buffer: &mut hb_buffer_t)
     requires data { IsArabic plan.now.plan_data }
     requires characters { AreCharacters buffer.old.glyphs }
     ensures joined { let table = T.tables tables.now in let masks = masks_of plan.now.plan_data in
-        IsJoined masks plan.now.script table.joining table.general buffer.old buffer.new }
+        buffer.new ≡ joined masks plan.now.script table.joining table.general buffer.old }
     ensures cut { let table = T.tables tables.now in
         CutsAsHalves plan.now.script table.joining table.general buffer.old buffer.new }
 {

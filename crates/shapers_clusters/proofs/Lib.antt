@@ -6,6 +6,7 @@ pub mod Elsewhere
 pub mod Falls
 pub mod FlagCalls
 pub mod Flagging
+pub mod FlagsThrough
 pub mod GatheredCuts
 pub mod Halves
 pub mod Joined

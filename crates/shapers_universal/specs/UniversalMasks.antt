@@ -5,7 +5,7 @@ use Rattle.shapers_buffer.specs.declared.buffer.tag.Script.{Script}
 use Rattle.shapers_base.specs.Font.{CharacterTables}
 use Rattle.shapers_base.specs.declared.plan.arabic.arabic_shape_plan_t.{arabic_shape_plan_t}
 use Rattle.shapers_buffer.specs.Buffer.{Buffer}
-use Rattle.shapers_arabic.specs.JoinedText.{AreCharacters, CutsAsHalves, IsJoined}
+use Rattle.shapers_arabic.specs.JoinedText.{AreCharacters, CutsAsHalves, joined}
 
 -- the glyph with the category that the tables give its character
 abbrev pub categorized : (ℕ → ℕ) → hb_glyph_info_t → hb_glyph_info_t
@@ -20,7 +20,10 @@ abbrev pub CanJoin : Option arabic_shape_plan_t → List hb_glyph_info_t → Typ
 CanJoin None gs = Unit {0}
 CanJoin (Some p) gs = AreCharacters gs
 
--- the masks of joining where there is a plan of Arabic, with the law of the cut, and the categories of the tables
-abbrev pub MasksAreSet : Option arabic_shape_plan_t → Option Script → CharacterTables → Buffer → Buffer → Type 0
+-- the categories of the tables, and where there is a plan of Arabic the forms, the masks and the flags of joining, with the law of the cut
+abbrev pub MasksAreSet :
+    Option arabic_shape_plan_t → Option Script → CharacterTables → Buffer → Buffer → Type 0
 MasksAreSet None script tables old new = new ≡ with_categories tables old
-MasksAreSet (Some p) script tables old new = IsJoined p.mask_array script tables.joining tables.general (with_categories tables old) new × CutsAsHalves script tables.joining tables.general old new
+MasksAreSet (Some p) script tables old new =
+    (new ≡ joined p.mask_array script tables.joining tables.general (with_categories tables old))
+    × CutsAsHalves script tables.joining tables.general old new

@@ -1,10 +1,10 @@
 //! Joining: each letter takes the form that its neighbours ask for. (The Unicode Standard, "Cursive
 //! Joining"; for Alaph, Dalath and Rish the OpenType specification for Syriac.)
-ghost use Rattle.std.specs.Prelude.{◌≡◌, ◌+◌, ◌<◌, ◌≤◌, length, Some, slice_set};
+ghost use Rattle.std.specs.Prelude.{◌≡◌, ◌+◌, ◌<◌, ◌≤◌, length, map, Some, slice_set};
 ghost use Rattle.std.specs.Char.{IsScalar};
-ghost use Rattle.shapers_arabic.specs.Joining.{is_passed_over, nearest, resolved};
+ghost use Rattle.shapers_arabic.specs.Joining.{is_passed_over, joins_back, nearest, resolved};
 ghost use Rattle.shapers_arabic.specs.JoinedText.{AreCharacters, context_types, seen};
-ghost use Rattle.shapers_arabic.specs.JoiningWalk.{IsWithin, JoinsTo, OnlyFormed, WalksAll, WalksOn, cell, column_of, given_last, joined_at, state_at_start, written};
+ghost use Rattle.shapers_arabic.specs.JoiningWalk.{FlaggedBy, IsWithin, JoinsTo, SameText, WalksAll, WalksOn, cell, column_of, given_flags, given_last, joined_at, state_at_start, step_flags, unformed, waits, written};
 
 use super::arabic_action_t::{FIN2, FIN3, FINA, INIT, ISOL, MED2, MEDI, NONE};
 use super::look_ups::{LookUps, look_up};
@@ -124,12 +124,16 @@ fn state_at_start(before: Option<hb_arabic_joining_type_t>) -> usize
 }
 
 // Whether the next letter can change the form of the last one, by the state that it left.
-fn can_change(state: usize) -> bool {
+fn can_change(state: usize) -> bool
+    ensures { result ≡ waits state }
+{
     (2..=5).contains(&state)
 }
 
 // Whether a letter joins the one before it, or could.
-fn joins_back(joining_type: hb_arabic_joining_type_t) -> bool {
+fn joins_back(joining_type: hb_arabic_joining_type_t) -> bool
+    ensures { result ≡ joins_back (Some joining_type) }
+{
     matches!(
         joining_type,
         hb_arabic_joining_type_t::R
@@ -210,7 +214,7 @@ struct Letters {
 // Gives the glyph at place `i` a form.
 fn set_form(glyphs: &mut [hb_glyph_info_t], i: usize, form: u8)
     requires { i < length glyphs.old }
-    ensures formed { OnlyFormed glyphs.old glyphs.new }
+    ensures others { map unformed glyphs.new ≡ map unformed glyphs.old }
     ensures forms { written glyphs.new ≡ slice_set (written glyphs.old) i form }
 {
     glyphs[i].auxiliary = form;
@@ -228,7 +232,7 @@ fn give_form(
 )
     requires within { last < end }
     requires in_range { end ≤ length glyphs.old }
-    ensures formed { OnlyFormed glyphs.old glyphs.new }
+    ensures flagged { FlaggedBy flags (given_flags last end given depends) glyphs.old glyphs.new }
     ensures forms { written glyphs.new ≡ given_last (Some last) given (written glyphs.old) }
 {
     if given != NONE {
@@ -251,7 +255,8 @@ fn give_last(
 )
     requires within { IsWithin letters.last end }
     requires in_range { end ≤ length glyphs.old }
-    ensures formed { OnlyFormed glyphs.old glyphs.new }
+    ensures flagged { let calls = step_flags letters.last letters.state end given joins_back in
+        FlaggedBy flags calls glyphs.old glyphs.new }
     ensures forms { written glyphs.new ≡ given_last letters.last given (written glyphs.old) }
 {
     match letters.last {
@@ -275,7 +280,10 @@ fn join_letter(
     requires state { letters.old.state < 7 }
     requires within { IsWithin letters.old.last i }
     requires in_range { i < length glyphs.old }
-    ensures formed { OnlyFormed glyphs.old glyphs.new }
+    ensures flagged { let last = letters.old in
+        let given = (cell last.state letter).0 in
+        let calls = step_flags last.last last.state (i + 1) given (joins_back (Some letter)) in
+        FlaggedBy flags calls glyphs.old glyphs.new }
     ensures forms { let step = cell letters.old.state letter in
         written glyphs.new ≡ joined_at letters.old.last step i (written glyphs.old) }
     ensures last { letters.new.last ≡ Some i }
@@ -302,8 +310,8 @@ fn join_place(
     requires state { letters.old.state < 7 }
     requires within { IsWithin letters.old.last i }
     requires in_range { i < length glyphs.old }
-    ensures formed { OnlyFormed glyphs.old glyphs.new }
-    ensures walked { WalksOn i joining_type letters.old glyphs.old letters.new glyphs.new }
+    ensures text { SameText glyphs.old glyphs.new }
+    ensures walked { WalksOn flags i joining_type letters.old glyphs.old letters.new glyphs.new }
     ensures state { letters.new.state < 7 }
     ensures within { IsWithin letters.new.last (i + 1) }
 {
@@ -323,9 +331,8 @@ fn join_letters<T: Tables, L: Ledger>(
 ) -> Letters
     requires characters { AreCharacters glyphs.old }
     requires state { state < 7 }
-    ensures formed { OnlyFormed glyphs.old glyphs.new }
     ensures walked { let joining = (T.tables tables.now).joining in
-        WalksAll joining state glyphs.old result glyphs.new }
+        WalksAll flags joining state glyphs.old result glyphs.new }
     ensures counted { count.new ≡ count.old + length glyphs.old }
     ensures state { result.state < 7 }
     ensures within { IsWithin result.last (length glyphs.old) }
@@ -348,9 +355,8 @@ pub(super) fn join<T: Tables, L: Ledger>(
     count: &mut LookUps<L>,
 )
     requires { AreCharacters glyphs.old }
-    ensures formed { OnlyFormed glyphs.old glyphs.new }
-    ensures forms { let joining = (T.tables tables.now).joining in
-        JoinsTo joining before after glyphs.old glyphs.new }
+    ensures joined { let joining = (T.tables tables.now).joining in
+        JoinsTo flags joining before after glyphs.old glyphs.new }
     ensures counted { count.new ≡ count.old + length glyphs.old }
 {
     let letters = join_letters(flags, glyphs, state_at_start(before), tables, count);

@@ -32,7 +32,7 @@ impl<'a, T: Tables, L: Ledger> GlyphWalk for JoiningWalk<'a, T, L> {
     ghost can_walk = { λ w gs. AreCharacters gs × IsNearest w.before × IsNearest w.after };
 
     ghost walks = { λ v w gs hs.
-        JoinsAll v.masks.now v.script (T.tables v.tables.now).joining v.before v.after gs hs
+        JoinsAll v.masks.now v.flags v.script (T.tables v.tables.now).joining v.before v.after gs hs
         × (w.count.now ≡ v.count.now + length gs)
         × (w.count.ghost_name ≡ v.count.ghost_name) };
 

@@ -8,9 +8,9 @@ use shapers_base::buffer::{GlyphChange, Script, hb_buffer_t, hb_glyph_info_t};
 use shapers_base::font::Tables;
 use shapers_base::plan::{PlanData, arabic_shape_plan_t, hb_ot_shape_plan_t};
 
-/// Gives each letter its form and the form's mask, where the plan has a plan of Arabic, and each
-/// glyph the category of its character in the universal shaper. It can't refuse and takes no
-/// memory.
+/// Gives each letter its form, the form's mask and the glyph flags of joining, where the plan has a
+/// plan of Arabic, and each glyph the category of its character in the universal shaper. It can't
+/// refuse and takes no memory.
 pub fn setup_masks<T: Tables>(plan: &hb_ot_shape_plan_t, tables: &T, buffer: &mut hb_buffer_t)
     requires data { is_universal plan.now.plan_data ≡ true }
     requires characters { CanJoin (arabic_of plan.now.plan_data) buffer.old.glyphs }

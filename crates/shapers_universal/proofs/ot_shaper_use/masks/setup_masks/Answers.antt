@@ -1,6 +1,6 @@
 -- Joining sees the characters, which categories leave.
-use Rattle.std.proofs.Common.{subst, map}
-use Rattle.shapers_arabic.specs.JoinedText.{CutsAsHalves, HoldsCut, IsJoined}
+use Rattle.std.proofs.Common.{◌∙◌, ap, subst, map}
+use Rattle.shapers_arabic.specs.JoinedText.{CutsAsHalves, HoldsCut, joined}
 use Rattle.shapers_universal.proofs.MaskLemmas.{characters_stay, text_stays}
 use Rattle.shapers_universal.proofs.ot_shaper_use.masks.setup_masks.Goals as goal
 
@@ -15,6 +15,6 @@ returns-in-Some g c =
     let new = c.setup_masks_inner.new.buffer in
     let auxiliaries = map (λ h. h.auxiliary) new.glyphs in
     let masks = c.in-Some.arabic_plan.mask_array in
-    let joined = subst (λ b. IsJoined masks script t.joining t.general b new) c.set_categories.ensures c.setup_masks_inner.ensures.joined in
+    let equation = c.setup_masks_inner.ensures.joined ∙ ap (joined masks script t.joining t.general) c.set_categories.ensures in
     let cut = subst (λ b. CutsAsHalves script t.joining t.general b new) c.set_categories.ensures c.setup_masks_inner.ensures.cut in
-    rw (c.in-Universal.is, c.in-Some.is) (joined, subst (λ text. HoldsCut script text auxiliaries) (text_stays t t.joining t.general c.args.buffer.now) cut)
+    rw (c.in-Universal.is, c.in-Some.is) (equation, subst (λ text. HoldsCut script text auxiliaries) (text_stays t t.joining t.general c.args.buffer.now) cut)
