@@ -1,3 +1,4 @@
+mod Headline
 mod HookRows
 mod PauseRows
 mod RecordRows

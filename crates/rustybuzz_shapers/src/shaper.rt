@@ -12,9 +12,11 @@ use shapers_base::font::{Tables, hb_font_t};
 use shapers_base::plan::{hb_ot_shape_plan_t, hb_ot_shape_planner_t};
 
 mod conditions;
+mod laws;
 mod pauses;
 
 pub use conditions::pause_fits;
+pub use laws::headline;
 pub use pauses::{run_pause, syllables_regrouped_law};
 use shapers_arabic::ot_shaper_arabic;
 pub use shapers_base::plan::{NormalizationMode, Pause, PlanData, Preprocess, ZeroWidthMarks};

@@ -1,5 +1,5 @@
 mod ConstantRows
-mod MaskLemmas
+pub mod MaskLemmas
 mod RequestRows
 mod SyllableRows
 mod SyllableWalks

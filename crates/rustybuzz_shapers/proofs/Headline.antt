@@ -1,0 +1,37 @@
+-- The actions of joining, from what the enum says of masks.
+use Rattle.std.proofs.Common.{◌≡◌, ◌∙◌, Some, ap, subst}
+use Rattle.shapers_buffer.specs.Buffer.{Buffer}
+use Rattle.shapers_base.specs.Font.{CharacterTables}
+use Rattle.shapers_base.specs.declared.plan.arabic.arabic_shape_plan_t.{arabic_shape_plan_t}
+use Rattle.shapers_base.specs.declared.plan.hb_ot_shape_plan_t.{hb_ot_shape_plan_t}
+use Rattle.shapers_arabic.specs.JoinedText.{forms_of, text_of}
+use Rattle.shapers_arabic.specs.PlanData.{masks_of}
+use Rattle.shapers_arabic.proofs.JoinedGlyphs.{forms-formed}
+use Rattle.shapers_arabic.proofs.JoiningLaws.{copied-cut}
+use Rattle.shapers_universal.specs.PlanData.{arabic_of}
+use Rattle.shapers_universal.specs.UniversalMasks.{MasksAreSet, with_categories}
+use Rattle.shapers_universal.proofs.MaskLemmas.{text_stays}
+use Rattle.rustybuzz_shapers.specs.Headline.{ActionsByRule, ActsByRule}
+use Rattle.rustybuzz_shapers.specs.Hooks.{MasksSet}
+use Rattle.rustybuzz_shapers.specs.declared.shaper.hb_ot_shaper_t.TheVariants.{Arabic, Universal}
+
+arabic_acts : (plan : hb_ot_shape_plan_t) (tables : CharacterTables) (old new : Buffer) → MasksSet Arabic plan tables old new → ActsByRule plan.script tables old new
+arabic_acts plan tables old new set = record {
+  rule = forms-formed (masks_of plan.plan_data) (forms_of plan.script (text_of tables.joining tables.general old)) old.glyphs new.glyphs set.0.formed;
+  halves = set.1;
+  copied = copied-cut plan.script tables.joining tables.general old;
+}
+
+universal_acts : (plan : hb_ot_shape_plan_t) (tables : CharacterTables) (old new : Buffer) (joins : arabic_shape_plan_t) → arabic_of plan.plan_data ≡ Some joins → MasksSet Universal plan tables old new → ActsByRule plan.script tables old new
+universal_acts plan tables old new joins is set =
+    let joined : MasksAreSet (Some joins) plan.script tables old new = subst (λ o. MasksAreSet o plan.script tables old new) is set in
+    let before = with_categories tables old in
+    record {
+      rule = forms-formed joins.mask_array (forms_of plan.script (text_of tables.joining tables.general before)) before.glyphs new.glyphs joined.0.formed
+          ∙ ap (forms_of plan.script) (text_stays tables tables.joining tables.general old);
+      halves = joined.1;
+      copied = copied-cut plan.script tables.joining tables.general old;
+    }
+
+pub actions_by_rule : ActionsByRule
+actions_by_rule plan tables old new = (arabic_acts plan tables old new, universal_acts plan tables old new)
