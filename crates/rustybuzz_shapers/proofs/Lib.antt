@@ -1,8 +1,19 @@
+mod Headline
 mod HookRows
 mod PauseRows
 mod RecordRows
 mod StandingRows
 mod Regrouped
--- lemmas to cite, of crates below
+-- lemmas to cite, of the crates below, under their names
 pub use Rattle.shapers_clusters.proofs as clusters
 pub use Rattle.shapers_syllabic.proofs as syllabic
+pub use Rattle.shapers_text.proofs as text
+pub use Rattle.shapers_arabic.proofs as arabic
+pub use Rattle.shapers_stretch.proofs as stretch
+pub use Rattle.shapers_hangul.proofs as hangul
+pub use Rattle.shapers_khmer.proofs as khmer
+pub use Rattle.shapers_myanmar.proofs as myanmar
+pub use Rattle.shapers_universal.proofs as universal
+pub use Rattle.shapers_indic.proofs as indic
+pub use Rattle.shapers_indic_initial.proofs as indic_initial
+pub use Rattle.shapers_indic_final.proofs as indic_final

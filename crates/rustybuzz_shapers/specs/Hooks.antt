@@ -1,4 +1,5 @@
--- What each hook does, of each shaper that has it. Of the others, which lack it by their `standing`: nothing changes and the answer is None.
+-- What each hook does, of each shaper that has it. Of the others, which lack it by their
+-- `standing`: nothing changes and the answer is None.
 use Rattle.std.specs.Prelude.{ℕ, ◌+◌, ◌≤◌, List, map, true, false, ◌≡◌, length, Option, None, Some, Result, IsOk}
 use Rattle.std.specs.List.{All, list_any}
 use Rattle.shapers_buffer.specs.Buffer.{Buffer}
@@ -44,7 +45,8 @@ data_created Arabic plan = Some (data_of.Arabic (arabic_plan plan.stretch_start 
 data_created Hangul plan = Some (data_of.Hangul (record { mask_array = jamo_masks plan.ot_map }))
 data_created Indic plan = Some (data_of.Indic (indic_plan plan.script plan.ot_map))
 data_created Khmer plan = Some (data_of.Khmer (record { mask_array = khmer_masks plan.ot_map }))
-data_created Universal plan = Some (data_of.Universal (universal_plan plan.stretch_start plan.script plan.ot_map))
+data_created Universal plan =
+    Some (data_of.Universal (universal_plan plan.stretch_start plan.script plan.ot_map))
 data_created _ plan = None
 
 -- the plan with these data, if there are any
@@ -59,7 +61,8 @@ PlanFits Hangul plan = is_hangul_data plan.plan_data ≡ true
 PlanFits Universal plan = is_universal plan.plan_data ≡ true
 PlanFits _ plan = Unit {0}
 
--- what setting masks asks of the glyphs: for Arabic, and the universal shaper where letters join, they are characters
+-- what setting masks asks of the glyphs: for Arabic, and the universal shaper where letters join,
+-- they are characters
 abbrev pub GlyphsFit : hb_ot_shaper_t → hb_ot_shape_plan_t → List hb_glyph_info_t → Type 0
 GlyphsFit Arabic plan gs = AreCharacters gs
 GlyphsFit Universal plan gs = CanJoin (arabic_of plan.plan_data) gs
@@ -70,7 +73,8 @@ abbrev pub MarksFit : hb_ot_shaper_t → ℕ → ℕ → Type 0
 MarksFit Arabic start end = end ≤ start + 32
 MarksFit _ start end = Unit {0}
 
--- what postprocessing asks of the plan and the glyphs: for Arabic its data, and glyph numbers of a font
+-- what postprocessing asks of the plan and the glyphs: for Arabic its data, and glyph numbers of a
+-- font
 abbrev pub PostprocessFits : hb_ot_shaper_t → hb_ot_shape_plan_t → List hb_glyph_info_t → Type 0
 PostprocessFits Arabic plan gs = IsArabic plan.plan_data × All (λ g. g.glyph_id ≤ 65535) gs
 PostprocessFits _ plan gs = Unit {0}
@@ -95,15 +99,22 @@ Preprocessed shaper plan font old new = Lacking (standing shaper).preprocess_tex
 abbrev pub PreprocessKeeps : hb_ot_shaper_t → hb_ot_shape_plan_t → Font → Buffer → Buffer → Type 0
 PreprocessKeeps Hangul plan font old new = KeepsClusters font old new × SpellsSame old new
 PreprocessKeeps Indic plan font old new = new ≡ old
-PreprocessKeeps Thai plan font old new = ClustersInTwo old.level (characters old.glyphs) (clusters old.glyphs) (clusters new.glyphs) × KeptInTwo (asks_for_forms plan) old.glyphs new.glyphs
+PreprocessKeeps Thai plan font old new =
+    ClustersInTwo old.level (characters old.glyphs) (clusters old.glyphs) (clusters new.glyphs)
+    × KeptInTwo (asks_for_forms plan) old.glyphs new.glyphs
 PreprocessKeeps Universal plan font old new = new ≡ old
 PreprocessKeeps shaper plan font old new = Lacking (standing shaper).preprocess_text (new ≡ old)
 
--- when it refuses: Hangul and Thai as a growth to the result's length does, Thai never without a SARA AM; the others never
-abbrev pub RefusesPreprocess : {T : Type 0} → hb_ot_shaper_t → Font → Buffer → Result T ShaperError → Type 0
-RefusesPreprocess Hangul font old r = RefusesLength old.max_len (length (hangul.rewritten font old).glyphs) r
+-- when it refuses: Hangul and Thai as a growth to the result's length does, Thai never without a
+-- SARA AM; the others never
+abbrev pub RefusesPreprocess :
+    {T : Type 0} → hb_ot_shaper_t → Font → Buffer → Result T ShaperError → Type 0
+RefusesPreprocess Hangul font old r =
+    RefusesLength old.max_len (length (hangul.rewritten font old).glyphs) r
 RefusesPreprocess Indic font old r = IsOk r
-RefusesPreprocess Thai font old r = RefusesLength old.max_len (length (glyphs_in_two old.glyphs)) r × (list_any (λ g. is_sara_am g.glyph_id) old.glyphs ≡ false → IsOk r)
+RefusesPreprocess Thai font old r =
+    RefusesLength old.max_len (length (glyphs_in_two old.glyphs)) r
+    × (list_any (λ g. is_sara_am g.glyph_id) old.glyphs ≡ false → IsOk r)
 RefusesPreprocess Universal font old r = IsOk r
 RefusesPreprocess shaper font old r = Lacking (standing shaper).preprocess_text (IsOk r)
 
@@ -112,44 +123,58 @@ abbrev pub Postprocessed : hb_ot_shaper_t → hb_ot_shape_plan_t → Font → Bu
 Postprocessed Arabic plan font old new = new ≡ marks_stretched font (start_of plan.plan_data) old
 Postprocessed shaper plan font old new = Lacking (standing shaper).postprocess_glyphs (new ≡ old)
 
--- when it refuses: for Arabic where a number doesn't fit, and then as a growth to the result's length does, but never without a mark that
--- stretches; the others never
-abbrev pub RefusesPostprocess : {T : Type 0} → hb_ot_shaper_t → hb_ot_shape_plan_t → Font → Buffer → Result T ShaperError → Type 0
+-- when it refuses: for Arabic where a number doesn't fit, and then as a growth to the result's
+-- length does, but never without a mark that stretches; the others never
+abbrev pub RefusesPostprocess :
+    {T : Type 0} → hb_ot_shaper_t → hb_ot_shape_plan_t → Font → Buffer → Result T ShaperError →
+    Type 0
 RefusesPostprocess Arabic plan font old r =
     let choice = start_of plan.plan_data in
-    Refuses (stretch_refusal font choice old) old.max_len (length (marks_stretched font choice old).glyphs) r × (old.stch ≡ false → IsOk r)
+    Refuses (stretch_refusal font choice old) old.max_len
+        (length (marks_stretched font choice old).glyphs) r × (old.stch ≡ false → IsOk r)
 RefusesPostprocess shaper plan font old r = Lacking (standing shaper).postprocess_glyphs (IsOk r)
 
 -- what two characters compose to
-abbrev pub Composed : hb_ot_shaper_t → hb_ot_shape_plan_t → CharacterTables → ℕ → ℕ → Option (Option ℕ) → Type 0
-Composed Hebrew plan tables a b answer = answer ≡ Some (composed_in_hebrew (tables.composed a b) plan.has_gpos_mark a b)
+abbrev pub Composed :
+    hb_ot_shaper_t → hb_ot_shape_plan_t → CharacterTables → ℕ → ℕ → Option (Option ℕ) → Type 0
+Composed Hebrew plan tables a b answer =
+    answer ≡ Some (composed_in_hebrew (tables.composed a b) plan.has_gpos_mark a b)
 Composed Indic plan tables a b answer = answer ≡ Some (composed_in_indic tables a b)
 Composed Khmer plan tables a b answer = answer ≡ Some (composed_behind tables a b)
 Composed Universal plan tables a b answer = answer ≡ Some (composed_behind tables a b)
 Composed shaper plan tables a b answer = Lacking (standing shaper).compose (answer ≡ None)
 
 -- what a character decomposes to
-abbrev pub Decomposed : hb_ot_shaper_t → hb_ot_shape_plan_t → CharacterTables → ℕ → Option (Option (ℕ × ℕ)) → Type 0
+abbrev pub Decomposed :
+    hb_ot_shaper_t → hb_ot_shape_plan_t → CharacterTables → ℕ → Option (Option (ℕ × ℕ)) → Type 0
 Decomposed Indic plan tables ab answer = answer ≡ Some (decomposed_in_indic tables ab)
 Decomposed Khmer plan tables ab answer = answer ≡ Some (decomposed_in_khmer tables ab)
 Decomposed shaper plan tables ab answer = Lacking (standing shaper).decompose (answer ≡ None)
 
 -- the buffer before and after masks are set
-abbrev pub MasksSet : hb_ot_shaper_t → hb_ot_shape_plan_t → CharacterTables → Buffer → Buffer → Type 0
+abbrev pub MasksSet :
+    hb_ot_shaper_t → hb_ot_shape_plan_t → CharacterTables → Buffer → Buffer → Type 0
 MasksSet Arabic plan tables old new =
     (new ≡ joined (masks_of plan.plan_data) plan.script tables.joining tables.general old)
     × CutsAsHalves plan.script tables.joining tables.general old new
 MasksSet Hangul plan tables old new = new ≡ with_jamo_masks plan.plan_data old
-MasksSet Indic plan tables old new = new ≡ record old { glyphs = map (with_category_and_position tables) old.glyphs }
-MasksSet Khmer plan tables old new = new ≡ record old { glyphs = map (with_category tables) old.glyphs }
-MasksSet Myanmar plan tables old new = new ≡ record old { glyphs = map (with_category tables) old.glyphs }
-MasksSet Universal plan tables old new = MasksAreSet (arabic_of plan.plan_data) plan.script tables old new
+MasksSet Indic plan tables old new =
+    new ≡ record old { glyphs = map (with_category_and_position tables) old.glyphs }
+MasksSet Khmer plan tables old new =
+    new ≡ record old { glyphs = map (with_category tables) old.glyphs }
+MasksSet Myanmar plan tables old new =
+    new ≡ record old { glyphs = map (with_category tables) old.glyphs }
+MasksSet Universal plan tables old new =
+    MasksAreSet (arabic_of plan.plan_data) plan.script tables old new
 MasksSet shaper plan tables old new = Lacking (standing shaper).setup_masks (new ≡ old)
 
 -- the buffer before and after the marks from start to end are reordered
 abbrev pub MarksReordered : hb_ot_shaper_t → ℕ → ℕ → Buffer → Buffer → Type 0
-MarksReordered Arabic start end old new = new ≡ record old { glyphs = marks_reordered start end (marks_merged old.level start end old.glyphs) }
-MarksReordered Hebrew start end old new = new ≡ record old { glyphs = run_step old.level (mark_step start end old.glyphs) old.glyphs }
+MarksReordered Arabic start end old new =
+    new ≡ record old
+    { glyphs = marks_reordered start end (marks_merged old.level start end old.glyphs) }
+MarksReordered Hebrew start end old new =
+    new ≡ record old { glyphs = run_step old.level (mark_step start end old.glyphs) old.glyphs }
 MarksReordered shaper start end old new = Lacking (standing shaper).reorder_marks (new ≡ old)
 
 -- that no mark is lost, exact cuts, the cluster law and the flag law

@@ -1,3 +1,4 @@
+pub mod Headline
 pub mod Hooks
 pub mod Pauses
 pub mod Records

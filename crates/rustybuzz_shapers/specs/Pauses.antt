@@ -54,6 +54,10 @@ PauseFits RecordStch plan = IsArabic plan.plan_data
 PauseFits RecordRphf plan = is_universal plan.plan_data ≡ true
 PauseFits _ plan = Unit {0}
 
+-- so for each of these
+abbrev pub AllFit : hb_ot_shape_plan_t → List Pause → Type 0
+AllFit plan pauses = All (λ pause. PauseFits pause plan) pauses
+
 -- the pauses among requests
 abbrev pub pauses_in : List Request → List Pause
 pauses_in [] = []
@@ -61,13 +65,15 @@ pauses_in (request.Pause (Some pause) ∷ rs) = pause ∷ pauses_in rs
 pauses_in (request.Pause None ∷ rs) = pauses_in rs
 pauses_in (request.Feature tag flags value ∷ rs) = pauses_in rs
 
--- the plan's data are of the kind that each pause reads that a shaper's lists ask for, for any script, and a font with rclt or without
+-- the plan's data are of the kind that each pause reads that a shaper's lists ask for, for any
+-- script, and a font with rclt or without
 abbrev pub PausesFit : hb_ot_shaper_t → hb_ot_shape_plan_t → Type 0
 PausesFit shaper plan = (script : Option Script) (has_rclt : Bool) →
-    All (λ pause. PauseFits pause plan) (pauses_in (unwrap_or (collected shaper script has_rclt) [])) × All (λ pause. PauseFits pause plan) (pauses_in (unwrap_or (overridden shaper) []))
+    AllFit plan (pauses_in (unwrap_or (collected shaper script has_rclt) []))
+    × AllFit plan (pauses_in (unwrap_or (overridden shaper) []))
 
--- What a pause that reorders goes by: the circles that it opens first, what each syllable of the text with them becomes, and the
--- merges and moves that lead there.
+-- What a pause that reorders goes by: the circles that it opens first, what each syllable of the
+-- text with them becomes, and the merges and moves that lead there.
 pub record Reordering : Type 0 where
   pub circles : Option DottedCircles
   pub order : List hb_glyph_info_t → List hb_glyph_info_t
@@ -132,7 +138,8 @@ reordering_of ArabicFallbackShape plan font b = None
 abbrev pub circles_of : Pause → hb_ot_shape_plan_t → Font → Buffer → Option DottedCircles
 circles_of pause plan font b = option_and_then (λ r. r.circles) (reordering_of pause plan font b)
 
--- the buffer before and after a reordering: circles come into the text, and each syllable becomes what it goes by
+-- the buffer before and after a reordering: circles come into the text, and each syllable becomes
+-- what it goes by
 abbrev pub Reordered : Reordering → Buffer → Buffer → Type 0
 Reordered r old new = PauseReordered r.circles r.order r.steps old new
 
@@ -141,28 +148,36 @@ abbrev pub Paused : Pause → hb_ot_shape_plan_t → Font → List Span → Buff
 Paused SetupSyllablesIndic plan font spans old new = new ≡ spans_set_up spans 4 old
 Paused SetupSyllablesKhmer plan font spans old new = new ≡ spans_set_up spans 1 old
 Paused SetupSyllablesMyanmar plan font spans old new = new ≡ spans_set_up spans 2 old
-Paused SetupSyllablesUse plan font spans old new = new ≡ syllables_set_up plan.plan_data plan.ot_map spans old
-Paused InitialReordering plan font spans old new = Reordered (by_initial plan font old) old new × InitiallyReordered font plan.ot_map (indic_in plan) old new
+Paused SetupSyllablesUse plan font spans old new =
+    new ≡ syllables_set_up plan.plan_data plan.ot_map spans old
+Paused InitialReordering plan font spans old new =
+    Reordered (by_initial plan font old) old new
+    × InitiallyReordered font plan.ot_map (indic_in plan) old new
 Paused ReorderKhmer plan font spans old new = Reordered (by_khmer plan font old) old new
 Paused ReorderMyanmar plan font spans old new = Reordered (by_myanmar font old) old new
 Paused ReorderUse plan font spans old new = Reordered (by_universal font old) old new
-Paused FinalReordering plan font spans old new = FinallyReordered (final.rules_of font (indic_in plan)) old new
+Paused FinalReordering plan font spans old new =
+    FinallyReordered (final.rules_of font (indic_in plan)) old new
 Paused RecordStch plan font spans old new = new ≡ tiles_recorded plan.plan_data old
 Paused RecordRphf plan font spans old new = new ≡ with_rphf_recorded (rphf_of plan.plan_data) old
 Paused RecordPref plan font spans old new = new ≡ with_pref_recorded old
-Paused SyllabicClearVar plan font spans old new = new ≡ record old { glyphs = map (in_syllable 0) old.glyphs }
-Paused ClearSubstitutionFlags plan font spans old new = new ≡ record old { glyphs = map unsubstituted old.glyphs }
+Paused SyllabicClearVar plan font spans old new =
+    new ≡ record old { glyphs = map (in_syllable 0) old.glyphs }
+Paused ClearSubstitutionFlags plan font spans old new =
+    new ≡ record old { glyphs = map unsubstituted old.glyphs }
 Paused ArabicFallbackShape plan font spans old new = new ≡ old
 
--- What every reordering keeps. A text cut at any border of syllables gives the halves' results joined. No glyph is lost, no cluster
--- rises, glyph flags stay unless it fell, and what shared a cluster still does: the laws of steps, from after circles on. Every
--- cluster is one that the text had before its circles.
+-- What every reordering keeps. A text cut at any border of syllables gives the halves' results
+-- joined. No glyph is lost, no cluster rises, glyph flags stay unless it fell, and what shared a
+-- cluster still does: the laws of steps, from after circles on. Every cluster is one that the text
+-- had before its circles.
 pub record ReorderingKeeps (r : Reordering) (old new : Buffer) : Type 0 where
   pub cuts : PauseCutsAtBorders r.circles r.order r.steps old new
   pub text : TextReordered r.steps (record old { glyphs = circled r.circles old.glyphs }) new
   pub old_clusters : NoNewCluster old.glyphs new.glyphs
 
--- and where syllables move only inside what they merged first, as but for Indic they do: exact cuts and the cluster law besides
+-- and where syllables move only inside what they merged first, as but for Indic they do: exact cuts
+-- and the cluster law besides
 abbrev pub MergedFirst : Reordering → Buffer → Buffer → Type 0
 MergedFirst r old new =
     let opened = circled r.circles old.glyphs in
@@ -172,18 +187,29 @@ MergedFirst r old new =
 abbrev pub ClustersStay : Buffer → Buffer → Type 0
 ClustersStay old new = clusters new.glyphs ≡ clusters old.glyphs
 
--- The laws of a pause: spans may be cut between any two, and texts at any border of syllables; what becomes of clusters. In the initial
--- reordering of Indic they merge by the cycles of its order, in the final one by its moves.
+-- The laws of a pause: spans may be cut between any two, and texts at any border of syllables; what
+-- becomes of clusters. In the initial reordering of Indic they merge by the cycles of its order, in
+-- the final one by its moves.
 abbrev pub PauseKeeps : Pause → hb_ot_shape_plan_t → Font → List Span → Buffer → Buffer → Type 0
-PauseKeeps SetupSyllablesIndic plan font spans old new = SetUpCutsAtSpans spans 4 old new × ClustersStay old new
-PauseKeeps SetupSyllablesKhmer plan font spans old new = SetUpCutsAtSpans spans 1 old new × ClustersStay old new
-PauseKeeps SetupSyllablesMyanmar plan font spans old new = SetUpCutsAtSpans spans 2 old new × ClustersStay old new
-PauseKeeps SetupSyllablesUse plan font spans old new = UniversalSetUpCutsAtSpans plan.plan_data plan.ot_map spans old new × ClustersStay old new
-PauseKeeps InitialReordering plan font spans old new = ReorderingKeeps (by_initial plan font old) old new × InitiallyMerged font plan.ot_map (indic_in plan) old new
-PauseKeeps ReorderKhmer plan font spans old new = ReorderingKeeps (by_khmer plan font old) old new × MergedFirst (by_khmer plan font old) old new
-PauseKeeps ReorderMyanmar plan font spans old new = ReorderingKeeps (by_myanmar font old) old new × MergedFirst (by_myanmar font old) old new
-PauseKeeps ReorderUse plan font spans old new = ReorderingKeeps (by_universal font old) old new × MergedFirst (by_universal font old) old new
-PauseKeeps FinalReordering plan font spans old new = FinallyKept (final.rules_of font (indic_in plan)) old new × NoNewCluster old.glyphs new.glyphs
+PauseKeeps SetupSyllablesIndic plan font spans old new =
+    SetUpCutsAtSpans spans 4 old new × ClustersStay old new
+PauseKeeps SetupSyllablesKhmer plan font spans old new =
+    SetUpCutsAtSpans spans 1 old new × ClustersStay old new
+PauseKeeps SetupSyllablesMyanmar plan font spans old new =
+    SetUpCutsAtSpans spans 2 old new × ClustersStay old new
+PauseKeeps SetupSyllablesUse plan font spans old new =
+    UniversalSetUpCutsAtSpans plan.plan_data plan.ot_map spans old new × ClustersStay old new
+PauseKeeps InitialReordering plan font spans old new =
+    ReorderingKeeps (by_initial plan font old) old new
+    × InitiallyMerged font plan.ot_map (indic_in plan) old new
+PauseKeeps ReorderKhmer plan font spans old new =
+    ReorderingKeeps (by_khmer plan font old) old new × MergedFirst (by_khmer plan font old) old new
+PauseKeeps ReorderMyanmar plan font spans old new =
+    ReorderingKeeps (by_myanmar font old) old new × MergedFirst (by_myanmar font old) old new
+PauseKeeps ReorderUse plan font spans old new =
+    ReorderingKeeps (by_universal font old) old new × MergedFirst (by_universal font old) old new
+PauseKeeps FinalReordering plan font spans old new =
+    FinallyKept (final.rules_of font (indic_in plan)) old new × NoNewCluster old.glyphs new.glyphs
 PauseKeeps RecordStch plan font spans old new = Unit {0}
 PauseKeeps RecordRphf plan font spans old new = Unit {0}
 PauseKeeps RecordPref plan font spans old new = Unit {0}
@@ -191,20 +217,30 @@ PauseKeeps SyllabicClearVar plan font spans old new = Unit {0}
 PauseKeeps ClearSubstitutionFlags plan font spans old new = Unit {0}
 PauseKeeps ArabicFallbackShape plan font spans old new = Unit {0}
 
--- when a reordering refuses: an unknown kind first; then as a growth to the text with its circles does; never where no circle opens
-abbrev pub RefusesReordering : {T : Type 0} → Option ShaperError → Option DottedCircles → Buffer → Result T ShaperError → Type 0
+-- when a reordering refuses: an unknown kind first; then as a growth to the text with its circles
+-- does; never where no circle opens
+abbrev pub RefusesReordering :
+    {T : Type 0} → Option ShaperError → Option DottedCircles → Buffer → Result T ShaperError →
+    Type 0
 RefusesReordering unknown circles old r =
     let opened = circled circles old.glyphs in
     Refuses unknown old.max_len (length opened) r × (unknown ≡ None → opened ≡ old.glyphs → IsOk r)
 
 -- when it refuses; what isn't named never does
-abbrev pub RefusesPause : {T : Type 0} → Pause → Font → List Span → Buffer → Result T ShaperError → Type 0
+abbrev pub RefusesPause :
+    {T : Type 0} → Pause → Font → List Span → Buffer → Result T ShaperError → Type 0
 RefusesPause SetupSyllablesIndic font spans old r = RefusesInput (spans_refusal spans old) r
 RefusesPause SetupSyllablesKhmer font spans old r = RefusesInput (spans_refusal spans old) r
 RefusesPause SetupSyllablesMyanmar font spans old r = RefusesInput (spans_refusal spans old) r
 RefusesPause SetupSyllablesUse font spans old r = RefusesInput (spans_refusal spans old) r
-RefusesPause InitialReordering font spans old r = RefusesReordering (initial_refusal old) (initial_circles font old) old r
-RefusesPause ReorderKhmer font spans old r = RefusesReordering (unknown_refusal 2 old.glyphs) (circles_of_sort khmer_circles font old) old r
-RefusesPause ReorderMyanmar font spans old r = RefusesReordering (unknown_refusal 3 old.glyphs) (circles_of_sort myanmar_circles font old) old r
-RefusesPause ReorderUse font spans old r = RefusesReordering None (circles_of_sort universal_circles font old) old r
+RefusesPause InitialReordering font spans old r =
+    RefusesReordering (initial_refusal old) (initial_circles font old) old r
+RefusesPause ReorderKhmer font spans old r =
+    let circles = circles_of_sort khmer_circles font old in
+    RefusesReordering (unknown_refusal 2 old.glyphs) circles old r
+RefusesPause ReorderMyanmar font spans old r =
+    let circles = circles_of_sort myanmar_circles font old in
+    RefusesReordering (unknown_refusal 3 old.glyphs) circles old r
+RefusesPause ReorderUse font spans old r =
+    RefusesReordering None (circles_of_sort universal_circles font old) old r
 RefusesPause _ font spans old r = IsOk r

@@ -52,7 +52,8 @@ places_marks Arabic = true
 places_marks Hebrew = true
 places_marks _ = false
 
--- what the shaper asks of the map, if it asks anything: for a script, and a font with rclt or without
+-- what the shaper asks of the map, if it asks anything: for a script, and a font with rclt or
+-- without
 abbrev pub collected : hb_ot_shaper_t → Option Script → Bool → Option (List Request)
 collected Arabic s has_rclt = Some (arabic_list (is_arabic s) has_rclt)
 collected Hangul s has_rclt = Some hangul_list

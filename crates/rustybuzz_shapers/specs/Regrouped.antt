@@ -18,18 +18,28 @@ use Rattle.shapers_syllabic.specs.Circles.{circled}
 use Rattle.shapers_syllabic.specs.Reordering.{text_order}
 use Rattle.rustybuzz_shapers.specs.Pauses.{Paused, Reordering, reordering_of}
 
--- what syllables become together: one after another; in the final reordering of Indic with the masks of init, which also look at the glyph before
-abbrev pub text_of_syllables : Pause → hb_ot_shape_plan_t → Font → Reordering → List hb_glyph_info_t → List hb_glyph_info_t
-text_of_syllables FinalReordering plan font r gs = with_inits (final_rules font (indic_in plan)).init None (map r.order (syllables gs))
+-- what syllables become together: one after another; in the final reordering of Indic with the
+-- masks of init, which also look at the glyph before
+abbrev pub text_of_syllables :
+    Pause → hb_ot_shape_plan_t → Font → Reordering → List hb_glyph_info_t → List hb_glyph_info_t
+text_of_syllables FinalReordering plan font r gs =
+    with_inits (final_rules font (indic_in plan)).init None (map r.order (syllables gs))
 text_of_syllables _ plan font r gs = text_order r.order gs
 
--- The text after is made of the syllables of the text with circles, each by itself, and no glyph number is lost.
-pub record RegroupsSyllables (pause : Pause) (plan : hb_ot_shape_plan_t) (font : Font) (r : Reordering) (old new : Buffer) : Type 0 where
-  pub order : order_view new.glyphs ≡ text_of_syllables pause plan font r (order_view (circled r.circles old.glyphs))
-  pub numbers : IsPermutation (map (λ g. g.glyph_id) (circled r.circles old.glyphs)) (map (λ g. g.glyph_id) new.glyphs)
+-- The text after is made of the syllables of the text with circles, each by itself, and no glyph
+-- number is lost.
+pub record RegroupsSyllables (pause : Pause) (plan : hb_ot_shape_plan_t) (font : Font)
+    (r : Reordering) (old new : Buffer) : Type 0 where
+  pub order : order_view new.glyphs
+      ≡ text_of_syllables pause plan font r (order_view (circled r.circles old.glyphs))
+  pub numbers : IsPermutation
+      (map (λ g. g.glyph_id) (circled r.circles old.glyphs)) (map (λ g. g.glyph_id) new.glyphs)
 
--- so each pause that reorders, by what it makes of a syllable: a function of that syllable, the plan, the font and the buffer's script
+-- so each pause that reorders, by what it makes of a syllable: a function of that syllable, the
+-- plan, the font and the buffer's script
 abbrev pub SyllablesRegrouped : Type 0
-SyllablesRegrouped = (pause : Pause) (plan : hb_ot_shape_plan_t) (font : Font) (spans : List Span) (old new : Buffer) →
+SyllablesRegrouped =
+    (pause : Pause) (plan : hb_ot_shape_plan_t) (font : Font) (spans : List Span)
+    (old new : Buffer) →
     Paused pause plan font spans old new →
     IfSome (reordering_of pause plan font old) (λ r. RegroupsSyllables pause plan font r old new)

@@ -12,9 +12,11 @@ use shapers_base::font::{Tables, hb_font_t};
 use shapers_base::plan::{hb_ot_shape_plan_t, hb_ot_shape_planner_t};
 
 mod conditions;
+mod laws;
 mod pauses;
 
 pub use conditions::pause_fits;
+pub use laws::{headline, stretches_cover_law};
 pub use pauses::{run_pause, syllables_regrouped_law};
 use shapers_arabic::ot_shaper_arabic;
 pub use shapers_base::plan::{NormalizationMode, Pause, PlanData, Preprocess, ZeroWidthMarks};
@@ -359,13 +361,3 @@ impl hb_ot_shaper_t {
         }
     }
 }
-
-ghost use Rattle.rustybuzz_shapers.specs.Stretched.{StretchesCover};
-
-/// What postprocessing makes of an Arabic text is its parts, one after another, each with its run
-/// of tiles laid: as wide as the numbers of the run say, and where the repeating tiles have a width
-/// and fit into what the fixed ones leave, as the word, or wider by less than one unit for each
-/// added copy.
-pub fn stretches_cover_law()
-    ensures { StretchesCover }
-{}

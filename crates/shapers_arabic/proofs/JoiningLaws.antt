@@ -103,17 +103,23 @@ length-forms_of script text long =
       | false ↦ all
     ]
 
+-- the auxiliary bytes that joining left are the forms of the text
+text_long : (joining : ℕ → hb_arabic_joining_type_t) (general : ℕ → hb_unicode_general_category_t) (old : Buffer) → let text = text_of joining general old in length text.characters ≡ length text.types
+text_long joining general old = length-map old.glyphs (λ g. g.glyph_id) ∙ sym (length-map old.glyphs (λ g. resolved (joining g.glyph_id) g.general_category))
+
+pub forms_left : (masks : List ℕ) (script : Option Script) (joining : ℕ → hb_arabic_joining_type_t) (general : ℕ → hb_unicode_general_category_t) (old new : Buffer) → new ≡ joined masks script joining general old → map (λ g. g.auxiliary) new.glyphs ≡ forms_of script (text_of joining general old)
+forms_left masks script joining general old new is =
+    let text = text_of joining general old in
+    let calls = joining_flags text.before text.types text.after in
+    let types_long : length text.types ≡ length old.glyphs = length-map old.glyphs (λ g. resolved (joining g.glyph_id) g.general_category) in
+    let fs_long : length old.glyphs ≡ length (forms_of script text) = sym types_long ∙ sym (length-forms_of script text (text_long joining general old)) in
+    ap (λ (b : Buffer). map (λ g. g.auxiliary) b.glyphs) is ∙ forms-joined masks (forms_of script text) old.flags calls old.glyphs fs_long (joining-in_order text.before text.types text.after)
+
 -- what joining left is cut as the forms are
 pub cut-joined : (masks : List ℕ) (script : Option Script) (joining : ℕ → hb_arabic_joining_type_t) (general : ℕ → hb_unicode_general_category_t) (old new : Buffer) → new ≡ joined masks script joining general old → CutsAsHalves script joining general old new
 cut-joined masks script joining general old new is =
     let text = text_of joining general old in
-    let calls = joining_flags text.before text.types text.after in
-    let types_long : length text.types ≡ length old.glyphs = length-map old.glyphs (λ g. resolved (joining g.glyph_id) g.general_category) in
-    let long : length text.characters ≡ length text.types = length-map old.glyphs (λ g. g.glyph_id) ∙ sym types_long in
-    let fs_long : length old.glyphs ≡ length (forms_of script text) = sym types_long ∙ sym (length-forms_of script text long) in
-    let same : map (λ g. g.auxiliary) new.glyphs ≡ forms_of script text =
-    ap (λ (b : Buffer). map (λ g. g.auxiliary) b.glyphs) is ∙ forms-joined masks (forms_of script text) old.flags calls old.glyphs fs_long (joining-in_order text.before text.types text.after) in
-    subst (λ fs. HoldsCut script text fs) (sym same) (holds-cut script text long)
+    subst (λ fs. HoldsCut script text fs) (sym (forms_left masks script joining general old new is)) (holds-cut script text (text_long joining general old))
 
 -- a front that shows a type shows the nearest
 nearest-of_front : (ts us : List hb_arabic_joining_type_t) → is_some (nearest ts) ≡ true → nearest (ts ++ us) ≡ nearest ts

@@ -1,5 +1,5 @@
 mod ConstantRows
-mod MaskLemmas
+pub mod MaskLemmas
 mod Pieces
 mod Reordered
 mod RequestRows
