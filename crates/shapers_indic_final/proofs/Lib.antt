@@ -1,6 +1,7 @@
 mod FinalBaseRows
 mod FinalClusterRows
 pub mod FinalClusters
+pub mod FinalCuts
 pub mod FinalElsewhere
 pub mod FinalFlags
 pub mod FinalHidden

@@ -1,5 +1,6 @@
 //! Laws of the final reordering, each the contract of a function without a body.
 ghost use Rattle.shapers_indic_final.specs.FinalClusters.{FinalCutsLaw, FinalMergesLaw};
+ghost use Rattle.shapers_indic_final.specs.FinalCuts.{FinalCutsBetweenSpans};
 ghost use Rattle.shapers_indic_final.specs.FinalLaws.{FinalReadsNoSerials, FinalReorderLaws, FinalTextLaws, FinalTextReadsNoSerials};
 
 /// The steps of a syllable take each of its places once and lead to its final order.
@@ -31,4 +32,10 @@ pub fn final_merges()
 /// stretch holds both, and each run so joined has the least cluster that its glyphs had.
 pub fn final_cuts()
     ensures { FinalCutsLaw }
+{}
+
+/// A set-up, a reordering pause and the final reordering, directly after one another and cut between
+/// any two spans, give what they give on the halves, serials and the bits of init apart.
+pub fn final_cuts_between_spans()
+    ensures { FinalCutsBetweenSpans }
 {}
