@@ -50,6 +50,19 @@ copies_walked right_to_left pen step behind count p e fits low high =
 pub copies_stopped : (right_to_left : Bool) (pen step behind : ℤ) (count : ℕ) → 0 < count → behind ≡ pen_behind right_to_left pen (pos count *ℤ step) → (fits_i32 (stands_at right_to_left pen step) && fits_i32 (last_at right_to_left behind step)) ≡ false → WalksPen right_to_left pen (replicate count step) None
 copies_stopped right_to_left pen step behind count p e fails = tells right_to_left pen step behind count p e ∙ fails
 
+-- the same of one copy
+number_after : (right_to_left : Bool) (pen step : ℤ) → fits_i32 (stands_at right_to_left pen step) ≡ true → negsuc (2 ^ 67) ≤ℤ step → step ≤ℤ pos (2 ^ 67) → IsNumber (pen_behind right_to_left pen step)
+number_after true pen step e low high = let near = fits_bounds (pen -ℤ step) e in record { low = omega (arith, ints); high = omega (arith, ints) }
+number_after false pen step e low high = let near = fits_bounds pen e in record { low = omega (arith, ints); high = omega (arith, ints) }
+
+pub copy_walked : (right_to_left : Bool) (pen step behind : ℤ) → behind ≡ pen_behind right_to_left pen step → fits_i32 (stands_at right_to_left pen step) ≡ true → negsuc (2 ^ 67) ≤ℤ step → step ≤ℤ pos (2 ^ 67) → WalksPen right_to_left pen (step ∷ []) (Some behind)
+copy_walked right_to_left pen step behind e fits low high =
+    let sum : total (step ∷ []) ≡ step = omega (arith, ints, total_cons step []) in
+    (ap (λ b. b && true) fits, e ∙ ap (pen_behind right_to_left pen) (sym sum), subst IsNumber (sym e) (number_after right_to_left pen step fits low high))
+
+pub copy_stopped : (right_to_left : Bool) (pen step : ℤ) → fits_i32 (stands_at right_to_left pen step) ≡ false → WalksPen right_to_left pen (step ∷ []) None
+copy_stopped right_to_left pen step fails = ap (λ b. b && true) fails
+
 no_move : (right_to_left : Bool) (pen : ℤ) → pen_behind right_to_left pen (pos 0) ≡ pen
 no_move true pen = omega (arith, ints)
 no_move false pen = omega (arith, ints)

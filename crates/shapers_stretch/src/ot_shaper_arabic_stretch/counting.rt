@@ -1,6 +1,6 @@
 //! The first pass over a text whose marks stretch: whether all its numbers fit, and how many cells
 //! it gains. A run takes a turn for each of its tiles, and none for a copy.
-ghost use Rattle.std.specs.Prelude.{◌≡◌, ◌≤◌, ◌<◌, ◌+◌, ◌^◌, ◌*◌, ◌≤ℤ◌, ◌*ℤ◌, ◌-ℤ◌, ◌&&◌, true, pos, negsuc, MatchOption, length, replicate, take};
+ghost use Rattle.std.specs.Prelude.{◌≡◌, ◌≤◌, ◌<◌, ◌+◌, ◌^◌, ◌*◌, ◌≤ℤ◌, ◌*ℤ◌, ◌-ℤ◌, ◌&&◌, [], ◌∷◌, true, pos, negsuc, MatchOption, length, replicate, take};
 ghost use Rattle.std.specs.List.{AllByRecursion, zip};
 ghost use Rattle.shapers_stretch.specs.CountingWalk.{CountsAdded, IsCounted, IsLay, IsNumber, WalksPen, moves_of, offsets_fit, last_at, pen_behind, run_added, run_moves, stands_at};
 ghost use Rattle.shapers_stretch.specs.Measure.{fits_i32};
@@ -138,7 +138,7 @@ fn behind_tile<F: hb_font_t>(
     ensures { WalksPen right_to_left pen (moves_of (F.font face.now) lay tile.now) result }
 {
     let width = advance_of(face, tile);
-    let behind = behind_copies(right_to_left, pen, i128::from(width), 1)?;
+    let behind = behind_copy(right_to_left, pen, i128::from(width))?;
     if !repeats(tile) {
         return Some(behind);
     }
@@ -153,6 +153,21 @@ fn step_of(width: i32, lay: Lay) -> i128
     ensures high { result ≤ℤ pos (2 ^ 67) }
 {
     i128::from(width) - lay.overlap
+}
+
+// Where the pen is behind a copy that moves it so far, unless the copy's offset doesn't fit 32
+// bits.
+fn behind_copy(right_to_left: bool, pen: i128, step: i128) -> Option<i128>
+    requires pen { IsNumber pen }
+    requires low { negsuc (2 ^ 67) ≤ℤ step }
+    requires high { step ≤ℤ pos (2 ^ 67) }
+    ensures { WalksPen right_to_left pen (step ∷ []) result }
+{
+    if fits_i32(first_offset(right_to_left, pen, step)) {
+        Some(moved(right_to_left, pen, step))
+    } else {
+        None
+    }
 }
 
 // The same behind so many copies that each move the pen so far: they stand at equal distances, so

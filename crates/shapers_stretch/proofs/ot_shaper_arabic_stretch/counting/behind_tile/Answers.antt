@@ -19,5 +19,5 @@ returns g c =
     let width : c.from.result ≡ c.advance_of-width.result = c.from.ensures ∙ advance in
     let step : c.step_of.result ≡ c.from.result -ℤ c.args.lay.overlap = c.step_of.ensures.value ∙ ap (λ x. x -ℤ c.args.lay.overlap) (sym c.from.ensures) in
     let first : WalksPen rtl c.args.pen (c.from.result ∷ []) (Some behind) = subst (λ p. WalksPen rtl p (c.from.result ∷ []) (Some behind)) pen (subst (λ w. WalksPen rtl (to_z w128 (of_z w128 c.args.pen)) (w ∷ []) (Some behind)) (to_z-of_z w128 c.from.result fits_width) c.in_ok-behind.ensures) in
-    let rest : WalksPen rtl behind (replicate c.args.lay.added c.step_of.result) c.behind_copies-2.result = subst (λ p. WalksPen rtl p (replicate c.args.lay.added c.step_of.result) c.behind_copies-2.result) (to_z-of_z w128 behind fits_behind) (subst (λ s. WalksPen rtl (to_z w128 (of_z w128 behind)) (replicate c.args.lay.added s) c.behind_copies-2.result) (to_z-of_z w128 c.step_of.result fits_step) c.behind_copies-2.ensures) in
-    tile_walked font c.args.lay c.args.tile.now rtl c.args.pen c.from.result c.step_of.result behind c.behind_copies-2.result (sym c.repeats.ensures ∙ c.if-not-repeats.false) (width ∙ c.advance_of-width.ensures) step first rest
+    let rest : WalksPen rtl behind (replicate c.args.lay.added c.step_of.result) c.behind_copies.result = subst (λ p. WalksPen rtl p (replicate c.args.lay.added c.step_of.result) c.behind_copies.result) (to_z-of_z w128 behind fits_behind) (subst (λ s. WalksPen rtl (to_z w128 (of_z w128 behind)) (replicate c.args.lay.added s) c.behind_copies.result) (to_z-of_z w128 c.step_of.result fits_step) c.behind_copies.ensures) in
+    tile_walked font c.args.lay c.args.tile.now rtl c.args.pen c.from.result c.step_of.result behind c.behind_copies.result (sym c.repeats.ensures ∙ c.if-not-repeats.false) (width ∙ c.advance_of-width.ensures) step first rest
