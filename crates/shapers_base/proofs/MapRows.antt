@@ -1,9 +1,10 @@
 -- The questions to a map and the words for requests, computed on small ones.
-use Rattle.std.specs.Prelude.{◌≡◌, ◌==◌, true, false, [], ◌∷◌, Some, None, codes, refl}
+use Rattle.std.specs.Prelude.{◌≡◌, ◌==◌, ℕ, true, false, [], ◌∷◌, Some, None, codes, refl}
 use Rattle.shapers_buffer.specs.declared.buffer.tag.hb_tag_t.{hb_tag_t}
 use Rattle.shapers_base.specs.declared.map.TheConstants.{F_MANUAL_JOINERS}
 use Rattle.shapers_base.specs.declared.plan.planner.Request.TheVariants.{Feature}
-use Rattle.shapers_base.specs.Map.{Map, can_be_map, lookups_in, mask_of, range_for, stage_of}
+use Rattle.shapers_base.specs.declared.map.TableIndex.TheVariants.{GSUB, GPOS}
+use Rattle.shapers_base.specs.Map.{Map, can_be_map, lookups_in, mask_of, of_gsub, range_for, range_of, stage_of}
 use Rattle.shapers_base.specs.Questions.{question_for, would_by}
 use Rattle.shapers_base.specs.Planner.{added, enabled, disabled, bare_pause, each_paused}
 
@@ -49,6 +50,26 @@ other_stage = refl
 
 no_stage : lookups_in (range_for pstf small) small ≡ []
 no_stage = refl
+
+-- the map knows GSUB, and not GPOS
+gsub_known : of_gsub {X = ℕ} GSUB 16 0 ≡ 16
+gsub_known = refl
+
+gpos_unknown : of_gsub {X = ℕ} GPOS 16 0 ≡ 0
+gpos_unknown = refl
+
+-- each stage has its own range; a stage behind the last has none, and so has a feature that names it
+first_range : range_of 0 small ≡ record { start = 0; end = 1 }
+first_range = refl
+
+last_range : range_of 2 small ≡ record { start = 3; end = 4 }
+last_range = refl
+
+range_beyond : range_of 3 small ≡ record { start = 0; end = 0 }
+range_beyond = refl
+
+stage_beyond : lookups_in (range_for pstf (record small { features = record { tag = pstf; mask = 8; stage = 3 } ∷ [] })) small ≡ []
+stage_beyond = refl
 
 joiner_flags : added (F_MANUAL_JOINERS) "blwf" ≡ Feature blwf 12 1
 joiner_flags = refl

@@ -13,6 +13,7 @@ pub mod Joined
 pub mod KeptPlaces
 pub mod Labels
 pub mod LabelsAsMerged
+mod LawRows
 pub mod Made
 pub mod Merging
 pub mod Moves

@@ -1,5 +1,7 @@
 -- The definitions, computed on small texts.
-use Rattle.std.specs.Prelude.{◌≡◌, ◌==◌, ℕ, true, false, List, [], ◌∷◌, map, refl}
+use Prim.Native.String.{String}
+use Rattle.std.specs.Prelude.{◌≡◌, ◌==◌, ℕ, pos, true, false, None, Some, List, [], ◌∷◌, map, codes, refl}
+use Rattle.std.proofs.Common.{ap, arith}
 use Rattle.std.specs.List.{list_any, enumerate_from}
 use Rattle.shapers_buffer.specs.declared.buffer.category.hb_unicode_general_category_t.TheVariants.{Cc, Mn}
 use Rattle.shapers_buffer.specs.declared.buffer.glyph.hb_glyph_info_t.{hb_glyph_info_t}
@@ -8,8 +10,13 @@ use Rattle.shapers_buffer.specs.declared.buffer.level.BufferClusterLevel.TheVari
 use Rattle.shapers_buffer.specs.Glyph.{default_glyph, clusters}
 use Rattle.shapers_buffer.specs.Marks.{is_continuation}
 use Rattle.shapers_text.specs.Thai.{characters, sources, sara_am_stretches}
-use Rattle.shapers_text.specs.ThaiForms.{preprocessed_text}
-use Rattle.shapers_text.specs.ThaiLaws.{new_place}
+use Rattle.shapers_buffer.specs.Buffer.{new_buffer}
+use Rattle.shapers_base.specs.Font.{Font}
+use Rattle.shapers_base.specs.declared.plan.hb_ot_shape_plan_t.{hb_ot_shape_plan_t}
+use Rattle.shapers_base.specs.declared.plan.PlanData.TheVariants as data_of
+use Rattle.shapers_base.specs.declared.plan.arabic.StretchStart.TheVariants.{AsCode}
+use Rattle.shapers_text.specs.ThaiForms.{preprocessed_in_thai, preprocessed_text}
+use Rattle.shapers_text.specs.ThaiLaws.{kept_view, new_place, without_name}
 
 -- a text whose clusters count from 0
 abbrev text : List ℕ → List hb_glyph_info_t
@@ -117,3 +124,42 @@ two_bases = refl
 -- a break between a base and its marks is unsafe, whether a form is found or not
 flags : masks (shaped [] (0x0E14 ∷ 0x0E38 ∷ 0x0E48 ∷ [])) ≡ 0 ∷ 3 ∷ 0 ∷ []
 flags = refl
+
+-- a glyph whose fields are all set: without what the rewriting changes, and as it is kept where forms don't follow and where they do
+abbrev full : hb_glyph_info_t
+full = record { glyph_id = 0x916; cluster = 5; mask = 0x1F; syllable = 0x24; category = 1; auxiliary = 3; general_category = Mn; modified_combining_class = 9; lig_comp = 2; marks = record { 0 = 31 } }
+
+unnamed : without_name full ≡ record full { glyph_id = 0; general_category = Cc; marks = record { 0 = 15 } }
+unnamed = refl
+
+kept : kept_view false full ≡ record full { cluster = 0; mask = 0x18 }
+kept = refl
+
+kept_before_forms : kept_view true full ≡ record full { glyph_id = 0; cluster = 0; mask = 0x18 }
+kept_before_forms = refl
+
+-- so the two tell glyphs apart by any field that stays, and the last doesn't by the character
+told_by_number : kept_view false full ≡ kept_view false (record full { glyph_id = 0x915 }) → ⊥
+told_by_number same = let e : 0x916 ≡ 0x915 = ap (λ g. g.glyph_id) same in absurd (omega (arith, e))
+
+not_told_by_number : kept_view true full ≡ kept_view true (record full { glyph_id = 0x915 })
+not_told_by_number = refl
+
+told_by_mask : kept_view true full ≡ kept_view true (record full { mask = 0x27 }) → ⊥
+told_by_mask same = let e : 0x18 ≡ 0x20 = ap (λ g. g.mask) same in absurd (omega (arith, e))
+
+told_by_class : without_name full ≡ without_name (record full { modified_combining_class = 8 }) → ⊥
+told_by_class same = let e : 9 ≡ 8 = ap (λ g. g.modified_combining_class) same in absurd (omega (arith, e))
+
+-- the forms hang on the script of the plan, not on that of the buffer
+abbrev plan_for : String → hb_ot_shape_plan_t
+plan_for tag = record { script = Some (record { 0 = codes tag }); ot_map = record { features = []; stages = []; lookups = []; global = 0; chosen = None; found = false }; has_gpos_mark = false; stretch_start = AsCode; plan_data = data_of.None }
+
+abbrev every : Font
+every = record { nominal = λ c. Some (record { 0 = 1 }); advance = λ g. pos 0; applies = λ lookup glyphs zero. false; offers = λ tag. false }
+
+abbrev rewritten : String → String → List ℕ
+rewritten planned written = characters (preprocessed_in_thai (plan_for planned) every (record (new_buffer 9) { glyphs = text (0x0E1B ∷ 0x0E34 ∷ []); script = Some (record { 0 = codes written }) })).glyphs
+
+forms_by_plan : rewritten "Thai" "Laoo" ∷ rewritten "Laoo" "Thai" ∷ [] ≡ (0x0E1B ∷ 0xF701 ∷ []) ∷ (0x0E1B ∷ 0x0E34 ∷ []) ∷ []
+forms_by_plan = refl
