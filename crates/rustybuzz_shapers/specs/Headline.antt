@@ -24,9 +24,9 @@ pub record ActsByRule (script : Option Script) (tables : CharacterTables)
   pub copied : (n : ℕ) → n ≤ length old.glyphs →
       AgreesWithTable tables.general old.glyphs →
       Shows (stored_types tables.joining (drop n old.glyphs)
-          ++ context_types tables.joining tables.general old.after) →
+      ++ context_types tables.joining tables.general old.after) →
       Shows (reverse (stored_types tables.joining (take n old.glyphs))
-          ++ context_types tables.joining tables.general old.before) →
+      ++ context_types tables.joining tables.general old.before) →
       HalvesAgree script tables.joining tables.general n old
 
 -- so for Arabic, and for the universal shaper where its plan has one of Arabic, since letters join
@@ -34,4 +34,4 @@ abbrev pub ActionsByRule : Type 0
 ActionsByRule = (plan : hb_ot_shape_plan_t) (tables : CharacterTables) (old new : Buffer) →
     (MasksSet Arabic plan tables old new → ActsByRule plan.script tables old new)
     × ((joins : arabic_shape_plan_t) → arabic_of plan.plan_data ≡ Some joins →
-        MasksSet Universal plan tables old new → ActsByRule plan.script tables old new)
+    MasksSet Universal plan tables old new → ActsByRule plan.script tables old new)

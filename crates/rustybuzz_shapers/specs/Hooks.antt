@@ -131,7 +131,7 @@ abbrev pub RefusesPostprocess :
 RefusesPostprocess Arabic plan font old r =
     let choice = start_of plan.plan_data in
     Refuses (stretch_refusal font choice old) old.max_len
-        (length (marks_stretched font choice old).glyphs) r × (old.stch ≡ false → IsOk r)
+    (length (marks_stretched font choice old).glyphs) r × (old.stch ≡ false → IsOk r)
 RefusesPostprocess shaper plan font old r = Lacking (standing shaper).postprocess_glyphs (IsOk r)
 
 -- what two characters compose to

@@ -32,29 +32,52 @@ no_hooks = record {
 -- the hooks of each shaper
 abbrev pub standing : hb_ot_shaper_t → Standing
 standing Arabic =
-    record no_hooks
-    { collect_features = true; create_data = true; postprocess_glyphs = true; setup_masks = true;
-    reorder_marks = true }
+    record no_hooks {
+      collect_features = true;
+      create_data = true;
+      postprocess_glyphs = true;
+      setup_masks = true;
+      reorder_marks = true;
+    }
 standing Hangul =
-    record no_hooks
-    { collect_features = true; override_features = true; create_data = true; preprocess_text = true;
-    setup_masks = true }
+    record no_hooks {
+      collect_features = true;
+      override_features = true;
+      create_data = true;
+      preprocess_text = true;
+      setup_masks = true;
+    }
 standing Hebrew = record no_hooks { compose = true; reorder_marks = true }
 standing Indic =
-    record no_hooks
-    { collect_features = true; override_features = true; create_data = true; preprocess_text = true;
-    compose = true; decompose = true; setup_masks = true }
+    record no_hooks {
+      collect_features = true;
+      override_features = true;
+      create_data = true;
+      preprocess_text = true;
+      compose = true;
+      decompose = true;
+      setup_masks = true;
+    }
 standing Khmer =
-    record no_hooks
-    { collect_features = true; override_features = true; create_data = true; compose = true;
-    decompose = true; setup_masks = true }
+    record no_hooks {
+      collect_features = true;
+      override_features = true;
+      create_data = true;
+      compose = true;
+      decompose = true;
+      setup_masks = true;
+    }
 standing Myanmar = record no_hooks { collect_features = true; setup_masks = true }
 standing MyanmarZawgyi = no_hooks
 standing Thai = record no_hooks { preprocess_text = true }
 standing Universal =
-    record no_hooks
-    { collect_features = true; create_data = true; preprocess_text = true; compose = true;
-    setup_masks = true }
+    record no_hooks {
+      collect_features = true;
+      create_data = true;
+      preprocess_text = true;
+      compose = true;
+      setup_masks = true;
+    }
 
 -- what holds of a shaper that lacks a hook, and can't be met by one that has it
 abbrev pub Lacking : Bool → Type 0 → Type 0

@@ -1,6 +1,6 @@
 //! How a pipeline calls two pauses, one after the other, and what it reads in their contract.
 ghost use Rattle.std.specs.Prelude.{◌<◌, ◌≤◌, All, IfOk, length};
-ghost use Rattle.rustybuzz_shapers.specs.Glyph.{clusters};
+ghost use Rattle.rustybuzz_shapers.specs.buffer.Glyph.{clusters};
 
 use crate::calling::{buffer_of, plain_plan};
 use rustybuzz_shapers::buffer::{Script, ShaperError, Span, hb_buffer_t};
