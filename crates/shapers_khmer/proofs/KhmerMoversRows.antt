@@ -3,7 +3,7 @@ use Rattle.std.specs.Prelude.{List, ◌≡◌, ℕ, false, true, [], ◌∷◌, 
 use Rattle.shapers_buffer.specs.Glyph.{default_glyph}
 use Rattle.shapers_buffer.specs.declared.buffer.glyph.hb_glyph_info_t.{hb_glyph_info_t}
 use Rattle.shapers_khmer.specs.declared.ot_shaper_khmer.reordering.KhmerOrder.{KhmerOrder}
-use Rattle.shapers_khmer.specs.KhmerMovers.{Alone, Coeng, behind_coengs, coeng_place, is_mover, is_regular, masked_at, masked_by_movers, merged_over, merges_by_movers, moves_behind, moving_coengs, order_by_movers, parts_from, places_of, with_mask_if}
+use Rattle.shapers_khmer.specs.KhmerMovers.{Alone, Coeng, behind_coengs, coeng_place, is_mover, is_regular, khmer_by_movers, masked_at, masked_by_movers, merged_over, merges_by_movers, moves_behind, moving_coengs, order_by_movers, parts_from, places_of, with_mask_if}
 
 -- the categories: a consonant, Coeng, Ro, a left vowel
 abbrev c : ℕ
@@ -113,6 +113,13 @@ masks_of_pairs = refl
 
 masks_of_none : masks_in (c ∷ h ∷ c ∷ h ∷ c ∷ h ∷ c ∷ h ∷ ra ∷ []) ≡ 0 ∷ 0xE0 ∷ 0xE0 ∷ 0xE0 ∷ 0xE0 ∷ 0xE0 ∷ 0xE0 ∷ 0xE0 ∷ 0xE0 ∷ []
 masks_of_none = refl
+
+-- C H Ra H C of kind 0, of kind 1, and of kind 2, which stays: category and mask of each glyph
+abbrev made_of : ℕ → List ℕ → List (ℕ × ℕ)
+made_of kind sorts = map (λ g. (g.category, g.mask)) (khmer_by_movers by_masks (map (λ sort. let g : hb_glyph_info_t = record default_glyph { category = sort; syllable = kind } in g) sorts))
+
+made_in_kinds : map (λ kind. made_of kind (c ∷ h ∷ ra ∷ h ∷ c ∷ [])) (0 ∷ 1 ∷ 2 ∷ []) ≡ ((h, 0xF0) ∷ (ra, 0xF0) ∷ (c, 0) ∷ (h, 0x1E0) ∷ (c, 0x1E0) ∷ []) ∷ ((h, 0xF0) ∷ (ra, 0xF0) ∷ (c, 0) ∷ (h, 0x1E0) ∷ (c, 0x1E0) ∷ []) ∷ ((c, 0) ∷ (h, 0) ∷ (ra, 0) ∷ (h, 0) ∷ (c, 0) ∷ []) ∷ []
+made_in_kinds = refl
 
 -- MERGES. From the start to the end of each part that moves
 merged_parts : map merged_over (Coeng 4 ra ∷ Alone 6 pre ∷ []) ≡ (0, 6) ∷ (0, 7) ∷ []

@@ -1,4 +1,5 @@
 mod Ascending
+mod Drawing
 mod Inside
 mod Listing
 mod Merging

@@ -1,4 +1,5 @@
 pub mod Myanmar
 pub mod MyanmarLaws
+pub mod MyanmarUnits
 pub mod MyanmarWalk
 pub mod Requests

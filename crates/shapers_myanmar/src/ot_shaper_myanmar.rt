@@ -19,7 +19,10 @@ mod laws;
 mod positions;
 mod reordering;
 
-pub use laws::{myanmar_cuts_between_spans, myanmar_reads_no_serials, myanmar_reorder_laws};
+pub use laws::{
+    myanmar_cuts_between_spans, myanmar_drawing_order, myanmar_reads_no_serials,
+    myanmar_reorder_laws,
+};
 pub use reordering::MyanmarOrder;
 use shapers_base::buffer::{hb_buffer_t, hb_tag_t};
 use shapers_base::font::{Tables, hb_font_t};

@@ -1,5 +1,6 @@
 //! Laws of the reordering, each the contract of a function without a body.
 ghost use Rattle.shapers_myanmar.specs.MyanmarLaws.{MyanmarCutsBetweenSpans, MyanmarMovesMerged, MyanmarReadsNoSerials, MyanmarReorderLaws};
+ghost use Rattle.shapers_myanmar.specs.MyanmarUnits.{MyanmarDrawingOrder};
 
 /// The steps of a syllable take each of its places once, lead to its order, and move only inside
 /// what they merged first.
@@ -18,4 +19,11 @@ pub fn myanmar_reads_no_serials()
 /// on the halves, serials apart, whose own serials may be others.
 pub fn myanmar_cuts_between_spans()
     ensures { MyanmarCutsBetweenSpans }
+{}
+
+/// The order of a syllable in the script's own words: left vowels, the last one first, each with its
+/// VS; what stood before the base; medial Ra; the base; the reph, and what follows it in its old
+/// order, but an anusvara in a run of vowels below stands before them.
+pub fn myanmar_drawing_order()
+    ensures { MyanmarDrawingOrder }
 {}
