@@ -6,6 +6,7 @@ pub mod MyanmarLaws
 pub mod MyanmarPlaces
 pub mod MyanmarPlain
 mod MyanmarRows
+pub mod MyanmarSerials
 mod Positioned
 mod Reordered
 mod RequestRows

@@ -1,3 +1,4 @@
 pub mod Myanmar
+pub mod MyanmarLaws
 pub mod MyanmarWalk
 pub mod Requests

@@ -15,9 +15,11 @@ ghost use Rattle.shapers_syllabic.specs.ReorderingLaws.{PauseCutsAtBorders};
 ghost use Rattle.shapers_myanmar.specs.Myanmar.{myanmar_circles, myanmar_order, myanmar_steps};
 ghost use Rattle.shapers_myanmar.specs.Requests.{myanmar_list};
 
+mod laws;
 mod positions;
 mod reordering;
 
+pub use laws::{myanmar_cuts_between_spans, myanmar_reads_no_serials, myanmar_reorder_laws};
 pub use reordering::MyanmarOrder;
 use shapers_base::buffer::{hb_buffer_t, hb_tag_t};
 use shapers_base::font::{Tables, hb_font_t};

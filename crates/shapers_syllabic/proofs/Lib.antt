@@ -2,6 +2,7 @@ pub mod Borders
 pub mod CircleLaws
 mod CircleRows
 mod ConsonantRows
+pub mod HiddenCuts
 mod LastBroken
 mod OpenedCircles
 pub mod LawsThen
@@ -17,3 +18,4 @@ pub mod SyllabicLemmas
 mod SyllabicRows
 pub mod SyllableAlone
 pub mod SyllableThen
+pub mod Views

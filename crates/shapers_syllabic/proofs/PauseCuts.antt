@@ -38,7 +38,7 @@ clusters-set_up spans broken_kind b =
     let cut = with_bytes b.glyphs (span_bytes 0 spans) in
     clusters-flagged (syllables cut) ∙ ap clusters (joined-syllables cut) ∙ clusters-with_bytes b.glyphs (span_bytes 0 spans)
 
-apart_by : (xs ys gs hs : List hb_glyph_info_t) → clusters xs ≡ clusters gs → clusters ys ≡ clusters hs → ShareNone gs hs → ShareNone xs ys
+pub apart_by : (xs ys gs hs : List hb_glyph_info_t) → clusters xs ≡ clusters gs → clusters ys ≡ clusters hs → ShareNone gs hs → ShareNone xs ys
 apart_by xs ys gs hs a b none i j il jl same =
     let cluster : hb_glyph_info_t → ℕ = λ g. g.cluster in
     let x : length xs ≡ length gs = sym (length-map xs cluster) ∙ ap length a ∙ length-map gs cluster in

@@ -6,4 +6,5 @@ pub mod Consonants
 pub mod FirstBroken
 pub mod Reordering
 pub mod ReorderingLaws
+pub mod SpanCuts
 pub mod Syllabic

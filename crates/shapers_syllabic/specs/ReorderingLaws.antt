@@ -7,12 +7,12 @@ use Rattle.shapers_buffer.specs.declared.buffer.level.BufferClusterLevel.{Buffer
 use Rattle.shapers_buffer.specs.declared.buffer.syllables.Span.{Span}
 use Rattle.shapers_buffer.specs.Syllables.{spans_cover}
 use Rattle.shapers_buffer.specs.Buffer.{Buffer}
-use Rattle.shapers_buffer.specs.Glyph.{order_view}
+use Rattle.shapers_buffer.specs.Glyph.{clusters, order_view}
 use Rattle.shapers_buffer.specs.Places.{pick}
 use Rattle.shapers_clusters.specs.Cuts.{ShareNone}
 use Rattle.shapers_clusters.specs.Flags.{seen}
 use Rattle.shapers_clusters.specs.Laws.{ReorderedHold, SeenStepsHold}
-use Rattle.shapers_clusters.specs.Steps.{FitSteps, MovesMerged, Permutes, Step, old_places, run_steps}
+use Rattle.shapers_clusters.specs.Steps.{FitSteps, MovesMerged, Permutes, Step, joined_steps, old_places, run_steps}
 use Rattle.shapers_syllabic.specs.declared.ot_shaper_syllabic.circles.DottedCircles.{DottedCircles}
 use Rattle.shapers_syllabic.specs.Borders.{MeetAtBorder, SameButSerials, spans_set_up, unnumbered}
 use Rattle.shapers_syllabic.specs.Circles.{circled}
@@ -54,6 +54,10 @@ paused_order circles meaning gs = text_order meaning (order_view (circled circle
 abbrev pub paused_carried : Option DottedCircles → (List hb_glyph_info_t → List Step) → BufferClusterLevel → List hb_glyph_info_t → List hb_glyph_info_t
 paused_carried circles steps level gs = map carried (run_steps level (text_steps steps (order_view (circled circles gs))) (circled circles gs))
 
+-- and its clusters
+abbrev pub paused_clusters : Option DottedCircles → (List hb_glyph_info_t → List Step) → BufferClusterLevel → List hb_glyph_info_t → List ℕ
+paused_clusters circles steps level gs = joined_steps level (text_steps steps (order_view (circled circles gs))) (clusters (circled circles gs))
+
 -- A text cut at a border of syllables: the order view after the pause is that of the halves, one after the other. Where they
 -- share no cluster, so are clusters and glyph flags and all else that is carried along.
 pub record PauseOfHalves (circles : Option DottedCircles) (meaning : List hb_glyph_info_t → List hb_glyph_info_t) (steps : List hb_glyph_info_t → List Step) (level : BufferClusterLevel) (gs hs new : List hb_glyph_info_t) : Type 0 where
@@ -74,6 +78,15 @@ ReorderingCutsAtBorders = (circles : Option DottedCircles) (meaning : List hb_gl
 pub record ReadsNoSerials (meaning : List hb_glyph_info_t → List hb_glyph_info_t) (steps : List hb_glyph_info_t → List Step) : Type 0 where
   pub meant : (gs hs : List hb_glyph_info_t) → map unnumbered gs ≡ map unnumbered hs → map unnumbered (meaning gs) ≡ map unnumbered (meaning hs)
   pub led : (gs hs : List hb_glyph_info_t) → map unnumbered gs ≡ map unnumbered hs → steps gs ≡ steps hs
+
+-- the glyph with a mask that is made of its own
+abbrev pub with_mask_by : (ℕ → ℕ) → hb_glyph_info_t → hb_glyph_info_t
+with_mask_by f g = record g { mask = f g.mask }
+
+-- An instance that reads no masks: of a syllable with other masks it makes the same, each glyph with its own, by the same steps.
+pub record ReadsNoMasks (meaning : List hb_glyph_info_t → List hb_glyph_info_t) (steps : List hb_glyph_info_t → List Step) : Type 0 where
+  pub meant : (f : ℕ → ℕ) (gs : List hb_glyph_info_t) → meaning (map (with_mask_by f) gs) ≡ map (with_mask_by f) (meaning gs)
+  pub led : (f : ℕ → ℕ) (gs : List hb_glyph_info_t) → steps (map (with_mask_by f) gs) ≡ steps gs
 
 -- A pause of such an instance, circles among it, makes the same of texts that are the same but for serials.
 pub record SameButSerialsAfter (circles : Option DottedCircles) (meaning : List hb_glyph_info_t → List hb_glyph_info_t) (steps : List hb_glyph_info_t → List Step) (level : BufferClusterLevel) (gs hs : List hb_glyph_info_t) : Type 0 where

@@ -7,6 +7,7 @@ ghost use Rattle.shapers_syllabic.specs.CircleLaws.{NoNewCluster};
 ghost use Rattle.shapers_syllabic.specs.Circles.{circled};
 ghost use Rattle.shapers_syllabic.specs.Reordering.{PauseReordered, circles_of_sort, first_unknown, kind_refusal};
 ghost use Rattle.shapers_syllabic.specs.ReorderingLaws.{PauseCutsAtBorders, PausesCutAtSpans, ReorderLaws, TextReordered};
+ghost use Rattle.shapers_syllabic.specs.SpanCuts.{PausesCutBetweenSpans};
 
 use super::circles::insert_dotted_circles;
 use super::reordering::{Reorder, reorder_syllables};
@@ -91,4 +92,10 @@ fn first_unknown(buffer: &hb_buffer_t, last_kind: Option<u8>) -> Option<usize>
 /// cut between any two spans, but for serials.
 pub fn pauses_cut_law()
     ensures { PausesCutAtSpans }
+{}
+
+/// The same with clusters, and of halves whose bytes have other serials, as long as neighbouring
+/// syllables differ.
+pub fn pauses_cut_between_spans()
+    ensures { PausesCutBetweenSpans }
 {}

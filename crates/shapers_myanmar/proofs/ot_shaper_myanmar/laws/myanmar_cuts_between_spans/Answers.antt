@@ -1,0 +1,5 @@
+use Rattle.shapers_myanmar.proofs.MyanmarSerials as proofs
+use Rattle.shapers_myanmar.proofs.ot_shaper_myanmar.laws.myanmar_cuts_between_spans.Goals as goal
+
+pub returns : goal.returns
+returns c = proofs.myanmar_cuts_between_spans
