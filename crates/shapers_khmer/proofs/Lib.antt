@@ -14,6 +14,7 @@ mod KhmerRows
 pub mod KhmerSerials
 pub mod KhmerSteps
 pub mod KhmerSyllable
-pub mod KhmerWalked
+pub mod KhmerVowels
+mod KhmerWalked
 mod PlanRows
 mod RequestRows
