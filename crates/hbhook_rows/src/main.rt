@@ -11,7 +11,7 @@ use std::alloc::{AllocError, Global};
 use std::{fs, io};
 
 /// The files of rows.
-const FILES: [&str; 14] = [
+const FILES: [&str; 15] = [
     "arabic.rows",
     "hangul.rows",
     "hebrew.rows",
@@ -20,6 +20,7 @@ const FILES: [&str; 14] = [
     "indic_final.rows",
     "indic_initial.rows",
     "khmer.rows",
+    "lengths.rows",
     "lines.rows",
     "long.rows",
     "myanmar.rows",
