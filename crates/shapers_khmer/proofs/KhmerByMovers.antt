@@ -1,5 +1,5 @@
 -- What a regular syllable becomes, by its movers; and a set-up and a pause after it, cut between spans.
-use Rattle.std.proofs.Common.{◌≡◌, Bool, true, false, if◌then◌else◌, List, ◌∙◌, ap}
+use Rattle.std.proofs.Common.{if◌then◌else◌, List, ◌∙◌, ap}
 use Rattle.shapers_buffer.specs.declared.buffer.glyph.hb_glyph_info_t.{hb_glyph_info_t}
 use Rattle.shapers_buffer.specs.Places.{pick}
 use Rattle.shapers_khmer.specs.Khmer.{is_reordered, khmer_masked, khmer_order, khmer_steps, sorts_of}

@@ -1,9 +1,9 @@
 -- A set-up by spans and a reordering directly after it, cut between two spans, where the set-up gives masks that hang on neighbours and the
 -- order reads none.
-use Rattle.std.proofs.Common.{ℕ, ◌+◌, ◌≡◌, ◌≤◌, ◌==◌, if◌then◌else◌, cond, Bool, true, false, List, [], ◌∷◌, ◌++◌, map, length, take, drop, refl, sym, ◌∙◌, ap, subst}
+use Rattle.std.proofs.Common.{ℕ, ◌+◌, ◌≡◌, ◌≤◌, ◌==◌, if◌then◌else◌, cond, true, false, List, [], ◌∷◌, ◌++◌, map, length, take, drop, refl, sym, ◌∙◌, ap, subst}
 use Rattle.std.specs.Prelude.{Option, None, Some, All}
-use Rattle.std.specs.List.{flat_map, prefix_len}
-use Rattle.std.proofs.lemmas.List.{drop-map, drop_at, length-map, map-append, map-id, take-map}
+use Rattle.std.specs.List.{flat_map}
+use Rattle.std.proofs.lemmas.List.{drop-map, drop_at, length-map, map-append, take-map}
 use Rattle.shapers_buffer.specs.declared.buffer.glyph.hb_glyph_info_t.{hb_glyph_info_t}
 use Rattle.shapers_buffer.specs.declared.buffer.level.BufferClusterLevel.{BufferClusterLevel}
 use Rattle.shapers_buffer.specs.declared.buffer.syllables.Span.{Span}
@@ -14,20 +14,18 @@ use Rattle.shapers_buffer.proofs.MappedLists.{map-seen}
 use Rattle.shapers_clusters.specs.Cuts.{ShareNone}
 use Rattle.shapers_clusters.specs.Steps.{Step, joined_steps, run_steps, steps_along}
 use Rattle.shapers_clusters.proofs.Moves.{clusters-run_steps}
-use Rattle.shapers_clusters.proofs.Through.{clusters-through}
 use Rattle.shapers_syllabic.specs.declared.ot_shaper_syllabic.circles.DottedCircles.{DottedCircles}
 use Rattle.shapers_syllabic.specs.Borders.{MeetAtBorder, SameButSerials, spans_set_up, unnumbered}
 use Rattle.shapers_syllabic.specs.Circles.{circle_in, circled, circled_syllable, is_of_kind, rephas_len, with_circle}
 use Rattle.shapers_syllabic.specs.Reordering.{PauseReordered, carried, text_order, text_steps}
-use Rattle.shapers_syllabic.specs.ReorderingLaws.{ReadsNoMasks, ReadsNoSerials, ReorderLaws, paused_carried, paused_clusters, paused_order, with_mask_by}
+use Rattle.shapers_syllabic.specs.ReorderingLaws.{ReadsNoSerials, ReorderLaws, paused_carried, paused_clusters, paused_order, with_mask_by}
 use Rattle.shapers_syllabic.specs.SpanCuts.{HalvesJoined, PausesCutBetweenSpans}
 use Rattle.shapers_syllabic.specs.Syllabic.{unsafe_spans}
 use Rattle.shapers_syllabic.proofs.Borders.{syllables-viewed}
-use Rattle.shapers_syllabic.proofs.CircleLaws.{joined-syllables}
 use Rattle.shapers_syllabic.proofs.PauseCuts.{apart_by, clusters-set_up}
 use Rattle.shapers_syllabic.proofs.ReorderingCuts.{apart-circled, border-circled, circled-append, steps-halves, text_order-halves}
 use Rattle.shapers_syllabic.proofs.ReorderingWalk.{pieces_of}
-use Rattle.shapers_syllabic.proofs.Serials.{KeepsSame, pieces_same, serials_dont_count, unnumbered_passes}
+use Rattle.shapers_syllabic.proofs.Serials.{KeepsSame, pieces_same, serials_dont_count}
 use Rattle.shapers_syllabic.proofs.SpanCuts.{spans_cut}
 
 abbrev Glyphs : Type 0

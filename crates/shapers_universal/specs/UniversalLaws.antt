@@ -1,5 +1,5 @@
 -- Laws of the order of a syllable in the universal shaper, as statements.
-use Rattle.std.specs.Prelude.{◌≡◌, ◌≤◌, List, Option, All}
+use Rattle.std.specs.Prelude.{◌≤◌, List, Option, All}
 use Rattle.shapers_buffer.specs.declared.buffer.glyph.hb_glyph_info_t.{hb_glyph_info_t}
 use Rattle.shapers_buffer.specs.declared.buffer.syllables.Span.{Span}
 use Rattle.shapers_buffer.specs.Buffer.{Buffer}

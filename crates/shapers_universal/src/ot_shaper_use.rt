@@ -21,9 +21,7 @@ mod set_up;
 mod syllable_walk;
 
 pub use data::create_data;
-pub use laws::{
-    universal_cuts_between_spans, universal_reads_no_serials, universal_reorder_laws,
-};
+pub use laws::{universal_cuts_between_spans, universal_reads_no_serials, universal_reorder_laws};
 pub use masks::setup_masks;
 pub use ordering::UniversalOrder;
 pub use records::{record_pref, record_rphf};
