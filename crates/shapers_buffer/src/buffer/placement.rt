@@ -1,7 +1,7 @@
 //! The placement list: a reordering lists for each place of a syllable the place whose glyph comes
 //! there, and then the syllable is written once. Its room grows with the buffer, so that a
 //! reordering takes no memory.
-ghost use Rattle.std.specs.Prelude.{◌≡◌, ◌<◌, ◌≤◌, All, IsOkUnless, OnOk, length};
+ghost use Rattle.std.specs.Prelude.{◌≡◌, ◌-◌, ◌<◌, ◌≤◌, All, IsOkUnless, OnOk, length};
 ghost use Rattle.shapers_buffer.specs.Clusters.{stretch_of, with_stretch};
 ghost use Rattle.shapers_buffer.specs.Places.{ListsEachOnce, PlacesAreWritten, pick, place_at, placed, with_place, without_last_zeros};
 ghost use Rattle.shapers_buffer.specs.declared.buffer.refusal.ShaperError.TheVariants.{Memory};
@@ -45,7 +45,8 @@ pub fn places_are_written()
     ensures { PlacesAreWritten }
 {}
 
-// Gives each place from `start` to `end` the glyph of the place listed for it.
+// Gives each place from `start` to `end` the glyph of the place listed for it. The glyphs are gathered
+// in front of the spare list, so that a long text touches little memory.
 fn reorder(
     glyphs: &mut [hb_glyph_info_t],
     places: &[usize],
@@ -56,12 +57,12 @@ fn reorder(
     requires in_order { start ≤ end }
     requires in_range { end ≤ length glyphs.old }
     requires listed { end ≤ length places.now }
-    requires room { end ≤ length spare.old }
+    requires room { end - start ≤ length spare.old }
     requires within { All (λ p. p < length glyphs.old) (stretch_of start end places.now) }
     ensures { let moved = pick (stretch_of start end places.now) glyphs.old in
         glyphs.new ≡ with_stretch start end (λ _. moved) glyphs.old }
 {
-    let spare = &mut spare[start..end];
+    let spare = &mut spare[..end - start];
     gather(glyphs, &places[start..end], spare);
     glyphs[start..end].copy_from_slice(spare);
 }
