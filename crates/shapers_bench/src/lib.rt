@@ -13,6 +13,8 @@ mod feature_lists;
 #[cfg(test)]
 mod font;
 #[cfg(test)]
+mod hostile;
+#[cfg(test)]
 mod joining;
 #[cfg(test)]
 mod planner;
