@@ -27,8 +27,7 @@ use Rattle.shapers_indic_final.proofs.FinalSerials.{final_reads_no_serials}
 use Rattle.shapers_indic_final.proofs.FinalText.{bits_text, clusters-whole, halves}
 use Rattle.shapers_syllabic.specs.declared.ot_shaper_syllabic.circles.DottedCircles.{DottedCircles}
 use Rattle.shapers_syllabic.specs.declared.ot_shaper_syllabic.kinds.indic_syllable.TheConstants.{BROKEN_CLUSTER}
-use Rattle.shapers_syllabic.specs.Borders.{MeetAtBorder, SameButSerials, spans_set_up, unnumbered}
-use Rattle.shapers_syllabic.specs.CircleLaws.{NoNewCluster}
+use Rattle.shapers_syllabic.specs.Borders.{MeetAtBorder, SameButSerials, unnumbered}
 use Rattle.shapers_syllabic.specs.Circles.{circled}
 use Rattle.shapers_syllabic.specs.Reordering.{carried, text_order, text_steps}
 use Rattle.shapers_syllabic.specs.ReorderingLaws.{ReadsNoSerials, ReorderLaws, paused_clusters, paused_order}
