@@ -12,16 +12,23 @@ const PITCH: usize = 68;
 
 // A box: its left edge, its width, and the width of the glyph flags at its edge.
 const LEFT: usize = 3;
+
 const WIDTH: usize = 62;
+
 const EDGE: usize = 13;
 
 // How high the parts of a drawing are: the glyphs before the hook with their lines, the brackets of
 // clusters, what each box has, a detail of a box, a box with glyph flags, and syllables.
 const BEFORE: usize = 92;
+
 const BRACKET: usize = 24;
+
 const FACE: usize = 72;
+
 const DETAIL: usize = 15;
+
 const FLAGGED: usize = 132;
+
 const SYLLABLE: usize = 44;
 
 // How many colours clusters have.
@@ -29,7 +36,11 @@ const COLOURS: u32 = 6;
 
 // The glyph flags, with what stands at the edge of a glyph that has them, and how far below its
 // box's top.
-const FLAGS: [(u32, &str, usize); 3] = [(1, "no break", 0), (2, "no concat", 44), (4, "tatweel", 88)];
+const FLAGS: [(u32, &str, usize); 3] = [
+    (1, "no break", 0),
+    (2, "no concat", 44),
+    (4, "tatweel", 88),
+];
 
 // How high the drawings of a row are, how far down their parts begin, and in a box the middle of
 // its texts and the room that they have.
@@ -92,8 +103,14 @@ fn draw_piece(
     layout: &Layout,
     piece: &Piece,
 ) -> Result<(), AllocError> {
-    let glyphs = row.glyphs.get(piece.glyphs.start..piece.glyphs.end).unwrap_or(&[]);
-    let before = row.before.get(piece.before.start..piece.before.end).unwrap_or(&[]);
+    let glyphs = row
+        .glyphs
+        .get(piece.glyphs.start..piece.glyphs.end)
+        .unwrap_or(&[]);
+    let before = row
+        .before
+        .get(piece.before.start..piece.before.end)
+        .unwrap_or(&[]);
     open_drawing(page, column(glyphs.len().max(before.len())), layout.all)?;
     if let Some(origins) = row.origins.get(piece.glyphs.start..piece.glyphs.end) {
         draw_before(page, row, before)?;
@@ -110,7 +127,11 @@ fn draw_piece(
 }
 
 /// Begins a drawing.
-pub(crate) fn open_drawing(page: &mut String, width: usize, height: usize) -> Result<(), AllocError> {
+pub(crate) fn open_drawing(
+    page: &mut String,
+    width: usize,
+    height: usize,
+) -> Result<(), AllocError> {
     writeln!(
         page,
         "<svg width=\"{width}\" height=\"{height}\" viewBox=\"0 0 {width} {height}\">"
@@ -133,11 +154,7 @@ fn middle(i: usize) -> usize {
 }
 
 // Draws small what stood there before the hook.
-fn draw_before(
-    page: &mut String,
-    row: &Row,
-    before: &[hb_glyph_info_t],
-) -> Result<(), AllocError> {
+fn draw_before(page: &mut String, row: &Row, before: &[hb_glyph_info_t]) -> Result<(), AllocError> {
     for (i, glyph) in before.iter().enumerate() {
         let place = Place {
             x: middle(i),
@@ -168,7 +185,11 @@ fn draw_shown(
         }
         Shown::Unseen | Shown::Private | Shown::Glyph => {
             let text = format!(in row.alloc; "{:04X}", glyph.glyph_id)?;
-            Place { style: Style::Id, ..place }.draw(page, text.as_str())
+            Place {
+                style: Style::Id,
+                ..place
+            }
+            .draw(page, text.as_str())
         }
     }
 }
@@ -266,7 +287,10 @@ fn draw_bracket(
 ) -> Result<(), AllocError> {
     let (left, right, colour) = (stretch.left(), stretch.right(), colour(cluster));
     let (top, foot) = (stretch.y.saturating_add(16), stretch.y.saturating_add(22));
-    writeln!(page, "<path class=\"bracket k{colour}\" d=\"M{left} {foot}V{top}H{right}V{foot}\"/>")?;
+    writeln!(
+        page,
+        "<path class=\"bracket k{colour}\" d=\"M{left} {foot}V{top}H{right}V{foot}\"/>"
+    )?;
     let text = format!(in row.alloc; "cluster {cluster}")?;
     stretch.draw_label(page, 11, text.as_str())
 }
@@ -325,7 +349,12 @@ fn draw_face(
         Shown::Private => String::from_str(row.alloc, "private")?,
         Shown::Glyph => String::from_str(row.alloc, "glyph")?,
     };
-    Place { y: 62, style: Style::Number, ..place }.draw(page, number.as_str())
+    Place {
+        y: 62,
+        style: Style::Number,
+        ..place
+    }
+    .draw(page, number.as_str())
 }
 
 // Draws category, masks and the like below the number.
@@ -383,7 +412,10 @@ fn draw_syllable(
     let class = if is_broken { "broken" } else { "syllable" };
     let (left, right) = (stretch.left(), stretch.right());
     let line = stretch.y.saturating_add(8);
-    writeln!(page, "<path class=\"{class}\" d=\"M{left} {line}H{right}\"/>")?;
+    writeln!(
+        page,
+        "<path class=\"{class}\" d=\"M{left} {line}H{right}\"/>"
+    )?;
     let text = format!(in row.alloc; "syllable {serial}")?;
     stretch.draw_label(page, 22, text.as_str())?;
     match name {

@@ -134,7 +134,9 @@ fn draw_row<'a>(
 
 // The characters of a text, as the buffer has them.
 fn text_of(alloc: Global, glyphs: &[hb_glyph_info_t]) -> Result<String, AllocError> {
-    let characters = glyphs.iter().filter_map(|glyph| char::from_u32(glyph.glyph_id));
+    let characters = glyphs
+        .iter()
+        .filter_map(|glyph| char::from_u32(glyph.glyph_id));
     let text: String = characters.collect(alloc)?;
     shortened(alloc, text.as_str())
 }

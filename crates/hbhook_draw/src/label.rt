@@ -66,7 +66,10 @@ impl Place {
         write!(page, "<text class=\"{class}\" x=\"{x}\" y=\"{y}\"")?;
         let width = text.chars().count().saturating_mul(style.character_width()) / 10;
         if width > room {
-            write!(page, " textLength=\"{room}\" lengthAdjust=\"spacingAndGlyphs\"")?;
+            write!(
+                page,
+                " textLength=\"{room}\" lengthAdjust=\"spacingAndGlyphs\""
+            )?;
         }
         page.push('>')?;
         push_escaped(page, text)?;

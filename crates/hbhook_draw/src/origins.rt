@@ -49,7 +49,10 @@ impl Traced {
         let alloc = self.after.alloc();
         let traced = self.after.glyphs();
         let places = if have_equal_numbers(traced, left) {
-            traced.iter().map(|glyph| glyph.cluster as usize).collect(alloc)?
+            traced
+                .iter()
+                .map(|glyph| glyph.cluster as usize)
+                .collect(alloc)?
         } else {
             Vec::new(alloc)
         };

@@ -56,6 +56,7 @@ pub(crate) const FOOT: &str = "</body>\n</html>\n";
 
 // The most characters of a line, and the most lines, that are told.
 const LONGEST_LINE: usize = 120;
+
 const MOST_LINES: usize = 6;
 
 /// A line of the input, by its number from 1, as the page tells it.

@@ -29,7 +29,11 @@ pub(crate) fn pieces_of(row: &Row) -> Result<Vec<Piece>, AllocError> {
         }
     }
     if !row.glyphs.is_empty() {
-        let before = if row.origins.is_empty() { 0 } else { row.before.len() };
+        let before = if row.origins.is_empty() {
+            0
+        } else {
+            row.before.len()
+        };
         pieces.push(cutter.piece(row.glyphs.len(), before))?;
     }
     Ok(pieces)

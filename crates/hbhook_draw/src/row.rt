@@ -34,8 +34,16 @@ impl Row<'_> {
     /// Whether some glyph stands at another place than before, or has another number.
     pub(crate) fn has_changed(&self) -> bool {
         self.before.len() != self.glyphs.len()
-            || self.origins.iter().enumerate().any(|(i, place)| i != *place)
-            || self.before.iter().zip(self.glyphs).any(|(a, b)| a.glyph_id != b.glyph_id)
+            || self
+                .origins
+                .iter()
+                .enumerate()
+                .any(|(i, place)| i != *place)
+            || self
+                .before
+                .iter()
+                .zip(self.glyphs)
+                .any(|(a, b)| a.glyph_id != b.glyph_id)
     }
 
     /// The most details that a box of the row has.
@@ -49,7 +57,9 @@ impl Row<'_> {
 
     /// Whether a glyph of the row has a glyph flag.
     pub(crate) fn has_flags(&self) -> bool {
-        self.glyphs.iter().any(|glyph| glyph.mask & GLYPH_FLAGS != 0)
+        self.glyphs
+            .iter()
+            .any(|glyph| glyph.mask & GLYPH_FLAGS != 0)
     }
 
     /// Whether a glyph of the row is in a syllable.
@@ -62,11 +72,15 @@ impl Row<'_> {
     pub(crate) fn details(&self, glyph: &hb_glyph_info_t) -> Result<Vec<Detail>, AllocError> {
         let mut details = Vec::new(self.alloc);
         if glyph.category != 0 {
-            let name = self.shaper.and_then(|shaper| category_name(shaper, glyph.category));
+            let name = self
+                .shaper
+                .and_then(|shaper| category_name(shaper, glyph.category));
             details.push(self.named(Style::Category, name, "category", glyph.category)?)?;
         }
         if glyph.auxiliary != 0 {
-            let name = self.shaper.and_then(|shaper| auxiliary_name(shaper, glyph.auxiliary));
+            let name = self
+                .shaper
+                .and_then(|shaper| auxiliary_name(shaper, glyph.auxiliary));
             details.push(self.named(Style::Auxiliary, name, "aux", glyph.auxiliary)?)?;
         }
         if glyph.modified_combining_class != 0 {
@@ -103,7 +117,10 @@ impl Row<'_> {
         }
         if unnamed != 0 {
             let text = format!(in self.alloc; "+{unnamed:x}")?;
-            details.push(Detail { style: Style::Mask, text })?;
+            details.push(Detail {
+                style: Style::Mask,
+                text,
+            })?;
         }
         Ok(())
     }

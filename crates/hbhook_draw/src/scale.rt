@@ -8,6 +8,7 @@ use std::ops::Range;
 
 // How wide the narrowest glyph of a row is drawn, and how wide the widest at most.
 const NARROWEST: u64 = 48;
+
 const WIDEST: u64 = 320;
 
 // The most glyphs of a drawing.
@@ -15,8 +16,11 @@ const LONGEST: usize = 200;
 
 // How high a storey is and a box on it, what is left at both ends, and how high what is below is.
 const STOREY: usize = 46;
+
 const BOX: usize = 42;
+
 const MARGIN: usize = 4;
+
 const BELOW: usize = 24;
 
 // The narrowest box that has texts.
@@ -84,9 +88,14 @@ pub(crate) fn draw_positions(
     }
     let extents = extents_of(row, session)?;
     let scale = Scale::of(extents.as_slice());
-    page.push_str("<p class=\"note\">To scale, with advances and offsets</p>\n<div class=\"row\">\n")?;
+    page.push_str(
+        "<p class=\"note\">To scale, with advances and offsets</p>\n<div class=\"row\">\n",
+    )?;
     for group in groups_of(row, extents.as_slice())?.iter() {
-        let group = extents.as_slice().get(group.start..group.end).unwrap_or(&[]);
+        let group = extents
+            .as_slice()
+            .get(group.start..group.end)
+            .unwrap_or(&[]);
         draw_group(page, row, scale, group)?;
     }
     page.push_str("</div>\n")
@@ -164,14 +173,30 @@ fn draw_group(
     let right = extents.iter().map(|extent| extent.right).max().unwrap_or(0);
     let floor = top.saturating_add(1).saturating_mul(STOREY);
     let width = scale.between(left, right);
-    open_drawing(page, width.saturating_add(2 * MARGIN), floor.saturating_add(BELOW))?;
+    open_drawing(
+        page,
+        width.saturating_add(2 * MARGIN),
+        floor.saturating_add(BELOW),
+    )?;
     for (extent, storey) in extents.iter().zip(storeys.iter()) {
-        let y = top.saturating_sub(*storey).saturating_mul(STOREY).saturating_add(1);
+        let y = top
+            .saturating_sub(*storey)
+            .saturating_mul(STOREY)
+            .saturating_add(1);
         let x = MARGIN.saturating_add(scale.between(left, extent.left));
         let width = scale.between(extent.left, extent.right);
         draw_extent(page, row, extent, Frame { x, y, width })?;
     }
-    draw_width(page, row, right.abs_diff(left), Frame { x: MARGIN, y: floor, width })?;
+    draw_width(
+        page,
+        row,
+        right.abs_diff(left),
+        Frame {
+            x: MARGIN,
+            y: floor,
+            width,
+        },
+    )?;
     page.push_str("</svg>\n")
 }
 
@@ -250,12 +275,7 @@ fn draw_extent(
 }
 
 // Draws how wide a group is.
-fn draw_width(
-    page: &mut String,
-    row: &Row,
-    units: u64,
-    frame: Frame,
-) -> Result<(), AllocError> {
+fn draw_width(page: &mut String, row: &Row, units: u64, frame: Frame) -> Result<(), AllocError> {
     let (left, y) = (frame.x, frame.y);
     let right = left.saturating_add(frame.width);
     let (top, foot) = (y, y.saturating_add(8));

@@ -38,14 +38,43 @@ fn draws_each_end(rt: HostRuntime) -> Result<(), Fail> {
     expect_page(&rt, alloc, b"text", (0, ""), &["The buffer is empty."])?;
     let refused = b"set maxlen 1\ntext 41\ntext 41 42\n";
     let told = "line 3 <code><bdi>text 41 42</bdi></code><br>refused: TooLong";
-    expect_page(&rt, alloc, refused, (1, "refused: TooLong\n"), &[boxes, told])?;
+    expect_page(
+        &rt,
+        alloc,
+        refused,
+        (1, "refused: TooLong\n"),
+        &[boxes, told],
+    )?;
     let unread = b"text 41\n<b a=\"&'\">\xff\0\ntext 42";
-    let told = "line 2 <code><bdi>&lt;b a=&quot;&amp;&#39;&quot;&gt;\u{FFFD}\u{FFFD}</bdi></code><br>unreadable";
-    expect_page(&rt, alloc, unread, (2, "line 2: unreadable\n"), &[boxes, told])?;
-    let meanings = [">&lt;</text>", ">&gt;</text>", ">&amp;</text>", ">&quot;</text>", ">&#39;</text>"];
-    expect_page(&rt, alloc, b"text 3C 3E 26 22 27", (0, ""), meanings.as_slice())?;
+    let told =
+        "line 2 <code><bdi>&lt;b a=&quot;&amp;&#39;&quot;&gt;\u{FFFD}\u{FFFD}</bdi></code><br>unreadable";
+    expect_page(
+        &rt,
+        alloc,
+        unread,
+        (2, "line 2: unreadable\n"),
+        &[boxes, told],
+    )?;
+    let meanings = [
+        ">&lt;</text>",
+        ">&gt;</text>",
+        ">&amp;</text>",
+        ">&quot;</text>",
+        ">&#39;</text>",
+    ];
+    expect_page(
+        &rt,
+        alloc,
+        b"text 3C 3E 26 22 27",
+        (0, ""),
+        meanings.as_slice(),
+    )?;
     let masked = b"set shaper thai\nmask <&>' 8\ntext 41\nat 0 mask 18\nrun masks";
-    let names = ["answered <code>absent", ">&lt;&amp;&gt;&#39;</text>", ">+10</text>"];
+    let names = [
+        "answered <code>absent",
+        ">&lt;&amp;&gt;&#39;</text>",
+        ">+10</text>",
+    ];
     expect_page(&rt, alloc, masked, (0, ""), names.as_slice())
 }
 
@@ -59,15 +88,24 @@ fn wraps_long_texts(rt: HostRuntime) -> Result<(), Fail> {
     }
     let mut page = Vec::new(alloc);
     let mut told = Vec::new(alloc);
-    assert_eq!(rt; draw_lines(alloc, lines.as_str().as_bytes(), &mut page, &mut told), 0);
+    assert_eq!(rt;
+        draw_lines(alloc, lines.as_str().as_bytes(), &mut page, &mut told),
+        0
+    );
     let text = str::from_utf8(&page)?;
     assert_eq!(rt; text.matches("<svg width=\"68\"").count(), 10_000);
-    let mut lines = String::from_str(alloc, "text 41 41 41 41 41 41 41 41 41 41 41 41 41 41 41 41")?;
+    let mut lines = String::from_str(
+        alloc,
+        "text 41 41 41 41 41 41 41 41 41 41 41 41 41 41 41 41",
+    )?;
     for place in 1..16 {
         write!(lines, "\nat {place} cluster 0")?;
     }
     let mut page = Vec::new(alloc);
-    assert_eq!(rt; draw_lines(alloc, lines.as_str().as_bytes(), &mut page, &mut told), 0);
+    assert_eq!(rt;
+        draw_lines(alloc, lines.as_str().as_bytes(), &mut page, &mut told),
+        0
+    );
     let text = str::from_utf8(&page)?;
     assert_eq!(rt; text.matches("<svg width=\"816\"").count(), 1);
     assert_eq!(rt; text.matches("<svg width=\"272\"").count(), 1);
@@ -93,7 +131,10 @@ impl Write for Broken {
 fn ends_on_broken_writers(rt: HostRuntime) -> Result<(), Fail> {
     let alloc = rt.alloc();
     let mut told = Vec::new(alloc);
-    assert_eq!(rt; draw_lines(alloc, "text 41".as_bytes(), Broken, &mut told), 2);
+    assert_eq!(rt;
+        draw_lines(alloc, "text 41".as_bytes(), Broken, &mut told),
+        2
+    );
     assert!(rt; told.is_empty());
     let mut page = Vec::new(alloc);
     assert_eq!(rt; draw_lines(alloc, "set".as_bytes(), &mut page, Broken), 2);

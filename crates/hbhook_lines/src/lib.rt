@@ -69,7 +69,9 @@ fn input_fault(error: io::Error) -> Fault {
 /// The lines of an input. A line feed ends each, which the last one may lack.
 pub fn lines_of(alloc: Global, input: &[u8]) -> Result<Vec<&[u8]>, AllocError> {
     let lines = input.split_inclusive(|byte| *byte == b'\n');
-    lines.map(|line| line.strip_suffix(b"\n").unwrap_or(line)).collect(alloc)
+    lines
+        .map(|line| line.strip_suffix(b"\n").unwrap_or(line))
+        .collect(alloc)
 }
 
 // Carries out the lines in order, to the first fault.

@@ -44,7 +44,9 @@ fn print_glyph(text: &mut String, buffer: &hb_buffer_t, i: usize) -> Result<(), 
 pub fn write_text<W: Write + Drop>(mut output: W, text: &str) -> Result<(), Fault>
     ensures { IfErr result (λ fault. fault ≡ Broken) }
 {
-    let written = output.write_all(text.as_bytes()).and_then(|()| output.flush());
+    let written = output
+        .write_all(text.as_bytes())
+        .and_then(|()| output.flush());
     written.map_err(|_| Fault::Broken)
 }
 
