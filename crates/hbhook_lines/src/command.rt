@@ -28,6 +28,19 @@ pub(crate) enum Side {
     After,
 }
 
+/// What a line does.
+#[derive(Clone, Copy, Debug, PartialEq, Eq)]
+pub enum LineKind {
+    /// Puts a text into the buffer.
+    Text,
+    /// Writes to the glyphs of the buffer or to their positions.
+    Glyphs,
+    /// Asks a hook of the shaper.
+    Run,
+    /// Sets what later lines read.
+    Setting,
+}
+
 /// One line of input.
 #[derive(Drop)]
 pub(crate) enum Command {
@@ -64,6 +77,16 @@ impl Command {
         match *fields.as_slice() {
             [word, ref fields @ ..] => read_command(alloc, word, fields),
             [] => Err(LineFault::Unreadable),
+        }
+    }
+
+    /// What the line does.
+    pub(crate) fn kind(&self) -> LineKind {
+        match self {
+            Command::Text(_) => LineKind::Text,
+            Command::At(_, _) | Command::Set(Setting::Positions(_)) => LineKind::Glyphs,
+            Command::Run(_) => LineKind::Run,
+            _ => LineKind::Setting,
         }
     }
 }

@@ -5,7 +5,7 @@ use thiserror::Error;
 
 /// Why a line can't be carried out.
 #[derive(Clone, Copy, Debug)]
-pub(crate) enum LineFault {
+pub enum LineFault {
     /// It doesn't read, or the conditions of its call fail.
     Unreadable,
     /// A shaper or a growth refused.
@@ -32,7 +32,7 @@ impl<T: Drop> From<AllocFailed<T>> for LineFault {
 
 /// What ends a run, as it is told on standard error.
 #[derive(Clone, Copy, Debug, Error)]
-pub(crate) enum Fault {
+pub enum Fault {
     /// A line that can't be carried out, by its number from 1.
     #[error("line {0}: unreadable")]
     Unreadable(usize),
@@ -55,7 +55,7 @@ impl Fault {
     ghost use Rattle.hbhook_lines.specs.Fault.{status_of};
 
     /// The fault of the line of this number.
-    pub(crate) fn on_line(fault: LineFault, number: usize) -> Self {
+    pub fn on_line(fault: LineFault, number: usize) -> Self {
         match fault {
             LineFault::Unreadable => Fault::Unreadable(number),
             LineFault::Refused(refusal) => Fault::Refused(refusal),
@@ -63,7 +63,7 @@ impl Fault {
     }
 
     /// The status that a run with this fault ends with.
-    pub(crate) fn status(self) -> u8
+    pub fn status(self) -> u8
         ensures value { result ≡ status_of self }
         ensures most { result ≤ 2 }
     {

@@ -12,11 +12,13 @@ mod tables;
 
 ghost use Rattle.std.specs.Prelude.{◌≤◌};
 
-use fault::Fault;
-use printing::{report, write_text};
+pub use command::LineKind;
+pub use fault::{Fault, LineFault};
+pub use printing::{report, write_text};
 use rustybuzz_shapers::buffer::ShaperError;
-use session::Session;
-use std::alloc::Global;
+pub use session::{Session, kind_of_line};
+pub use settings::Feature;
+use std::alloc::{AllocError, Global};
 use std::io::{self, ErrorKind, Read, Write};
 
 /// Carries out the lines of the input and prints the buffer that they leave. A refusal or a fault
@@ -36,17 +38,24 @@ where
     }
 }
 
-fn run<I, O>(alloc: Global, mut input: I, output: O) -> Result<(), Fault>
+fn run<I, O>(alloc: Global, input: I, output: O) -> Result<(), Fault>
 where
     I: Read + Drop,
     O: Write + Drop,
 {
+    let bytes = read_input(alloc, input)?;
+    let lines = lines_of(alloc, &bytes)?;
+    let mut session = Session::new(alloc);
+    carry_out_lines(&mut session, lines.as_slice())?;
+    let text = session.printed()?;
+    write_text(output, text.as_str())
+}
+
+/// All that a reader gives.
+pub fn read_input<I: Read + Drop>(alloc: Global, mut input: I) -> Result<Vec<u8>, Fault> {
     let mut bytes = Vec::new(alloc);
     input.read_to_end(&mut bytes).map_err(input_fault)?;
-    let mut session = Session::new(alloc);
-    carry_out_lines(&mut session, &bytes)?;
-    let text = session.printed()?;
-    write_text(output, text.as_str()).map_err(|_| Fault::Broken)
+    Ok(bytes)
 }
 
 // Why the input can't be read: no memory for it, or a broken reader.
@@ -57,10 +66,17 @@ fn input_fault(error: io::Error) -> Fault {
     }
 }
 
+/// The lines of an input. A line feed ends each, which the last one may lack.
+pub fn lines_of(alloc: Global, input: &[u8]) -> Result<Vec<&[u8]>, AllocError> {
+    let lines = input.split_inclusive(|byte| *byte == b'\n');
+    lines
+        .map(|line| line.strip_suffix(b"\n").unwrap_or(line))
+        .collect(alloc)
+}
+
 // Carries out the lines in order, to the first fault.
-fn carry_out_lines(session: &mut Session, input: &[u8]) -> Result<(), Fault> {
-    for (i, line) in input.split_inclusive(|byte| *byte == b'\n').enumerate() {
-        let line = line.strip_suffix(b"\n").unwrap_or(line);
+fn carry_out_lines(session: &mut Session, lines: &[&[u8]]) -> Result<(), Fault> {
+    for (i, line) in lines.iter().enumerate() {
         session
             .carry_out(line)
             .map_err(|fault| Fault::on_line(fault, i + 1))?;

@@ -1,10 +1,11 @@
 //! What a run writes: the glyphs of the buffer on standard output, a fault on standard error.
-ghost use Rattle.std.specs.Prelude.{◌<◌, ◌≤◌, length};
+ghost use Rattle.std.specs.Prelude.{◌≡◌, ◌<◌, ◌≤◌, length, IfErr};
+ghost use Rattle.hbhook_lines.specs.declared.fault.Fault.TheVariants.{Broken};
 
 use crate::fault::Fault;
 use rustybuzz_shapers::buffer::hb_buffer_t;
 use std::alloc::AllocError;
-use std::io::{self, Write};
+use std::io::Write;
 
 /// Adds a line for each glyph: glyph, cluster, mask, syllable, category, auxiliary and class, and
 /// in a buffer with positions advance and offset.
@@ -39,14 +40,18 @@ fn print_glyph(text: &mut String, buffer: &hb_buffer_t, i: usize) -> Result<(), 
     Ok(())
 }
 
-/// Writes all of a text.
-pub(crate) fn write_text<W: Write + Drop>(mut output: W, text: &str) -> io::Result<()> {
-    output.write_all(text.as_bytes())?;
-    output.flush()
+/// Writes all of a text, or tells that the writer is broken.
+pub fn write_text<W: Write + Drop>(mut output: W, text: &str) -> Result<(), Fault>
+    ensures { IfErr result (λ fault. fault ≡ Broken) }
+{
+    let written = output
+        .write_all(text.as_bytes())
+        .and_then(|()| output.flush());
+    written.map_err(|_| Fault::Broken)
 }
 
 /// Tells of a fault and answers the status to end with.
-pub(crate) fn report<W: Write + Drop>(mut faults: W, fault: Fault) -> u8
+pub fn report<W: Write + Drop>(mut faults: W, fault: Fault) -> u8
     ensures { result ≤ 2 }
 {
     if matches!(fault, Fault::Broken) {

@@ -3,28 +3,31 @@ mod hooks;
 
 ghost use Rattle.std.specs.Prelude.{◌≡◌, []};
 
-use crate::command::{Command, GlyphField, Setting, Side};
+use crate::command::{Command, GlyphField, LineKind, Setting, Side};
 use crate::fault::LineFault;
 use crate::printing::print_buffer;
-use crate::settings::Settings;
+use crate::settings::{Feature, Settings};
 use rustybuzz_shapers::buffer::{GlyphPosition, hb_buffer_t, hb_glyph_info_t};
 use rustybuzz_shapers::font::{GlyphId, Tables, hb_font_t};
+use rustybuzz_shapers::shaper::hb_ot_shaper_t;
 use std::alloc::{AllocError, Global};
+use std::mem;
 
 // The greatest length of a buffer before a line sets it.
 const MAX_LEN: usize = 1_000_000;
 
 /// What the lines so far have set, and the buffer that they made.
 #[derive(Drop)]
-pub(crate) struct Session {
+pub struct Session {
     settings: Settings,
-    buffer: hb_buffer_t,
+    /// The buffer.
+    pub buffer: hb_buffer_t,
     answers: String,
 }
 
 impl Session {
     /// Nothing set, and an empty buffer.
-    pub(crate) fn new(alloc: Global) -> Self
+    pub fn new(alloc: Global) -> Self
         ensures empty { result.buffer.glyphs ≡ [] }
         ensures max_len { result.buffer.max_len ≡ 1000000 }
     {
@@ -36,10 +39,32 @@ impl Session {
     }
 
     /// Reads a line, which is text, and carries it out.
-    pub(crate) fn carry_out(&mut self, line: &[u8]) -> Result<(), LineFault> {
-        let line = str::from_utf8(line).map_err(|_| LineFault::Unreadable)?;
-        let command = Command::parse(self.buffer.alloc(), line)?;
+    pub fn carry_out(&mut self, line: &[u8]) -> Result<(), LineFault> {
+        let command = read_line(self.buffer.alloc(), line)?;
         self.carry_out_command(command)
+    }
+
+    /// The shaper, once a line has set one.
+    pub fn shaper(&self) -> Option<hb_ot_shaper_t> {
+        self.settings.shaper
+    }
+
+    /// The features that lines have named, each once.
+    pub fn features(&self) -> &[Feature] {
+        self.settings.features()
+    }
+
+    /// The advance of a glyph in the font, 0 for a number that no glyph has.
+    pub fn advance(&self, glyph_id: u32) -> i32 {
+        match u16::try_from(glyph_id) {
+            Ok(glyph) => self.settings.font.glyph_h_advance(GlyphId(glyph)),
+            Err(_) => 0,
+        }
+    }
+
+    /// What the hooks have answered since this was last asked, a line each.
+    pub fn take_answers(&mut self) -> String {
+        mem::replace(&mut self.answers, String::new(self.buffer.alloc()))
     }
 
     // Carries out the command of a line.
@@ -108,12 +133,8 @@ impl Session {
     fn add_positions(&mut self) -> Result<(), LineFault> {
         let mut positions = Vec::with_capacity(self.buffer.alloc(), self.buffer.len())?;
         for i in 0..self.buffer.len() {
-            let x_advance = match u16::try_from(self.buffer.get(i).glyph_id) {
-                Ok(glyph) => self.settings.font.glyph_h_advance(GlyphId(glyph)),
-                Err(_) => 0,
-            };
             positions.push(GlyphPosition {
-                x_advance,
+                x_advance: self.advance(self.buffer.get(i).glyph_id),
                 ..GlyphPosition::ZERO
             })?;
         }
@@ -167,4 +188,15 @@ impl Session {
         self.buffer.set_position(place, position);
         Ok(())
     }
+}
+
+/// What a line does, if it reads.
+pub fn kind_of_line(alloc: Global, line: &[u8]) -> Result<LineKind, LineFault> {
+    Ok(read_line(alloc, line)?.kind())
+}
+
+// The command of a line, which is text.
+fn read_line(alloc: Global, line: &[u8]) -> Result<Command, LineFault> {
+    let line = str::from_utf8(line).map_err(|_| LineFault::Unreadable)?;
+    Command::parse(alloc, line)
 }

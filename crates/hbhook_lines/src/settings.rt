@@ -11,11 +11,13 @@ use rustybuzz_shapers::shaper::hb_ot_shaper_t;
 use std::alloc::{AllocError, Global};
 use std::ops::Range;
 
-// A feature's mask and lookups.
+/// A feature's mask and lookups.
 #[derive(Drop)]
-struct Feature {
-    tag: hb_tag_t,
-    mask: u32,
+pub struct Feature {
+    /// Its name.
+    pub tag: hb_tag_t,
+    /// The bits of a glyph's mask that turn it on.
+    pub mask: u32,
     lookups: Range<usize>,
 }
 
@@ -98,6 +100,11 @@ impl Settings {
         let (global, chosen) = (self.global_mask, self.chosen);
         let map = hb_ot_map_t::new(features, stages, lookups, global, chosen, self.found);
         map.ok_or(LineFault::Unreadable)
+    }
+
+    /// The features that have a mask or lookups.
+    pub(crate) fn features(&self) -> &[Feature] {
+        self.features.as_slice()
     }
 
     /// Sets a feature's mask.
