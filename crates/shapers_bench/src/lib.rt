@@ -16,4 +16,6 @@ mod joining;
 #[cfg(test)]
 mod planner;
 #[cfg(test)]
+mod scripts;
+#[cfg(test)]
 mod shapers;
