@@ -20,4 +20,6 @@ mod joining;
 mod planner;
 pub mod reordering;
 #[cfg(test)]
+mod scripts;
+#[cfg(test)]
 mod shapers;
