@@ -1,3 +1,4 @@
+mod Cuts
 mod Headline
 mod HookRows
 mod PauseRows

@@ -16,7 +16,7 @@ mod laws;
 mod pauses;
 
 pub use conditions::pause_fits;
-pub use laws::{headline, stretches_cover_law};
+pub use laws::{cuts_at_borders_law, headline, stretches_cover_law};
 pub use pauses::{run_pause, syllables_regrouped_law};
 use shapers_arabic::ot_shaper_arabic;
 pub use shapers_base::plan::{NormalizationMode, Pause, PlanData, Preprocess, ZeroWidthMarks};

@@ -1,7 +1,16 @@
-//! The headline, and its law of widths.
+//! The headline, its law of widths, and the cut between spans.
+ghost use Rattle.rustybuzz_shapers.specs.Cuts.{IndicIsCut, IndicIsCutAfterBoth, KhmerIsCut, MyanmarIsCut, UniversalIsCut};
 ghost use Rattle.rustybuzz_shapers.specs.Headline.{ActionsByRule};
 ghost use Rattle.rustybuzz_shapers.specs.Regrouped.{SyllablesRegrouped};
 ghost use Rattle.rustybuzz_shapers.specs.Stretched.{StretchesCover};
+
+use shapers_indic_final::ot_shaper_indic_final::laws::final_cuts_between_spans;
+use shapers_indic_initial::ot_shaper_indic_initial::laws::{
+    initial_cuts_between_spans, initial_reorder_laws, order_by_font_reads_no_serials,
+};
+use shapers_khmer::ot_shaper_khmer::khmer_cuts_between_spans;
+use shapers_myanmar::ot_shaper_myanmar::myanmar_cuts_between_spans;
+use shapers_universal::ot_shaper_use::universal_cuts_between_spans;
 
 /// The headline, of each call that didn't refuse, from what its contract says. Each Arabic action is
 /// the written rule of three joining types, so cut halves whose contexts show the neighbours act as
@@ -23,3 +32,22 @@ pub fn headline()
 pub fn stretches_cover_law()
     ensures { StretchesCover }
 {}
+
+/// For each shaper of syllables a set-up and the reorderings that run directly after it, cut between
+/// any two spans, give what they give on the halves, one after the other; clusters too where the
+/// halves share none. The halves' bytes may have other serials.
+pub fn cuts_at_borders_law()
+    ensures khmer { KhmerIsCut }
+    ensures myanmar { MyanmarIsCut }
+    ensures universal { UniversalIsCut }
+    ensures initial { IndicIsCut }
+    ensures both { IndicIsCutAfterBoth }
+{
+    khmer_cuts_between_spans();
+    myanmar_cuts_between_spans();
+    universal_cuts_between_spans();
+    initial_cuts_between_spans();
+    initial_reorder_laws();
+    order_by_font_reads_no_serials();
+    final_cuts_between_spans();
+}

@@ -1,0 +1,44 @@
+-- The cut between spans, of each shaper's pauses by the words of the dispatcher.
+use Rattle.std.proofs.Common.{sym, subst}
+use Rattle.shapers_buffer.specs.Buffer.{Buffer}
+use Rattle.shapers_indic.specs.Plan.{indic_in}
+use Rattle.shapers_indic_final.specs.FinalCuts.{FinalCutsBetweenSpans}
+use Rattle.shapers_indic_final.specs.FinalRules as final
+use Rattle.shapers_indic_initial.specs.InitialLaws.{InitialCutsBetweenSpans, OrderByFontLaws, OrderByFontReadsNoSerials}
+use Rattle.shapers_indic_initial.specs.InitialPause.{InitiallyReordered}
+use Rattle.shapers_khmer.specs.Khmer.{order_in}
+use Rattle.shapers_khmer.specs.KhmerLaws.{KhmerCutsBetweenSpans}
+use Rattle.shapers_myanmar.specs.MyanmarLaws.{MyanmarCutsBetweenSpans}
+use Rattle.shapers_universal.specs.UniversalLaws.{UniversalCutsBetweenSpans}
+use Rattle.rustybuzz_shapers.specs.Cuts.{CutsAfterSetUp, IndicIsCut, IndicIsCutAfterBoth, KhmerIsCut, MyanmarIsCut, UniversalIsCut}
+use Rattle.rustybuzz_shapers.specs.Pauses.{Reordered, by_initial, by_khmer, by_myanmar, by_universal}
+
+pub khmer_is_cut : KhmerCutsBetweenSpans → KhmerIsCut
+khmer_is_cut law plan font spans unread old mid new kinds set_up reordered =
+    let r = by_khmer plan font mid in
+    law (order_in plan.plan_data) r.circles spans old new kinds (subst (λ (b : Buffer). Reordered r b new) set_up reordered)
+
+pub myanmar_is_cut : MyanmarCutsBetweenSpans → MyanmarIsCut
+myanmar_is_cut law plan font spans unread old mid new kinds set_up reordered =
+    let r = by_myanmar font mid in
+    law r.circles spans old new kinds (subst (λ (b : Buffer). Reordered r b new) set_up reordered)
+
+pub universal_is_cut : UniversalCutsBetweenSpans → UniversalIsCut
+universal_is_cut law plan font spans unread old mid new kinds set_up reordered =
+    let r = by_universal font mid in
+    law plan.plan_data plan.ot_map r.circles spans old new kinds (subst (λ (b : Buffer). Reordered r b new) set_up reordered)
+
+pub indic_is_cut : InitialCutsBetweenSpans → IndicIsCut
+indic_is_cut law plan font spans unread old mid new kinds set_up reordered =
+    let m = plan.ot_map in
+    let p = indic_in plan in
+    subst (λ (b : Buffer). CutsAfterSetUp (by_initial plan font b) spans old new) (sym set_up)
+    (law font m p spans old new kinds (subst (λ (b : Buffer). InitiallyReordered font m p b new) set_up reordered.1))
+
+pub indic_is_cut_after_both : OrderByFontLaws → OrderByFontReadsNoSerials → FinalCutsBetweenSpans → IndicIsCutAfterBoth
+indic_is_cut_after_both laws reads law plan font spans unread old mid reordered new kinds set_up first last =
+    let m = plan.ot_map in
+    let p = indic_in plan in
+    let r = by_initial plan font mid in
+    law (final.rules_of font p) r.order r.steps r.circles spans old reordered new
+    (laws font m p mid.script) (reads font m p mid.script) kinds (subst (λ (b : Buffer). Reordered r b reordered) set_up first.0) last
