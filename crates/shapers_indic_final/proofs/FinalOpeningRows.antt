@@ -8,6 +8,7 @@ use Rattle.shapers_buffer.specs.Glyph.{clusters, default_glyph}
 use Rattle.shapers_buffer.specs.Syllables.{syllables}
 use Rattle.shapers_indic.proofs.RowWords.{C, M, masks_of, numbers_of, script}
 use Rattle.shapers_indic_final.proofs.FinalWords.{rules}
+use Rattle.shapers_indic_final.specs.FinalLaws.{SameButFirstBits, with_first_bits}
 use Rattle.shapers_indic_final.specs.FinalOpening.{continues_word, final_text, is_bound, last_or, text_run, with_init}
 
 -- every category: Cc no, Cf to Mn yes, the rest no
@@ -29,6 +30,21 @@ inits = refl
 
 bound : is_bound None (syllable 2) ∷ is_bound (Some (one 0 33 Zs 0 0)) (syllable 2) ∷ is_bound (Some (one 0 33 Lo 0 0)) (syllable 2) ∷ is_bound (Some (one 0 33 Lo 0 0)) (syllable 3) ∷ is_bound (Some (one 0 33 Lo 0 0)) [] ∷ [] ≡ false ∷ false ∷ true ∷ false ∷ false ∷ []
 bound = refl
+
+-- two lists that differ in these bits of their first glyph alone: with init there or without; but not where the second glyph has them,
+-- nor where the first differs in another bit
+abbrev masked : ℕ → ℕ → List hb_glyph_info_t
+masked m n =
+    let g : hb_glyph_info_t = record default_glyph { mask = m } in
+    let h : hb_glyph_info_t = record default_glyph { mask = n } in
+    g ∷ h ∷ []
+
+same_first : SameButFirstBits 32 (masked 64 64) (masked 96 64)
+same_first = refl
+
+first_bits : map (λ gs. masks_of (with_first_bits 32 gs)) ([] ∷ masked 64 64 ∷ masked 96 64 ∷ masked 64 96 ∷ masked 192 64 ∷ [])
+    ≡ [] ∷ (96 ∷ 64 ∷ []) ∷ (96 ∷ 64 ∷ []) ∷ (96 ∷ 96 ∷ []) ∷ (224 ∷ 64 ∷ []) ∷ []
+first_bits = refl
 
 lasts : last_or None (1 ∷ 2 ∷ []) ∷ last_or (Some 5) (1 ∷ []) ∷ last_or (Some 5) [] ∷ last_or {X = ℕ} None [] ∷ [] ≡ Some 2 ∷ Some 1 ∷ Some 5 ∷ None ∷ []
 lasts = refl
