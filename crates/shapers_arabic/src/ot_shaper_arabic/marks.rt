@@ -188,6 +188,9 @@ fn bring_last(marks: &mut [hb_glyph_info_t], count: usize, class: u8)
     requires { count ≤ length marks.old }
     ensures { marks.new ≡ last_first count class marks.old }
 {
+    if count == 0 {
+        return;
+    }
     marks.rotate_right(count);
     set_class(&mut marks[..count], class);
 }

@@ -1,5 +1,5 @@
 //! The units of a Hangul text, and the tones that join them.
-ghost use Rattle.std.specs.Prelude.{◌≡◌, ◌+◌, ◌<◌, ◌≤◌, ◌++◌, ◌∷◌, [], take, drop, if◌then◌else◌, length, get_or, true, OnOk, OnErr, IfErr, IsOkUnless, not, ◌||◌, ◌&&◌};
+ghost use Rattle.std.specs.Prelude.{◌≡◌, ◌+◌, ◌<◌, ◌≤◌, ◌++◌, ◌∷◌, [], take, drop, if◌then◌else◌, length, get_or, true, OnOk, OnErr, IfErr, IsOkUnless, not, ◌||◌, ◌&&◌, Bool};
 ghost use Rattle.shapers_base.specs.Font.{has_nominal};
 ghost use Rattle.shapers_buffer.specs.declared.buffer.refusal.ShaperError.TheVariants.{Memory};
 ghost use Rattle.shapers_hangul.specs.Hangul.{is_s, is_lv, has_jamo_of, is_narrow, jamo_two, jamo_three, jamo_unit, parts, syllable_unit, lone_tone, lone_unit, first_unit, taken, is_syllable, is_marked, joined_tone, is_split, unsafe_len, first_item, tone_len, item_len, characters, glyph_copies, unit_output, item_output, is_merged, item_joined, output_len, is_kept};
@@ -293,7 +293,22 @@ fn read_item<F: hb_font_t>(face: &F, circles: bool, glyphs: &[hb_glyph_info_t]) 
     }
 }
 
-// The same, which stands within the text.
+// Whether the character that opens the text stays as it is, as far as it and the next one tell.
+pub(super) fn stays_alone<F: hb_font_t>(face: &F, glyphs: &[hb_glyph_info_t]) -> bool
+    ensures { (circles : Bool) → let us = characters glyphs.now in
+        result ≡ true → is_kept (first_item (F.font face.now) circles us) ≡ true }
+{
+    let u = character_at(glyphs, 0);
+    if follows(character_at(glyphs, 1)) {
+        return false;
+    }
+    if is_combined_s(u) {
+        return face.has_glyph(u);
+    }
+    !is_hangul_tone(u)
+}
+
+// The item that opens the text, which stands within it.
 pub(super) fn first_item<F: hb_font_t>(face: &F, circles: bool, glyphs: &[hb_glyph_info_t]) -> Item
     requires { 0 < length glyphs.now }
     ensures item { result ≡ first_item (F.font face.now) circles (characters glyphs.now) }

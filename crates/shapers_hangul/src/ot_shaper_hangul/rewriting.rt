@@ -2,9 +2,9 @@
 ghost use Rattle.std.specs.Prelude.{◌≡◌, ◌+◌, ◌<◌, ◌≤◌, ◌++◌, ◌∷◌, [], true, drop, length, take, OnOk, OnErr, IfOk, IfErr, IsOkUnless};
 ghost use Rattle.shapers_buffer.specs.Refusals.{RefusesLength};
 ghost use Rattle.shapers_buffer.specs.declared.buffer.refusal.ShaperError.TheVariants.{Memory, TooLong};
-ghost use Rattle.shapers_hangul.specs.Hangul.{first_item, item_len, items_at, characters, glyph_copies, outputs, Fit, all_joined, rewritten, wants_circles, KeptBefore};
+ghost use Rattle.shapers_hangul.specs.Hangul.{first_item, item_len, items_at, characters, glyph_copies, outputs, Fit, all_joined, rewritten, wants_circles, is_kept, KeptBefore};
 
-use super::item::{Item, first_item};
+use super::item::{Item, first_item, stays_alone};
 use bitflags::Flags;
 use shapers_base::buffer::{
     BufferClusterLevel, BufferFlags, ShaperError, hb_buffer_t, hb_glyph_info_t,
@@ -31,13 +31,23 @@ fn rest_from(glyphs: &[hb_glyph_info_t], place: usize) -> &[hb_glyph_info_t]
     &glyphs[place..]
 }
 
+// Whether the item at a place of the text is one character that stays as it is.
+fn stays_at<F: hb_font_t>(face: &F, circles: bool, glyphs: &[hb_glyph_info_t], place: usize) -> bool
+    requires { place < length glyphs.now }
+    ensures { let us = characters (drop place glyphs.now) in
+        result ≡ is_kept (first_item (F.font face.now) circles us) }
+{
+    let rest = rest_from(glyphs, place);
+    stays_alone(face, rest) || first_item(face, circles, rest).is_kept()
+}
+
 // How far the text stays as it is: the place of the first item that changes it, or its end.
 fn kept_len<F: hb_font_t>(face: &F, circles: bool, glyphs: &[hb_glyph_info_t]) -> usize
     ensures { KeptBefore (F.font face.now) circles glyphs.now result }
 {
     let mut place = 0;
     while place < glyphs.len() {
-        if !item_at(face, circles, glyphs, place).is_kept() {
+        if !stays_at(face, circles, glyphs, place) {
             return place;
         }
         place += 1;

@@ -1,8 +1,14 @@
 -- One more item that is kept.
-use Rattle.std.proofs.Common.{◌∙◌, sym}
+use Rattle.std.proofs.Common.{◌∙◌, drop, refl, sym}
+use Rattle.shapers_hangul.specs.Hangul.{characters, first_item}
 use Rattle.shapers_hangul.proofs.Walks.{kept_next}
 use Rattle.shapers_hangul.proofs.ot_shaper_hangul.rewriting.kept_len.Goals as goal
 
 pub loop-place-preserved : goal.loop-place-preserved
 loop-place-preserved g c =
-    kept_next (g.F.hb_font_t.font c.args.face.now) c.args.circles c.args.glyphs.now c.loop-place.place c.item_at.result c.loop-place-test.true c.item_at.ensures.item (sym c.is_kept.ensures ∙ c.if-not-is_kept.false) c.loop-place.invariant
+    let font = g.F.hb_font_t.font c.args.face.now in
+    let circles = c.args.circles in
+    let gs = c.args.glyphs.now in
+    let place = c.loop-place.place in
+    let item = first_item font circles (characters (drop place gs)) in
+    kept_next font circles gs place item c.loop-place-test.true refl (sym c.stays_at.ensures ∙ c.if-not-stays_at.false) c.loop-place.invariant
