@@ -6,7 +6,7 @@ use Rattle.shapers_base.specs.declared.plan.planner.Request.TheVariants.{Feature
 use Rattle.shapers_base.specs.declared.map.TableIndex.TheVariants.{GSUB, GPOS}
 use Rattle.shapers_base.specs.Map.{Map, can_be_map, lookups_in, mask_of, of_gsub, range_for, range_of, stage_of}
 use Rattle.shapers_base.specs.Questions.{question_for, would_by}
-use Rattle.shapers_base.specs.Planner.{added, enabled, disabled, bare_pause, each_paused}
+use Rattle.shapers_base.specs.Planner.{added, enabled, disabled, bare_pause, each_paused, with_requests}
 
 abbrev blwf : hb_tag_t
 blwf = record { 0 = codes "blwf" }
@@ -82,3 +82,7 @@ off = refl
 
 paused : each_paused (bare_pause ∷ []) ≡ bare_pause ∷ bare_pause ∷ []
 paused = refl
+
+-- new requests stand behind the planner's own, in their order
+requests_behind : with_requests (disabled "liga" ∷ bare_pause ∷ []) (record { script = None; requests = enabled 0 "ccmp" ∷ [] }) ≡ record { script = None; requests = enabled 0 "ccmp" ∷ disabled "liga" ∷ bare_pause ∷ [] }
+requests_behind = refl

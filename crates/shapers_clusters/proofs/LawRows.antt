@@ -33,6 +33,13 @@ not_shared share = let same : 4 ≡ 3 = share 3 (omega arith) (omega arith) in a
 not_shared_back : ShareCluster numbers 4 1 → ⊥
 not_shared_back share = let same : 4 ≡ 3 = share 3 (omega arith) (omega arith) in absurd (omega (arith, same))
 
+-- neighbours that differ, asked from either end
+not_shared_next : ShareCluster numbers 2 3 → ⊥
+not_shared_next share = let same : 4 ≡ 3 = share 3 (omega arith) (omega arith) in absurd (omega (arith, same))
+
+not_shared_before : ShareCluster numbers 3 2 → ⊥
+not_shared_before share = let same : 3 ≡ 4 = share 2 (omega arith) (omega arith) in absurd (omega (arith, same))
+
 -- a stretch has one label, its end left out
 one_label : OneLabel numbers (1, 3)
 one_label p q pl ph ql qh = omega (arith, threes p pl ph, threes q ql qh)
