@@ -1,5 +1,5 @@
 //! What no row can say: where lines end, bytes that aren't text, and streams that break.
-use hbhook_lines::run_lines;
+use hbhook_lines::{explain_lines, run_lines};
 use std::alloc::Global;
 use std::io::{self, ErrorKind, Read, Write};
 use std::process::Abort;
@@ -86,4 +86,55 @@ fn ends_on_broken_streams(rt: HostRuntime) -> Result<(), Fail> {
     assert_eq!(rt; run_lines(alloc, refused, &mut written, Broken), 2);
     assert!(rt; written.is_empty());
     Ok(())
+}
+
+// A run of the input that ends in a fault tells this too, where it is asked to explain.
+fn expect_explained(
+    rt: &impl Abort,
+    alloc: Global,
+    input: &str,
+    faults: &str,
+    status: u8,
+) -> Result<(), Fail> {
+    let mut written = Vec::new(alloc);
+    let mut told = Vec::new(alloc);
+    let answer = explain_lines(alloc, input.as_bytes(), &mut written, &mut told);
+    assert_eq!(rt; str::from_utf8(&told)?, faults, "faults of {input:?}");
+    assert_eq!(rt; answer, status, "status of {input:?}");
+    assert!(rt; written.is_empty());
+    Ok(())
+}
+
+// What is expected of a line that doesn't read is told, and which line was refused.
+#[test]
+fn explains_faults(rt: HostRuntime) -> Result<(), Fail> {
+    let rows = [
+        (
+            "text 41\r\n",
+            "a line feed alone at the end, without a carriage return",
+        ),
+        (
+            "# text",
+            "a line that does something: there are no comments and no empty lines",
+        ),
+        (
+            "text  41",
+            "one space between two fields, and none at either end",
+        ),
+        ("font 41 1", "these fields: font U G W"),
+        ("font 41 65536 1", "a decimal number from 0 to 65535"),
+        ("set found maybe", "one of these words: yes, no"),
+        ("run masks", "a line `set shaper` before it"),
+    ];
+    for (line, expected) in rows {
+        let told = format!(in rt.alloc(); "line 1: unreadable\nline 1: expected {expected}\n")?;
+        expect_explained(&rt, rt.alloc(), line, told.as_str(), 2)?;
+    }
+    let asks = "set shaper arabic\ntext 41\nrun postprocess\n";
+    let told =
+        "line 3: unreadable\nline 3: expected positions: a line `set positions yes` before it, \
+                and after the text\n";
+    expect_explained(&rt, rt.alloc(), asks, told, 2)?;
+    let told = "refused: TooLong\nline 2: refused\n";
+    expect_explained(&rt, rt.alloc(), "set maxlen 0\ntext 41", told, 1)
 }

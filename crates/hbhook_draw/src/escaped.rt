@@ -1,5 +1,5 @@
 //! Text as HTML has it.
-ghost use Rattle.std.specs.Prelude.{◌≡◌, ◌++◌, if◌then◌else◌, is_ok, OnOk};
+ghost use Rattle.std.specs.Prelude.{◌≡◌, ◌++◌, OnOk};
 ghost use Rattle.std.specs.String.{string_bytes};
 ghost use Rattle.hbhook_draw.specs.Escaped.{escaped, escaped_char, is_control};
 

@@ -123,7 +123,7 @@ pub(crate) fn write_fault(
     page.push_str("<p class=\"fault\">")?;
     line.write(page)?;
     match fault {
-        LineFault::Unreadable => page.push_str("<br>unreadable</p>\n"),
+        LineFault::Unreadable(_) => page.push_str("<br>unreadable</p>\n"),
         LineFault::Refused(refusal) => writeln!(page, "<br>refused: {refusal}</p>"),
     }
 }

@@ -5,6 +5,6 @@ use Rattle.hbhook_lines.specs.declared.fault.Fault.TheVariants.{Unreadable, Refu
 
 -- the status that a run with a fault ends with
 abbrev pub status_of : Fault → ℕ
-status_of (Refused _) = 1
-status_of (Unreadable _) = 2
+status_of (Refused _ _) = 1
+status_of (Unreadable _ _) = 2
 status_of Broken = 2

@@ -11,4 +11,5 @@ same_glyphs = pointwise (λ a b. a.0 == b.0)
 
 -- whether some line says that the lookup would apply to these glyphs
 abbrev pub some_applies : List Applied → ℕ → List GlyphId → Bool
-some_applies lines lookup glyphs = list_any (λ line. (line.lookup == lookup) && same_glyphs line.glyphs.items glyphs) lines
+some_applies lines lookup glyphs =
+    list_any (λ line. (line.lookup == lookup) && same_glyphs line.glyphs.items glyphs) lines

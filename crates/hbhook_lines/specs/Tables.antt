@@ -9,7 +9,13 @@ use Rattle.rustybuzz_shapers.specs.hb_arabic_joining_type_t.TheVariants.{U}
 
 -- what holds of a character without a line
 abbrev pub default_entry : CharacterEntry
-default_entry = record { joining_type = U; general_category = Lo; indic_category = 0; indic_position = 14; universal_category = 0 }
+default_entry = record {
+  joining_type = U;
+  general_category = Lo;
+  indic_category = 0;
+  indic_position = 14;
+  universal_category = 0;
+}
 
 -- what the tables say of a character
 abbrev pub entry_of : BTreeMap ℕ CharacterEntry → ℕ → CharacterEntry
@@ -17,8 +23,10 @@ entry_of entries c = unwrap_or (get nat_cmp entries c) default_entry
 
 -- what two characters compose to: by the first line that names them
 abbrev pub whole_of : List CanonicalPair → ℕ → ℕ → Option ℕ
-whole_of pairs a b = option_map (λ pair. pair.whole) (find (λ pair. (pair.first == a) && (pair.second == b)) pairs)
+whole_of pairs a b =
+    option_map (λ pair. pair.whole) (find (λ pair. (pair.first == a) && (pair.second == b)) pairs)
 
 -- what a character decomposes to: by the first line that names it
 abbrev pub parts_of : List CanonicalPair → ℕ → Option (ℕ × ℕ)
-parts_of pairs c = option_map (λ pair. (pair.first, pair.second)) (find (λ pair. pair.whole == c) pairs)
+parts_of pairs c =
+    option_map (λ pair. (pair.first, pair.second)) (find (λ pair. pair.whole == c) pairs)

@@ -4,6 +4,7 @@ mod glyph_field;
 mod hook;
 mod setting;
 
+use crate::expected::{BYTE, COUNT, Expected, FOUR_BYTES, TWO_BYTES};
 use crate::fault::LineFault;
 use crate::tables::{CanonicalPair, CharacterEntry};
 use fields::{
@@ -17,6 +18,9 @@ use rustybuzz_shapers::plan::hb_arabic_joining_type_t;
 pub(crate) use setting::Setting;
 use std::alloc::Global;
 use std::ops::Range;
+
+// The first words of lines.
+const COMMANDS: &str = "font, applies, table, pair, mask, stage, set, text, context, at, span, run";
 
 // How many lookups there may be.
 const LOOKUPS: usize = 65536;
@@ -76,7 +80,7 @@ impl Command {
         let fields: Vec<&str> = line.split(' ').collect(alloc)?;
         match *fields.as_slice() {
             [word, ref fields @ ..] => read_command(alloc, word, fields),
-            [] => Err(LineFault::Unreadable),
+            [] => Err(LineFault::Unreadable(Expected::Command)),
         }
     }
 
@@ -106,7 +110,7 @@ fn read_command(alloc: Global, word: &str, fields: &[&str]) -> Result<Command, L
         "at" => field_at_place(fields),
         "span" => span(fields),
         "run" => Ok(Command::Run(HookCall::parse(fields)?)),
-        _ => Err(LineFault::Unreadable),
+        _ => Err(LineFault::Unreadable(Expected::Word(COMMANDS))),
     }
 }
 
@@ -123,9 +127,13 @@ fn characters(alloc: Global, fields: &[&str]) -> Result<Vec<char>, LineFault> {
 fn font_glyph(fields: &[&str]) -> Result<Command, LineFault> {
     match *fields {
         [u, glyph, advance] => {
-            Ok(Command::Font(character(u)?, GlyphId(decimal(glyph)?), signed(advance)?))
+            Ok(Command::Font(
+                character(u)?,
+                GlyphId(decimal(glyph, TWO_BYTES)?),
+                signed(advance)?,
+            ))
         }
-        _ => Err(LineFault::Unreadable),
+        _ => Err(LineFault::Unreadable(Expected::Fields("font U G W"))),
     }
 }
 
@@ -133,9 +141,9 @@ fn font_glyph(fields: &[&str]) -> Result<Command, LineFault> {
 fn applies(alloc: Global, fields: &[&str]) -> Result<Command, LineFault> {
     match *fields {
         [lookup, ref glyphs @ ..] if matches!(glyphs.len(), 2 | 3) => {
-            Ok(Command::Applies(decimal(lookup)?, glyph_ids(alloc, glyphs)?))
+            Ok(Command::Applies(decimal(lookup, TWO_BYTES)?, glyph_ids(alloc, glyphs)?))
         }
-        _ => Err(LineFault::Unreadable),
+        _ => Err(LineFault::Unreadable(Expected::Fields("applies I G G, or applies I G G G"))),
     }
 }
 
@@ -143,7 +151,7 @@ fn applies(alloc: Global, fields: &[&str]) -> Result<Command, LineFault> {
 fn glyph_ids(alloc: Global, fields: &[&str]) -> Result<Vec<GlyphId>, LineFault> {
     let mut glyphs = Vec::with_capacity(alloc, fields.len())?;
     for field in fields {
-        glyphs.push(GlyphId(decimal(field)?))?;
+        glyphs.push(GlyphId(decimal(field, TWO_BYTES)?))?;
     }
     Ok(glyphs)
 }
@@ -156,19 +164,20 @@ fn character_entry(fields: &[&str]) -> Result<Command, LineFault> {
             let entry = CharacterEntry {
                 joining_type: joining_type(joining)?,
                 general_category: general_category(category)?,
-                indic_category: decimal(indic)?,
-                indic_position: decimal(position)?,
-                universal_category: decimal(universal)?,
+                indic_category: decimal(indic, BYTE)?,
+                indic_position: decimal(position, BYTE)?,
+                universal_category: decimal(universal, BYTE)?,
             };
             Ok(Command::Table(character(u)?, entry))
         }
-        _ => Err(LineFault::Unreadable),
+        _ => Err(LineFault::Unreadable(Expected::Fields("table U J GC K P X"))),
     }
 }
 
 // A joining type, by its number; there is no 6.
 fn joining_type(field: &str) -> Result<hb_arabic_joining_type_t, LineFault> {
-    match decimal(field)? {
+    let expected = Expected::Condition("a joining type: 0, 1, 2, 3, 4, 5, 7 or 8");
+    match decimal(field, expected)? {
         0 => Ok(hb_arabic_joining_type_t::U),
         1 => Ok(hb_arabic_joining_type_t::L),
         2 => Ok(hb_arabic_joining_type_t::R),
@@ -177,7 +186,7 @@ fn joining_type(field: &str) -> Result<hb_arabic_joining_type_t, LineFault> {
         5 => Ok(hb_arabic_joining_type_t::GroupDalathRish),
         7 => Ok(hb_arabic_joining_type_t::T),
         8 => Ok(hb_arabic_joining_type_t::X),
-        _ => Err(LineFault::Unreadable),
+        _ => Err(LineFault::Unreadable(expected)),
     }
 }
 
@@ -189,7 +198,7 @@ fn canonical_pair(fields: &[&str]) -> Result<Command, LineFault> {
             second: character(b)?,
             whole: character(c)?,
         })),
-        _ => Err(LineFault::Unreadable),
+        _ => Err(LineFault::Unreadable(Expected::Fields("pair A B C"))),
     }
 }
 
@@ -197,7 +206,7 @@ fn canonical_pair(fields: &[&str]) -> Result<Command, LineFault> {
 fn feature_mask(fields: &[&str]) -> Result<Command, LineFault> {
     match *fields {
         [tag, mask] => Ok(Command::Mask(hb_tag_t(four_characters(tag)?), mask_of_feature(mask)?)),
-        _ => Err(LineFault::Unreadable),
+        _ => Err(LineFault::Unreadable(Expected::Fields("mask T M"))),
     }
 }
 
@@ -207,7 +216,8 @@ fn mask_of_feature(field: &str) -> Result<u32, LineFault> {
     if mask & 7 == 0 {
         Ok(mask)
     } else {
-        Err(LineFault::Unreadable)
+        let expected = Expected::Condition("a mask without its low three bits");
+        Err(LineFault::Unreadable(expected))
     }
 }
 
@@ -218,15 +228,16 @@ fn feature_stage(fields: &[&str]) -> Result<Command, LineFault> {
             hb_tag_t(four_characters(tag)?),
             lookups(first, end)?,
         )),
-        _ => Err(LineFault::Unreadable),
+        _ => Err(LineFault::Unreadable(Expected::Fields("stage T I I"))),
     }
 }
 
 // A range of the lookups.
 fn lookups(first: &str, end: &str) -> Result<Range<usize>, LineFault> {
-    let (first, end) = (decimal(first)?, decimal(end)?);
+    let expected = Expected::Condition("a first lookup up to the end, and an end up to 65536");
+    let (first, end) = (decimal(first, expected)?, decimal(end, expected)?);
     if first > end || end > LOOKUPS {
-        return Err(LineFault::Unreadable);
+        return Err(LineFault::Unreadable(expected));
     }
     Ok(first..end)
 }
@@ -235,7 +246,7 @@ fn lookups(first: &str, end: &str) -> Result<Range<usize>, LineFault> {
 fn named_setting(fields: &[&str]) -> Result<Command, LineFault> {
     match *fields {
         [key, value] => Ok(Command::Set(Setting::parse(key, value)?)),
-        _ => Err(LineFault::Unreadable),
+        _ => Err(LineFault::Unreadable(Expected::Fields("set KEY VALUE"))),
     }
 }
 
@@ -245,7 +256,9 @@ fn context(alloc: Global, fields: &[&str]) -> Result<Command, LineFault> {
         [side, ref us @ ..] if us.len() <= CONTEXT_LENGTH => {
             Ok(Command::Context(side_of_text(side)?, characters(alloc, us)?))
         }
-        _ => Err(LineFault::Unreadable),
+        _ => Err(LineFault::Unreadable(Expected::Fields(
+            "context 0 U .. or context 1 U .., with five U at most",
+        ))),
     }
 }
 
@@ -254,15 +267,18 @@ fn side_of_text(number: &str) -> Result<Side, LineFault> {
     match number {
         "0" => Ok(Side::Before),
         "1" => Ok(Side::After),
-        _ => Err(LineFault::Unreadable),
+        _ => Err(LineFault::Unreadable(Expected::Number(1))),
     }
 }
 
 // A place, and a field of the glyph there.
 fn field_at_place(fields: &[&str]) -> Result<Command, LineFault> {
     match *fields {
-        [place, name, value] => Ok(Command::At(decimal(place)?, GlyphField::parse(name, value)?)),
-        _ => Err(LineFault::Unreadable),
+        [place, name, value] => Ok(Command::At(
+            decimal(place, COUNT)?,
+            GlyphField::parse(name, value)?,
+        )),
+        _ => Err(LineFault::Unreadable(Expected::Fields("at I FIELD V"))),
     }
 }
 
@@ -270,9 +286,9 @@ fn field_at_place(fields: &[&str]) -> Result<Command, LineFault> {
 fn span(fields: &[&str]) -> Result<Command, LineFault> {
     match *fields {
         [len, kind] => Ok(Command::Span(Span {
-            len: decimal::<u32>(len)? as usize,
+            len: decimal::<u32>(len, FOUR_BYTES)? as usize,
             kind: decimal_to(kind, 15)?,
         })),
-        _ => Err(LineFault::Unreadable),
+        _ => Err(LineFault::Unreadable(Expected::Fields("span L K"))),
     }
 }

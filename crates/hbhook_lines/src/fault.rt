@@ -1,4 +1,5 @@
 //! What ends a run before its last line.
+use crate::expected::Expected;
 use rustybuzz_shapers::buffer::ShaperError;
 use std::alloc::{AllocError, AllocFailed};
 use thiserror::Error;
@@ -6,10 +7,20 @@ use thiserror::Error;
 /// Why a line can't be carried out.
 #[derive(Clone, Copy, Debug)]
 pub enum LineFault {
-    /// It doesn't read, or the conditions of its call fail.
-    Unreadable,
+    /// It doesn't read, or the conditions of its call fail: what was expected.
+    Unreadable(Expected),
     /// A shaper or a growth refused.
     Refused(ShaperError),
+}
+
+impl LineFault {
+    /// The fault of a whole line.
+    pub(crate) fn of_line(self, line: &str) -> Self {
+        match self {
+            LineFault::Unreadable(expected) => LineFault::Unreadable(expected.of_line(line)),
+            LineFault::Refused(refusal) => LineFault::Refused(refusal),
+        }
+    }
 }
 
 impl From<ShaperError> for LineFault {
@@ -33,12 +44,12 @@ impl<T: Drop> From<AllocFailed<T>> for LineFault {
 /// What ends a run, as it is told on standard error.
 #[derive(Clone, Copy, Debug, Error)]
 pub enum Fault {
-    /// A line that can't be carried out, by its number from 1.
+    /// A line that doesn't read, by its number from 1, and what was expected of it.
     #[error("line {0}: unreadable")]
-    Unreadable(usize),
-    /// A refusal.
+    Unreadable(usize, Expected),
+    /// A refusal, and the number of the line that was refused, unless it was another growth.
     #[error("refused: {0}")]
-    Refused(ShaperError),
+    Refused(ShaperError, Option<usize>),
     /// Input that can't be read, or output that can't be written: nothing is told.
     #[error("broken")]
     Broken,
@@ -46,7 +57,7 @@ pub enum Fault {
 
 impl From<AllocError> for Fault {
     fn from(_error: AllocError) -> Self {
-        Fault::Refused(ShaperError::Memory)
+        Fault::Refused(ShaperError::Memory, None)
     }
 }
 
@@ -57,8 +68,8 @@ impl Fault {
     /// The fault of the line of this number.
     pub fn on_line(fault: LineFault, number: usize) -> Self {
         match fault {
-            LineFault::Unreadable => Fault::Unreadable(number),
-            LineFault::Refused(refusal) => Fault::Refused(refusal),
+            LineFault::Unreadable(expected) => Fault::Unreadable(number, expected),
+            LineFault::Refused(refusal) => Fault::Refused(refusal, Some(number)),
         }
     }
 
@@ -68,8 +79,8 @@ impl Fault {
         ensures most { result ≤ 2 }
     {
         match self {
-            Fault::Refused(_) => 1,
-            Fault::Unreadable(_) | Fault::Broken => 2,
+            Fault::Refused(_, _) => 1,
+            Fault::Unreadable(_, _) | Fault::Broken => 2,
         }
     }
 }

@@ -3,6 +3,7 @@
 #![tactic(auto)]
 
 mod command;
+mod expected;
 mod fault;
 mod font;
 mod printing;
@@ -13,8 +14,9 @@ mod tables;
 ghost use Rattle.std.specs.Prelude.{◌≤◌};
 
 pub use command::LineKind;
+pub use expected::Expected;
 pub use fault::{Fault, LineFault};
-pub use printing::{report, write_text};
+pub use printing::{explain, report, write_text};
 use rustybuzz_shapers::buffer::ShaperError;
 pub use session::{Session, kind_of_line};
 pub use settings::Feature;
@@ -35,6 +37,21 @@ where
     match run(alloc, input, output) {
         Ok(()) => 0,
         Err(fault) => report(faults, fault),
+    }
+}
+
+/// Does what `run_lines` does, and tells among the faults, behind the message, what was expected of
+/// the line that doesn't read, or which line was refused.
+pub fn explain_lines<I, O, F>(alloc: Global, input: I, output: O, faults: F) -> u8
+where
+    I: Read + Drop,
+    O: Write + Drop,
+    F: Write + Drop,
+    ensures { result ≤ 2 }
+{
+    match run(alloc, input, output) {
+        Ok(()) => 0,
+        Err(fault) => explain(faults, fault),
     }
 }
 
@@ -61,7 +78,7 @@ pub fn read_input<I: Read + Drop>(alloc: Global, mut input: I) -> Result<Vec<u8>
 // Why the input can't be read: no memory for it, or a broken reader.
 fn input_fault(error: io::Error) -> Fault {
     match error.kind() {
-        ErrorKind::OutOfMemory => Fault::Refused(ShaperError::Memory),
+        ErrorKind::OutOfMemory => Fault::Refused(ShaperError::Memory, None),
         _ => Fault::Broken,
     }
 }

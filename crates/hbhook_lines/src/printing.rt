@@ -50,6 +50,29 @@ pub fn write_text<W: Write + Drop>(mut output: W, text: &str) -> Result<(), Faul
     written.map_err(|_| Fault::Broken)
 }
 
+/// Tells of a fault as `report` does, and then on a line of its own what was expected of a line that
+/// doesn't read, or which line was refused.
+pub fn explain<W: Write + Drop>(mut faults: W, fault: Fault) -> u8
+    ensures { result ≤ 2 }
+{
+    let status = report(&mut faults, fault);
+    let explained = match fault {
+        Fault::Unreadable(number, expected) => {
+            writeln!(faults, "line {number}: expected {expected}")
+        }
+        Fault::Refused(_, Some(number)) => writeln!(faults, "line {number}: refused"),
+        Fault::Refused(_, None) => writeln!(
+            faults,
+            "no line: refused for the lines or for what is printed"
+        ),
+        Fault::Broken => Ok(()),
+    };
+    match explained {
+        Ok(()) => status,
+        Err(_) => Fault::Broken.status(),
+    }
+}
+
 /// Tells of a fault and answers the status to end with.
 pub fn report<W: Write + Drop>(mut faults: W, fault: Fault) -> u8
     ensures { result ≤ 2 }

@@ -4,6 +4,7 @@ mod hooks;
 ghost use Rattle.std.specs.Prelude.{◌≡◌, []};
 
 use crate::command::{Command, GlyphField, LineKind, Setting, Side};
+use crate::expected::Expected;
 use crate::fault::LineFault;
 use crate::printing::print_buffer;
 use crate::settings::{Feature, Settings};
@@ -15,6 +16,9 @@ use std::mem;
 
 // The greatest length of a buffer before a line sets it.
 const MAX_LEN: usize = 1_000_000;
+
+// Each character has its own cluster.
+const TEXT_LENGTH: Expected = Expected::Condition("no more characters than clusters of 32 bits");
 
 /// What the lines so far have set, and the buffer that they made.
 #[derive(Drop)]
@@ -123,7 +127,9 @@ impl Session {
     // Sets the greatest length, which is at least the length now.
     fn set_max_len(&mut self, max_len: usize) -> Result<(), LineFault> {
         if max_len < self.buffer.len() {
-            return Err(LineFault::Unreadable);
+            return Err(LineFault::Unreadable(Expected::Condition(
+                "at least the length of the buffer",
+            )));
         }
         self.buffer.set_max_len(max_len);
         Ok(())
@@ -156,7 +162,7 @@ impl Session {
         for (i, character) in characters.iter().enumerate() {
             self.buffer.push(hb_glyph_info_t {
                 glyph_id: u32::from(*character),
-                cluster: u32::try_from(i).map_err(|_| LineFault::Unreadable)?,
+                cluster: u32::try_from(i).map_err(|_| LineFault::Unreadable(TEXT_LENGTH))?,
                 general_category: self.settings.tables.general_category(*character),
                 ..hb_glyph_info_t::DEFAULT
             })?;
@@ -167,7 +173,9 @@ impl Session {
     // Sets a field of the glyph at a place, or its advance.
     fn set_field(&mut self, place: usize, field: GlyphField) -> Result<(), LineFault> {
         if place >= self.buffer.len() {
-            return Err(LineFault::Unreadable);
+            return Err(LineFault::Unreadable(Expected::Condition(
+                "a place below the length of the buffer",
+            )));
         }
         if let GlyphField::Advance(advance) = field {
             return self.set_advance(place, advance);
@@ -181,7 +189,9 @@ impl Session {
     // Sets the advance at a place of a buffer with positions.
     fn set_advance(&mut self, place: usize, advance: i32) -> Result<(), LineFault> {
         if place >= self.buffer.positions_len() {
-            return Err(LineFault::Unreadable);
+            return Err(LineFault::Unreadable(Expected::Condition(
+                "positions: a line `set positions yes` after the text",
+            )));
         }
         let mut position = self.buffer.position(place);
         position.x_advance = advance;
@@ -197,6 +207,6 @@ pub fn kind_of_line(alloc: Global, line: &[u8]) -> Result<LineKind, LineFault> {
 
 // The command of a line, which is text.
 fn read_line(alloc: Global, line: &[u8]) -> Result<Command, LineFault> {
-    let line = str::from_utf8(line).map_err(|_| LineFault::Unreadable)?;
-    Command::parse(alloc, line)
+    let line = str::from_utf8(line).map_err(|_| LineFault::Unreadable(Expected::Text))?;
+    Command::parse(alloc, line).map_err(|fault| fault.of_line(line))
 }

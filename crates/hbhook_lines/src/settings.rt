@@ -1,6 +1,7 @@
 //! What the lines have set so far, but for what the buffer keeps.
 ghost use Rattle.std.specs.Prelude.{◌≡◌, IfOk};
 
+use crate::expected::Expected;
 use crate::fault::LineFault;
 use crate::font::LineFont;
 use crate::tables::LineTables;
@@ -99,7 +100,8 @@ impl Settings {
         let lookups = (0..=u16::MAX).take(lookups.unwrap_or(0)).collect(alloc)?;
         let (global, chosen) = (self.global_mask, self.chosen);
         let map = hb_ot_map_t::new(features, stages, lookups, global, chosen, self.found);
-        map.ok_or(LineFault::Unreadable)
+        let expected = Expected::Condition("masks without glyph flags, and lookups that there are");
+        map.ok_or(LineFault::Unreadable(expected))
     }
 
     /// The features that have a mask or lookups.

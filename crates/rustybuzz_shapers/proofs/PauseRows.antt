@@ -65,7 +65,7 @@ myanmar_broken = (λ plan font. refl, λ plan font. refl, λ plan font. refl, λ
 
 -- clearing takes one field of each glyph back, and the fallback of Arabic does nothing
 abbrev full : hb_glyph_info_t
-full = record { glyph_id = 0x916; cluster = 5; mask = 0x1F; syllable = 0x24; category = 1; auxiliary = 3; general_category = Mn; modified_combining_class = 9; lig_comp = 2; marks = record { 0 = 31 } }
+full = record { glyph_id = 0x916; cluster = 5; mask = 0x1F; var = 0x7A; syllable = 0x24; category = 1; auxiliary = 3; general_category = Mn; modified_combining_class = 9; lig_comp = 2; marks = record { 0 = 31 } }
 
 abbrev full_text : List hb_glyph_info_t → Buffer
 full_text gs = record (new_buffer 10) { glyphs = gs; broken = true; stch = true }

@@ -1,7 +1,8 @@
 -- The cut between spans. For each shaper of syllables a set-up and the reordering pauses that run
--- directly after it, no substitution between: cut between any two spans, they give what they give on
--- the halves, one after the other. The halves' bytes may have other serials, as long as neighbouring
--- syllables differ; masks of forms and the bits of `init` are left out where two syllables share them.
+-- directly after it, no substitution between: cut between any two spans, they give what they give
+-- on the halves, one after the other. The halves' bytes may have other serials, as long as
+-- neighbouring syllables differ; masks of forms and the bits of `init` are left out where two
+-- syllables share them.
 use Rattle.std.specs.Prelude.{◌≤◌, List, All}
 use Rattle.shapers_buffer.specs.Buffer.{Buffer}
 use Rattle.shapers_buffer.specs.declared.buffer.syllables.Span.{Span}

@@ -37,7 +37,7 @@ use Rattle.shapers_text.specs.ThaiForms.{asks_for_forms, preprocessed_in_thai}
 use Rattle.shapers_text.specs.ThaiLaws.{ClustersInTwo, KeptInTwo}
 use Rattle.rustybuzz_shapers.specs.Standing.{Lacking, standing}
 use Rattle.rustybuzz_shapers.specs.declared.shaper.hb_ot_shaper_t.{hb_ot_shaper_t}
-use Rattle.rustybuzz_shapers.specs.declared.shaper.hb_ot_shaper_t.TheVariants.{Arabic, Hangul, Hebrew, Indic, Khmer, Myanmar, MyanmarZawgyi, Thai, Universal}
+use Rattle.rustybuzz_shapers.specs.declared.shaper.hb_ot_shaper_t.TheVariants.{Arabic, Hangul, Hebrew, Indic, Khmer, Myanmar, Thai, Universal}
 
 -- what the shaper keeps in the plan, if it keeps anything
 abbrev pub data_created : hb_ot_shaper_t → hb_ot_shape_plan_t → Option PlanData

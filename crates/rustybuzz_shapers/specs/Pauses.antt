@@ -1,6 +1,6 @@
 -- What each pause does to the buffer.
 use Rattle.std.specs.Option.{option_and_then}
-use Rattle.std.specs.Prelude.{◌≡◌, Bool, true, false, List, [], ◌∷◌, All, map, length, Option, None, Some, unwrap_or, Result, IsOk}
+use Rattle.std.specs.Prelude.{◌≡◌, Bool, true, List, [], ◌∷◌, All, map, length, Option, None, Some, unwrap_or, Result, IsOk}
 use Rattle.shapers_arabic.specs.PlanData.{IsArabic}
 use Rattle.shapers_buffer.specs.Glyph.{clusters, order_view}
 use Rattle.shapers_buffer.specs.declared.buffer.glyph.hb_glyph_info_t.{hb_glyph_info_t}

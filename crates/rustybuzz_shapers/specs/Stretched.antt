@@ -1,4 +1,5 @@
--- The third part of the headline: how many glyphs postprocessing adds, and how wide a mark that stretches is laid.
+-- The third part of the headline: how many glyphs postprocessing adds, and how wide a mark that
+-- stretches is laid.
 use Rattle.std.specs.Prelude.{◌≡◌, ℕ, true, length}
 use Rattle.shapers_buffer.specs.Buffer.{Buffer}
 use Rattle.shapers_base.specs.declared.plan.hb_ot_shape_plan_t.{hb_ot_shape_plan_t}
@@ -15,12 +16,13 @@ abbrev pub glyphs_added : hb_ot_shaper_t → Font → Buffer → ℕ
 glyphs_added Arabic font old = copies_in font old
 glyphs_added _ font old = 0
 
--- The text after is the parts of the text before, one after another, each with its run laid: as wide
--- as its numbers say, and where its tiles fit, as the word, or wider by less than a unit for each
--- added copy.
+-- The text after is the parts of the text before, one after another, each with its run laid: as
+-- wide as its numbers say, and where its tiles fit, as the word, or wider by less than a unit for
+-- each added copy.
 abbrev pub StretchesCover : Type 0
 StretchesCover = (plan : hb_ot_shape_plan_t) (font : Font) (old new : Buffer) →
     old.stch ≡ true → length old.positions ≡ length old.glyphs →
     Postprocessed Arabic plan font old new →
     (length new.positions ≡ length new.glyphs)
-    × TextIsLaid (laying font (start_of plan.plan_data) old) (cells_in_order old) (cells_in_order new)
+    × TextIsLaid (laying font (start_of plan.plan_data) old) (cells_in_order old)
+    (cells_in_order new)

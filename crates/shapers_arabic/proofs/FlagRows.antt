@@ -164,7 +164,7 @@ marks_behind = refl
 
 -- a glyph in a form: all else stays, and its mask gains the form's
 abbrev full : hb_glyph_info_t
-full = record { glyph_id = 0x916; cluster = 5; mask = 0x13; syllable = 0x24; category = 1; auxiliary = 3; general_category = Mn; modified_combining_class = 9; lig_comp = 2; marks = record { 0 = 31 } }
+full = record { glyph_id = 0x916; cluster = 5; mask = 0x13; var = 0x7A; syllable = 0x24; category = 1; auxiliary = 3; general_category = Mn; modified_combining_class = 9; lig_comp = 2; marks = record { 0 = 31 } }
 
 in_its_form : with_form (0x100 ∷ 0x210 ∷ []) 1 full ≡ record full { auxiliary = 1; mask = 0x213 }
 in_its_form = refl

@@ -152,6 +152,7 @@ full = record {
   glyph_id = 0x0655;
   cluster = 7;
   mask = 23;
+  var = 0x7A;
   syllable = 33;
   category = 5;
   auxiliary = 6;

@@ -20,14 +20,17 @@ is_mongolian None = false
 is_mongolian (Some s) = pointwise nat_eq s.0 (codes "Mong")
 
 -- the types of glyphs, where the stored category tells X
-abbrev pub stored_types : (ℕ → hb_arabic_joining_type_t) → List hb_glyph_info_t → List hb_arabic_joining_type_t
+abbrev pub stored_types : (ℕ → hb_arabic_joining_type_t) → List hb_glyph_info_t →
+    List hb_arabic_joining_type_t
 stored_types joining gs = map (λ g. resolved (joining g.glyph_id) g.general_category) gs
 
 -- the types of characters, where the table's own category tells X
-abbrev pub context_types : (ℕ → hb_arabic_joining_type_t) → (ℕ → hb_unicode_general_category_t) → List ℕ → List hb_arabic_joining_type_t
+abbrev pub context_types : (ℕ → hb_arabic_joining_type_t) → (ℕ → hb_unicode_general_category_t) →
+    List ℕ → List hb_arabic_joining_type_t
 context_types joining general cs = map (λ c. resolved (joining c) (general c)) cs
 
--- a text, as far as joining sees it: the types before it, nearest first, its characters and their types, and the types after it
+-- a text, as far as joining sees it: the types before it, nearest first, its characters and their
+-- types, and the types after it
 pub record Text : Type 0 where
   pub before : List hb_arabic_joining_type_t
   pub characters : List ℕ
@@ -35,10 +38,17 @@ pub record Text : Type 0 where
   pub after : List hb_arabic_joining_type_t
 
 -- the text of a buffer between its contexts
-abbrev pub text_of : (ℕ → hb_arabic_joining_type_t) → (ℕ → hb_unicode_general_category_t) → Buffer → Text
-text_of joining general b = record { before = context_types joining general b.before; characters = map (λ g. g.glyph_id) b.glyphs; types = stored_types joining b.glyphs; after = context_types joining general b.after }
+abbrev pub text_of : (ℕ → hb_arabic_joining_type_t) → (ℕ → hb_unicode_general_category_t) → Buffer →
+    Text
+text_of joining general b = record {
+  before = context_types joining general b.before;
+  characters = map (λ g. g.glyph_id) b.glyphs;
+  types = stored_types joining b.glyphs;
+  after = context_types joining general b.after;
+}
 
--- the form of each place: by the joining rule, and then, with the script Mongolian, by the selector rule
+-- the form of each place: by the joining rule, and then, with the script Mongolian, by the selector
+-- rule
 abbrev pub forms_of : Option Script → Text → List ℕ
 forms_of script text =
     let by_rule = forms text.before text.types text.after in
@@ -69,7 +79,8 @@ joined masks script joining general b =
     let text = text_of joining general b in
     record b { glyphs = joined_glyphs masks b.flags script text b.glyphs }
 
--- how many characters of a context are looked up: up to the first that isn't transparent, and that one
+-- how many characters of a context are looked up: up to the first that isn't transparent, and that
+-- one
 abbrev pub seen : List hb_arabic_joining_type_t → ℕ
 seen [] = 0
 seen (t ∷ ts) = if is_transparent t then suc (seen ts) else 1
@@ -84,13 +95,17 @@ AreCharacters gs = AllByRecursion (λ g. IsScalar g.glyph_id) gs
 
 -- the halves of a text that is cut at place n, each with what it sees of the other
 abbrev pub first_half : ℕ → List hb_arabic_joining_type_t → Text → Text
-first_half n inner text = record text { characters = take n text.characters; types = take n text.types; after = inner }
+first_half n inner text =
+    record text { characters = take n text.characters; types = take n text.types; after = inner }
 
 abbrev pub second_half : ℕ → List hb_arabic_joining_type_t → Text → Text
-second_half n inner text = record text { before = inner; characters = drop n text.characters; types = drop n text.types }
+second_half n inner text =
+    record text { before = inner; characters = drop n text.characters; types = drop n text.types }
 
--- the inner contexts show the neighbours: in each the nearest type that isn't transparent is the one that the whole text has there, or both have none
-pub record ShowNeighbours (n : ℕ) (text : Text) (inner_after inner_before : List hb_arabic_joining_type_t) : Type 0 where
+-- the inner contexts show the neighbours: in each the nearest type that isn't transparent is the
+-- one that the whole text has there, or both have none
+pub record ShowNeighbours (n : ℕ) (text : Text) (inner_after inner_before : List
+    hb_arabic_joining_type_t) : Type 0 where
   pub onward : nearest inner_after ≡ nearest (drop n text.types ++ text.after)
   pub backward : nearest inner_before ≡ nearest (reverse (take n text.types) ++ text.before)
 
@@ -98,26 +113,39 @@ pub record ShowNeighbours (n : ℕ) (text : Text) (inner_after inner_before : Li
 abbrev pub opening : Option Script → List ℕ → ℕ
 opening script characters = if is_mongolian script then prefix_len is_selector characters else 0
 
--- these forms are those of the halves, one after the other; only the selectors that open the second half may differ
-pub record ActAsHalves (script : Option Script) (n : ℕ) (text : Text) (inner_after inner_before : List hb_arabic_joining_type_t) (whole : List ℕ) : Type 0 where
+-- these forms are those of the halves, one after the other; only the selectors that open the second
+-- half may differ
+pub record ActAsHalves (script : Option Script) (n : ℕ) (text : Text) (inner_after inner_before :
+    List hb_arabic_joining_type_t) (whole : List ℕ) : Type 0 where
   pub first : take n whole ≡ forms_of script (first_half n inner_after text)
-  pub second : drop (n + opening script (drop n text.characters)) whole ≡ drop (opening script (drop n text.characters)) (forms_of script (second_half n inner_before text))
+  pub second : drop (n + opening script (drop n text.characters)) whole
+      ≡ drop (opening script (drop n text.characters))
+      (forms_of script (second_half n inner_before text))
 
 -- the law of the cut: at every place, for all inner contexts that show the neighbours
 abbrev pub HoldsCut : Option Script → Text → List ℕ → Type 0
-HoldsCut script text whole = (n : ℕ) (inner_after inner_before : List hb_arabic_joining_type_t) → n ≤ length text.types → ShowNeighbours n text inner_after inner_before → ActAsHalves script n text inner_after inner_before whole
+HoldsCut script text whole =
+    (n : ℕ) (inner_after inner_before : List hb_arabic_joining_type_t) → n ≤ length text.types →
+    ShowNeighbours n text inner_after inner_before →
+    ActAsHalves script n text inner_after inner_before whole
 
 -- the law of the cut for what joining left in the auxiliary bytes
-abbrev pub CutsAsHalves : Option Script → (ℕ → hb_arabic_joining_type_t) → (ℕ → hb_unicode_general_category_t) → Buffer → Buffer → Type 0
-CutsAsHalves script joining general old new = HoldsCut script (text_of joining general old) (map (λ g. g.auxiliary) new.glyphs)
+abbrev pub CutsAsHalves : Option Script → (ℕ → hb_arabic_joining_type_t) →
+    (ℕ → hb_unicode_general_category_t) → Buffer → Buffer → Type 0
+CutsAsHalves script joining general old new =
+    HoldsCut script (text_of joining general old) (map (λ g. g.auxiliary) new.glyphs)
 
--- what a context shows that is copied from a text, at most five characters of it: one of them isn't transparent, or the text ends there
+-- what a context shows that is copied from a text, at most five characters of it: one of them isn't
+-- transparent, or the text ends there
 abbrev pub Shows : List hb_arabic_joining_type_t → Type 0
 Shows ts = (is_some (nearest (take 5 ts)) ≡ true) ⊎ (length ts ≤ 5)
 
 -- the law of copied contexts: where they show something they show the neighbours
 abbrev pub CopiedContextsShow : Type 0
-CopiedContextsShow = (n : ℕ) (text : Text) → Shows (drop n text.types ++ text.after) → Shows (reverse (take n text.types) ++ text.before) → ShowNeighbours n text (take 5 (drop n text.types ++ text.after)) (take 5 (reverse (take n text.types) ++ text.before))
+CopiedContextsShow = (n : ℕ) (text : Text) → Shows (drop n text.types ++ text.after) →
+    Shows (reverse (take n text.types) ++ text.before) →
+    ShowNeighbours n text (take 5 (drop n text.types ++ text.after))
+    (take 5 (reverse (take n text.types) ++ text.before))
 
 -- the stored categories are those of the table
 abbrev pub AgreesWithTable : (ℕ → hb_unicode_general_category_t) → List hb_glyph_info_t → Type 0
@@ -125,16 +153,34 @@ AgreesWithTable general gs = AllByRecursion (λ g. g.general_category ≡ genera
 
 -- the halves of a buffer that is cut at place n, each with a context copied from the other
 abbrev pub first_of : ℕ → Buffer → Buffer
-first_of n b = record b { glyphs = take n b.glyphs; after = take 5 (map (λ g. g.glyph_id) (drop n b.glyphs) ++ b.after) }
+first_of n b = record b {
+  glyphs = take n b.glyphs;
+  after = take 5 (map (λ g. g.glyph_id) (drop n b.glyphs) ++ b.after);
+}
 
 abbrev pub second_of : ℕ → Buffer → Buffer
-second_of n b = record b { glyphs = drop n b.glyphs; before = take 5 (reverse (map (λ g. g.glyph_id) (take n b.glyphs)) ++ b.before) }
+second_of n b = record b {
+  glyphs = drop n b.glyphs;
+  before = take 5 (reverse (map (λ g. g.glyph_id) (take n b.glyphs)) ++ b.before);
+}
 
--- the forms of the whole are those of these halves; only the selectors that open the second may differ
-pub record HalvesAgree (script : Option Script) (joining : ℕ → hb_arabic_joining_type_t) (general : ℕ → hb_unicode_general_category_t) (n : ℕ) (b : Buffer) : Type 0 where
-  pub first : take n (forms_of script (text_of joining general b)) ≡ forms_of script (text_of joining general (first_of n b))
-  pub second : let k = opening script (map (λ g. g.glyph_id) (drop n b.glyphs)) in drop (n + k) (forms_of script (text_of joining general b)) ≡ drop k (forms_of script (text_of joining general (second_of n b)))
+-- the forms of the whole are those of these halves; only the selectors that open the second may
+-- differ
+pub record HalvesAgree (script : Option Script) (joining : ℕ →
+    hb_arabic_joining_type_t) (general : ℕ →
+    hb_unicode_general_category_t) (n : ℕ) (b : Buffer) : Type 0 where
+  pub first : take n (forms_of script (text_of joining general b))
+      ≡ forms_of script (text_of joining general (first_of n b))
+  pub second : let k = opening script (map (λ g. g.glyph_id) (drop n b.glyphs)) in
+      drop (n + k) (forms_of script (text_of joining general b))
+      ≡ drop k (forms_of script (text_of joining general (second_of n b)))
 
--- the law of the cut for halves with copied contexts, where stored categories agree with the table's
+-- the law of the cut for halves with copied contexts, where stored categories agree with the
+-- table's
 abbrev pub CopiedContextsCut : Type 0
-CopiedContextsCut = (script : Option Script) (joining : ℕ → hb_arabic_joining_type_t) (general : ℕ → hb_unicode_general_category_t) (b : Buffer) (n : ℕ) → n ≤ length b.glyphs → AgreesWithTable general b.glyphs → Shows (stored_types joining (drop n b.glyphs) ++ context_types joining general b.after) → Shows (reverse (stored_types joining (take n b.glyphs)) ++ context_types joining general b.before) → HalvesAgree script joining general n b
+CopiedContextsCut = (script : Option Script) (joining : ℕ → hb_arabic_joining_type_t)
+    (general : ℕ → hb_unicode_general_category_t) (b : Buffer) (n : ℕ) → n ≤ length b.glyphs →
+    AgreesWithTable general b.glyphs →
+    Shows (stored_types joining (drop n b.glyphs) ++ context_types joining general b.after) →
+    Shows (reverse (stored_types joining (take n b.glyphs))
+    ++ context_types joining general b.before) → HalvesAgree script joining general n b

@@ -1,4 +1,5 @@
--- Words for the walk along the letters of a text, which the contracts of its steps cite: the table's cells and states, and what holds after some places.
+-- Words for the walk along the letters of a text, which the contracts of its steps cite: the
+-- table's cells and states, and what holds after some places.
 use Rattle.std.specs.Prelude.{◌≡◌, ℕ, ◌+◌, ◌<◌, ◌==◌, nat_le, map, bit_or, Bool, false, ◌&&◌, ◌||◌, List, [], ◌∷◌, ◌++◌, length, take, reverse, slice_set, slice_index, slice_index_or, Option, None, Some, if◌then◌else◌}
 use Rattle.std.specs.List.{AllByRecursion}
 use Rattle.shapers_buffer.specs.Buffer.{has_flag}
@@ -27,7 +28,8 @@ column_of _ = 0
 
 -- the cell of a state and a letter
 abbrev pub cell : ℕ → hb_arabic_joining_type_t → Transition
-cell state t = slice_index_or (slice_index_or STATE_TABLE state []) (column_of t) (record { 0 = NONE; 1 = NONE; 2 = 0 })
+cell state t = slice_index_or (slice_index_or STATE_TABLE state []) (column_of t)
+    (record { 0 = NONE; 1 = NONE; 2 = 0 })
 
 -- the state behind an Alaph, by the letter before it
 abbrev pub alaph_state : Option hb_arabic_joining_type_t → ℕ
@@ -72,7 +74,8 @@ pub record NoLetter (before ts : List hb_arabic_joining_type_t) (state : ℕ) : 
   pub rest : nearest ts ≡ None
   pub state_is : state ≡ state_at_start (nearest before)
 
-abbrev pub LastIs : List hb_arabic_joining_type_t → List hb_arabic_joining_type_t → ℕ → Option ℕ → Type 0
+abbrev pub LastIs : List hb_arabic_joining_type_t → List hb_arabic_joining_type_t → ℕ → Option ℕ →
+    Type 0
 LastIs before ts state None = NoLetter before ts state
 LastIs before ts state (Some k) = LastLetter before ts state k
 
@@ -81,7 +84,8 @@ abbrev pub given_last : Option ℕ → ℕ → List ℕ → List ℕ
 given_last None given fs = fs
 given_last (Some k) given fs = if given == NONE then fs else slice_set fs k given
 
--- the forms, where the letter at place i joins the last one by this cell: that takes the form that it is given, and the letter its own
+-- the forms, where the letter at place i joins the last one by this cell: that takes the form that
+-- it is given, and the letter its own
 abbrev pub joined_at : Option ℕ → Transition → ℕ → List ℕ → List ℕ
 joined_at last step i fs = slice_set (given_last last step.0 fs) i step.1
 
@@ -90,7 +94,8 @@ abbrev pub written : List hb_glyph_info_t → List ℕ
 written gs = map (λ g. g.auxiliary) gs
 
 -- what holds after i places
-pub record Walked (before types : List hb_arabic_joining_type_t) (i state : ℕ) (last : Option ℕ) (fs : List ℕ) : Type 0 where
+pub record Walked (before types : List hb_arabic_joining_type_t) (i state : ℕ) (last : Option ℕ) (fs
+    : List ℕ) : Type 0 where
   pub last_is : LastIs before (take i types) state last
   pub forms_are : take i fs ≡ forms before (take i types) []
   pub long : length fs ≡ length types
@@ -119,7 +124,8 @@ unformed g = record g { auxiliary = 0 }
 abbrev pub FlaggedBy :
     BufferFlags → List FlagCall → List hb_glyph_info_t → List hb_glyph_info_t → Type 0
 FlaggedBy flags calls gs hs =
-    map unformed hs ≡ flags_called (has_flag 0x40 flags) (has_flag 0x80 flags) calls (map unformed gs)
+    map unformed hs
+    ≡ flags_called (has_flag 0x40 flags) (has_flag 0x80 flags) calls (map unformed gs)
 
 -- what joining never changes of a glyph: all but its form and its mask
 abbrev pub unjoined : hb_glyph_info_t → hb_glyph_info_t
@@ -128,7 +134,8 @@ unjoined g = record g { auxiliary = 0; mask = 0 }
 abbrev pub SameText : List hb_glyph_info_t → List hb_glyph_info_t → Type 0
 SameText gs hs = map unjoined hs ≡ map unjoined gs
 
--- what holds after i places of the first glyphs, which are gs by now: forms and flags of the text so far
+-- what holds after i places of the first glyphs, which are gs by now: forms and flags of the text
+-- so far
 pub record WalkedTo (flags : BufferFlags) (before types : List hb_arabic_joining_type_t)
     (first : List hb_glyph_info_t) (i state : ℕ) (last : Option ℕ)
     (gs : List hb_glyph_info_t) : Type 0 where
@@ -139,8 +146,10 @@ pub record WalkedTo (flags : BufferFlags) (before types : List hb_arabic_joining
 abbrev pub WalksOn : BufferFlags → ℕ → hb_arabic_joining_type_t → Letters → List hb_glyph_info_t →
     Letters → List hb_glyph_info_t → Type 0
 WalksOn flags i t letters gs next hs =
-    (before types : List hb_arabic_joining_type_t) (first : List hb_glyph_info_t) → i < length types →
-    slice_index_or types i U ≡ t → WalkedTo flags before types first i letters.state letters.last gs →
+    (before types : List hb_arabic_joining_type_t) (first : List hb_glyph_info_t) →
+    i < length types →
+    slice_index_or types i U ≡ t →
+    WalkedTo flags before types first i letters.state letters.last gs →
     WalkedTo flags before types first (i + 1) next.state next.last hs
 
 -- the walk over all glyphs from this state on, behind all contexts that leave it
@@ -157,10 +166,12 @@ pub record HasJoined (flags : BufferFlags) (before types after : List hb_arabic_
   pub flagged : FlaggedBy flags (joining_flags before types after) gs hs
 
 -- these, between all contexts with these nearest types
-abbrev pub JoinsTo : BufferFlags → (ℕ → hb_arabic_joining_type_t) → Option hb_arabic_joining_type_t →
+abbrev pub JoinsTo : BufferFlags → (ℕ → hb_arabic_joining_type_t) →
+    Option hb_arabic_joining_type_t →
     Option hb_arabic_joining_type_t → List hb_glyph_info_t → List hb_glyph_info_t → Type 0
 JoinsTo flags joining before after gs hs =
-    (front behind : List hb_arabic_joining_type_t) → nearest front ≡ before → nearest behind ≡ after →
+    (front behind : List hb_arabic_joining_type_t) → nearest front ≡ before →
+    nearest behind ≡ after →
     HasJoined flags front (stored_types joining gs) behind gs hs
 
 -- the last letter stands before place i
@@ -181,7 +192,8 @@ copied (Some form) g = if is_selector g.glyph_id then form else g.auxiliary
 -- each selector with the form of the glyph before it, one after another
 abbrev pub with_copied : Option ℕ → List hb_glyph_info_t → List hb_glyph_info_t
 with_copied previous [] = []
-with_copied previous (g ∷ gs) = record g { auxiliary = copied previous g } ∷ with_copied (Some (copied previous g)) gs
+with_copied previous (g ∷ gs) =
+    record g { auxiliary = copied previous g } ∷ with_copied (Some (copied previous g)) gs
 
 -- the glyph with the mask of its form besides its own
 abbrev pub with_mask : List ℕ → hb_glyph_info_t → hb_glyph_info_t
@@ -200,7 +212,8 @@ abbrev pub JoinsAll : List ℕ → BufferFlags → Option Script → (ℕ → hb
     Option hb_arabic_joining_type_t → Option hb_arabic_joining_type_t → List hb_glyph_info_t →
     List hb_glyph_info_t → Type 0
 JoinsAll masks flags script joining before after gs hs =
-    (front behind : List hb_arabic_joining_type_t) → nearest front ≡ before → nearest behind ≡ after →
+    (front behind : List hb_arabic_joining_type_t) → nearest front ≡ before →
+    nearest behind ≡ after →
     hs ≡ joined_glyphs masks flags script (record {
       before = front;
       characters = map (λ g. g.glyph_id) gs;

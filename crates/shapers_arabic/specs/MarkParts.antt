@@ -6,7 +6,12 @@ use Rattle.shapers_arabic.specs.Marks.{Marks, in_class, passed}
 
 -- the lengths of the first four parts
 abbrev pub lengths_of : Marks → Parts
-lengths_of s = record { low = length s.low; modifiers_below = length s.modifiers_below; middle = length s.middle; modifiers_above = length s.modifiers_above }
+lengths_of s = record {
+  low = length s.low;
+  modifiers_below = length s.modifiers_below;
+  middle = length s.middle;
+  modifiers_above = length s.modifiers_above;
+}
 
 -- where the last of these parts ends
 abbrev pub end_of : Parts → ℕ

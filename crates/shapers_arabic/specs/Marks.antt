@@ -1,4 +1,5 @@
--- The order of Arabic marks: marks that modify a letter come to the front. (Unicode Technical Report 53.)
+-- The order of Arabic marks: marks that modify a letter come to the front. (Unicode Technical
+-- Report 53.)
 use Rattle.std.specs.Prelude.{ℕ, zero, suc, ◌+◌, ◌==◌, nat_lt, Bool, ◌&&◌, List, [], ◌∷◌, ◌++◌, length, map, take, drop}
 use Rattle.std.specs.List.{list_any, prefix_len, range_with_len}
 use Rattle.shapers_buffer.specs.declared.buffer.glyph.hb_glyph_info_t.{hb_glyph_info_t}
@@ -11,7 +12,8 @@ use Rattle.shapers_clusters.specs.Steps.{Step, widened}
 
 -- the marks that modify a letter
 abbrev pub modifiers : List ℕ
-modifiers = 0x0654 ∷ 0x0655 ∷ 0x0658 ∷ 0x06DC ∷ 0x06E3 ∷ 0x06E7 ∷ 0x06E8 ∷ 0x08CA ∷ 0x08CB ∷ 0x08CD ∷ 0x08CE ∷ 0x08CF ∷ 0x08D3 ∷ 0x08F3 ∷ []
+modifiers = 0x0654 ∷ 0x0655 ∷ 0x0658 ∷ 0x06DC ∷ 0x06E3 ∷ 0x06E7 ∷ 0x06E8 ∷ 0x08CA ∷ 0x08CB ∷ 0x08CD
+    ∷ 0x08CE ∷ 0x08CF ∷ 0x08D3 ∷ 0x08F3 ∷ []
 
 -- whether a mark is of a class below this one
 abbrev pub is_below : ℕ → hb_glyph_info_t → Bool
@@ -19,7 +21,8 @@ is_below class g = nat_lt g.modified_combining_class class
 
 -- whether a mark is of this class and modifies a letter
 abbrev pub is_modifier_of : ℕ → hb_glyph_info_t → Bool
-is_modifier_of class g = g.modified_combining_class == class && list_any (λ c. c == g.glyph_id) modifiers
+is_modifier_of class g =
+    g.modified_combining_class == class && list_any (λ c. c == g.glyph_id) modifiers
 
 -- the longest front all of which passes a test, and what stands behind it
 abbrev pub front_of : (hb_glyph_info_t → Bool) → List hb_glyph_info_t → List hb_glyph_info_t
@@ -28,7 +31,8 @@ front_of test gs = take (prefix_len test gs) gs
 abbrev pub behind : (hb_glyph_info_t → Bool) → List hb_glyph_info_t → List hb_glyph_info_t
 behind test gs = drop (prefix_len test gs) gs
 
--- marks in five parts: the longest front of classes below 220, the longest run of modifiers of 220 behind it, the longest run of classes below 230, the modifiers of 230 behind it, and the rest
+-- marks in five parts: the longest front of classes below 220, the longest run of modifiers of 220
+-- behind it, the longest run of classes below 230, the modifiers of 230 behind it, and the rest
 pub record Marks : Type 0 where
   pub low : List hb_glyph_info_t
   pub modifiers_below : List hb_glyph_info_t
@@ -54,24 +58,31 @@ abbrev pub in_class : ℕ → hb_glyph_info_t → hb_glyph_info_t
 in_class class g = record g { modified_combining_class = class }
 
 abbrev pub with_modifiers_first : Marks → List hb_glyph_info_t
-with_modifiers_first s = map (in_class CCC22) s.modifiers_below ++ (map (in_class CCC26) s.modifiers_above ++ (s.low ++ (s.middle ++ s.rest)))
+with_modifiers_first s =
+    map (in_class CCC22) s.modifiers_below
+    ++ (map (in_class CCC26) s.modifiers_above ++ (s.low ++ (s.middle ++ s.rest)))
 
 -- the same of the marks from place start to place end
 abbrev pub marks_reordered : ℕ → ℕ → List hb_glyph_info_t → List hb_glyph_info_t
-marks_reordered start end gs = with_stretch start end (λ marks. with_modifiers_first (split_marks marks)) gs
+marks_reordered start end gs =
+    with_stretch start end (λ marks. with_modifiers_first (split_marks marks)) gs
 
 -- the stretch from p to q, unless nothing moves over it
 abbrev pub merged_for : ℕ → ℕ → ℕ → List (ℕ × ℕ)
 merged_for zero p q = []
 merged_for (suc k) p q = (p, q) ∷ []
 
--- What merges, by the lengths of the first four parts: the modifiers of 220 with what they pass, and then those of 230 with what they pass.
+-- What merges, by the lengths of the first four parts: the modifiers of 220 with what they pass,
+-- and then those of 230 with what they pass.
 abbrev pub passed : ℕ → ℕ → ℕ → ℕ → List (ℕ × ℕ)
 passed a m b n = merged_for m 0 (a + m) ++ merged_for n m (a + m + b + n)
 
 -- the places of the five parts, in their new order
 abbrev pub places_moved : ℕ → ℕ → ℕ → ℕ → ℕ → List ℕ
-places_moved a m b n c = range_with_len a m ++ (range_with_len (a + m + b) n ++ (range_with_len 0 a ++ (range_with_len (a + m) b ++ range_with_len (a + m + b + n) c)))
+places_moved a m b n c =
+    range_with_len a m
+    ++ (range_with_len (a + m + b) n
+    ++ (range_with_len 0 a ++ (range_with_len (a + m) b ++ range_with_len (a + m + b + n) c)))
 
 -- the same as a step over the places of the marks, from 0 on
 abbrev pub mark_step : Marks → Step
@@ -80,11 +91,16 @@ mark_step s =
     let m = length s.modifiers_below in
     let b = length s.middle in
     let n = length s.modifiers_above in
-    record { merged_first = passed a m b n; places = places_moved a m b n (length s.rest); merged_then = [] }
+    record {
+      merged_first = passed a m b n;
+      places = places_moved a m b n (length s.rest);
+      merged_then = [];
+    }
 
 -- and over all places of a text, of which the marks stand from start to end
 abbrev pub text_step : ℕ → ℕ → List hb_glyph_info_t → Step
-text_step start end gs = widened start end (length gs) (mark_step (split_marks (stretch_of start end gs)))
+text_step start end gs =
+    widened start end (length gs) (mark_step (split_marks (stretch_of start end gs)))
 
 -- what merges of a text: the step's stretches, one after another
 abbrev pub marks_merged : BufferClusterLevel → ℕ → ℕ → List hb_glyph_info_t → List hb_glyph_info_t
@@ -94,6 +110,9 @@ marks_merged level start end gs = merge_all level (text_step start end gs).merge
 abbrev pub without_class : hb_glyph_info_t → hb_glyph_info_t
 without_class g = record g { modified_combining_class = 0 }
 
--- what the reordering promises of the buffer before and after it, through that view: no glyph is lost, and the laws of clusters and flags hold
+-- what the reordering promises of the buffer before and after it, through that view: no glyph is
+-- lost, and the laws of clusters and flags hold
 abbrev pub MarksReordered : ℕ → ℕ → Buffer → Buffer → Type 0
-MarksReordered start end old new = ReorderedHold without_class old.level (text_step start end old.glyphs ∷ []) old.glyphs new.glyphs
+MarksReordered start end old new =
+    ReorderedHold without_class old.level (text_step start end old.glyphs ∷ []) old.glyphs
+    new.glyphs

@@ -1,5 +1,5 @@
 //! The shaper of Arabic and of the scripts that join like it.
-ghost use Rattle.std.specs.Prelude.{◌≡◌, ◌+◌, ◌<◌, OnOk, OnErr, IsOkUnless, if◌then◌else◌};
+ghost use Rattle.std.specs.Prelude.{◌≡◌, ◌+◌, ◌<◌, OnOk, OnErr, IsOkUnless};
 ghost use Rattle.shapers_buffer.specs.declared.buffer.refusal.ShaperError.TheVariants.{Memory};
 ghost use Rattle.shapers_base.specs.Planner.{with_requests};
 ghost use Rattle.shapers_arabic.specs.Requests.{arabic_list, is_arabic, joining_list, rclt};
@@ -42,9 +42,6 @@ const FIRST_REQUESTS: [Request; 5] = [
     Request::Feature(hb_tag_t(*b"locl"), GLOBAL_ZWJ, 1),
     Request::Pause(None),
 ];
-
-// The required ligatures.
-const RLIG: Request = Request::Feature(hb_tag_t(*b"rlig"), GLOBAL_ZWJ | F_HAS_FALLBACK, 1);
 
 // What comes last.
 const LAST_REQUESTS: [Request; 3] = [

@@ -1,12 +1,14 @@
--- A font and the Unicode tables, as their callers see them: functions, so that the same question has the same answer.
+-- A font and the Unicode tables, as their callers see them: functions, so that the same question
+-- has the same answer.
 use Rattle.std.specs.Prelude.{ℕ, ℤ, Bool, List, Option, is_some}
 use Rattle.shapers_buffer.specs.declared.buffer.category.hb_unicode_general_category_t.{hb_unicode_general_category_t}
 use Rattle.shapers_buffer.specs.declared.buffer.tag.hb_tag_t.{hb_tag_t}
 use Rattle.shapers_base.specs.declared.font.GlyphId.{GlyphId}
 use Rattle.shapers_base.specs.declared.plan.joining.hb_arabic_joining_type_t.{hb_arabic_joining_type_t}
 
--- a font: the nominal glyph of a character, the horizontal advance of a glyph in font units, whether a lookup would apply
--- to glyphs (with or without context around them), and whether it has a feature
+-- a font: the nominal glyph of a character, the horizontal advance of a glyph in font units,
+-- whether a lookup would apply to glyphs (with or without context around them), and whether it has
+-- a feature
 pub record Font : Type 0 where
   pub nominal : ℕ → Option GlyphId
   pub advance : GlyphId → ℤ
@@ -17,8 +19,8 @@ pub record Font : Type 0 where
 abbrev pub has_nominal : Font → ℕ → Bool
 has_nominal font c = is_some (font.nominal c)
 
--- the tables of characters: how one joins, its general category, its Indic category and position, its category in the
--- universal shaper, and the canonical pairs
+-- the tables of characters: how one joins, its general category, its Indic category and position,
+-- its category in the universal shaper, and the canonical pairs
 pub record CharacterTables : Type 0 where
   pub joining : ℕ → hb_arabic_joining_type_t
   pub general : ℕ → hb_unicode_general_category_t

@@ -10,7 +10,9 @@ use Rattle.shapers_base.specs.declared.map.feature_map_t.{feature_map_t}
 use Rattle.shapers_base.specs.declared.map.TableIndex.{TableIndex}
 use Rattle.shapers_base.specs.declared.map.TableIndex.TheVariants.{GSUB, GPOS}
 
--- a map: its features, its stages as ranges of the list of lookups, that list, the bits that hold for the whole text, the script that the font offers for it, and whether that is the script that was asked for
+-- a map: its features, its stages as ranges of the list of lookups, that list, the bits that hold
+-- for the whole text, the script that the font offers for it, and whether that is the script that
+-- was asked for
 pub record Map : Type 0 where
   pub features : List feature_map_t
   pub stages : List (Range ℕ)
@@ -29,7 +31,8 @@ is_off_flags f = f.mask % 8 == 0
 
 -- whether these can be the fields of a map
 abbrev pub can_be_map : Map → Bool
-can_be_map m = list_all (can_be_stage (length m.lookups)) m.stages && list_all is_off_flags m.features
+can_be_map m =
+    list_all (can_be_stage (length m.lookups)) m.stages && list_all is_off_flags m.features
 
 -- the answer about GSUB, and the one about GPOS
 abbrev pub of_gsub : {X : Type 0} → TableIndex → X → X → X

@@ -89,6 +89,6 @@ fn names_its_refusals(rt: HostRuntime) -> Result<(), Fail> {
 }
 
 #[test]
-fn has_glyphs_of_twenty_bytes(rt: HostRuntime) {
-    assert_eq!(rt; size_of::<hb_glyph_info_t>(), 20);
+fn has_glyphs_of_twenty_four_bytes(rt: HostRuntime) {
+    assert_eq!(rt; size_of::<hb_glyph_info_t>(), 24);
 }

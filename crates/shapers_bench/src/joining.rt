@@ -1,5 +1,5 @@
 //! Joining, with tables of a few letters.
-ghost use Rattle.std.specs.Prelude.{◌≡◌, ◌<◌, [], IfOk};
+ghost use Rattle.std.specs.Prelude.{◌≡◌, ◌<◌, IfOk};
 ghost use Rattle.rustybuzz_shapers.specs.JoinedText.{AreCharacters};
 
 use rustybuzz_shapers::buffer::{

@@ -13,11 +13,11 @@ use Rattle.shapers_buffer.specs.Glyph.{clusters, default_glyph, default_position
 
 -- a glyph whose fields are all set
 abbrev full : hb_glyph_info_t
-full = record { glyph_id = 0x916; cluster = 5; mask = 0x1F; syllable = 0x24; category = 1; auxiliary = 3; general_category = Mn; modified_combining_class = 9; lig_comp = 2; marks = record { 0 = 31 } }
+full = record { glyph_id = 0x916; cluster = 5; mask = 0x1F; var = 0x7A; syllable = 0x24; category = 1; auxiliary = 3; general_category = Mn; modified_combining_class = 9; lig_comp = 2; marks = record { 0 = 31 } }
 
 -- the default glyph is all zero, of category Cc, without marks
 abbrev blank : hb_glyph_info_t
-blank = record { glyph_id = 0; cluster = 0; mask = 0; syllable = 0; category = 0; auxiliary = 0; general_category = Cc; modified_combining_class = 0; lig_comp = 0; marks = record { 0 = 0 } }
+blank = record { glyph_id = 0; cluster = 0; mask = 0; var = 0; syllable = 0; category = 0; auxiliary = 0; general_category = Cc; modified_combining_class = 0; lig_comp = 0; marks = record { 0 = 0 } }
 
 glyph_by_default : default_glyph ≡ blank
 glyph_by_default = refl

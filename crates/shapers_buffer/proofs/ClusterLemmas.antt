@@ -33,7 +33,7 @@ abbrev pub flood_merge : BufferClusterLevel → ℕ → ℕ → List hb_glyph_in
 flood_merge level s e gs = if merges level && not (nat_lt (e - s) 2) then flood_merged s e gs else gs
 
 -- a flood reaches over the first glyphs of its cluster
-flooded-parts : (c m : ℕ) (gs : List hb_glyph_info_t) → flooded c m gs ≡ map (in_cluster m) (take (prefix_len (has_cluster c) gs) gs) ++ drop (prefix_len (has_cluster c) gs) gs
+pub flooded-parts : (c m : ℕ) (gs : List hb_glyph_info_t) → flooded c m gs ≡ map (in_cluster m) (take (prefix_len (has_cluster c) gs) gs) ++ drop (prefix_len (has_cluster c) gs) gs
 flooded-parts c m [] = refl
 flooded-parts c m (g ∷ gs) =
     let k = prefix_len (has_cluster c) gs in
@@ -58,31 +58,33 @@ reversed_parts f k xs h =
     ∙ ap (λ l. l ++ reverse (map f (reverse b))) (reverse-reverse a)
     ∙ ap (λ l. a ++ l) (sym (map-reverse f (reverse b)) ∙ ap (map f) (reverse-reverse b))
 
-flooded_before : (c m : ℕ) (xs : List hb_glyph_info_t) → reverse (flooded c m (reverse xs)) ≡ take (length xs - suffix_len (has_cluster c) xs) xs ++ map (in_cluster m) (drop (length xs - suffix_len (has_cluster c) xs) xs)
+pub flooded_before : (c m : ℕ) (xs : List hb_glyph_info_t) → reverse (flooded c m (reverse xs)) ≡ take (length xs - suffix_len (has_cluster c) xs) xs ++ map (in_cluster m) (drop (length xs - suffix_len (has_cluster c) xs) xs)
 flooded_before c m xs = ap reverse (flooded-parts c m (reverse xs)) ∙ reversed_parts (in_cluster m) (suffix_len (has_cluster c) xs) xs (suffix_len-le-length (has_cluster c) xs)
 
--- a stretch with k places before it and j behind it, changed by f, in its parts
-stretched_parts : (f : hb_glyph_info_t → hb_glyph_info_t) (s e k j : ℕ) (gs : List hb_glyph_info_t) → s ≤ e → k ≤ s → with_stretch (s - k) (e + j) (map f) gs ≡ (take (s - k) gs ++ map f (drop (s - k) (take s gs))) ++ (map f (stretch_of s e gs) ++ (map f (take j (drop e gs)) ++ drop j (drop e gs)))
-stretched_parts f s e k j gs h l =
-    let n = s - k in
+-- a stretch with k places before it and j behind it, in its parts
+pub stretch_widened : {X : Type 0} (s e k j : ℕ) (gs : List X) → s ≤ e → k ≤ s → stretch_of (s - k) (e + j) gs ≡ drop (s - k) (take s gs) ++ (stretch_of s e gs ++ take j (drop e gs))
+stretch_widened s e k j gs h l =
     let back : (s - k) + k ≡ s = omega arith in
     let up : s + (e - s) ≡ e = omega arith in
     let many : e + j - (s - k) ≡ k + ((e - s) + j) = omega arith in
     let first : take k (drop (s - k) gs) ≡ drop (s - k) (take s gs) = sym (drop-take (s - k) k gs) ∙ ap (λ i. drop (s - k) (take i gs)) back in
     let second : drop k (drop (s - k) gs) ≡ drop s gs = drop-drop k (s - k) gs ∙ ap (λ i. drop i gs) back in
     let third : drop (e - s) (drop s gs) ≡ drop e gs = drop-drop (e - s) s gs ∙ ap (λ i. drop i gs) up in
-    let whole : take (e + j - (s - k)) (drop (s - k) gs) ≡ drop (s - k) (take s gs) ++ (stretch_of s e gs ++ take j (drop e gs)) =
     ap (λ i. take i (drop (s - k) gs)) many
     ∙ take-add k ((e - s) + j) (drop (s - k) gs)
     ∙ ap (λ l. l ++ take ((e - s) + j) (drop k (drop (s - k) gs))) first
     ∙ ap (λ l. drop (s - k) (take s gs) ++ take ((e - s) + j) l) second
-    ∙ ap (λ l. drop (s - k) (take s gs) ++ l) (take-add (e - s) j (drop s gs) ∙ ap (λ l. stretch_of s e gs ++ take j l) third) in
+    ∙ ap (λ l. drop (s - k) (take s gs) ++ l) (take-add (e - s) j (drop s gs) ∙ ap (λ l. stretch_of s e gs ++ take j l) third)
+
+-- that stretch changed by f
+pub stretched_parts : (f : hb_glyph_info_t → hb_glyph_info_t) (s e k j : ℕ) (gs : List hb_glyph_info_t) → s ≤ e → k ≤ s → with_stretch (s - k) (e + j) (map f) gs ≡ (take (s - k) gs ++ map f (drop (s - k) (take s gs))) ++ (map f (stretch_of s e gs) ++ (map f (take j (drop e gs)) ++ drop j (drop e gs)))
+stretched_parts f s e k j gs h l =
     let a = map f (drop (s - k) (take s gs)) in
     let b = map f (stretch_of s e gs) in
     let c = map f (take j (drop e gs)) in
     let z = drop j (drop e gs) in
     let changed : map f (take (e + j - (s - k)) (drop (s - k) gs)) ≡ a ++ (b ++ c) =
-    ap (map f) whole ∙ map-append f (drop (s - k) (take s gs)) (stretch_of s e gs ++ take j (drop e gs)) ∙ ap (λ l. a ++ l) (map-append f (stretch_of s e gs) (take j (drop e gs))) in
+    ap (map f) (stretch_widened s e k j gs h l) ∙ map-append f (drop (s - k) (take s gs)) (stretch_of s e gs ++ take j (drop e gs)) ∙ ap (λ l. a ++ l) (map-append f (stretch_of s e gs) (take j (drop e gs))) in
     ap (λ l. take (s - k) gs ++ (l ++ drop (e + j) gs)) changed
     ∙ ap (λ l. take (s - k) gs ++ ((a ++ (b ++ c)) ++ l)) (sym (drop-drop j e gs))
     ∙ ap (λ l. take (s - k) gs ++ l) (append_assoc a (b ++ c) z ∙ ap (λ l. a ++ l) (append_assoc b c z))
@@ -178,7 +180,7 @@ pub first-read : (gs : List hb_glyph_info_t) → (get_or gs 0 default_glyph).clu
 first-read [] = refl
 first-read (g ∷ gs) = refl
 
-last-read : (gs : List hb_glyph_info_t) → 0 < length gs → (get_or gs (length gs - 1) default_glyph).cluster ≡ last_cluster gs
+pub last-read : (gs : List hb_glyph_info_t) → 0 < length gs → (get_or gs (length gs - 1) default_glyph).cluster ≡ last_cluster gs
 last-read gs h =
     let i : length gs - 1 ≡ length gs - 1 - 0 = omega arith in
     ap (λ k. (get_or gs k default_glyph).cluster) i ∙ ap (λ g. g.cluster) (sym (get_or-reverse gs 0 default_glyph h)) ∙ first-read (reverse gs)

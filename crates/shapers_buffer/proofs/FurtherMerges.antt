@@ -14,14 +14,14 @@ use Rattle.shapers_buffer.specs.Clusters.{least, first_cluster, last_cluster, ha
 use Rattle.shapers_buffer.proofs.ClusterLemmas.{first-read, flooded_itself, merged_is, three_parts, length-stretch}
 
 -- glyphs of a cluster stay when they are put into it, and it is their least one
-in_cluster_stays : (c : ℕ) (gs : List hb_glyph_info_t) → list_all (has_cluster c) gs ≡ true → map (in_cluster c) gs ≡ gs
+pub in_cluster_stays : (c : ℕ) (gs : List hb_glyph_info_t) → list_all (has_cluster c) gs ≡ true → map (in_cluster c) gs ≡ gs
 in_cluster_stays c [] h = refl
 in_cluster_stays c (g ∷ gs) h =
     let parts = and_parts (g.cluster == c) (list_all (has_cluster c) gs) h in
     let rest = in_cluster_stays c gs parts.1 in
     rw (parts.0, rest) refl
 
-least_stays : (c : ℕ) (gs : List hb_glyph_info_t) → list_all (has_cluster c) gs ≡ true → fold min c (clusters gs) ≡ c
+pub least_stays : (c : ℕ) (gs : List hb_glyph_info_t) → list_all (has_cluster c) gs ≡ true → fold min c (clusters gs) ≡ c
 least_stays c [] h = refl
 least_stays c (g ∷ gs) h =
     let parts = and_parts (g.cluster == c) (list_all (has_cluster c) gs) h in
@@ -43,11 +43,11 @@ least_of_both c g gs (h ∷ hs) same some le =
     ∙ ap (λ m. fold min (min m h.cluster) (clusters hs)) (least_stays c gs same)
     ∙ least_in_front c h.cluster (clusters hs) le
 
-first_of_front : (gs hs : List hb_glyph_info_t) → 0 < length gs → first_cluster (gs ++ hs) ≡ first_cluster gs
+pub first_of_front : (gs hs : List hb_glyph_info_t) → 0 < length gs → first_cluster (gs ++ hs) ≡ first_cluster gs
 first_of_front [] hs some = absurd (omega arith)
 first_of_front (g ∷ gs) hs some = refl
 
-last_of_end : (gs hs : List hb_glyph_info_t) → 0 < length hs → last_cluster (gs ++ hs) ≡ last_cluster hs
+pub last_of_end : (gs hs : List hb_glyph_info_t) → 0 < length hs → last_cluster (gs ++ hs) ≡ last_cluster hs
 last_of_end gs hs some =
     ap first_cluster (reverse-append gs hs) ∙ first_of_front (reverse hs) (reverse gs) (omega (arith, length-reverse hs))
 
@@ -74,7 +74,7 @@ last_stays c (g ∷ (k ∷ gs)) some h =
     last_of_end (g ∷ []) (k ∷ gs) (omega arith) ∙ last_stays c (k ∷ gs) (omega arith) (and_parts (g.cluster == c) (list_all (has_cluster c) (k ∷ gs)) h).1
 
 -- glyphs in one cluster stay at their merge
-one_stays : (before gs behind : List hb_glyph_info_t) → 0 < length gs → in_one_cluster gs ≡ true → reverse (flooded (first_cluster gs) (least (clusters gs)) (reverse before)) ++ (map (in_cluster (least (clusters gs))) gs ++ flooded (last_cluster gs) (least (clusters gs)) behind) ≡ before ++ (gs ++ behind)
+pub one_stays : (before gs behind : List hb_glyph_info_t) → 0 < length gs → in_one_cluster gs ≡ true → reverse (flooded (first_cluster gs) (least (clusters gs)) (reverse before)) ++ (map (in_cluster (least (clusters gs))) gs ++ flooded (last_cluster gs) (least (clusters gs)) behind) ≡ before ++ (gs ++ behind)
 one_stays before [] behind some one = absurd (omega arith)
 one_stays before (g ∷ gs) behind some one =
     let c = g.cluster in
@@ -87,7 +87,7 @@ one_stays before (g ∷ gs) behind some one =
     ∙ ap (λ l. before ++ (all ++ l)) (flooded_itself c behind)
 
 -- a stretch in two
-stretch_in_two : {X : Type 0} (s mid e : ℕ) (xs : List X) → s ≤ mid → mid ≤ e → stretch_of s e xs ≡ stretch_of s mid xs ++ stretch_of mid e xs
+pub stretch_in_two : {X : Type 0} (s mid e : ℕ) (xs : List X) → s ≤ mid → mid ≤ e → stretch_of s e xs ≡ stretch_of s mid xs ++ stretch_of mid e xs
 stretch_in_two s mid e xs h l =
     let n : e - s ≡ (mid - s) + (e - mid) = omega arith in
     let up : s + (mid - s) ≡ mid = omega arith in
@@ -126,7 +126,7 @@ pub length-flooded : (c m : ℕ) (gs : List hb_glyph_info_t) → length (flooded
 length-flooded c m [] = refl
 length-flooded c m (g ∷ gs) = grind (arith, length-flooded c m gs)
 
-all_in_cluster : (m : ℕ) (gs : List hb_glyph_info_t) → list_all (has_cluster m) (map (in_cluster m) gs) ≡ true
+pub all_in_cluster : (m : ℕ) (gs : List hb_glyph_info_t) → list_all (has_cluster m) (map (in_cluster m) gs) ≡ true
 all_in_cluster m [] = refl
 all_in_cluster m (g ∷ gs) = grind (arith, nat_tests, all_in_cluster m gs)
 

@@ -19,7 +19,7 @@ masks gs = map (λ g. g.mask) gs
 
 -- a glyph whose fields are all set
 abbrev full : hb_glyph_info_t
-full = record { glyph_id = 0x916; cluster = 5; mask = 0x1F; syllable = 0x24; category = 1; auxiliary = 3; general_category = Mn; modified_combining_class = 9; lig_comp = 2; marks = record { 0 = 31 } }
+full = record { glyph_id = 0x916; cluster = 5; mask = 0x1F; var = 0x7A; syllable = 0x24; category = 1; auxiliary = 3; general_category = Mn; modified_combining_class = 9; lig_comp = 2; marks = record { 0 = 31 } }
 
 -- of clusters that fall, rise and repeat: every place outside the least cluster, wherever that stands and however often
 falls : masks (flagged 3 (text (3 ∷ 2 ∷ 1 ∷ []))) ≡ 3 ∷ 3 ∷ 0 ∷ []

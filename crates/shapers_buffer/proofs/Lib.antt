@@ -14,6 +14,7 @@ pub mod PieceLaws
 pub mod PlaceLaws
 mod PlaceRows
 mod Rows
+pub mod RunLemmas
 pub mod SyllableLaws
 pub mod SyllableLemmas
 mod SyllableRows

@@ -50,5 +50,5 @@ one_set = refl
 one_cleared : map (λ mark. without_mark mark (marks 31)) (1 ∷ 2 ∷ 4 ∷ 8 ∷ 16 ∷ []) ≡ marks 30 ∷ marks 29 ∷ marks 27 ∷ marks 23 ∷ marks 15 ∷ []
 one_cleared = refl
 
-default_fields : default_glyph ≡ record { glyph_id = 0; cluster = 0; mask = 0; syllable = 0; category = 0; auxiliary = 0; general_category = Cc; modified_combining_class = 0; lig_comp = 0; marks = marks 0 }
+default_fields : default_glyph ≡ record { glyph_id = 0; cluster = 0; mask = 0; var = 0; syllable = 0; category = 0; auxiliary = 0; general_category = Cc; modified_combining_class = 0; lig_comp = 0; marks = marks 0 }
 default_fields = refl

@@ -73,7 +73,7 @@ one_cluster = refl
 
 -- a glyph whose fields are all set keeps them, but for its cluster and the low three bits of its mask
 abbrev full : ℕ → ℕ → hb_glyph_info_t
-full c m = record { glyph_id = 1; cluster = c; mask = m; syllable = 2; category = 3; auxiliary = 4; general_category = Mn; modified_combining_class = 5; lig_comp = 6; marks = record { 0 = 31 } }
+full c m = record { glyph_id = 1; cluster = c; mask = m; var = 0x7A; syllable = 2; category = 3; auxiliary = 4; general_category = Mn; modified_combining_class = 5; lig_comp = 6; marks = record { 0 = 31 } }
 
 all_fields : merge MonotoneGraphemes 0 2 (full 4 255 ∷ full 3 255 ∷ full 3 7 ∷ full 9 7 ∷ []) ≡ full 3 248 ∷ full 3 255 ∷ full 3 7 ∷ full 9 7 ∷ []
 all_fields = refl

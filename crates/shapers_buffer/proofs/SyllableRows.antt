@@ -27,7 +27,7 @@ spans rows = map span rows
 
 -- a glyph whose fields are all set
 abbrev full : hb_glyph_info_t
-full = record { glyph_id = 0x916; cluster = 5; mask = 0x1F; syllable = 0x24; category = 1; auxiliary = 3; general_category = Mn; modified_combining_class = 9; lig_comp = 2; marks = record { 0 = 31 } }
+full = record { glyph_id = 0x916; cluster = 5; mask = 0x1F; var = 0x7A; syllable = 0x24; category = 1; auxiliary = 3; general_category = Mn; modified_combining_class = 9; lig_comp = 2; marks = record { 0 = 31 } }
 
 -- syllables are longest runs of equal bytes; a byte that comes again is a syllable of its own
 cut : map bytes (syllables (of_bytes (0x10 ∷ 0x10 ∷ 0x24 ∷ 0x10 ∷ 0x14 ∷ 0x14 ∷ 0x14 ∷ []))) ≡ (0x10 ∷ 0x10 ∷ []) ∷ (0x24 ∷ []) ∷ (0x10 ∷ []) ∷ (0x14 ∷ 0x14 ∷ 0x14 ∷ []) ∷ []

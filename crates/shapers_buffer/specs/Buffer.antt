@@ -11,7 +11,8 @@ use Rattle.shapers_buffer.specs.declared.buffer.level.BufferClusterLevel.TheVari
 use Rattle.shapers_buffer.specs.declared.buffer.tag.Script.{Script}
 use Rattle.shapers_buffer.specs.Glyph.{default_glyph, default_position}
 
--- a buffer: its glyphs, their positions (none, or one a glyph), its settings and marks, and the placement list
+-- a buffer: its glyphs, their positions (none, or one a glyph), its settings and marks, and the
+-- placement list
 pub record Buffer : Type 0 where
   pub glyphs : List hb_glyph_info_t
   pub positions : List GlyphPosition
@@ -26,7 +27,8 @@ pub record Buffer : Type 0 where
   pub max_len : ℕ
   pub places : List ℕ
 
--- what holds of every buffer, which keeps room for as many places, and for as many glyphs out of their order
+-- what holds of every buffer, which keeps room for as many places, and for as many glyphs out of
+-- their order
 pub record IsBuffer (b : Buffer) (places spare : ℕ) : Type 0 where
   pub fits : length b.glyphs ≤ b.max_len
   pub paired : 0 < length b.positions → length b.positions ≡ length b.glyphs
@@ -45,7 +47,10 @@ more_positions n [] = []
 more_positions n (p ∷ ps) = (p ∷ ps) ++ replicate n default_position
 
 abbrev pub grown : ℕ → Buffer → Buffer
-grown n b = record b { glyphs = b.glyphs ++ replicate n default_glyph; positions = more_positions n b.positions }
+grown n b = record b {
+  glyphs = b.glyphs ++ replicate n default_glyph;
+  positions = more_positions n b.positions;
+}
 
 -- the list with what stands at one place at another place, too
 abbrev pub with_copy : {X : Type 0} → ℕ → ℕ → List X → List X
@@ -53,7 +58,8 @@ with_copy from to xs = option_map_or (λ x. slice_set xs to x) (slice_get xs fro
 
 -- the glyph at one place, and its position, at another place, too
 abbrev pub copied_to : ℕ → ℕ → Buffer → Buffer
-copied_to from to b = record b { glyphs = with_copy from to b.glyphs; positions = with_copy from to b.positions }
+copied_to from to b =
+    record b { glyphs = with_copy from to b.glyphs; positions = with_copy from to b.positions }
 
 -- whether a flag is among these
 abbrev pub has_flag : ℕ → BufferFlags → Bool
@@ -65,7 +71,20 @@ asks flag b = has_flag flag b.flags
 
 -- an empty buffer
 abbrev pub new_buffer : ℕ → Buffer
-new_buffer limit = record { glyphs = []; positions = []; direction = LeftToRight; script = None; level = MonotoneGraphemes; flags = record { 0 = 0 }; before = []; after = []; broken = false; stch = false; max_len = limit; places = [] }
+new_buffer limit = record {
+  glyphs = [];
+  positions = [];
+  direction = LeftToRight;
+  script = None;
+  level = MonotoneGraphemes;
+  flags = record { 0 = 0 };
+  before = [];
+  after = [];
+  broken = false;
+  stch = false;
+  max_len = limit;
+  places = [];
+}
 
 -- whether these can be the positions of the buffer: there is none, or one a glyph
 abbrev pub can_be_positions : List GlyphPosition → Buffer → Bool

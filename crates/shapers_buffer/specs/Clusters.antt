@@ -33,7 +33,8 @@ with_stretch s e f xs = take s xs ++ (f (stretch_of s e xs) ++ drop e xs)
 abbrev pub has_cluster : ℕ → hb_glyph_info_t → Bool
 has_cluster c g = g.cluster == c
 
--- the start of the stretch, moved down over the glyphs directly before it that have the cluster of its first glyph
+-- the start of the stretch, moved down over the glyphs directly before it that have the cluster of
+-- its first glyph
 abbrev pub low : ℕ → ℕ → List hb_glyph_info_t → ℕ
 low s e gs = s - suffix_len (has_cluster (first_cluster (stretch_of s e gs))) (take s gs)
 
@@ -43,7 +44,8 @@ high s e gs = e + prefix_len (has_cluster (last_cluster (stretch_of s e gs))) (d
 
 -- all glyphs from low to high in the least cluster of the stretch
 abbrev pub merged : ℕ → ℕ → List hb_glyph_info_t → List hb_glyph_info_t
-merged s e gs = with_stretch (low s e gs) (high s e gs) (map (in_cluster (least (clusters (stretch_of s e gs))))) gs
+merged s e gs = with_stretch (low s e gs) (high s e gs)
+    (map (in_cluster (least (clusters (stretch_of s e gs))))) gs
 
 -- whether the level merges clusters at all
 abbrev pub merges : BufferClusterLevel → Bool
@@ -56,7 +58,8 @@ abbrev pub merge : BufferClusterLevel → ℕ → ℕ → List hb_glyph_info_t �
 merge level s e gs = if merges level && not (nat_lt (e - s) 2) then merged s e gs else gs
 
 -- the stretches merged one after another
-abbrev pub merge_all : BufferClusterLevel → List (ℕ × ℕ) → List hb_glyph_info_t → List hb_glyph_info_t
+abbrev pub merge_all : BufferClusterLevel → List (ℕ × ℕ) → List hb_glyph_info_t →
+    List hb_glyph_info_t
 merge_all level [] gs = gs
 merge_all level (st ∷ sts) gs = merge_all level sts (merge level st.0 st.1 gs)
 
@@ -69,6 +72,9 @@ abbrev pub flooded : ℕ → ℕ → List hb_glyph_info_t → List hb_glyph_info
 flooded c m [] = []
 flooded c m (g ∷ gs) = if g.cluster == c then in_cluster m g ∷ flooded c m gs else g ∷ gs
 
--- in the code: the glyphs from s to e in cluster m, and with them those behind that share the cluster of the last
+-- in the code: the glyphs from s to e in cluster m, and with them those behind that share the
+-- cluster of the last
 abbrev pub taken_in : ℕ → ℕ → ℕ → List hb_glyph_info_t → List hb_glyph_info_t
-taken_in m s e gs = take s gs ++ (map (in_cluster m) (stretch_of s e gs) ++ flooded (last_cluster (stretch_of s e gs)) m (drop e gs))
+taken_in m s e gs = take s gs
+    ++ (map (in_cluster m) (stretch_of s e gs)
+    ++ flooded (last_cluster (stretch_of s e gs)) m (drop e gs))

@@ -8,11 +8,24 @@ use Rattle.shapers_buffer.specs.Marks.{no_marks}
 
 -- the default glyph: all zero, of category Cc, with no marks
 abbrev pub default_glyph : hb_glyph_info_t
-default_glyph = record { glyph_id = 0; cluster = 0; mask = 0; syllable = 0; category = 0; auxiliary = 0; general_category = Cc; modified_combining_class = 0; lig_comp = 0; marks = no_marks }
+default_glyph = record {
+  glyph_id = 0;
+  cluster = 0;
+  mask = 0;
+  var = 0;
+  syllable = 0;
+  category = 0;
+  auxiliary = 0;
+  general_category = Cc;
+  modified_combining_class = 0;
+  lig_comp = 0;
+  marks = no_marks;
+}
 
 -- the default position: all zero
 abbrev pub default_position : GlyphPosition
-default_position = record { x_advance = pos 0; y_advance = pos 0; x_offset = pos 0; y_offset = pos 0 }
+default_position =
+    record { x_advance = pos 0; y_advance = pos 0; x_offset = pos 0; y_offset = pos 0 }
 
 -- a mask without its three glyph flags, the low three bits
 abbrev pub without_flags : ℕ → ℕ

@@ -1,5 +1,6 @@
 pub mod Buffer
 pub mod Category
+pub mod ClusterRuns
 pub mod Clusters
 pub mod Glyph
 pub mod GlyphFlags
@@ -8,5 +9,6 @@ pub mod Lists
 pub mod Marks
 pub mod Places
 pub mod Refusals
+pub mod RunWalk
 pub mod SyllableLaws
 pub mod Syllables

@@ -1,11 +1,13 @@
--- Words on lists: cuts, the longest end that passes a test, each element with what stands before it.
+-- Words on lists: cuts, the longest end that passes a test, each element with what stands before
+-- it.
 use Rattle.std.specs.Prelude.{◌-◌, Bool, List, [], ◌∷◌, ◌++◌, length, take, drop, reverse, flat_map, if◌then◌else◌}
 use Rattle.std.specs.List.{suffix_len, onto_first}
 
 -- the list cut after each element that passes the test
 abbrev pub cut_after : {X : Type 0} → (X → Bool) → List X → List (List X)
 cut_after test [] = []
-cut_after test (x ∷ xs) = if test x then (x ∷ []) ∷ cut_after test xs else onto_first x (cut_after test xs)
+cut_after test (x ∷ xs) =
+    if test x then (x ∷ []) ∷ cut_after test xs else onto_first x (cut_after test xs)
 
 -- the longest end all of which passes the test, and what stands before it
 abbrev pub last_run : {X : Type 0} → (X → Bool) → List X → List X
@@ -14,14 +16,18 @@ last_run test xs = drop (length xs - suffix_len test xs) xs
 abbrev pub before_last_run : {X : Type 0} → (X → Bool) → List X → List X
 before_last_run test xs = take (length xs - suffix_len test xs) xs
 
--- a piece, given from its end back: where its last passes the test, what a rule makes of what stands before it and of it
+-- a piece, given from its end back: where its last passes the test, what a rule makes of what
+-- stands before it and of it
 abbrev pub opened_back : {X : Type 0} → (X → Bool) → (List X → X → List X) → List X → List X
 opened_back test rule [] = []
-opened_back test rule (x ∷ before) = if test x then rule (reverse before) x else reverse (x ∷ before)
+opened_back test rule (x ∷ before) =
+    if test x then rule (reverse before) x else reverse (x ∷ before)
 
--- the list cut after each element that passes the test, and each piece that ends with one opened by the rule
+-- the list cut after each element that passes the test, and each piece that ends with one opened by
+-- the rule
 abbrev pub opened_pieces : {X : Type 0} → (X → Bool) → (List X → X → List X) → List X → List X
-opened_pieces test rule xs = flat_map (λ piece. opened_back test rule (reverse piece)) (cut_after test xs)
+opened_pieces test rule xs =
+    flat_map (λ piece. opened_back test rule (reverse piece)) (cut_after test xs)
 
 -- each element with what stands before it, where `before` stands before all
 abbrev pub each_after : {X : Type 0} → List X → List X → List (List X × X)

@@ -56,7 +56,8 @@ without_mark mark marks = record { 0 = bit_and marks.0 (255 - mark) }
 abbrev pub set_mark : ℕ → Bool → GlyphMarks → GlyphMarks
 set_mark mark on marks = if on then with_mark mark marks else without_mark mark marks
 
--- what setting the bit k does to a byte: that bit is on or off as told, each other bit stays, and it stays a byte
+-- what setting the bit k does to a byte: that bit is on or off as told, each other bit stays, and
+-- it stays a byte
 pub record SetsAlone (k : ℕ) (on : Bool) (old new : GlyphMarks) : Type 0 where
   pub its_own : has_mark (2 ^ k) new ≡ on
   pub others : (j : ℕ) → j < 8 → j ≢ k → has_mark (2 ^ j) new ≡ has_mark (2 ^ j) old
@@ -64,4 +65,5 @@ pub record SetsAlone (k : ℕ) (on : Bool) (old new : GlyphMarks) : Type 0 where
 
 -- so for each bit, and so for the five marks, which are the bits 0 to 4
 abbrev pub MarksAreSetAlone : Type 0
-MarksAreSetAlone = (k : ℕ) (on : Bool) (marks : GlyphMarks) → k < 8 → marks.0 < 2 ^ 8 → SetsAlone k on marks (set_mark (2 ^ k) on marks)
+MarksAreSetAlone = (k : ℕ) (on : Bool) (marks : GlyphMarks) → k < 8 → marks.0 < 2 ^ 8 →
+    SetsAlone k on marks (set_mark (2 ^ k) on marks)

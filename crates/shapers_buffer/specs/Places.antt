@@ -1,4 +1,5 @@
--- The placement list: for each place of a syllable that is to be reordered, the place whose glyph comes there.
+-- The placement list: for each place of a syllable that is to be reordered, the place whose glyph
+-- comes there.
 use Rattle.std.specs.Prelude.{ℕ, suc, ◌-◌, ◌==◌, ◌≡◌, List, [], ◌∷◌, ◌++◌, map, replicate, slice_index, slice_set, IsPermutation, if◌then◌else◌}
 use Rattle.std.specs.List.{filter_map, range_with_len, slice_get}
 use Rattle.shapers_buffer.specs.Clusters.{with_stretch}
@@ -38,4 +39,5 @@ placed s e places xs = with_stretch s e (λ _. pick (listed s e places) xs) xs
 
 -- Reading and writing: place j reads what was written at j last.
 abbrev pub PlacesAreWritten : Type 0
-PlacesAreWritten = (i p : ℕ) (places : List ℕ) (j : ℕ) → place_at (with_place i p places) j ≡ (if j == i then p else place_at places j)
+PlacesAreWritten = (i p : ℕ) (places : List ℕ) (j : ℕ) →
+    place_at (with_place i p places) j ≡ (if j == i then p else place_at places j)

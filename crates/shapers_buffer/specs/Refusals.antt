@@ -12,8 +12,9 @@ RefusesLength limit wanted (Err (UnknownSyllable _)) = ⊥
 RefusesLength limit wanted (Err SpansDontCover) = ⊥
 RefusesLength limit wanted (Err StretchOverflow) = ⊥
 
--- Refusals in their order. What the input itself gives comes first, and exactly then: an unknown syllable, spans that
--- don't cover, a stretch that doesn't fit. Then TooLong, exactly where what is wanted passes the limit. Memory comes last.
+-- Refusals in their order. What the input itself gives comes first, and exactly then: an unknown
+-- syllable, spans that don't cover, a stretch that doesn't fit. Then TooLong, exactly where what is
+-- wanted passes the limit. Memory comes last.
 abbrev pub Refuses : {T : Type 0} → Option ShaperError → ℕ → ℕ → Result T ShaperError → Type 0
 Refuses (Some e) limit wanted r = r ≡ Err e
 Refuses None limit wanted r = RefusesLength limit wanted r

@@ -16,11 +16,15 @@ abbrev pub first_syllable_len : List hb_glyph_info_t → ℕ
 first_syllable_len [] = 0
 first_syllable_len (g ∷ gs) = suc (prefix_len (has_byte g.syllable) gs)
 
--- these pieces with g in front: in the first piece, if that has g's byte, else as a piece of its own
-abbrev pub with_opening : hb_glyph_info_t → List (List hb_glyph_info_t) → List (List hb_glyph_info_t)
+-- these pieces with g in front: in the first piece, if that has g's byte, else as a piece of its
+-- own
+abbrev pub with_opening : hb_glyph_info_t → List (List hb_glyph_info_t) →
+    List (List hb_glyph_info_t)
 with_opening g [] = (g ∷ []) ∷ []
 with_opening g ([] ∷ pieces) = (g ∷ []) ∷ pieces
-with_opening g ((h ∷ piece) ∷ pieces) = if h.syllable == g.syllable then (g ∷ (h ∷ piece)) ∷ pieces else (g ∷ []) ∷ ((h ∷ piece) ∷ pieces)
+with_opening g ((h ∷ piece) ∷ pieces) =
+    if h.syllable == g.syllable then (g ∷ (h ∷ piece)) ∷ pieces
+    else (g ∷ []) ∷ ((h ∷ piece) ∷ pieces)
 
 -- the syllables: the list cut between neighbours of different bytes
 abbrev pub syllables : List hb_glyph_info_t → List (List hb_glyph_info_t)
@@ -31,7 +35,8 @@ syllables (g ∷ gs) = with_opening g (syllables gs)
 abbrev pub kind_of : ℕ → ℕ
 kind_of byte = byte % 16
 
--- the first place of the first syllable of unknown kind, one above the last known: the first place of such a kind
+-- the first place of the first syllable of unknown kind, one above the last known: the first place
+-- of such a kind
 abbrev pub unknown_syllable : ℕ → List hb_glyph_info_t → Option ℕ
 unknown_syllable last gs = position (λ g. nat_lt last (kind_of g.syllable)) gs
 
@@ -39,7 +44,8 @@ unknown_syllable last gs = position (λ g. nat_lt last (kind_of g.syllable)) gs
 abbrev pub unknown_refusal : ℕ → List hb_glyph_info_t → Option ShaperError
 unknown_refusal last gs = option_map (λ place. UnknownSyllable place) (unknown_syllable last gs)
 
--- the byte of the span at place i of the list: serial 1 to 15 and then 1 again, times 16, and the kind
+-- the byte of the span at place i of the list: serial 1 to 15 and then 1 again, times 16, and the
+-- kind
 abbrev pub span_byte : ℕ → Span → ℕ
 span_byte i span = (i % 15 + 1) * 16 + span.kind
 
@@ -60,7 +66,8 @@ with_bytes (g ∷ gs) (byte ∷ bytes) = in_syllable byte g ∷ with_bytes gs by
 
 -- whether no span is empty and the lengths add up to n
 abbrev pub spans_cover : ℕ → List Span → Bool
-spans_cover n spans = list_all (λ span. nat_lt 0 span.len) spans && (sum_by (λ span. span.len) spans == n)
+spans_cover n spans =
+    list_all (λ span. nat_lt 0 span.len) spans && (sum_by (λ span. span.len) spans == n)
 
 -- the refusal that they give where they don't
 abbrev pub spans_refusal : List Span → Buffer → Option ShaperError
@@ -68,4 +75,8 @@ spans_refusal spans b = if spans_cover (length b.glyphs) spans then None else So
 
 -- the buffer with the spans' bytes; where a span has the broken kind, with its mark
 abbrev pub with_spans : List Span → ℕ → Buffer → Buffer
-with_spans spans broken_kind b = record b { glyphs = with_bytes b.glyphs (span_bytes 0 spans); broken = list_any (λ span. span.kind == broken_kind) spans || b.broken }
+with_spans spans broken_kind b =
+    record b {
+      glyphs = with_bytes b.glyphs (span_bytes 0 spans);
+      broken = list_any (λ span. span.kind == broken_kind) spans || b.broken;
+    }

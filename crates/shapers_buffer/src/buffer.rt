@@ -10,6 +10,7 @@ use std::alloc::Global;
 use std::marker::Model;
 
 mod category;
+mod cluster_runs;
 mod fields;
 mod flags;
 mod glyph;
@@ -27,6 +28,7 @@ mod tag;
 mod walking;
 
 pub use category::hb_unicode_general_category_t;
+pub use cluster_runs::{ClusterRun, merge_run_in, write_run_in};
 pub use flags::BufferFlags;
 pub use glyph::{GlyphPosition, hb_glyph_info_t};
 pub use glyph_flags::{

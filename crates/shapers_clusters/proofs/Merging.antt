@@ -7,6 +7,8 @@ use Rattle.shapers_buffer.specs.declared.buffer.glyph.hb_glyph_info_t.{hb_glyph_
 use Rattle.shapers_buffer.specs.declared.buffer.level.BufferClusterLevel.{BufferClusterLevel}
 use Rattle.shapers_buffer.specs.Glyph.{plain, without_flags, order_view}
 use Rattle.shapers_buffer.proofs.MappedLists.{map-reverse}
+use Rattle.shapers_buffer.specs.declared.buffer.cluster_runs.ClusterRun.{ClusterRun}
+use Rattle.shapers_buffer.specs.ClusterRuns.{with_run}
 use Rattle.shapers_buffer.specs.Clusters.{in_cluster, flooded, merge, merge_all, merges, stretch_of}
 use Rattle.shapers_buffer.proofs.ClusterLemmas.{flood_merged, merge_is, three_parts}
 use Rattle.shapers_buffer.proofs.FurtherMerges.{length-flooded}
@@ -70,3 +72,14 @@ map-order_view f plainly (g ∷ gs) = ap (λ x. x ∷ map f (order_view gs)) (pl
 
 pub map-merge_all : {X : Type 0} (f : hb_glyph_info_t → X) → ((g : hb_glyph_info_t) → f (plain g) ≡ f g) → (level : BufferClusterLevel) (sts : List (ℕ × ℕ)) (gs : List hb_glyph_info_t) → map f (merge_all level sts gs) ≡ map f gs
 map-merge_all f plainly level sts gs = sym (map-order_view f plainly (merge_all level sts gs)) ∙ ap (map f) (order_view-merge_all level sts gs) ∙ map-order_view f plainly gs
+
+-- the same where a run is written
+pub order_view-with_run : (run : ClusterRun) (gs : List hb_glyph_info_t) → run.start ≤ run.end → order_view (with_run run gs) ≡ order_view gs
+order_view-with_run run gs h =
+    let s = run.start in
+    let e = run.end in
+    simp (map-append, order_view-put)
+    (sym (map-append plain (take s gs) (stretch_of s e gs ++ drop e gs) ∙ ap (λ l. order_view (take s gs) ++ l) (map-append plain (stretch_of s e gs) (drop e gs))) ∙ ap order_view (three_parts s e gs h))
+
+pub map-with_run : {X : Type 0} (f : hb_glyph_info_t → X) → ((g : hb_glyph_info_t) → f (plain g) ≡ f g) → (run : ClusterRun) (gs : List hb_glyph_info_t) → run.start ≤ run.end → map f (with_run run gs) ≡ map f gs
+map-with_run f plainly run gs h = sym (map-order_view f plainly (with_run run gs)) ∙ ap (map f) (order_view-with_run run gs h) ∙ map-order_view f plainly gs

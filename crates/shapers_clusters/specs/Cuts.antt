@@ -31,7 +31,8 @@ IsFalling cs = AllPairs (λ a b. b ≤ a) cs
 abbrev pub IsMonotone : List ℕ → Type 0
 IsMonotone cs = IsRising cs ⊎ IsFalling cs
 
--- all neighbours between p and q are linked: the two stand in one block, a longest run of linked places
+-- all neighbours between p and q are linked: the two stand in one block, a longest run of linked
+-- places
 abbrev pub SameBlock : List ℕ → List (ℕ × ℕ) → ℕ → ℕ → Type 0
 SameBlock cs sts p q = (r : ℕ) → min p q < r → r ≤ max p q → linked cs sts r ≡ true
 
@@ -39,23 +40,28 @@ SameBlock cs sts p q = (r : ℕ) → min p q < r → r ≤ max p q → linked cs
 -- and each place has the least old cluster of its block.
 pub record ExactCuts (cs : List ℕ) (sts : List (ℕ × ℕ)) (after : List ℕ) : Type 0 where
   pub same_length : length after ≡ length cs
-  pub cuts : (p : ℕ) → 0 < p → p < length cs → (slice_index after (p - 1) ≢ slice_index after p) ↔ (linked cs sts p ≡ false)
+  pub cuts : (p : ℕ) → 0 < p → p < length cs →
+      (slice_index after (p - 1) ≢ slice_index after p) ↔ (linked cs sts p ≡ false)
   pub reached : (p : ℕ) →
       p < length cs →
       (q : ℕ) × (q < length cs) × SameBlock cs sts p q × (slice_index after p ≡ slice_index cs q)
-  pub least : (p q : ℕ) → p < length cs → q < length cs → SameBlock cs sts p q → slice_index after p ≤ slice_index cs q
+  pub least : (p q : ℕ) → p < length cs → q < length cs → SameBlock cs sts p q →
+      slice_index after p ≤ slice_index cs q
 
 -- no glyph of the one list has a cluster of the other
 abbrev pub ShareNone : List hb_glyph_info_t → List hb_glyph_info_t → Type 0
-ShareNone gs hs = (i j : ℕ) → i < length gs → j < length hs → slice_index (clusters gs) i ≢ slice_index (clusters hs) j
+ShareNone gs hs = (i j : ℕ) → i < length gs → j < length hs →
+    slice_index (clusters gs) i ≢ slice_index (clusters hs) j
 
 -- all places of a stretch share one cluster
 abbrev pub InOneCluster : List ℕ → ℕ × ℕ → Type 0
-InOneCluster cs st = (p q : ℕ) → st.0 ≤ p → p < st.1 → st.0 ≤ q → q < st.1 → slice_index cs p ≡ slice_index cs q
+InOneCluster cs st =
+    (p q : ℕ) → st.0 ≤ p → p < st.1 → st.0 ≤ q → q < st.1 → slice_index cs p ≡ slice_index cs q
 
 -- no place outside s..e has a cluster of it
 abbrev pub StandsApart : ℕ → ℕ → List ℕ → Type 0
-StandsApart s e cs = (i j : ℕ) → s ≤ i → i < e → j < length cs → (j < s) ⊎ (e ≤ j) → slice_index cs i ≢ slice_index cs j
+StandsApart s e cs = (i j : ℕ) → s ≤ i → i < e → j < length cs → (j < s) ⊎ (e ≤ j) →
+    slice_index cs i ≢ slice_index cs j
 
 -- all are different
 abbrev pub AllDifferent : List ℕ → Type 0

@@ -6,11 +6,13 @@ use Rattle.shapers_buffer.specs.Glyph.{clusters, order_view, plain}
 use Rattle.shapers_buffer.specs.Clusters.{in_cluster}
 use Rattle.shapers_buffer.specs.GlyphFlags.{FlagCall, UnsafeToBreak, UnsafeToConcat, SafeToInsertTatweel}
 
--- a glyph falls to another: its cluster is that or a lower one, and if it is lower, the glyph flags are gone
+-- a glyph falls to another: its cluster is that or a lower one, and if it is lower, the glyph flags
+-- are gone
 abbrev pub FallsTo : hb_glyph_info_t → hb_glyph_info_t → Type 0
 FallsTo old new = (new.cluster ≤ old.cluster) × (new ≡ in_cluster new.cluster old)
 
--- the same of cluster and glyph flags alone, where other fields may change: fell, the flags are gone; kept, they are kept
+-- the same of cluster and glyph flags alone, where other fields may change: fell, the flags are
+-- gone; kept, they are kept
 pub record FlagsFall (old new : hb_glyph_info_t) : Type 0 where
   pub at_most : new.cluster ≤ old.cluster
   pub fell : new.cluster < old.cluster → new.mask % 8 ≡ 0

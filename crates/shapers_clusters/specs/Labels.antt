@@ -15,19 +15,25 @@ pub record IsLabelled (cs ls : List ℕ) : Type 0 where
 
 -- all places of a stretch have equal labels
 abbrev pub OneLabel : List ℕ → ℕ × ℕ → Type 0
-OneLabel ls st = (p q : ℕ) → st.0 ≤ p → p < st.1 → st.0 ≤ q → q < st.1 → slice_index ls p ≡ slice_index ls q
+OneLabel ls st =
+    (p q : ℕ) → st.0 ≤ p → p < st.1 → st.0 ≤ q → q < st.1 → slice_index ls p ≡ slice_index ls q
 
 -- each place has the cluster and the label of one and the same old place
 abbrev pub OfOldPlaces : List ℕ → List ℕ → List ℕ → List ℕ → Type 0
 OfOldPlaces cs ls js ms = (p : ℕ) →
     p < length js →
-    (q : ℕ) × (q < length cs) × (slice_index js p ≡ slice_index cs q) × (slice_index ms p ≡ slice_index ls q)
+    (q : ℕ) × (q < length cs) × (slice_index js p ≡ slice_index cs q)
+    × (slice_index ms p ≡ slice_index ls q)
 
 -- each stretch has one label as it merges; the labels move with the glyphs
 abbrev pub OneLabelEach : List Step → List ℕ → Type 0
 OneLabelEach [] ls = Unit {0}
-OneLabelEach (step ∷ steps) ls = AllByRecursion (OneLabel ls) step.merged_first × AllByRecursion (OneLabel (pick step.places ls)) step.merged_then × OneLabelEach steps (pick step.places ls)
+OneLabelEach (step ∷ steps) ls =
+    AllByRecursion (OneLabel ls) step.merged_first
+    × AllByRecursion (OneLabel (pick step.places ls)) step.merged_then
+    × OneLabelEach steps (pick step.places ls)
 
 -- each stretch of places that these steps merge is in one cluster when all are done
 abbrev pub MergedStay : BufferClusterLevel → List Step → List ℕ → Type 0
-MergedStay level steps cs = AllByRecursion (InOneCluster (joined_steps level steps cs)) (all_merged steps)
+MergedStay level steps cs =
+    AllByRecursion (InOneCluster (joined_steps level steps cs)) (all_merged steps)

@@ -10,7 +10,8 @@ use Rattle.shapers_clusters.specs.Cuts.{EndWithin, held}
 use Rattle.std.specs.List.Sorted.{IsPermutation}
 use Rattle.std.specs.Prelude.{swap}
 
--- One step: some stretches merge, then the glyph of the listed old place comes to each place, then some stretches merge.
+-- One step: some stretches merge, then the glyph of the listed old place comes to each place, then
+-- some stretches merge.
 pub record Step : Type 0 where
   pub merged_first : List (ℕ × ℕ)
   pub places : List ℕ
@@ -18,19 +19,22 @@ pub record Step : Type 0 where
 
 -- the glyphs after one step, and after several, one after another
 abbrev pub run_step : BufferClusterLevel → Step → List hb_glyph_info_t → List hb_glyph_info_t
-run_step level step gs = merge_all level step.merged_then (pick step.places (merge_all level step.merged_first gs))
+run_step level step gs =
+    merge_all level step.merged_then (pick step.places (merge_all level step.merged_first gs))
 
 abbrev pub run_steps : BufferClusterLevel → List Step → List hb_glyph_info_t → List hb_glyph_info_t
 run_steps level steps gs = fold (λ gs step. run_step level step gs) gs steps
 
 -- the same of clusters alone
 abbrev pub joined_step : BufferClusterLevel → Step → List ℕ → List ℕ
-joined_step level step cs = joined_all level step.merged_then (pick step.places (joined_all level step.merged_first cs))
+joined_step level step cs =
+    joined_all level step.merged_then (pick step.places (joined_all level step.merged_first cs))
 
 abbrev pub joined_steps : BufferClusterLevel → List Step → List ℕ → List ℕ
 joined_steps level steps cs = fold (λ cs step. joined_step level step cs) cs steps
 
--- where these are the old places so far, for each place after the steps the old place of what stands there
+-- where these are the old places so far, for each place after the steps the old place of what
+-- stands there
 abbrev pub moved_on : List Step → List ℕ → List ℕ
 moved_on steps places = fold (λ places step. pick step.places places) places steps
 
@@ -77,11 +81,14 @@ StaysAt st step = (p : ℕ) → st.0 ≤ p → p < st.1 → slice_index step.pla
 abbrev pub Spares : ℕ → ℕ × ℕ → Step → Type 0
 Spares n st step = StaysAt st step ⊎ MovesMerged n step
 
--- Steps of n places that spare what those before them merged; each merges only behind its moves, or moves inside what it merged first.
+-- Steps of n places that spare what those before them merged; each merges only behind its moves, or
+-- moves inside what it merged first.
 abbrev pub SpareMerged : ℕ → List Step → Type 0
 SpareMerged n [] = Unit {0}
 SpareMerged n (step ∷ steps) =
-    ((step.merged_first ≡ []) ⊎ MovesMerged n step) × AllByRecursion (λ st. AllByRecursion (Spares n st) steps) (step.merged_first ++ step.merged_then) × SpareMerged n steps
+    ((step.merged_first ≡ []) ⊎ MovesMerged n step)
+    × AllByRecursion (λ st. AllByRecursion (Spares n st) steps)
+    (step.merged_first ++ step.merged_then) × SpareMerged n steps
 
 -- stretches and steps over the places s..e of n places, of which they number the first by 0
 abbrev pub shifted : ℕ → List (ℕ × ℕ) → List (ℕ × ℕ)
@@ -98,15 +105,18 @@ widened s e n step = record {
 abbrev pub Permutes : ℕ → Step → Type 0
 Permutes n step = IsPermutation (range_with_len 0 n) step.places
 
--- The steps of neighbouring stretches, each given by its length and its steps over it, from place s on, as steps over n places.
+-- The steps of neighbouring stretches, each given by its length and its steps over it, from place s
+-- on, as steps over n places.
 abbrev pub steps_along : ℕ → ℕ → List (ℕ × List Step) → List Step
 steps_along n s [] = []
-steps_along n s (piece ∷ rest) = map (widened s (s + piece.0) n) piece.1 ++ steps_along n (s + piece.0) rest
+steps_along n s (piece ∷ rest) =
+    map (widened s (s + piece.0) n) piece.1 ++ steps_along n (s + piece.0) rest
 
 -- a list whose neighbouring stretches are reordered by their steps, each for itself
 abbrev pub reordered_along : {X : Type 0} → List (ℕ × List Step) → List X → List X
 reordered_along [] xs = xs
-reordered_along (piece ∷ rest) xs = pick (old_places piece.0 piece.1) (take piece.0 xs) ++ reordered_along rest (drop piece.0 xs)
+reordered_along (piece ∷ rest) xs =
+    pick (old_places piece.0 piece.1) (take piece.0 xs) ++ reordered_along rest (drop piece.0 xs)
 
 -- the step of n places in which nothing moves
 abbrev pub still_step : ℕ → Step
@@ -114,4 +124,8 @@ still_step n = record { merged_first = []; places = range_with_len 0 n; merged_t
 
 -- the step of n places in which place i and the next one merge and change places
 abbrev pub swap_step : ℕ → ℕ → Step
-swap_step n i = record { merged_first = (i, i + 2) ∷ []; places = swap (range_with_len 0 n) i (i + 1); merged_then = [] }
+swap_step n i = record {
+  merged_first = (i, i + 2) ∷ [];
+  places = swap (range_with_len 0 n) i (i + 1);
+  merged_then = [];
+}

@@ -203,7 +203,7 @@ tone_then_jamo = refl
 
 -- the whole glyph: a new one copies the first replaced one; what is merged into another cluster loses its glyph flags
 abbrev full_glyph : ℕ → ℕ → hb_glyph_info_t
-full_glyph u cluster = record { glyph_id = u; cluster = cluster; mask = 0x1F; syllable = 7; category = 8; auxiliary = 9; general_category = Mn; modified_combining_class = 10; lig_comp = 11; marks = record { 0 = 31 } }
+full_glyph u cluster = record { glyph_id = u; cluster = cluster; mask = 0x1F; var = 0x7A; syllable = 7; category = 8; auxiliary = 9; general_category = Mn; modified_combining_class = 10; lig_comp = 11; marks = record { 0 = 31 } }
 
 copied_whole : preprocessed (wide (0xAC00 ∷ [])) true MonotoneGraphemes (full_glyph 0x1100 4 ∷ full_glyph 0x1161 3 ∷ []) ≡ (let g : hb_glyph_info_t = record (full_glyph 0xAC00 3) { mask = 0x18 } in g) ∷ []
 copied_whole = refl

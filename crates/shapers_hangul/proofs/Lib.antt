@@ -1,3 +1,4 @@
+pub mod Changes
 pub mod HangulClusters
 mod HangulRows
 pub mod HangulSpelling

@@ -2,7 +2,7 @@
 use Rattle.std.proofs.Common.{◌≡◌, ℕ, zero, suc, ◌+◌, ◌<◌, ◌≤◌, ◌||◌, ◌&&◌, ◌==◌, not, nat_lt, Bool, true, false, cond, List, [], ◌∷◌, ◌++◌, length, map, take, drop, refl, sym, ap, ◌∙◌, arith}
 use Rattle.std.specs.Prelude.{slice_index_or}
 use Rattle.std.proofs.lemmas.Bool.{eqb-true}
-use Rattle.std.proofs.lemmas.List.{append_assoc, append-nil, length-append, length-map, drop-map}
+use Rattle.std.proofs.lemmas.List.{append_assoc, length-append, length-map, drop-map}
 use Rattle.shapers_buffer.specs.declared.buffer.glyph.hb_glyph_info_t.{hb_glyph_info_t}
 use Rattle.shapers_buffer.specs.declared.buffer.level.BufferClusterLevel.{BufferClusterLevel}
 use Rattle.shapers_buffer.specs.Clusters.{merge, merge_all}
@@ -35,18 +35,6 @@ glyphs_next font circles gs us place item same inside is =
 
 pub glyphs_end : (font : Font) (circles : Bool) (gs : List hb_glyph_info_t) (us : List ℕ) (place : ℕ) → us ≡ characters gs → length gs ≤ place → items_at font circles us place ≡ []
 glyphs_end font circles gs us place same past = items_at_end font circles us place (omega (arith, length-characters gs, ap length same))
-
--- RECORDING
-pub recording_next : (font : Font) (circles : Bool) (gs : List hb_glyph_info_t) (list longer start : List (ℕ × Item)) (place : ℕ) (item : Item) → place < length gs → item ≡ first_item font circles (characters (drop place gs)) → list ++ items_at font circles (characters gs) place ≡ start → longer ≡ list ++ (place, item) ∷ [] → longer ++ items_at font circles (characters gs) (place + item_len item) ≡ start
-recording_next font circles gs list longer start place item inside is so_far added =
-    let rest = items_at font circles (characters gs) (place + item_len item) in
-    ap (λ l. l ++ rest) added
-    ∙ append_assoc list ((place, item) ∷ []) rest
-    ∙ ap (λ cut. list ++ cut) (sym (glyphs_next font circles gs (characters gs) place item refl inside is))
-    ∙ so_far
-
-pub recording_all : (font : Font) (circles : Bool) (gs : List hb_glyph_info_t) (list start : List (ℕ × Item)) (place : ℕ) → length gs ≤ place → list ++ items_at font circles (characters gs) place ≡ start → list ≡ start
-recording_all font circles gs list start place past so_far = sym (append-nil list) ∙ ap (λ cut. list ++ cut) (sym (glyphs_end font circles gs (characters gs) place refl past)) ∙ so_far
 
 -- JOINING
 pub map-unsafe : {Y : Type 0} (f : hb_glyph_info_t → Y) → ((g : hb_glyph_info_t) → f (with_bits 3 g) ≡ f g) → (level : BufferClusterLevel) (item : Item) (s : ℕ) (gs : List hb_glyph_info_t) → map f (unsafe_all (unsafe_stretches level item s) gs) ≡ map f gs
@@ -176,12 +164,12 @@ one_unjoined level s gs false true = unsafe_few s (s + 0) gs (omega arith) (omeg
 one_unjoined level s gs false false = refl
 
 -- what is kept takes one place, flags and merges nothing, and becomes itself
-record Keeps (item : Item) : Type 0 where
+pub record Keeps (item : Item) : Type 0 where
   pub one : item_len item ≡ 1
   pub unjoined : (level : BufferClusterLevel) (s : ℕ) (gs : List hb_glyph_info_t) → item_joined level s item gs ≡ gs
   pub itself : (gs : List hb_glyph_info_t) → item_output glyph_copies item gs ≡ take 1 gs
 
-kept_stays : (item : Item) → is_kept item ≡ true → Keeps item
+pub kept_stays : (item : Item) → is_kept item ≡ true → Keeps item
 kept_stays item kept =
     kept_cases Keeps
     (record { one = refl; unjoined = λ level s gs. one_unjoined level s gs (is_merged level Syllable) (not (is_merged level Syllable) || false); itself = λ gs. refl })

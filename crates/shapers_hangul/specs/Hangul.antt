@@ -1,4 +1,5 @@
--- Hangul: jamo, syllables and tones (The Unicode Standard, "Conjoining Jamo Behavior"; OpenType's notes on Hangul).
+-- Hangul: jamo, syllables and tones (The Unicode Standard, "Conjoining Jamo Behavior"; OpenType's
+-- notes on Hangul).
 use Rattle.std.specs.Prelude.{ℕ, ◌+◌, ◌-◌, ◌*◌, ◌/◌, ◌%◌, ◌==◌, ◌≡◌, ◌≤◌, nat_le, nat_lt, nat_abs, zero, suc, get_or, not, Bool, true, false, ◌||◌, ◌&&◌, List, [], ◌∷◌, ◌++◌, map, flat_map, length, take, drop, if◌then◌else◌}
 use Rattle.std.specs.Option.{option_map_or}
 use Rattle.std.specs.List.{AllByRecursion}
@@ -66,27 +67,35 @@ abbrev pub trail : ℕ → ℕ
 trail s = 0x11A7 + (s - 0xAC00) % 28
 
 abbrev pub has_jamo_of : Font → ℕ → Bool
-has_jamo_of font s = has_nominal font (lead s) && (has_nominal font (vowel s) && (is_lv s || has_nominal font (trail s)))
+has_jamo_of font s = has_nominal font (lead s)
+    && (has_nominal font (vowel s) && (is_lv s || has_nominal font (trail s)))
 
 -- whether the font has the tone with advance 0, so that it strikes over what stands before it
 abbrev pub is_narrow : Font → ℕ → Bool
 is_narrow font u = option_map_or (λ glyph. nat_abs (font.advance glyph) == 0) (font.nominal u) false
 
--- UNITS. The first fitting case for a character u and the next two, v and t, each 0 where the text ends.
+-- UNITS. The first fitting case for a character u and the next two, v and t, each 0 where the text
+-- ends.
 
 -- L V, and L V T: one syllable character if all combine and the font has it, else marked jamo
 abbrev pub jamo_two : Font → ℕ → ℕ → Unit
-jamo_two font l v = if (combines_l l && combines_v v) && has_nominal font (with_v l v) then ComposedTwo (with_v l v) else JamoTwo
+jamo_two font l v =
+    if (combines_l l && combines_v v) && has_nominal font (with_v l v) then ComposedTwo (with_v l v)
+    else JamoTwo
 
 abbrev pub jamo_three : Font → ℕ → ℕ → ℕ → Unit
-jamo_three font l v t = if (combines_l l && (combines_v v && combines_t t)) && has_nominal font (with_t (with_v l v) t) then ComposedThree (with_t (with_v l v) t) else JamoThree
+jamo_three font l v t =
+    if (combines_l l && (combines_v v && combines_t t))
+    && has_nominal font (with_t (with_v l v) t) then ComposedThree (with_t (with_v l v) t)
+    else JamoThree
 
 -- a syllable character by its jamo, all marked
 abbrev pub parts : ℕ → Unit
 parts s = if is_lv s then PartsTwo (lead s) (vowel s) else PartsThree (lead s) (vowel s) (trail s)
 
--- a syllable character S before v: LV with a combining T as one that the font has; jamo that the font has of an S that it lacks,
--- or of an LV before any T, which comes along; an S that the font has
+-- a syllable character S before v: LV with a combining T as one that the font has; jamo that the
+-- font has of an S that it lacks, or of an LV before any T, which comes along; an S that the font
+-- has
 abbrev pub syllable_unit : Font → ℕ → ℕ → Unit
 syllable_unit font s v =
     if (is_lv s && combines_t v) && has_nominal font (with_t s v) then ComposedTwo (with_t s v)
@@ -97,7 +106,9 @@ syllable_unit font s v =
 
 -- a tone without a syllable before it: with a circle, where circles are wanted and the font has it
 abbrev pub lone_tone : Font → Bool → ℕ → Unit
-lone_tone font circles u = if circles && has_nominal font 0x25CC then (if is_narrow font u then CircleTone else ToneCircle) else Other
+lone_tone font circles u =
+    if circles && has_nominal font 0x25CC then (if is_narrow font u then CircleTone else ToneCircle)
+    else Other
 
 abbrev pub jamo_unit : Font → ℕ → ℕ → ℕ → Unit
 jamo_unit font l v t = if is_t t then jamo_three font l v t else jamo_two font l v
@@ -112,7 +123,8 @@ first_unit font circles u v t =
 -- in the code: the same of a character that no jamo follows
 abbrev pub lone_unit : Font → Bool → ℕ → Unit
 lone_unit font circles u =
-    if is_s u then (if has_nominal font u then Syllable else if has_jamo_of font u then parts u else Other)
+    if is_s u then (if has_nominal font u then Syllable
+    else if has_jamo_of font u then parts u else Other)
     else if is_tone u then lone_tone font circles u
     else Other
 
@@ -160,21 +172,25 @@ is_marked (PartsThree l v t) = true
 is_marked (PartsBeforeT l v) = true
 is_marked _ = false
 
--- ITEMS. A unit, and the tone w directly after it if it is a syllable: that moves before it, unless it has advance 0.
+-- ITEMS. A unit, and the tone w directly after it if it is a syllable: that moves before it, unless
+-- it has advance 0.
 abbrev pub joined_tone : Font → Unit → ℕ → JoinedTone
-joined_tone font unit w = if is_syllable unit && is_tone w then (if is_narrow font w then Behind else Before) else Absent
+joined_tone font unit w =
+    if is_syllable unit && is_tone w then (if is_narrow font w then Behind else Before) else Absent
 
 abbrev pub tone_len : JoinedTone → ℕ
 tone_len Absent = 0
 tone_len Before = 1
 tone_len Behind = 1
 
--- LV and the T behind it, where the font can't join them, and can't part LV if that T doesn't combine
+-- LV and the T behind it, where the font can't join them, and can't part LV if that T doesn't
+-- combine
 abbrev pub is_split : Font → ℕ → ℕ → Bool
-is_split font s v = (is_lv s && is_t v) && (if combines_t v then not (has_nominal font (with_t s v)) else not (has_jamo_of font s))
+is_split font s v = (is_lv s && is_t v)
+    && (if combines_t v then not (has_nominal font (with_t s v)) else not (has_jamo_of font s))
 
--- how many characters from u on are unsafe to break inside: jamo L V and L V T, marked or in one; marked jamo with a tone; LV and
--- T that are split
+-- how many characters from u on are unsafe to break inside: jamo L V and L V T, marked or in one;
+-- marked jamo with a tone; LV and T that are split
 abbrev pub unsafe_len : Font → Unit → JoinedTone → ℕ → ℕ → ℕ
 unsafe_len font unit tone u v =
     if is_l u && is_v v then taken unit
@@ -184,13 +200,18 @@ unsafe_len font unit tone u v =
 
 -- the unit that opens a text, and the item
 abbrev pub opening_unit : Font → Bool → List ℕ → Unit
-opening_unit font circles us = first_unit font circles (get_or us 0 0) (get_or us 1 0) (get_or us 2 0)
+opening_unit font circles us =
+    first_unit font circles (get_or us 0 0) (get_or us 1 0) (get_or us 2 0)
 
 abbrev pub first_item : Font → Bool → List ℕ → Item
 first_item font circles us =
     let opening = opening_unit font circles us in
     let tone = joined_tone font opening (get_or us (taken opening) 0) in
-    record { unit = opening; tone = tone; unsafe_len = unsafe_len font opening tone (get_or us 0 0) (get_or us 1 0) }
+    record {
+      unit = opening;
+      tone = tone;
+      unsafe_len = unsafe_len font opening tone (get_or us 0 0) (get_or us 1 0);
+    }
 
 abbrev pub item_len : Item → ℕ
 item_len item = taken item.unit + tone_len item.tone
@@ -204,10 +225,12 @@ keeps _ = false
 abbrev pub is_kept : Item → Bool
 is_kept item = keeps item.unit && (tone_len item.tone == 0 && item.unsafe_len == 0)
 
--- the items of a text, each with the place of its first character; the first skip characters belong to the item before
+-- the items of a text, each with the place of its first character; the first skip characters belong
+-- to the item before
 abbrev pub items_from : (List ℕ → Item) → ℕ → ℕ → List ℕ → List (ℕ × Item)
 items_from read place skip [] = []
-items_from read place zero (u ∷ us) = (place, read (u ∷ us)) ∷ items_from read (place + 1) (item_len (read (u ∷ us)) - 1) us
+items_from read place zero (u ∷ us) =
+    (place, read (u ∷ us)) ∷ items_from read (place + 1) (item_len (read (u ∷ us)) - 1) us
 items_from read place (suc skip) (u ∷ us) = items_from read (place + 1) skip us
 
 abbrev pub items : Font → Bool → List ℕ → List (ℕ × Item)
@@ -221,7 +244,8 @@ items_at font circles us place = items_from (first_item font circles) place 0 (d
 abbrev pub Fit : ℕ → List (ℕ × Item) → Type 0
 Fit n cut = AllByRecursion (λ p. (p.0 + item_len p.1 ≤ n) × (p.0 + p.1.unsafe_len ≤ n)) cut
 
--- OUTPUT, of anything that can be copied as another character and as a jamo: leading 1, vowel 2, trailing 3.
+-- OUTPUT, of anything that can be copied as another character and as a jamo: leading 1, vowel 2,
+-- trailing 3.
 pub record Copying (X : Type 0) : Type 0 where
   pub as_character : ℕ → X → X
   pub as_jamo : ℕ → X → X
@@ -242,8 +266,10 @@ unit_output c (ComposedThree s) xs = map (c.as_character s) (take 1 xs)
 unit_output c JamoTwo xs = marked_from c 1 (take 2 xs)
 unit_output c JamoThree xs = marked_from c 1 (take 3 xs)
 unit_output c (PartsTwo l v) xs = marked_from c 1 (flat_map (copies_as c (l ∷ v ∷ [])) (take 1 xs))
-unit_output c (PartsThree l v t) xs = marked_from c 1 (flat_map (copies_as c (l ∷ v ∷ t ∷ [])) (take 1 xs))
-unit_output c (PartsBeforeT l v) xs = marked_from c 1 (flat_map (copies_as c (l ∷ v ∷ [])) (take 1 xs) ++ take 1 (drop 1 xs))
+unit_output c (PartsThree l v t) xs =
+    marked_from c 1 (flat_map (copies_as c (l ∷ v ∷ t ∷ [])) (take 1 xs))
+unit_output c (PartsBeforeT l v) xs =
+    marked_from c 1 (flat_map (copies_as c (l ∷ v ∷ [])) (take 1 xs) ++ take 1 (drop 1 xs))
 unit_output c Syllable xs = take 1 xs
 unit_output c ToneCircle xs = take 1 xs ++ map (c.as_character 0x25CC) (take 1 xs)
 unit_output c CircleTone xs = map (c.as_character 0x25CC) (take 1 xs) ++ take 1 xs
@@ -256,13 +282,15 @@ with_tone Before tone output = tone ++ output
 with_tone Behind tone output = output ++ tone
 
 abbrev pub item_output : {X : Type 0} → Copying X → Item → List X → List X
-item_output c item xs = with_tone item.tone (take 1 (drop (taken item.unit) xs)) (unit_output c item.unit xs)
+item_output c item xs =
+    with_tone item.tone (take 1 (drop (taken item.unit) xs)) (unit_output c item.unit xs)
 
 -- the outputs of these items of a text, joined
 abbrev pub outputs : {X : Type 0} → Copying X → List (ℕ × Item) → List X → List X
 outputs c cut xs = flat_map (λ p. item_output c p.1 (drop p.0 xs)) cut
 
--- MERGES. Whether all that a unit takes merges: at level MonotoneCharacters only where its glyphs aren't marked
+-- MERGES. Whether all that a unit takes merges: at level MonotoneCharacters only where its glyphs
+-- aren't marked
 abbrev pub is_merged : BufferClusterLevel → Unit → Bool
 is_merged MonotoneGraphemes unit = true
 is_merged MonotoneCharacters unit = not (is_marked unit)
@@ -278,26 +306,37 @@ tone_stretch Before s e = (s, e + 1) ∷ []
 tone_stretch Behind s e = []
 
 abbrev pub item_stretches : BufferClusterLevel → Item → ℕ → List (ℕ × ℕ)
-item_stretches level item s = unit_stretch level item.unit s ++ tone_stretch item.tone s (s + taken item.unit)
+item_stretches level item s =
+    unit_stretch level item.unit s ++ tone_stretch item.tone s (s + taken item.unit)
 
 abbrev pub stretches : BufferClusterLevel → List (ℕ × Item) → List (ℕ × ℕ)
 stretches level cut = flat_map (λ p. item_stretches level p.1 p.0) cut
 
--- FLAGS. The stretch of an item that is unsafe to break; inside one that merges, flags would go again
+-- FLAGS. The stretch of an item that is unsafe to break; inside one that merges, flags would go
+-- again
 abbrev pub unsafe_stretches : BufferClusterLevel → Item → ℕ → List (ℕ × ℕ)
-unsafe_stretches level item s = if not (is_merged level item.unit) || nat_lt (taken item.unit) item.unsafe_len then (s, s + item.unsafe_len) ∷ [] else []
+unsafe_stretches level item s =
+    if not (is_merged level item.unit)
+    || nat_lt (taken item.unit) item.unsafe_len then (s, s + item.unsafe_len) ∷ []
+    else []
 
--- the glyphs where they stand, joined by an item at place s: flags, then merges; by all items, one after another
+-- the glyphs where they stand, joined by an item at place s: flags, then merges; by all items, one
+-- after another
 abbrev pub item_joined : BufferClusterLevel → ℕ → Item → List hb_glyph_info_t → List hb_glyph_info_t
-item_joined level s item gs = merge_all level (item_stretches level item s) (unsafe_all (unsafe_stretches level item s) gs)
+item_joined level s item gs =
+    merge_all level (item_stretches level item s) (unsafe_all (unsafe_stretches level item s) gs)
 
-abbrev pub all_joined : BufferClusterLevel → List (ℕ × Item) → List hb_glyph_info_t → List hb_glyph_info_t
+abbrev pub all_joined : BufferClusterLevel → List (ℕ × Item) → List hb_glyph_info_t →
+    List hb_glyph_info_t
 all_joined level [] gs = gs
 all_joined level (p ∷ cut) gs = all_joined level cut (item_joined level p.0 p.1 gs)
 
 -- THE RULE ON GLYPHS
 abbrev pub glyph_copies : Copying hb_glyph_info_t
-glyph_copies = record { as_character = λ u g. record g { glyph_id = u }; as_jamo = λ feature g. record g { auxiliary = feature } }
+glyph_copies = record {
+  as_character = λ u g. record g { glyph_id = u };
+  as_jamo = λ feature g. record g { auxiliary = feature };
+}
 
 -- the same on characters alone
 abbrev pub character_copies : Copying ℕ
@@ -308,7 +347,8 @@ abbrev pub characters : List hb_glyph_info_t → List ℕ
 characters gs = map (λ g. g.glyph_id) gs
 
 -- all items joined, on the old places, and then their outputs
-abbrev pub preprocessed : Font → Bool → BufferClusterLevel → List hb_glyph_info_t → List hb_glyph_info_t
+abbrev pub preprocessed : Font → Bool → BufferClusterLevel → List hb_glyph_info_t →
+    List hb_glyph_info_t
 preprocessed font circles level gs =
     let cut = items font circles (characters gs) in
     outputs glyph_copies cut (all_joined level cut gs)
@@ -322,8 +362,12 @@ abbrev pub rewritten : Font → Buffer → Buffer
 rewritten font b = record b { glyphs = preprocessed font (wants_circles b) b.level b.glyphs }
 
 -- in the code: up to this place every item is one character that stays as it is
-pub record KeptBefore (font : Font) (circles : Bool) (gs : List hb_glyph_info_t) (place : ℕ) : Type 0 where
+pub record KeptBefore (font : Font) (circles : Bool) (gs : List hb_glyph_info_t) (place :
+    ℕ) : Type 0 where
   pub within : place ≤ length gs
-  pub unjoined : (level : BufferClusterLevel) → all_joined level (items font circles (characters gs)) gs ≡ all_joined level (items_at font circles (characters gs) place) gs
+  pub unjoined : (level : BufferClusterLevel) →
+      all_joined level (items font circles (characters gs)) gs
+      ≡ all_joined level (items_at font circles (characters gs) place) gs
   pub same : (xs : List hb_glyph_info_t) →
-      outputs glyph_copies (items font circles (characters gs)) xs ≡ take place xs ++ outputs glyph_copies (items_at font circles (characters gs) place) xs
+      outputs glyph_copies (items font circles (characters gs)) xs
+      ≡ take place xs ++ outputs glyph_copies (items_at font circles (characters gs) place) xs

@@ -22,32 +22,48 @@ place_copies = record { as_character = λ u place. place; as_jamo = λ feature p
 abbrev pub sources : List (ℕ × Item) → ℕ → List ℕ
 sources cut n = outputs place_copies cut (range_with_len 0 n)
 
--- What the rewriting of the characters us makes of their clusters cs: js. They are the clusters of made glyphs, each having that
--- of its source after the merges, with exact cuts. At the levels that merge, all places between a moved tone, which stands
--- before what its syllable becomes, and the place behind that share one cluster.
-pub record ClustersRewritten (font : Font) (circles : Bool) (level : BufferClusterLevel) (us cs js : List ℕ) : Type 0 where
-  pub made : ClustersMade level (stretches level (items font circles us)) (sources (items font circles us) (length us)) cs js
-  pub cluster_law : merges level ≡ true → (before : List (ℕ × Item)) (place : ℕ) (item : Item) (after : List (ℕ × Item)) → items font circles us ≡ before ++ (place, item) ∷ after → item.tone ≡ Before → ShareCluster js (length (sources before (length us))) (length (sources before (length us)) + output_len item.unit)
+-- What the rewriting of the characters us makes of their clusters cs: js. They are the clusters of
+-- made glyphs, each having that of its source after the merges, with exact cuts. At the levels that
+-- merge, all places between a moved tone, which stands before what its syllable becomes, and the
+-- place behind that share one cluster.
+pub record ClustersRewritten (font : Font) (circles : Bool) (level : BufferClusterLevel) (us cs js :
+    List ℕ) : Type 0 where
+  pub made : ClustersMade level (stretches level (items font circles us))
+      (sources (items font circles us) (length us)) cs js
+  pub cluster_law : merges level ≡ true →
+      (before : List (ℕ × Item)) (place : ℕ) (item : Item) (after : List (ℕ × Item)) →
+      items font circles us ≡ before ++ (place, item) ∷ after → item.tone ≡ Before →
+      ShareCluster js (length (sources before (length us)))
+      (length (sources before (length us)) + output_len item.unit)
 
 -- the same of a buffer, and of that with its text rewritten
 abbrev pub KeepsClusters : Font → Buffer → Buffer → Type 0
-KeepsClusters font old new = ClustersRewritten font (wants_circles old) old.level (characters old.glyphs) (clusters old.glyphs) (clusters new.glyphs)
+KeepsClusters font old new =
+    ClustersRewritten font (wants_circles old) old.level (characters old.glyphs)
+    (clusters old.glyphs) (clusters new.glyphs)
 
 -- a glyph without what the rewriting changes
 abbrev pub unnamed : hb_glyph_info_t → hb_glyph_info_t
 unnamed g = record g { glyph_id = 0; auxiliary = 0 }
 
--- What it gives: rs. Each glyph is its source, after the items were joined where they stood, in all but character and feature.
--- No cluster rises.
-pub record RewrittenHolds (font : Font) (circles : Bool) (level : BufferClusterLevel) (gs rs : List hb_glyph_info_t) : Type 0 where
-  pub made : map unnamed rs ≡ map unnamed (pick (sources (items font circles (characters gs)) (length gs)) (all_joined level (items font circles (characters gs)) gs))
+-- What it gives: rs. Each glyph is its source, after the items were joined where they stood, in all
+-- but character and feature. No cluster rises.
+pub record RewrittenHolds (font : Font) (circles : Bool) (level : BufferClusterLevel) (gs rs : List
+    hb_glyph_info_t) : Type 0 where
+  pub made : map unnamed rs
+      ≡ map unnamed (pick (sources (items font circles (characters gs)) (length gs))
+      (all_joined level (items font circles (characters gs)) gs))
   pub in_clusters : ClustersRewritten font circles level (characters gs) (clusters gs) (clusters rs)
-  pub none_rises : AllZip (λ old new. new.cluster ≤ old.cluster) (pick (sources (items font circles (characters gs)) (length gs)) gs) rs
+  pub none_rises : AllZip (λ old new. new.cluster ≤ old.cluster)
+      (pick (sources (items font circles (characters gs)) (length gs)) gs) rs
 
 abbrev pub RewrittenLaw : Type 0
-RewrittenLaw = (font : Font) (circles : Bool) (level : BufferClusterLevel) (gs : List hb_glyph_info_t) → RewrittenHolds font circles level gs (preprocessed font circles level gs)
+RewrittenLaw = (font : Font) (circles : Bool) (level : BufferClusterLevel)
+    (gs : List hb_glyph_info_t) →
+    RewrittenHolds font circles level gs (preprocessed font circles level gs)
 
--- SPELLING. A text with each syllable character replaced by its jamo; that without tones and circles
+-- SPELLING. A text with each syllable character replaced by its jamo; that without tones and
+-- circles
 abbrev pub jamo_of : ℕ → List ℕ
 jamo_of s = lead s ∷ vowel s ∷ (if is_lv s then [] else trail s ∷ [])
 
@@ -59,7 +75,9 @@ spelled us = filter (λ u. not (is_tone u || u == 0x25CC)) (full us)
 
 -- A unit that is no tone spells what it takes; the result spells the text, tones and circles apart.
 pub record Spells (font : Font) (circles : Bool) (us : List ℕ) : Type 0 where
-  pub unit : is_tone (get_or us 0 0) ≡ false → full (unit_output character_copies (opening_unit font circles us) us) ≡ full (take (taken (opening_unit font circles us)) us)
+  pub unit : is_tone (get_or us 0 0) ≡ false →
+      full (unit_output character_copies (opening_unit font circles us) us)
+      ≡ full (take (taken (opening_unit font circles us)) us)
   pub whole : spelled (outputs character_copies (items font circles us) us) ≡ spelled us
 
 abbrev pub SpellingLaw : Type 0

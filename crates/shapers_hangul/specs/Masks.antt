@@ -6,7 +6,8 @@ use Rattle.shapers_base.specs.declared.plan.PlanData.TheVariants.{Hangul}
 use Rattle.shapers_buffer.specs.Buffer.{Buffer}
 use Rattle.shapers_base.specs.Map.{Map, mask_of}
 
--- the masks that the plan keeps: none for unmarked glyphs, then those of leading, vowel and trailing jamo
+-- the masks that the plan keeps: none for unmarked glyphs, then those of leading, vowel and
+-- trailing jamo
 abbrev pub jamo_masks : Map → List ℕ
 jamo_masks m = 0 ∷ map (λ tag. mask_of (record { 0 = codes tag }) m) ("ljmo" ∷ "vjmo" ∷ "tjmo" ∷ [])
 
@@ -19,7 +20,8 @@ abbrev pub masks_in : PlanData → List ℕ
 masks_in (Hangul kept) = kept.mask_array
 masks_in _ = []
 
--- the glyph with the mask of its auxiliary byte's number besides its own; a byte without a mask changes nothing
+-- the glyph with the mask of its auxiliary byte's number besides its own; a byte without a mask
+-- changes nothing
 abbrev pub with_jamo_mask : List ℕ → hb_glyph_info_t → hb_glyph_info_t
 with_jamo_mask masks g = record g { mask = bit_or g.mask (slice_index masks g.auxiliary) }
 

@@ -1,5 +1,5 @@
 //! The shaper of Hangul.
-ghost use Rattle.std.specs.Prelude.{◌≡◌, ◌%◌, OnOk, OnErr, IsOkUnless, true, map, length, []};
+ghost use Rattle.std.specs.Prelude.{◌≡◌, ◌%◌, OnOk, OnErr, IsOkUnless, true, length, []};
 ghost use Rattle.shapers_buffer.specs.declared.buffer.refusal.ShaperError.TheVariants.{Memory};
 ghost use Rattle.shapers_base.specs.Planner.{with_requests};
 ghost use Rattle.std.specs.List.{All};

@@ -14,7 +14,8 @@ number g = record { 0 = g.glyph_id % 65536 }
 abbrev pub numbers : List hb_glyph_info_t → List GlyphId
 numbers gs = map number gs
 
--- whether a glyph is of a category; whether it is of one of these and no lookup put it in for several
+-- whether a glyph is of a category; whether it is of one of these and no lookup put it in for
+-- several
 abbrev pub has_category : ℕ → hb_glyph_info_t → Bool
 has_category c g = g.category == c
 
@@ -38,7 +39,8 @@ at_position p g = record g { auxiliary = p }
 abbrev pub passes : (hb_glyph_info_t → Bool) → List hb_glyph_info_t → ℕ → Bool
 passes test gs i = option_map_or test (slice_get gs i) false
 
--- the places from s on and before e; whether one of them has a property, the least one that has it, and the greatest
+-- the places from s on and before e; whether one of them has a property, the least one that has it,
+-- and the greatest
 abbrev pub places : ℕ → ℕ → List ℕ
 places s e = range_with_len s (e - s)
 

@@ -24,9 +24,17 @@ use Rattle.shapers_base.specs.Map.{Map, mask_of}
 use Rattle.shapers_base.specs.Questions.{question_for}
 use Rattle.shapers_indic.specs.Requests.{basic_features, other_features}
 
--- what a script asks for: whether fonts may follow an older specification, its virama, where a reph goes and how it is written, and where below-base forms apply
+-- what a script asks for: whether fonts may follow an older specification, its virama, where a reph
+-- goes and how it is written, and where below-base forms apply
 abbrev pub row : String → Bool → ℕ → RephPosition → RephMode → BlwfMode → IndicConfig
-row tag old virama position mode blwf = record { script = Some (record { 0 = codes tag }); has_old_spec = old; virama = virama; reph_pos = position; reph_mode = mode; blwf_mode = blwf }
+row tag old virama position mode blwf = record {
+  script = Some (record { 0 = codes tag });
+  has_old_spec = old;
+  virama = virama;
+  reph_pos = position;
+  reph_mode = mode;
+  blwf_mode = blwf;
+}
 
 -- the table of scripts
 abbrev pub scripts : List IndicConfig
@@ -45,7 +53,14 @@ scripts =
 
 -- what any other script asks for
 abbrev pub other_script : IndicConfig
-other_script = record { script = None; has_old_spec = false; virama = 0; reph_pos = BeforePost; reph_mode = Implicit; blwf_mode = PreAndPost }
+other_script = record {
+  script = None;
+  has_old_spec = false;
+  virama = 0;
+  reph_pos = BeforePost;
+  reph_mode = Implicit;
+  blwf_mode = PreAndPost;
+}
 
 -- whether two scripts are the same
 abbrev pub is_script : Option Script → Option Script → Bool
@@ -55,7 +70,8 @@ is_script = option_eq (λ s t. pointwise nat_eq s.0 t.0)
 abbrev pub config_of : Option Script → IndicConfig
 config_of script = unwrap_or (find (λ c. is_script c.script script) scripts) other_script
 
--- whether a script of the font isn't one of the newer specification, whose tags end in 2; so is none
+-- whether a script of the font isn't one of the newer specification, whose tags end in 2; so is
+-- none
 abbrev pub is_old_script : Option hb_tag_t → Bool
 is_old_script None = true
 is_old_script (Some tag) = not (slice_index tag.0 3 == 0x32)
@@ -64,9 +80,11 @@ is_old_script (Some tag) = not (slice_index tag.0 3 == 0x32)
 abbrev pub has_old_spec : Option Script → Map → Bool
 has_old_spec script m = (config_of script).has_old_spec && is_old_script m.chosen
 
--- whether the questions to the font leave contexts out: in the older specification, but for Malayalam
+-- whether the questions to the font leave contexts out: in the older specification, but for
+-- Malayalam
 abbrev pub zero_context : Option Script → Map → Bool
-zero_context script m = has_old_spec script m && not (is_script script (Some (record { 0 = codes "Mlym" })))
+zero_context script m =
+    has_old_spec script m && not (is_script script (Some (record { 0 = codes "Mlym" })))
 
 -- the mask of a feature, none for one that holds for the whole text
 abbrev pub mask_for : Map → Request → ℕ

@@ -1,4 +1,5 @@
--- The base of a syllable after substitutions. (OpenType, development of Indic scripts: "Final reordering".)
+-- The base of a syllable after substitutions. (OpenType, development of Indic scripts: "Final
+-- reordering".)
 use Rattle.std.specs.Prelude.{ℕ, suc, ◌+◌, ◌-◌, ◌==◌, nat_le, nat_lt, Bool, ◌&&◌, true, false, not, List, [], ◌∷◌, ◌++◌, length, map, take, drop, find, reverse, unwrap_or, Option, None, Some, is_some, if◌then◌else◌}
 use Rattle.std.specs.List.{prefix_len}
 use Rattle.std.specs.Option.{option_map_or}
@@ -48,22 +49,32 @@ abbrev pub with_base_at : ℕ → List hb_glyph_info_t → List hb_glyph_info_t
 with_base_at i gs = with_stretch i (i + 1) (map (at_position POS_BASE_C)) gs
 
 abbrev pub with_pref_base : ℕ → ℕ → List hb_glyph_info_t → List hb_glyph_info_t
-with_pref_base pref base gs = if is_some (unformed_pref pref base gs) then with_base_at (base_by_pref pref base gs) gs else gs
+with_pref_base pref base gs =
+    if is_some (unformed_pref pref base gs) then with_base_at (base_by_pref pref base gs) gs else gs
 
--- Malayalam: a link is joiners, a halant, joiners, and one glyph. The places of the last glyphs of the links that a list opens
--- with, one after another, as long as there are links; its glyphs are numbered from i, and one halant may have come before it.
+-- Malayalam: a link is joiners, a halant, joiners, and one glyph. The places of the last glyphs of
+-- the links that a list opens with, one after another, as long as there are links; its glyphs are
+-- numbered from i, and one halant may have come before it.
 abbrev pub links_from : Bool → ℕ → List hb_glyph_info_t → List ℕ
 links_from halant i [] = []
-links_from false i (g ∷ gs) = if is_joiner g then links_from false (suc i) gs else if is_halant g then links_from true (suc i) gs else []
-links_from true i (g ∷ gs) = if is_joiner g then links_from true (suc i) gs else i ∷ links_from false (suc i) gs
+links_from false i (g ∷ gs) =
+    if is_joiner g then links_from false (suc i) gs
+    else if is_halant g then links_from true (suc i) gs else []
+links_from true i (g ∷ gs) =
+    if is_joiner g then links_from true (suc i) gs else i ∷ links_from false (suc i) gs
 
 -- the list with its last glyphs of links changed
-abbrev pub along_links : (hb_glyph_info_t → hb_glyph_info_t) → Bool → List hb_glyph_info_t → List hb_glyph_info_t
+abbrev pub along_links : (hb_glyph_info_t → hb_glyph_info_t) → Bool → List hb_glyph_info_t →
+    List hb_glyph_info_t
 along_links f halant [] = []
-along_links f false (g ∷ gs) = if is_joiner g then g ∷ along_links f false gs else if is_halant g then g ∷ along_links f true gs else g ∷ gs
-along_links f true (g ∷ gs) = if is_joiner g then g ∷ along_links f true gs else f g ∷ along_links f false gs
+along_links f false (g ∷ gs) =
+    if is_joiner g then g ∷ along_links f false gs
+    else if is_halant g then g ∷ along_links f true gs else g ∷ gs
+along_links f true (g ∷ gs) =
+    if is_joiner g then g ∷ along_links f true gs else f g ∷ along_links f false gs
 
--- whether a linked glyph is a consonant whose below-base form was not made; it gets the base's position
+-- whether a linked glyph is a consonant whose below-base form was not made; it gets the base's
+-- position
 abbrev pub is_unformed_below : hb_glyph_info_t → Bool
 is_unformed_below g = is_consonant g && has_position POS_BELOW_C g
 
@@ -78,27 +89,33 @@ abbrev pub with_links : Option Script → ℕ → List hb_glyph_info_t → List 
 with_links script base gs = if is_malayalam script then links_written base gs else gs
 
 abbrev pub last_link : ℕ → List hb_glyph_info_t → ℕ
-last_link base gs = unwrap_or (find (passes is_unformed_below gs) (reverse (links_from false (base + 1) (drop (base + 1) gs)))) base
+last_link base gs = unwrap_or (find (passes is_unformed_below gs)
+    (reverse (links_from false (base + 1) (drop (base + 1) gs)))) base
 
 abbrev pub base_by_links : Option Script → ℕ → List hb_glyph_info_t → ℕ
 base_by_links script base gs = if is_malayalam script then last_link base gs else base
 
--- a base whose position is one after the base's is no base: what stands before it is, if that is in the syllable
+-- a base whose position is one after the base's is no base: what stands before it is, if that is in
+-- the syllable
 abbrev pub is_behind_base : hb_glyph_info_t → Bool
 is_behind_base g = nat_lt POS_BASE_C g.auxiliary
 
 abbrev pub stepped_back : ℕ → List hb_glyph_info_t → ℕ
 stepped_back base gs = if passes is_behind_base gs base then base - 1 else base
 
--- from the end it goes back over a ZWJ there; and from a nukta or halant to the nearest glyph before it that is neither, else to the start
+-- from the end it goes back over a ZWJ there; and from a nukta or halant to the nearest glyph
+-- before it that is neither, else to the start
 abbrev pub before_joiner : ℕ → List hb_glyph_info_t → ℕ
-before_joiner base gs = if base == length gs && passes (is_one_of (OT_ZWJ ∷ [])) gs (base - 1) then base - 1 else base
+before_joiner base gs =
+    if base == length gs && passes (is_one_of (OT_ZWJ ∷ [])) gs (base - 1) then base - 1 else base
 
 abbrev pub may_be_settled : hb_glyph_info_t → Bool
 may_be_settled g = not (is_one_of (OT_N ∷ OT_H ∷ []) g)
 
 abbrev pub before_halants : ℕ → List hb_glyph_info_t → ℕ
-before_halants base gs = if base == length gs then base else unwrap_or (greatest_place (passes may_be_settled gs) 1 (base + 1)) 0
+before_halants base gs =
+    if base == length gs then base
+    else unwrap_or (greatest_place (passes may_be_settled gs) 1 (base + 1)) 0
 
 abbrev pub settled_base : ℕ → List hb_glyph_info_t → ℕ
 settled_base base gs = before_halants (before_joiner base gs) gs
@@ -107,8 +124,8 @@ settled_base base gs = before_halants (before_joiner base gs) gs
 abbrev pub with_viramas : Rules → List hb_glyph_info_t → List hb_glyph_info_t
 with_viramas r gs = map (recovered r.virama) gs
 
--- A syllable with its base: its glyphs with the positions that the search gives, the place of the base, or the end, and whether
--- a formed pref glyph may still go before it.
+-- A syllable with its base: its glyphs with the positions that the search gives, the place of the
+-- base, or the end, and whether a formed pref glyph may still go before it.
 pub record Based : Type 0 where
   pub glyphs : List hb_glyph_info_t
   pub base : ℕ
@@ -121,4 +138,8 @@ with_base r script gs =
     let by_pref = base_by_pref r.pref first gs in
     let opened = with_pref_base r.pref first gs in
     let linked = with_links script by_pref opened in
-    record { glyphs = linked; base = settled_base (stepped_back (base_by_links script by_pref opened) linked) linked; tries_pref = not (r.pref == 0) && not (is_some (unformed_pref r.pref first gs)) }
+    record {
+      glyphs = linked;
+      base = settled_base (stepped_back (base_by_links script by_pref opened) linked) linked;
+      tries_pref = not (r.pref == 0) && not (is_some (unformed_pref r.pref first gs));
+    }

@@ -13,26 +13,34 @@ use Rattle.shapers_indic_final.specs.FinalReordering.{final_steps}
 use Rattle.shapers_syllabic.specs.Reordering.{glyphs_before}
 use Rattle.shapers_indic_final.specs.declared.ot_shaper_indic_final.rules.Rules.{Rules}
 
--- at the levels that merge, each stretch of places that the steps of a syllable merge is in one cluster when all are done
+-- at the levels that merge, each stretch of places that the steps of a syllable merge is in one
+-- cluster when all are done
 abbrev pub FinalMergesLaw : Type 0
-FinalMergesLaw = (r : Rules) (script : Option Script) (level : BufferClusterLevel) (gs : List hb_glyph_info_t) (cs : List ℕ) →
+FinalMergesLaw = (r : Rules) (script : Option Script) (level : BufferClusterLevel)
+    (gs : List hb_glyph_info_t) (cs : List ℕ) →
     merges level ≡ true → length cs ≡ length gs →
     MergedStay level (final_steps r script gs) cs
 
--- and where all clusters are different no more is merged: neighbours share one then only if such a stretch holds both, and each run so
--- joined has the least that its glyphs had
+-- and where all clusters are different no more is merged: neighbours share one then only if such a
+-- stretch holds both, and each run so joined has the least that its glyphs had
 abbrev pub FinalCutsLaw : Type 0
-FinalCutsLaw = (r : Rules) (script : Option Script) (level : BufferClusterLevel) (gs : List hb_glyph_info_t) (cs : List ℕ) →
+FinalCutsLaw = (r : Rules) (script : Option Script) (level : BufferClusterLevel)
+    (gs : List hb_glyph_info_t) (cs : List ℕ) →
     merges level ≡ true → length cs ≡ length gs → AllDifferent cs →
     let steps = final_steps r script gs in
-    ExactCuts (pick (old_places (length gs) steps) cs) (all_merged steps) (joined_steps level steps cs)
+    ExactCuts (pick (old_places (length gs) steps) cs) (all_merged steps)
+    (joined_steps level steps cs)
 
--- so of each syllable of a text gs (its order view) whose clusters are its own: cs are the clusters of the text as the pause begins, and
--- js those after it
-abbrev pub EachSyllableCuts : Rules → Option Script → List hb_glyph_info_t → List ℕ → List ℕ → Type 0
-EachSyllableCuts r script gs cs js = (before behind : List (List hb_glyph_info_t)) (syl : List hb_glyph_info_t) →
+-- so of each syllable of a text gs (its order view) whose clusters are its own: cs are the clusters
+-- of the text as the pause begins, and js those after it
+abbrev pub EachSyllableCuts : Rules → Option Script → List hb_glyph_info_t → List ℕ → List ℕ →
+    Type 0
+EachSyllableCuts r script gs cs js =
+    (before behind : List (List hb_glyph_info_t)) (syl : List hb_glyph_info_t) →
     syllables gs ≡ before ++ syl ∷ behind →
     let s = glyphs_before before in
     let e = s + length syl in
     let steps = final_steps r script syl in
-    OwnClusters s e cs → ExactCuts (pick (old_places (length syl) steps) (stretch_of s e cs)) (all_merged steps) (stretch_of s e js)
+    OwnClusters s e cs →
+    ExactCuts (pick (old_places (length syl) steps) (stretch_of s e cs)) (all_merged steps)
+    (stretch_of s e js)

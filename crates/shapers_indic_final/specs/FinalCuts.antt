@@ -1,4 +1,5 @@
--- A set-up by spans, a reordering pause and the final reordering, directly after one another, cut between any two spans.
+-- A set-up by spans, a reordering pause and the final reordering, directly after one another, cut
+-- between any two spans.
 use Rattle.std.specs.Prelude.{ℕ, ◌≤◌, List, Option, All}
 use Rattle.shapers_buffer.specs.declared.buffer.glyph.hb_glyph_info_t.{hb_glyph_info_t}
 use Rattle.shapers_buffer.specs.declared.buffer.level.BufferClusterLevel.{BufferClusterLevel}
@@ -22,16 +23,29 @@ use Rattle.shapers_syllabic.specs.Syllabic.{unsafe_spans}
 abbrev pub uninitiated : Rules → hb_glyph_info_t → hb_glyph_info_t
 uninitiated r g = unnumbered (with_bits r.init g)
 
--- what a reordering pause and then the final reordering make of a text: the order view, and the clusters
-abbrev pub final_after : Rules → Option Script → Option DottedCircles → (List hb_glyph_info_t → List hb_glyph_info_t) → List hb_glyph_info_t → List hb_glyph_info_t
+-- what a reordering pause and then the final reordering make of a text: the order view, and the
+-- clusters
+abbrev pub final_after : Rules → Option Script → Option DottedCircles →
+    (List hb_glyph_info_t → List hb_glyph_info_t) → List hb_glyph_info_t → List hb_glyph_info_t
 final_after r script circles meaning gs = final_text r script (paused_order circles meaning gs)
 
-abbrev pub final_clusters_after : Rules → Option Script → BufferClusterLevel → Option DottedCircles → (List hb_glyph_info_t → List hb_glyph_info_t) → (List hb_glyph_info_t → List Step) → List hb_glyph_info_t → List ℕ
-final_clusters_after r script level circles meaning steps gs = joined_steps level (text_steps (final_steps r script) (paused_order circles meaning gs)) (paused_clusters circles steps level gs)
+abbrev pub final_clusters_after : Rules → Option Script → BufferClusterLevel →
+    Option DottedCircles → (List hb_glyph_info_t → List hb_glyph_info_t) →
+    (List hb_glyph_info_t → List Step) → List hb_glyph_info_t → List ℕ
+final_clusters_after r script level circles meaning steps gs =
+    joined_steps level (text_steps (final_steps r script) (paused_order circles meaning gs))
+    (paused_clusters circles steps level gs)
 
--- Whatever the pause is, as long as it reads no serials: serials and the bits of init apart, the halves' results are joined.
+-- Whatever the pause is, as long as it reads no serials: serials and the bits of init apart, the
+-- halves' results are joined.
 abbrev pub FinalCutsBetweenSpans : Type 0
-FinalCutsBetweenSpans = (r : Rules) (meaning : List hb_glyph_info_t → List hb_glyph_info_t) (steps : List hb_glyph_info_t → List Step) (circles : Option DottedCircles) (spans : List Span) (old mid new : Buffer) →
+FinalCutsBetweenSpans =
+    (r : Rules) (meaning : List hb_glyph_info_t → List hb_glyph_info_t)
+    (steps : List hb_glyph_info_t → List Step) (circles : Option DottedCircles) (spans : List Span)
+    (old mid new : Buffer) →
     ReorderLaws meaning steps → ReadsNoSerials meaning steps → All (λ span. span.kind ≤ 15) spans →
-    PauseReordered circles meaning steps (spans_set_up spans BROKEN_CLUSTER old) mid → FinallyReordered r mid new →
-    CutsBetweenSpans (uninitiated r) unsafe_spans (final_after r old.script circles meaning) (final_clusters_after r old.script old.level circles meaning steps) spans old.glyphs new.glyphs
+    PauseReordered circles meaning steps (spans_set_up spans BROKEN_CLUSTER old) mid →
+    FinallyReordered r mid new →
+    CutsBetweenSpans (uninitiated r) unsafe_spans (final_after r old.script circles meaning)
+    (final_clusters_after r old.script old.level circles meaning steps) spans old.glyphs
+    new.glyphs

@@ -21,13 +21,20 @@ is_formed g = is_ligated g.marks && not (is_multiplied g.marks)
 abbrev pub has_mask : ℕ → hb_glyph_info_t → Bool
 has_mask bits g = not (bit_and g.mask bits == 0)
 
--- a halant that lookups put in for several glyphs and then took apart: it has the virama's glyph. It becomes a halant again, without these marks
+-- a halant that lookups put in for several glyphs and then took apart: it has the virama's glyph.
+-- It becomes a halant again, without these marks
 abbrev pub is_lost_virama : Option GlyphId → hb_glyph_info_t → Bool
 is_lost_virama None g = false
-is_lost_virama (Some virama) g = g.glyph_id == virama.0 && is_ligated g.marks && is_multiplied g.marks
+is_lost_virama (Some virama) g =
+    g.glyph_id == virama.0 && is_ligated g.marks && is_multiplied g.marks
 
 abbrev pub recovered : Option GlyphId → hb_glyph_info_t → hb_glyph_info_t
-recovered virama g = if is_lost_virama virama g then record g { category = OT_H; marks = without_mark MULTIPLIED (without_mark LIGATED g.marks) } else g
+recovered virama g =
+    if is_lost_virama virama g then record g {
+      category = OT_H;
+      marks = without_mark MULTIPLIED (without_mark LIGATED g.marks);
+    }
+    else g
 
 -- a list with its first element as the last, and with its last one as the first
 abbrev pub first_goes_last : {X : Type 0} → List X → List X

@@ -25,51 +25,71 @@ use Rattle.shapers_syllabic.specs.ReorderingLaws.{ReadsNoSerials, ReorderLaws}
 
 -- the order and the steps of a syllable keep the laws of reorderings
 abbrev pub FinalReorderLaws : Type 0
-FinalReorderLaws = (r : Rules) (script : Option Script) → ReorderLaws (final_order r script) (final_steps r script)
+FinalReorderLaws =
+    (r : Rules) (script : Option Script) → ReorderLaws (final_order r script) (final_steps r script)
 
 -- no serial of a syllable is read
 abbrev pub FinalReadsNoSerials : Type 0
-FinalReadsNoSerials = (r : Rules) (script : Option Script) → ReadsNoSerials (final_order r script) (final_steps r script)
+FinalReadsNoSerials = (r : Rules) (script : Option Script) →
+    ReadsNoSerials (final_order r script) (final_steps r script)
 
 -- the steps of all syllables of a text
 abbrev pub final_text_steps : Rules → Option Script → List hb_glyph_info_t → List Step
 final_text_steps r script gs = text_steps (final_steps r script) (order_view gs)
 
 -- what a text becomes behind a glyph, which decides on init at its start alone
-abbrev pub final_text_behind : Rules → Option Script → Option hb_glyph_info_t → List hb_glyph_info_t → List hb_glyph_info_t
-final_text_behind r script before gs = with_inits r.init before (map (final_order r script) (syllables gs))
+abbrev pub final_text_behind : Rules → Option Script → Option hb_glyph_info_t →
+    List hb_glyph_info_t → List hb_glyph_info_t
+final_text_behind r script before gs =
+    with_inits r.init before (map (final_order r script) (syllables gs))
 
 -- The clusters of a text after the steps of its syllables.
-abbrev pub final_clusters : Rules → Option Script → BufferClusterLevel → List hb_glyph_info_t → List ℕ
+abbrev pub final_clusters : Rules → Option Script → BufferClusterLevel → List hb_glyph_info_t →
+    List ℕ
 final_clusters r script level gs = joined_steps level (final_text_steps r script gs) (clusters gs)
 
--- Texts that are the same but for serials become the same but for serials, whatever stands before both, by the same clusters.
-pub record SameButSerialsFinally (r : Rules) (script : Option Script) (gs hs : List hb_glyph_info_t) : Type 0 where
-  pub order : (before : Option hb_glyph_info_t) → map unnumbered (final_text_behind r script before gs) ≡ map unnumbered (final_text_behind r script before hs)
-  pub in_clusters : (level : BufferClusterLevel) → final_clusters r script level gs ≡ final_clusters r script level hs
+-- Texts that are the same but for serials become the same but for serials, whatever stands before
+-- both, by the same clusters.
+pub record SameButSerialsFinally (r : Rules) (script : Option Script) (gs hs : List
+    hb_glyph_info_t) : Type 0 where
+  pub order : (before : Option hb_glyph_info_t) →
+      map unnumbered (final_text_behind r script before gs)
+      ≡ map unnumbered (final_text_behind r script before hs)
+  pub in_clusters : (level : BufferClusterLevel) →
+      final_clusters r script level gs ≡ final_clusters r script level hs
 
 abbrev pub FinalTextReadsNoSerials : Type 0
-FinalTextReadsNoSerials = (r : Rules) (script : Option Script) (gs hs : List hb_glyph_info_t) → SameButSerials gs hs → SameButSerialsFinally r script gs hs
+FinalTextReadsNoSerials =
+    (r : Rules) (script : Option Script) (gs hs : List hb_glyph_info_t) → SameButSerials gs hs →
+    SameButSerialsFinally r script gs hs
 
--- Glyph flags of an old glyph and a new one: its cluster doesn't rise; if it fell the flags are gone, else they are kept; but the
--- bits of an unsafe break may come besides.
+-- Glyph flags of an old glyph and a new one: its cluster doesn't rise; if it fell the flags are
+-- gone, else they are kept; but the bits of an unsafe break may come besides.
 pub record FlagsFallButBreaks (old new : hb_glyph_info_t) : Type 0 where
   pub at_most : new.cluster ≤ old.cluster
   pub fell : new.cluster < old.cluster → (new.mask % 8 ≡ 0) ⊎ (new.mask % 8 ≡ 3)
-  pub kept : new.cluster ≡ old.cluster → (new.mask % 8 ≡ old.mask % 8) ⊎ (new.mask % 8 ≡ bit_or (old.mask % 8) 3)
+  pub kept : new.cluster ≡ old.cluster →
+      (new.mask % 8 ≡ old.mask % 8) ⊎ (new.mask % 8 ≡ bit_or (old.mask % 8) 3)
 
 -- whether none of these syllables is opened inside a word, behind a glyph
-abbrev pub BreaksNowhere : Rules → Option Script → Option hb_glyph_info_t → List (List hb_glyph_info_t) → Type 0
+abbrev pub BreaksNowhere : Rules → Option Script → Option hb_glyph_info_t →
+    List (List hb_glyph_info_t) → Type 0
 BreaksNowhere r script before [] = Unit {0}
-BreaksNowhere r script before (syl ∷ syls) = (is_bound before (final_order r script syl) ≡ false) × BreaksNowhere r script (last_or before (final_order r script syl)) syls
+BreaksNowhere r script before (syl ∷ syls) =
+    (is_bound before (final_order r script syl) ≡ false)
+    × BreaksNowhere r script (last_or before (final_order r script syl)) syls
 
--- whether place i is the first of a syllable that opens inside a word, or the one before it; of these syllables, from place s on
-abbrev pub at_opening : Rules → Option Script → ℕ → Option hb_glyph_info_t → List (List hb_glyph_info_t) → ℕ → Bool
+-- whether place i is the first of a syllable that opens inside a word, or the one before it; of
+-- these syllables, from place s on
+abbrev pub at_opening : Rules → Option Script → ℕ → Option hb_glyph_info_t →
+    List (List hb_glyph_info_t) → ℕ → Bool
 at_opening r script s before [] i = false
 at_opening r script s before (syl ∷ syls) i =
-    is_bound before (final_order r script syl) && (i == s || i + 1 == s) || at_opening r script (s + length syl) (last_or before (final_order r script syl)) syls i
+    is_bound before (final_order r script syl) && (i == s || i + 1 == s)
+    || at_opening r script (s + length syl) (last_or before (final_order r script syl)) syls i
 
--- the glyphs with these bits in the mask of the first; two lists that differ in these bits of their first glyph alone
+-- the glyphs with these bits in the mask of the first; two lists that differ in these bits of their
+-- first glyph alone
 abbrev pub with_first_bits : ℕ → List hb_glyph_info_t → List hb_glyph_info_t
 with_first_bits bits [] = []
 with_first_bits bits (g ∷ gs) = with_bits bits g ∷ gs
@@ -77,34 +97,61 @@ with_first_bits bits (g ∷ gs) = with_bits bits g ∷ gs
 abbrev pub SameButFirstBits : ℕ → List hb_glyph_info_t → List hb_glyph_info_t → Type 0
 SameButFirstBits bits xs ys = with_first_bits bits xs ≡ with_first_bits bits ys
 
--- A text cut at a border of syllables: the order view is that of the first half, and then that of the second behind its last
--- glyph, which for itself differs in the bits of init of its first glyph alone; where the halves share no cluster, so are the clusters.
-pub record FinallyOfHalves (r : Rules) (script : Option Script) (level : BufferClusterLevel) (gs hs new : List hb_glyph_info_t) : Type 0 where
-  pub order : order_view new ≡ final_text r script (order_view gs) ++ final_text_behind r script (last_or None (text_order (final_order r script) (order_view gs))) (order_view hs)
-  pub alone : SameButFirstBits r.init (final_text_behind r script (last_or None (text_order (final_order r script) (order_view gs))) (order_view hs)) (final_text r script (order_view hs))
-  pub in_clusters : ShareNone gs hs → clusters new ≡ final_clusters r script level gs ++ final_clusters r script level hs
+-- A text cut at a border of syllables: the order view is that of the first half, and then that of
+-- the second behind its last glyph, which for itself differs in the bits of init of its first glyph
+-- alone; where the halves share no cluster, so are the clusters.
+pub record FinallyOfHalves (r : Rules) (script : Option Script) (level : BufferClusterLevel) (gs hs
+    new : List hb_glyph_info_t) : Type 0 where
+  pub order : order_view new
+      ≡ final_text r script (order_view gs)
+      ++ final_text_behind r script
+      (last_or None (text_order (final_order r script) (order_view gs))) (order_view hs)
+  pub alone : SameButFirstBits r.init (final_text_behind r script
+      (last_or None (text_order (final_order r script) (order_view gs))) (order_view hs))
+      (final_text r script (order_view hs))
+  pub in_clusters : ShareNone gs hs →
+      clusters new ≡ final_clusters r script level gs ++ final_clusters r script level hs
 
--- What holds of any text after the pause. Nothing is lost: what is carried along, clusters and glyph flags apart, and glyph numbers
--- alone, are those of the text in some order, each from the place that the steps say. The clusters are what the steps of all
--- syllables make of the old ones, one after another: each is one that was there, labels are respected, at level Characters each
--- glyph keeps its own; none rises. At the levels that merge each stretch that the steps merge is in one cluster, and in a syllable
--- whose clusters are its own no more is merged. Glyph flags; and where no syllable is opened inside a word, the laws of steps as
--- they are. Cuts at borders of syllables.
+-- What holds of any text after the pause. Nothing is lost: what is carried along, clusters and
+-- glyph flags apart, and glyph numbers alone, are those of the text in some order, each from the
+-- place that the steps say. The clusters are what the steps of all syllables make of the old ones,
+-- one after another: each is one that was there, labels are respected, at level Characters each
+-- glyph keeps its own; none rises. At the levels that merge each stretch that the steps merge is in
+-- one cluster, and in a syllable whose clusters are its own no more is merged. Glyph flags; and
+-- where no syllable is opened inside a word, the laws of steps as they are. Cuts at borders of
+-- syllables.
 pub record FinallyKept (r : Rules) (old new : Buffer) : Type 0 where
   pub kept : IsPermutation (seen carried old.glyphs) (seen carried new.glyphs)
   pub numbers : IsPermutation (map (λ g. g.glyph_id) old.glyphs) (map (λ g. g.glyph_id) new.glyphs)
-  pub moved_view : seen carried new.glyphs ≡ pick (old_places (length old.glyphs) (final_text_steps r old.script old.glyphs)) (seen carried old.glyphs)
+  pub moved_view : seen carried new.glyphs
+      ≡ pick (old_places (length old.glyphs) (final_text_steps r old.script old.glyphs))
+      (seen carried old.glyphs)
   pub clusters_are : clusters new.glyphs ≡ final_clusters r old.script old.level old.glyphs
-  pub in_clusters : ClustersHold old.level (final_text_steps r old.script old.glyphs) (clusters old.glyphs) (clusters new.glyphs)
-  pub merged : merges old.level ≡ true → AllByRecursion (InOneCluster (clusters new.glyphs)) (all_merged (final_text_steps r old.script old.glyphs))
-  pub exact : merges old.level ≡ true → EachSyllableCuts r old.script (order_view old.glyphs) (clusters old.glyphs) (clusters new.glyphs)
-  pub none_rises : AllZip (λ a b. b ≤ a) (pick (old_places (length old.glyphs) (final_text_steps r old.script old.glyphs)) (clusters old.glyphs)) (clusters new.glyphs)
-  pub flags : AllZip FlagsFallButBreaks (pick (old_places (length old.glyphs) (final_text_steps r old.script old.glyphs)) old.glyphs) new.glyphs
+  pub in_clusters : ClustersHold old.level (final_text_steps r old.script old.glyphs)
+      (clusters old.glyphs) (clusters new.glyphs)
+  pub merged : merges old.level ≡ true →
+      AllByRecursion (InOneCluster (clusters new.glyphs))
+      (all_merged (final_text_steps r old.script old.glyphs))
+  pub exact : merges old.level ≡ true →
+      EachSyllableCuts r old.script (order_view old.glyphs) (clusters old.glyphs)
+      (clusters new.glyphs)
+  pub none_rises : AllZip (λ a b. b ≤ a) (pick
+      (old_places (length old.glyphs) (final_text_steps r old.script old.glyphs))
+      (clusters old.glyphs)) (clusters new.glyphs)
+  pub flags : AllZip FlagsFallButBreaks (pick
+      (old_places (length old.glyphs) (final_text_steps r old.script old.glyphs)) old.glyphs)
+      new.glyphs
   pub flags_elsewhere : (i : ℕ) →
-      i < length new.glyphs → at_opening r old.script 0 None (syllables (order_view old.glyphs)) i ≡ false →
-      FlagsFall (get_or (pick (old_places (length old.glyphs) (final_text_steps r old.script old.glyphs)) old.glyphs) i default_glyph) (get_or new.glyphs i default_glyph)
-  pub unbroken : BreaksNowhere r old.script None (syllables (order_view old.glyphs)) → SeenStepsHold carried old.level (final_text_steps r old.script old.glyphs) old.glyphs new.glyphs
-  pub cuts : (gs hs : List hb_glyph_info_t) → old.glyphs ≡ gs ++ hs → MeetAtBorder gs hs → FinallyOfHalves r old.script old.level gs hs new.glyphs
+      i < length new.glyphs →
+      at_opening r old.script 0 None (syllables (order_view old.glyphs)) i ≡ false →
+      FlagsFall (get_or (pick (old_places (length old.glyphs)
+      (final_text_steps r old.script old.glyphs)) old.glyphs) i default_glyph)
+      (get_or new.glyphs i default_glyph)
+  pub unbroken : BreaksNowhere r old.script None (syllables (order_view old.glyphs)) →
+      SeenStepsHold carried old.level (final_text_steps r old.script old.glyphs) old.glyphs
+      new.glyphs
+  pub cuts : (gs hs : List hb_glyph_info_t) → old.glyphs ≡ gs ++ hs → MeetAtBorder gs hs →
+      FinallyOfHalves r old.script old.level gs hs new.glyphs
 
 abbrev pub FinalTextLaws : Type 0
 FinalTextLaws = (r : Rules) (old new : Buffer) → FinallyReordered r old new → FinallyKept r old new

@@ -1,4 +1,5 @@
--- Left matras: where they go before the base, and what merges. (OpenType, development of Indic scripts: "Reorder matras".)
+-- Left matras: where they go before the base, and what merges. (OpenType, development of Indic
+-- scripts: "Reorder matras".)
 use Rattle.std.specs.Prelude.{ℕ, ◌+◌, ◌-◌, ◌==◌, min, nat_lt, Bool, ◌&&◌, not, List, [], ◌∷◌, ◌++◌, length, map, filter, reverse, unwrap_or, Option, None, Some, if◌then◌else◌}
 use Rattle.std.specs.List.{enumerate_from}
 use Rattle.shapers_buffer.specs.declared.buffer.glyph.hb_glyph_info_t.{hb_glyph_info_t}
@@ -18,15 +19,18 @@ is_left = has_position POS_PRE_M
 abbrev pub is_free_halant : hb_glyph_info_t → Bool
 is_free_halant g = is_halant g && not (is_left g)
 
--- whether the glyph at place i ends the search for a halant: a vowel sign or halant, but no free halant that a ZWJ follows, which asks for a half form
+-- whether the glyph at place i ends the search for a halant: a vowel sign or halant, but no free
+-- halant that a ZWJ follows, which asks for a half form
 abbrev pub ends_search : List hb_glyph_info_t → ℕ → Bool
-ends_search gs i = passes is_matra_or_halant gs i && not (passes is_free_halant gs i && passes (has_category OT_ZWJ) gs (i + 1))
+ends_search gs i = passes is_matra_or_halant gs i
+    && not (passes is_free_halant gs i && passes (has_category OT_ZWJ) gs (i + 1))
 
 -- the last place before the base, or before the last glyph where there is no base
 abbrev pub place_before : ℕ → List hb_glyph_info_t → ℕ
 place_before base gs = if base == length gs then base - 2 else base - 1
 
--- the free halant that left matras go behind: the nearest from a place leftwards, if nothing ends the search before it; else the start
+-- the free halant that left matras go behind: the nearest from a place leftwards, if nothing ends
+-- the search before it; else the start
 abbrev pub halant_or_start : List hb_glyph_info_t → ℕ → ℕ
 halant_or_start gs i = if passes is_free_halant gs i then i else 0
 
@@ -35,7 +39,9 @@ nearest_halant p gs = halant_or_start gs (unwrap_or (greatest_place (ends_search
 
 -- the place that left matras go to, the start if they stay
 abbrev pub matra_target : Option Script → ℕ → List hb_glyph_info_t → ℕ
-matra_target script base gs = if has_no_half_forms script then place_before base gs else nearest_halant (place_before base gs) gs
+matra_target script base gs =
+    if has_no_half_forms script then place_before base gs
+    else nearest_halant (place_before base gs) gs
 
 -- whether there may be left matras before a base, and whether they go to a place
 abbrev pub has_room : ℕ → List hb_glyph_info_t → Bool
@@ -58,24 +64,33 @@ with_matras script base gs =
 abbrev pub end_of_base : ℕ → List hb_glyph_info_t → ℕ
 end_of_base base gs = min (length gs) (base + 1)
 
--- the step of n places in which the glyph of place i goes behind those up to place j, and then all from there to e merges
+-- the step of n places in which the glyph of place i goes behind those up to place j, and then all
+-- from there to e merges
 abbrev pub matra_step : ℕ → ℕ → ℕ → ℕ → Step
-matra_step n e i j = record { merged_first = []; places = with_stretch i (j + 1) first_goes_last (places 0 n); merged_then = (j, e) ∷ [] }
+matra_step n e i j = record {
+  merged_first = [];
+  places = with_stretch i (j + 1) first_goes_last (places 0 n);
+  merged_then = (j, e) ∷ [];
+}
 
--- the places of the left matras before p, the last one first; it goes to p, and each further one to the place before
+-- the places of the left matras before p, the last one first; it goes to p, and each further one to
+-- the place before
 abbrev pub left_places : ℕ → List hb_glyph_info_t → List ℕ
 left_places p gs = reverse (filter (passes is_left gs) (places 0 p))
 
 abbrev pub parting_steps : ℕ → ℕ → List hb_glyph_info_t → List Step
-parting_steps p e gs = map (λ t. matra_step (length gs) e t.1 (p - t.0)) (enumerate_from 0 (left_places p gs))
+parting_steps p e gs =
+    map (λ t. matra_step (length gs) e t.1 (p - t.0)) (enumerate_from 0 (left_places p gs))
 
 -- where they stay, the first one merges with all up to the base
 abbrev pub merging_step : ℕ → ℕ → Option ℕ → List Step
 merging_step n e None = []
-merging_step n e (Some i) = record { merged_first = (i, e) ∷ []; places = places 0 n; merged_then = [] } ∷ []
+merging_step n e (Some i) =
+    record { merged_first = (i, e) ∷ []; places = places 0 n; merged_then = [] } ∷ []
 
 abbrev pub staying_steps : ℕ → List hb_glyph_info_t → List Step
-staying_steps base gs = merging_step (length gs) (end_of_base base gs) (least_place (passes is_left gs) 0 base)
+staying_steps base gs =
+    merging_step (length gs) (end_of_base base gs) (least_place (passes is_left gs) 0 base)
 
 -- the steps of the left matras
 abbrev pub steps_before : Option Script → ℕ → List hb_glyph_info_t → List Step

@@ -1,4 +1,5 @@
--- A left matra that opens a syllable: init at the start of a word, else no break before it; and the whole text.
+-- A left matra that opens a syllable: init at the start of a word, else no break before it; and the
+-- whole text.
 use Rattle.std.specs.Prelude.{ℕ, ◌+◌, ◌-◌, ◌≡◌, Bool, ◌&&◌, true, false, not, List, [], ◌∷◌, ◌++◌, length, map, take, drop, Option, None, Some, if◌then◌else◌}
 use Rattle.shapers_buffer.specs.declared.buffer.category.hb_unicode_general_category_t.{hb_unicode_general_category_t}
 use Rattle.shapers_buffer.specs.declared.buffer.category.hb_unicode_general_category_t.TheVariants.{Cf, Cn, Co, Cs, Ll, Lm, Lo, Lt, Lu, Mc, Me, Mn}
@@ -39,7 +40,8 @@ in_word (Some g) = continues_word g.general_category
 -- a syllable behind a glyph, with the mask of init on a left matra that opens it and a word
 abbrev pub with_init : ℕ → Option hb_glyph_info_t → List hb_glyph_info_t → List hb_glyph_info_t
 with_init bits before [] = []
-with_init bits before (g ∷ gs) = if is_left g && not (in_word before) then with_bits bits g ∷ gs else g ∷ gs
+with_init bits before (g ∷ gs) =
+    if is_left g && not (in_word before) then with_bits bits g ∷ gs else g ∷ gs
 
 -- whether it is opened by a left matra inside a word, so that a break before it is unsafe
 abbrev pub is_bound : Option hb_glyph_info_t → List hb_glyph_info_t → Bool
@@ -51,10 +53,13 @@ abbrev pub last_or : {X : Type 0} → Option X → List X → Option X
 last_or before [] = before
 last_or before (x ∷ xs) = last_or (Some x) xs
 
--- syllables in their final order, one after another, each with its mask of init, by the glyph before it
-abbrev pub with_inits : ℕ → Option hb_glyph_info_t → List (List hb_glyph_info_t) → List hb_glyph_info_t
+-- syllables in their final order, one after another, each with its mask of init, by the glyph
+-- before it
+abbrev pub with_inits : ℕ → Option hb_glyph_info_t → List (List hb_glyph_info_t) →
+    List hb_glyph_info_t
 with_inits bits before [] = []
-with_inits bits before (syl ∷ syls) = with_init bits before syl ++ with_inits bits (last_or before syl) syls
+with_inits bits before (syl ∷ syls) =
+    with_init bits before syl ++ with_inits bits (last_or before syl) syls
 
 -- what a text becomes
 abbrev pub final_text : Rules → Option Script → List hb_glyph_info_t → List hb_glyph_info_t
@@ -74,20 +79,28 @@ opened bits s gs =
     let before = before_place s gs in
     bound_at s (is_bound before (drop s gs)) (take s gs ++ with_init bits before (drop s gs))
 
--- the glyphs after the steps of the syllable from place s on, and then with the break before it unsafe, where it is opened so; by the glyph before it
-abbrev pub syllable_run : Rules → Option Script → BufferClusterLevel → ℕ → Option hb_glyph_info_t → List hb_glyph_info_t → List hb_glyph_info_t → List hb_glyph_info_t
+-- the glyphs after the steps of the syllable from place s on, and then with the break before it
+-- unsafe, where it is opened so; by the glyph before it
+abbrev pub syllable_run : Rules → Option Script → BufferClusterLevel → ℕ → Option hb_glyph_info_t →
+    List hb_glyph_info_t → List hb_glyph_info_t → List hb_glyph_info_t
 syllable_run r script level s before syl gs =
-    bound_at s (is_bound before (final_order r script syl)) (run_steps level (map (widened s (s + length syl) (length gs)) (final_steps r script syl)) gs)
+    bound_at s (is_bound before (final_order r script syl)) (run_steps level
+    (map (widened s (s + length syl) (length gs)) (final_steps r script syl)) gs)
 
 -- so of the syllables from place s on, one after another
-abbrev pub text_run : Rules → Option Script → BufferClusterLevel → ℕ → Option hb_glyph_info_t → List (List hb_glyph_info_t) → List hb_glyph_info_t → List hb_glyph_info_t
+abbrev pub text_run : Rules → Option Script → BufferClusterLevel → ℕ → Option hb_glyph_info_t →
+    List (List hb_glyph_info_t) → List hb_glyph_info_t → List hb_glyph_info_t
 text_run r script level s before [] gs = gs
 text_run r script level s before (syl ∷ syls) gs =
-    text_run r script level (s + length syl) (last_or before (final_order r script syl)) syls (syllable_run r script level s before syl gs)
+    text_run r script level (s + length syl) (last_or before (final_order r script syl)) syls
+    (syllable_run r script level s before syl gs)
 
--- The buffer before and after the pause: its order view is the final text, and to the view of what is carried along, cluster and
--- glyph flags among it, the glyphs are those that the steps and openings of all syllables lead to.
+-- The buffer before and after the pause: its order view is the final text, and to the view of what
+-- is carried along, cluster and glyph flags among it, the glyphs are those that the steps and
+-- openings of all syllables lead to.
 pub record FinallyReordered (r : Rules) (old new : Buffer) : Type 0 where
   pub others : but_places new ≡ record (but_places old) { glyphs = new.glyphs }
   pub order : order_view new.glyphs ≡ final_text r old.script (order_view old.glyphs)
-  pub moved : map carried new.glyphs ≡ map carried (text_run r old.script old.level 0 None (syllables (order_view old.glyphs)) old.glyphs)
+  pub moved : map carried new.glyphs
+      ≡ map carried (text_run r old.script old.level 0 None (syllables (order_view old.glyphs))
+      old.glyphs)

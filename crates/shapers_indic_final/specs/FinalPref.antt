@@ -1,4 +1,5 @@
--- A glyph formed by pref goes before the base. (OpenType, development of Indic scripts: "Reorder pre-base-reordering consonants".)
+-- A glyph formed by pref goes before the base. (OpenType, development of Indic scripts: "Reorder
+-- pre-base-reordering consonants".)
 use Rattle.std.specs.Prelude.{ℕ, suc, ◌+◌, ◌-◌, nat_lt, Bool, ◌&&◌, List, [], ◌∷◌, length, Option, None, Some, if◌then◌else◌}
 use Rattle.std.specs.Option.{option_map_or}
 use Rattle.shapers_buffer.specs.declared.buffer.glyph.hb_glyph_info_t.{hb_glyph_info_t}
@@ -18,9 +19,12 @@ if_formed gs (Some i) = if passes is_formed gs i then Some i else None
 abbrev pub formed_pref : ℕ → ℕ → List hb_glyph_info_t → Option ℕ
 formed_pref pref base gs = if_formed gs (pref_place pref base gs)
 
--- the place directly behind the nearest vowel sign or halant before the base, else the start; in scripts without half forms the base
+-- the place directly behind the nearest vowel sign or halant before the base, else the start; in
+-- scripts without half forms the base
 abbrev pub place_before_base : Option Script → ℕ → List hb_glyph_info_t → ℕ
-place_before_base script base gs = if has_no_half_forms script then base else option_map_or suc (greatest_place (passes is_matra_or_halant gs) 0 base) 0
+place_before_base script base gs =
+    if has_no_half_forms script then base
+    else option_map_or suc (greatest_place (passes is_matra_or_halant gs) 0 base) 0
 
 -- but behind a joiner there that follows a halant
 abbrev pub is_joiner_behind_halant : List hb_glyph_info_t → ℕ → Bool
@@ -37,15 +41,22 @@ moved_before j None xs = xs
 moved_before j (Some i) xs = with_stretch j (i + 1) last_goes_first xs
 
 abbrev pub with_pref : ℕ → Option Script → ℕ → List hb_glyph_info_t → List hb_glyph_info_t
-with_pref pref script base gs = moved_before (pref_target script base gs) (formed_pref pref base gs) gs
+with_pref pref script base gs =
+    moved_before (pref_target script base gs) (formed_pref pref base gs) gs
 
--- the step of n places in which all from place j up to place i merges, and the glyph of place i goes to j
+-- the step of n places in which all from place j up to place i merges, and the glyph of place i
+-- goes to j
 abbrev pub pref_move : ℕ → ℕ → ℕ → Step
-pref_move n j i = record { merged_first = (j, i + 1) ∷ []; places = with_stretch j (i + 1) last_goes_first (places 0 n); merged_then = [] }
+pref_move n j i = record {
+  merged_first = (j, i + 1) ∷ [];
+  places = with_stretch j (i + 1) last_goes_first (places 0 n);
+  merged_then = [];
+}
 
 abbrev pub pref_step : ℕ → ℕ → Option ℕ → List Step
 pref_step n j None = []
 pref_step n j (Some i) = pref_move n j i ∷ []
 
 abbrev pub pref_steps : ℕ → Option Script → ℕ → List hb_glyph_info_t → List Step
-pref_steps pref script base gs = pref_step (length gs) (pref_target script base gs) (formed_pref pref base gs)
+pref_steps pref script base gs =
+    pref_step (length gs) (pref_target script base gs) (formed_pref pref base gs)

@@ -1,4 +1,5 @@
--- The final reordering of a syllable: what it becomes, and the merges and moves that lead there. (OpenType, development of Indic scripts: "Final reordering".)
+-- The final reordering of a syllable: what it becomes, and the merges and moves that lead there.
+-- (OpenType, development of Indic scripts: "Final reordering".)
 use Rattle.std.specs.Prelude.{List, [], ◌++◌, Option, if◌then◌else◌}
 use Rattle.shapers_buffer.specs.declared.buffer.glyph.hb_glyph_info_t.{hb_glyph_info_t}
 use Rattle.shapers_buffer.specs.declared.buffer.tag.Script.{Script}
@@ -9,12 +10,18 @@ use Rattle.shapers_indic_final.specs.FinalPref.{pref_steps, with_pref}
 use Rattle.shapers_indic_final.specs.FinalReph.{base_after_reph, reph_steps, with_reph}
 use Rattle.shapers_indic_final.specs.declared.ot_shaper_indic_final.rules.Rules.{Rules}
 
--- the syllable with its base, its left matras at their place; and its reph at its own, which may carry the base along
+-- the syllable with its base, its left matras at their place; and its reph at its own, which may
+-- carry the base along
 abbrev pub after_matras : Rules → Option Script → Based → Based
-after_matras r script b = record { glyphs = with_matras script b.base b.glyphs; base = b.base; tries_pref = b.tries_pref }
+after_matras r script b =
+    record { glyphs = with_matras script b.base b.glyphs; base = b.base; tries_pref = b.tries_pref }
 
 abbrev pub after_reph : Rules → Based → Based
-after_reph r b = record { glyphs = with_reph r.reph_pos b.base b.glyphs; base = base_after_reph r.reph_pos b.base b.glyphs; tries_pref = b.tries_pref }
+after_reph r b = record {
+  glyphs = with_reph r.reph_pos b.base b.glyphs;
+  base = base_after_reph r.reph_pos b.base b.glyphs;
+  tries_pref = b.tries_pref;
+}
 
 -- the glyphs with a formed pref glyph before the base
 abbrev pub after_pref : Rules → Option Script → Based → List hb_glyph_info_t
@@ -26,7 +33,8 @@ based r script gs = with_base r script (with_viramas r gs)
 
 -- what a syllable becomes, but for the mask of init
 abbrev pub final_order : Rules → Option Script → List hb_glyph_info_t → List hb_glyph_info_t
-final_order r script gs = after_pref r script (after_reph r (after_matras r script (based r script gs)))
+final_order r script gs =
+    after_pref r script (after_reph r (after_matras r script (based r script gs)))
 
 -- the steps that lead there
 abbrev pub steps_of_pref : Rules → Option Script → Based → List Step
@@ -35,7 +43,9 @@ steps_of_pref r script b = if b.tries_pref then pref_steps r.pref script b.base 
 abbrev pub steps_of_based : Rules → Option Script → Based → List Step
 steps_of_based r script b =
     let parted = after_matras r script b in
-    matra_steps script b.base b.glyphs ++ (reph_steps r.reph_pos parted.base parted.glyphs ++ steps_of_pref r script (after_reph r parted))
+    matra_steps script b.base b.glyphs
+    ++ (reph_steps r.reph_pos parted.base parted.glyphs
+    ++ steps_of_pref r script (after_reph r parted))
 
 abbrev pub final_steps : Rules → Option Script → List hb_glyph_info_t → List Step
 final_steps r script gs = steps_of_based r script (based r script gs)

@@ -1,4 +1,5 @@
--- The reph: whether it moves, and where to. (OpenType, development of Indic scripts: "Reorder reph".)
+-- The reph: whether it moves, and where to. (OpenType, development of Indic scripts: "Reorder
+-- reph".)
 use Rattle.std.specs.Prelude.{ℕ, ◌+◌, ◌-◌, ◌==◌, nat_le, nat_lt, Bool, ◌&&◌, ◌||◌, false, not, List, [], ◌∷◌, length, drop, count_by, unwrap_or, Option, if◌then◌else◌}
 use Rattle.std.specs.List.{list_any, prefix_len}
 use Rattle.std.specs.Option.{option_map_or}
@@ -14,7 +15,8 @@ use Rattle.shapers_indic_final.specs.FinalGlyphs.{first_goes_last, is_formed, is
 
 -- whether a glyph is a reph that moves: a formed one, or a character of its own that is not formed
 abbrev pub is_moving_reph : hb_glyph_info_t → Bool
-is_moving_reph g = has_position POS_RA_TO_BECOME_REPH g && not (has_category OT_Repha g && is_formed g) && (has_category OT_Repha g || is_formed g)
+is_moving_reph g = has_position POS_RA_TO_BECOME_REPH g
+    && not (has_category OT_Repha g && is_formed g) && (has_category OT_Repha g || is_formed g)
 
 -- whether it opens a syllable of two or more
 abbrev pub opens_with_reph : List hb_glyph_info_t → Bool
@@ -22,14 +24,16 @@ opens_with_reph (g ∷ (h ∷ gs)) = is_moving_reph g
 opens_with_reph (g ∷ []) = false
 opens_with_reph [] = false
 
--- the place behind the first halant between the start and the base, and behind a joiner there that stands before the base; by the halant's place
+-- the place behind the first halant between the start and the base, and behind a joiner there that
+-- stands before the base; by the halant's place
 abbrev pub halant_after_start : ℕ → List hb_glyph_info_t → Option ℕ
 halant_after_start base gs = least_place (passes is_halant gs) 1 base
 
 abbrev pub with_joiner : ℕ → List hb_glyph_info_t → ℕ → ℕ
 with_joiner base gs h = if nat_lt (h + 1) base && passes is_joiner gs (h + 1) then h + 1 else h
 
--- after the main consonant: the end of the run behind the base of positions up to AFTER_MAIN; after below-base forms: of those that are not post-base, after it, or a sign's
+-- after the main consonant: the end of the run behind the base of positions up to AFTER_MAIN; after
+-- below-base forms: of those that are not post-base, after it, or a sign's
 abbrev pub is_with_main : hb_glyph_info_t → Bool
 is_with_main g = nat_le g.auxiliary POS_AFTER_MAIN
 
@@ -39,9 +43,11 @@ is_with_sub g = not (list_any (λ p. p == g.auxiliary) (POS_POST_C ∷ POS_AFTER
 abbrev pub end_of_run : (hb_glyph_info_t → Bool) → ℕ → List hb_glyph_info_t → ℕ
 end_of_run test base gs = base + prefix_len test (drop (base + 1) gs)
 
--- the end of the syllable: its last glyph that is no sign, else its start; not between vowel signs and the halant behind them
+-- the end of the syllable: its last glyph that is no sign, else its start; not between vowel signs
+-- and the halant behind them
 abbrev pub last_but_signs : List hb_glyph_info_t → ℕ
-last_but_signs gs = unwrap_or (greatest_place (λ i. not (passes (has_position POS_SMVD) gs i)) 0 (length gs)) 0
+last_but_signs gs =
+    unwrap_or (greatest_place (λ i. not (passes (has_position POS_SMVD) gs i)) 0 (length gs)) 0
 
 abbrev pub matras_between : ℕ → ℕ → List hb_glyph_info_t → ℕ
 matras_between base last gs = count_by is_matra (stretch_of (base + 1) last gs)
@@ -53,29 +59,40 @@ at_end base gs =
 
 -- where the reph goes without a halant before the base, by the script
 abbrev pub behind_base : RephPosition → ℕ → List hb_glyph_info_t → ℕ
-behind_base AfterMain base gs = if nat_lt base (length gs) then end_of_run is_with_main base gs else at_end base gs
-behind_base AfterSub base gs = if nat_lt base (length gs) then end_of_run is_with_sub base gs else at_end base gs
+behind_base AfterMain base gs =
+    if nat_lt base (length gs) then end_of_run is_with_main base gs else at_end base gs
+behind_base AfterSub base gs =
+    if nat_lt base (length gs) then end_of_run is_with_sub base gs else at_end base gs
 behind_base BeforeSub base gs = at_end base gs
 behind_base BeforePost base gs = at_end base gs
 behind_base AfterPost base gs = at_end base gs
 
 -- where the reph goes
 abbrev pub reph_target : RephPosition → ℕ → List hb_glyph_info_t → ℕ
-reph_target position base gs = option_map_or (with_joiner base gs) (halant_after_start base gs) (behind_base position base gs)
+reph_target position base gs =
+    option_map_or (with_joiner base gs) (halant_after_start base gs) (behind_base position base gs)
 
 -- the syllable with the reph there, and where its base stands then
 abbrev pub with_reph : RephPosition → ℕ → List hb_glyph_info_t → List hb_glyph_info_t
-with_reph position base gs = if opens_with_reph gs then with_stretch 0 (reph_target position base gs + 1) first_goes_last gs else gs
+with_reph position base gs =
+    if opens_with_reph gs then with_stretch 0 (reph_target position base gs + 1) first_goes_last gs
+    else gs
 
 abbrev pub carried_along : ℕ → ℕ → ℕ
 carried_along base target = if nat_lt 0 base && nat_le base target then base - 1 else base
 
 abbrev pub base_after_reph : RephPosition → ℕ → List hb_glyph_info_t → ℕ
-base_after_reph position base gs = if opens_with_reph gs then carried_along base (reph_target position base gs) else base
+base_after_reph position base gs =
+    if opens_with_reph gs then carried_along base (reph_target position base gs) else base
 
 -- the step of n places in which all up to place j merges, and the first glyph goes there
 abbrev pub reph_step : ℕ → ℕ → Step
-reph_step n j = record { merged_first = (0, j + 1) ∷ []; places = with_stretch 0 (j + 1) first_goes_last (places 0 n); merged_then = [] }
+reph_step n j = record {
+  merged_first = (0, j + 1) ∷ [];
+  places = with_stretch 0 (j + 1) first_goes_last (places 0 n);
+  merged_then = [];
+}
 
 abbrev pub reph_steps : RephPosition → ℕ → List hb_glyph_info_t → List Step
-reph_steps position base gs = if opens_with_reph gs then reph_step (length gs) (reph_target position base gs) ∷ [] else []
+reph_steps position base gs =
+    if opens_with_reph gs then reph_step (length gs) (reph_target position base gs) ∷ [] else []

@@ -19,11 +19,17 @@ virama_glyph font p = if p.config.virama == 0 then None else font.nominal p.conf
 
 -- so by a plan and a font
 abbrev pub rules_of : Font → indic_shape_plan_t → Rules
-rules_of font p = record { reph_pos = p.config.reph_pos; virama = virama_glyph font p; pref = mask_at p PREF; init = mask_at p INIT }
+rules_of font p = record {
+  reph_pos = p.config.reph_pos;
+  virama = virama_glyph font p;
+  pref = mask_at p PREF;
+  init = mask_at p INIT;
+}
 
 -- the scripts without half forms or explicit viramas, and the first of them alone
 abbrev pub is_malayalam : Option Script → Bool
 is_malayalam script = is_script script (Some (record { 0 = codes "Mlym" }))
 
 abbrev pub has_no_half_forms : Option Script → Bool
-has_no_half_forms script = is_malayalam script || is_script script (Some (record { 0 = codes "Taml" }))
+has_no_half_forms script =
+    is_malayalam script || is_script script (Some (record { 0 = codes "Taml" }))

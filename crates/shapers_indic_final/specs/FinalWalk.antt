@@ -10,8 +10,10 @@ use Rattle.shapers_indic_final.specs.FinalBase.{with_base}
 abbrev pub settled : Rules → Option Script → List hb_glyph_info_t → List hb_glyph_info_t
 settled r script gs = (with_base r script gs).glyphs
 
--- the glyphs before and after, of a syllable from s to e whose base is found, and whether a formed pref glyph may go before it
-pub record Settles (r : Rules) (script : Option Script) (s e base : ℕ) (tries : Bool) (gs hs : List hb_glyph_info_t) : Type 0 where
+-- the glyphs before and after, of a syllable from s to e whose base is found, and whether a formed
+-- pref glyph may go before it
+pub record Settles (r : Rules) (script : Option Script) (s e base : ℕ) (tries : Bool) (gs hs : List
+    hb_glyph_info_t) : Type 0 where
   pub glyphs : hs ≡ with_stretch s e (settled r script) gs
   pub base_is : base ≡ (with_base r script (stretch_of s e gs)).base
   pub tries_is : tries ≡ (with_base r script (stretch_of s e gs)).tries_pref

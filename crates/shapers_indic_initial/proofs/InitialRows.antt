@@ -76,7 +76,7 @@ one_matra = refl
 
 -- a glyph keeps all its other fields
 abbrev full : hb_glyph_info_t
-full = record { glyph_id = 7; cluster = 5; mask = 0x1000; syllable = 0x20; category = M; auxiliary = 2; general_category = Mn; modified_combining_class = 9; lig_comp = 3; marks = record { 0 = 13 } }
+full = record { glyph_id = 7; cluster = 5; mask = 0x1000; var = 0x7A; syllable = 0x20; category = M; auxiliary = 2; general_category = Mn; modified_combining_class = 9; lig_comp = 3; marks = record { 0 = 13 } }
 
 fields_stay : initial_order (rules "Deva" false each_mask) (script "Deva") (record full { category = C; auxiliary = 4; glyph_id = 6 } ∷ full ∷ []) ≡ record full { mask = 0x10A0 } ∷ record full { category = C; auxiliary = 4; glyph_id = 6 } ∷ []
 fields_stay = refl

@@ -24,6 +24,7 @@ mod InitialWords
 pub mod InitialWrites
 mod MaskViews
 mod MaskWalks
+mod MarksAttached
 pub mod Moves
 mod Opening
 pub mod OrderClusters

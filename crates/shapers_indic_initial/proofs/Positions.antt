@@ -1,13 +1,14 @@
 -- The walks that set positions.
-use Rattle.std.proofs.Common.{◌≡◌, ℕ, ◌+◌, ◌-◌, ◌<◌, ◌≤◌, nat_le, Bool, true, false, cond, not, ◌&&◌, ◌||◌, List, [], ◌∷◌, ◌++◌, map, length, take, drop, find, get_or, set, reverse, Option, None, Some, unwrap_or, if◌then◌else◌, refl, sym, ap, ◌∙◌, arith, append_assoc}
+use Rattle.std.proofs.Common.{◌≡◌, ℕ, ◌+◌, ◌<◌, ◌≤◌, ◌==◌, nat_le, nat_lt, min, Bool, true, false, cond, not, ◌&&◌, ◌||◌, List, [], ◌∷◌, ◌++◌, map, length, take, drop, find, get_or, set, reverse, Option, None, Some, unwrap_or, if◌then◌else◌, refl, sym, ap, ◌∙◌, arith, append_assoc}
 use Rattle.std.specs.List.{enumerate_from}
 use Rattle.std.specs.Option.{option_map_or}
-use Rattle.std.proofs.lemmas.List.{append-nil, drop_more, drop_all, drop-set-lt, get_or_append_left, get_or-take, length-drop, length-set, length-take-le, reverse-append, set_at, take_all, take-append-drop, take_more, take_more_set}
+use Rattle.std.proofs.lemmas.List.{append-nil, drop_more, drop_all, get_or_append_left, get_or-take, length-take-le, reverse-append, set_at, take_all, take-append-drop, take_more}
+use Rattle.std.proofs.lemmas.Bool.Decides.{nat_tests}
 use Rattle.shapers_buffer.specs.declared.buffer.glyph.hb_glyph_info_t.{hb_glyph_info_t}
 use Rattle.shapers_buffer.specs.Lists.{each_after}
 use Rattle.shapers_indic.specs.Glyphs.{at_position, has_category, has_position}
-use Rattle.shapers_indic_initial.specs.InitialPositions.{bounds, by_base, before_next, carries, draws_sign, is_attached, owned_by, position_by_base, with_attached, with_halants, with_owner, with_owners, with_signs}
-use Rattle.shapers_indic_initial.proofs.Walks.{walked}
+use Rattle.shapers_indic_initial.specs.InitialPositions.{bounds, by_base, carries, is_attached, owned_by, position_by_base, with_attached, with_halants, with_owner, with_owners}
+use Rattle.shapers_indic_initial.proofs.Walks.{walk_done, walked}
 use Rattle.shapers_syllabic.specs.Consonants.{is_consonant}
 
 -- by the base: the walk counts
@@ -18,8 +19,38 @@ by_base_from : (base : ℕ) (reph : Bool) (i : ℕ) (gs : List hb_glyph_info_t) 
 by_base_from base reph i [] = refl
 by_base_from base reph i (g ∷ gs) = ap (λ xs. at_position (position_by_base base reph i g.auxiliary) g ∷ xs) (by_base_from base reph (i + 1) gs)
 
+and_false : (b : Bool) → (b && false) ≡ false
+and_false true = refl
+and_false false = refl
+
 pub by_base_all : (base : ℕ) (reph : Bool) (gs : List hb_glyph_info_t) → walked (base_step base reph) 0 gs ≡ by_base base reph gs
 by_base_all base reph gs = by_base_from base reph 0 gs
+
+-- behind the base each glyph keeps its position
+behind_base : (base : ℕ) (reph : Bool) (i : ℕ) (gs : List hb_glyph_info_t) → base < i → walked (base_step base reph) i gs ≡ gs
+behind_base base reph i [] h = refl
+behind_base base reph i (g ∷ gs) h =
+    let first : (i == 0) ≡ false = grind (arith, nat_tests) in
+    let before : nat_lt i base ≡ false = grind (arith, nat_tests) in
+    let here : (i == base) ≡ false = grind (arith, nat_tests) in
+    let stays : position_by_base base reph i g.auxiliary ≡ g.auxiliary =
+    ap (λ b. if reph && b then 1 else if nat_lt i base then min 3 g.auxiliary else if i == base then 4 else g.auxiliary) first
+    ∙ ap (λ b. if b then 1 else if nat_lt i base then min 3 g.auxiliary else if i == base then 4 else g.auxiliary) (and_false reph)
+    ∙ ap (λ b. if b then min 3 g.auxiliary else if i == base then 4 else g.auxiliary) before
+    ∙ ap (λ b. if b then 4 else g.auxiliary) here in
+    ap (λ p. at_position p g ∷ walked (base_step base reph) (i + 1) gs) stays ∙ ap (λ xs. g ∷ xs) (behind_base base reph (i + 1) gs (omega arith))
+
+pub based_all : (base : ℕ) (reph : Bool) (i : ℕ) (gs old : List hb_glyph_info_t) → (i < length gs → base < i) → take i gs ++ walked (base_step base reph) i (drop i gs) ≡ walked (base_step base reph) 0 old → gs ≡ by_base base reph old
+based_all base reph i gs old far same =
+    (elim (nat_lt i (length gs)) as (λ b. nat_lt i (length gs) ≡ b → gs ≡ walked (base_step base reph) 0 old) [
+      | true ↦ (λ t.
+          let inside : i < length gs = grind (arith, nat_tests) in
+          sym (take-append-drop i gs) ∙ sym (ap (λ xs. take i gs ++ xs) (behind_base base reph i (drop i gs) (far inside))) ∙ same)
+      | false ↦ (λ t.
+          let done : length gs ≤ i = grind (arith, nat_tests) in
+          walk_done (base_step base reph) i gs (walked (base_step base reph) 0 old) i done same)
+    ]) refl
+    ∙ by_base_all base reph old
 
 -- by the nearest glyph before that passes a test: the walk carries its position
 abbrev pub nearest : (hb_glyph_info_t → Bool) → ℕ → List hb_glyph_info_t → ℕ
@@ -53,73 +84,6 @@ halant_step_of = carry_step (λ h. not (has_position 2 h)) (λ p g. if has_categ
 
 pub halants_all : (gs : List hb_glyph_info_t) → walked halant_step_of 2 gs ≡ with_halants gs
 halants_all gs = carried_on (λ h. not (has_position 2 h)) (λ p g. if has_category 4 g && has_position 2 g then at_position p g else g) 2 2 [] gs refl
-
--- what the code writes
-pub attached_is : (c p : ℕ) (g : hb_glyph_info_t) → p ≡ (if is_attached g then c else g.auxiliary) → at_position p g ≡ (if is_attached g then at_position c g else g)
-attached_is c p g e =
-    ap (λ q. at_position q g) e
-    ∙ (elim (is_attached g) as (λ b. at_position (if b then c else g.auxiliary) g ≡ (if b then at_position c g else g)) [
-      | true ↦ refl
-      | false ↦ refl
-    ])
-
-pub halant_is : (c p : ℕ) (g : hb_glyph_info_t) → p ≡ (if has_category 4 g && has_position 2 g then c else g.auxiliary) → at_position p g ≡ (if has_category 4 g && has_position 2 g then at_position c g else g)
-halant_is c p g e =
-    ap (λ q. at_position q g) e
-    ∙ (elim (has_category 4 g && has_position 2 g) as (λ b. at_position (if b then c else g.auxiliary) g ≡ (if b then at_position c g else g)) [
-      | true ↦ refl
-      | false ↦ refl
-    ])
-
--- the signs: those before the glyph at place i - 1 are done
-pub record Drawing (i : ℕ) (old gs : List hb_glyph_info_t) : Type 0 where
-  pub same_length : length gs ≡ length old
-  pub drawn : take (i - 1) gs ++ with_signs (drop (i - 1) gs) ≡ with_signs old
-
-pub drawing_start : (gs : List hb_glyph_info_t) → Drawing 1 gs gs
-drawing_start gs = record { same_length = refl; drawn = refl }
-
-sign_is : (p : ℕ) (g next : hb_glyph_info_t) (rest : List hb_glyph_info_t) → p ≡ (if draws_sign g next then next.auxiliary else g.auxiliary) → at_position p g ≡ before_next g (next ∷ rest)
-sign_is p g next rest e =
-    ap (λ q. at_position q g) e
-    ∙ (elim (draws_sign g next) as (λ b. at_position (if b then next.auxiliary else g.auxiliary) g ≡ (if b then at_position next.auxiliary g else g)) [
-      | true ↦ refl
-      | false ↦ refl
-    ])
-
-pub drawing_next : (k p : ℕ) (old gs : List hb_glyph_info_t) (d : hb_glyph_info_t) → k + 1 < length gs → Drawing (k + 1) old gs → p ≡ (if draws_sign (get_or gs k d) (get_or gs (k + 1) d) then (get_or gs (k + 1) d).auxiliary else (get_or gs k d).auxiliary) → Drawing (k + 1 + 1) old (set gs k (at_position p (get_or gs k d)))
-drawing_next k p old gs d l s is =
-    let g = get_or gs k d in
-    let next = get_or gs (k + 1) d in
-    let h = at_position p g in
-    let rest = drop (k + 1 + 1) gs in
-    let there : drop k gs ≡ g ∷ next ∷ rest = drop_more gs k d (omega arith) ∙ ap (λ xs. g ∷ xs) (drop_more gs (k + 1) d l) in
-    let here : k + 1 - 1 ≡ k = omega arith in
-    let after : k + 1 + 1 - 1 ≡ k + 1 = omega arith in
-    record {
-      same_length = length-set gs k h ∙ s.same_length;
-      drawn =
-          ap (λ m. take m (set gs k h) ++ with_signs (drop m (set gs k h))) after
-          ∙ ap (λ xs. xs ++ with_signs (drop (k + 1) (set gs k h))) (take_more_set gs k h (omega arith))
-          ∙ append_assoc (take k gs) (h ∷ []) (with_signs (drop (k + 1) (set gs k h)))
-          ∙ ap (λ xs. take k gs ++ h ∷ with_signs xs) (drop-set-lt (k + 1) gs k h (omega arith))
-          ∙ ap (λ x. take k gs ++ x ∷ with_signs (drop (k + 1) gs)) (sign_is p g next rest is)
-          ∙ ap (λ xs. take k gs ++ before_next g (next ∷ rest) ∷ with_signs xs) (drop_more gs (k + 1) d l)
-          ∙ sym (ap (λ xs. take k gs ++ with_signs xs) there)
-          ∙ sym (ap (λ m. take m gs ++ with_signs (drop m gs)) here)
-          ∙ s.drawn;
-    }
-
-few_signs : (gs : List hb_glyph_info_t) → length gs ≤ 1 → with_signs gs ≡ gs
-few_signs [] l = refl
-few_signs (g ∷ []) l = refl
-few_signs (g ∷ h ∷ gs) l = absurd (omega arith)
-
-pub drawn_all : (i : ℕ) (old gs : List hb_glyph_info_t) → length gs ≤ i → Drawing i old gs → gs ≡ with_signs old
-drawn_all i old gs l s =
-    sym (take-append-drop (i - 1) gs)
-    ∙ sym (ap (λ xs. take (i - 1) gs ++ xs) (few_signs (drop (i - 1) gs) (omega (arith, length-drop (i - 1) gs))))
-    ∙ s.drawn
 
 -- what consonants own, from the right
 abbrev pub owner_position : Option hb_glyph_info_t → Option ℕ

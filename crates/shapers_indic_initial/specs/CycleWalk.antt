@@ -9,7 +9,8 @@ places_from s e places = map (λ p. p - s) (listed s e places)
 -- a list that has each of its places once
 pub record EachOnce (from : List ℕ) : Type 0 where
   pub within : (i : ℕ) → i < length from → slice_index from i < length from
-  pub once : (i j : ℕ) → i < length from → j < length from → slice_index from i ≡ slice_index from j → i ≡ j
+  pub once : (i j : ℕ) → i < length from → j < length from →
+      slice_index from i ≡ slice_index from j → i ≡ j
 
 -- the list in which each of these places stays: it is spent
 abbrev pub with_spent : List ℕ → List ℕ → List ℕ

@@ -1,4 +1,5 @@
--- The base consonant and the reph of a syllable. (OpenType, development of Indic scripts: "Find base consonant".)
+-- The base consonant and the reph of a syllable. (OpenType, development of Indic scripts: "Find
+-- base consonant".)
 use Rattle.std.specs.Prelude.{ℕ, suc, ◌+◌, ◌-◌, ◌==◌, min, nat_le, nat_lt, Bool, ◌&&◌, ◌||◌, false, not, List, [], ◌∷◌, length, take, drop, unwrap_or, Option, Some, codes, if◌then◌else◌}
 use Rattle.std.specs.List.{prefix_len}
 use Rattle.std.specs.Option.{option_map_or, option_or}
@@ -16,16 +17,19 @@ use Rattle.shapers_indic.specs.Plan.{is_script}
 
 -- whether a syllable opens with Ra, H, ZWJ
 abbrev pub opens_with_ra_h_zwj : List hb_glyph_info_t → Bool
-opens_with_ra_h_zwj (a ∷ (b ∷ (c ∷ gs))) = is_one_of (OT_Ra ∷ []) a && is_one_of (OT_H ∷ []) b && is_one_of (OT_ZWJ ∷ []) c
+opens_with_ra_h_zwj (a ∷ (b ∷ (c ∷ gs))) =
+    is_one_of (OT_Ra ∷ []) a && is_one_of (OT_H ∷ []) b && is_one_of (OT_ZWJ ∷ []) c
 opens_with_ra_h_zwj (a ∷ (b ∷ [])) = false
 opens_with_ra_h_zwj (a ∷ []) = false
 opens_with_ra_h_zwj [] = false
 
 -- Kannada writes an opening Ra, H, ZWJ as it does Ra, ZWJ, H: the last two change places
 abbrev pub joiner_comes_first : Option Script → List hb_glyph_info_t → Bool
-joiner_comes_first script gs = is_script script (Some (record { 0 = codes "Knda" })) && opens_with_ra_h_zwj gs
+joiner_comes_first script gs =
+    is_script script (Some (record { 0 = codes "Knda" })) && opens_with_ra_h_zwj gs
 
--- whether a glyph behind two others lets them be a reph: in scripts that write it as Ra, H, one that is no joiner; in those that write Ra, H, ZWJ, the ZWJ
+-- whether a glyph behind two others lets them be a reph: in scripts that write it as Ra, H, one
+-- that is no joiner; in those that write Ra, H, ZWJ, the ZWJ
 abbrev pub lets_reph : RephMode → hb_glyph_info_t → Bool
 lets_reph Implicit g = not (is_joiner g)
 lets_reph Explicit g = has_category OT_ZWJ g
@@ -37,13 +41,15 @@ third_lets_reph mode (a ∷ (b ∷ [])) = false
 third_lets_reph mode (a ∷ []) = false
 third_lets_reph mode [] = false
 
--- whether the font forms a reph of the first two glyphs, or where it is written explicitly of the first three
+-- whether the font forms a reph of the first two glyphs, or where it is written explicitly of the
+-- first three
 abbrev pub reph_is_formed : RephMode → (List GlyphId → Bool) → List hb_glyph_info_t → Bool
 reph_is_formed Implicit forms gs = forms (numbers (take 2 gs))
 reph_is_formed Explicit forms gs = forms (numbers (take 2 gs)) || forms (numbers (take 3 gs))
 reph_is_formed LogRepha forms gs = false
 
--- whether the syllable opens with a reph that is a character of its own, in a script that writes it so
+-- whether the syllable opens with a reph that is a character of its own, in a script that writes it
+-- so
 abbrev pub opens_with_repha : RephMode → List hb_glyph_info_t → Bool
 opens_with_repha LogRepha (g ∷ gs) = has_category OT_Repha g
 opens_with_repha LogRepha [] = false
@@ -57,7 +63,8 @@ font_decides_reph r gs = not (mask_at r RPHF == 0) && third_lets_reph r.config.r
 -- how many glyphs an opening reph has, without joiners behind it; 0 where there is none
 abbrev pub reph_len : Rules → List hb_glyph_info_t → ℕ
 reph_len r gs =
-    if font_decides_reph r gs then (if reph_is_formed r.config.reph_mode r.forms_reph gs then 2 else 0)
+    if font_decides_reph r gs then
+    (if reph_is_formed r.config.reph_mode r.forms_reph gs then 2 else 0)
     else if opens_with_repha r.config.reph_mode gs then 1 else 0
 
 -- the limit of the search: behind a reph of n glyphs and the joiners that follow it, or the start
@@ -76,9 +83,11 @@ may_be_base gs i = passes is_base_candidate gs i
 
 -- whether it stops the search: a ZWJ behind an H asks for a half form of what stands before it
 abbrev pub stops_search : List hb_glyph_info_t → ℕ → Bool
-stops_search gs i = nat_lt 0 i && passes (has_category OT_ZWJ) gs i && passes (has_category OT_H) gs (i - 1)
+stops_search gs i =
+    nat_lt 0 i && passes (has_category OT_ZWJ) gs i && passes (has_category OT_H) gs (i - 1)
 
--- where the search ends: at the limit, or at the last glyph if that stands before it, or behind the last glyph from there on that stops it
+-- where the search ends: at the limit, or at the last glyph if that stands before it, or behind the
+-- last glyph from there on that stops it
 abbrev pub search_from : ℕ → List hb_glyph_info_t → ℕ
 search_from lo gs = option_map_or suc (greatest_place (stops_search gs) lo (length gs)) lo
 
@@ -89,13 +98,18 @@ search_start r gs = search_from (min (limit r gs) (length gs - 1)) gs
 abbrev pub is_below : List hb_glyph_info_t → ℕ → Bool
 is_below gs i = may_be_base gs i && passes (has_position POS_BELOW_C) gs i
 
--- whether the search may end with the consonant at place i: it has neither a below-base nor a post-base form; but a post-base form has to follow below-base ones, so it counts as none before one of those
+-- whether the search may end with the consonant at place i: it has neither a below-base nor a
+-- post-base form; but a post-base form has to follow below-base ones, so it counts as none before
+-- one of those
 abbrev pub is_base : List hb_glyph_info_t → ℕ → Bool
-is_base gs i = may_be_base gs i && not (is_below gs i) && (not (passes (has_position POS_POST_C) gs i) || some_place (is_below gs) (i + 1) (length gs))
+is_base gs i = may_be_base gs i && not (is_below gs i)
+    && (not (passes (has_position POS_POST_C) gs i) || some_place (is_below gs) (i + 1) (length gs))
 
 -- the last such consonant, else the first one that may be the base
 abbrev pub last_or_first : ℕ → List hb_glyph_info_t → Option ℕ
-last_or_first start gs = option_or (greatest_place (is_base gs) start (length gs)) (least_place (may_be_base gs) start (length gs))
+last_or_first start gs =
+    option_or (greatest_place (is_base gs) start (length gs))
+    (least_place (may_be_base gs) start (length gs))
 
 -- the base: that one, else the reph, else none
 abbrev pub base_from : ℕ → ℕ → List hb_glyph_info_t → ℕ
@@ -104,6 +118,7 @@ base_from start otherwise gs = unwrap_or (last_or_first start gs) otherwise
 abbrev pub base_place : Rules → List hb_glyph_info_t → ℕ
 base_place r gs = base_from (search_start r gs) (if reph_len r gs == 0 then length gs else 0) gs
 
--- whether the syllable has a reph: one opens it, and there is another base, or a joiner that forces the reph
+-- whether the syllable has a reph: one opens it, and there is another base, or a joiner that forces
+-- the reph
 abbrev pub has_reph : Rules → List hb_glyph_info_t → Bool
 has_reph r gs = not (reph_len r gs == 0) && not (base_place r gs == 0 && nat_le (limit r gs) 2)

@@ -15,20 +15,24 @@ use Rattle.shapers_indic_initial.specs.InitialReordering.{in_order, initial_step
 use Rattle.shapers_indic_initial.specs.InitialRules.{Rules}
 use Rattle.shapers_syllabic.specs.Reordering.{glyphs_before, text_steps}
 
--- the places from the base on between place p and the old place of the glyph now at p, both included
+-- the places from the base on between place p and the old place of the glyph now at p, both
+-- included
 abbrev pub way_of : List ℕ → ℕ → ℕ → ℕ × ℕ
 way_of from base p = (max base (min p (slice_index from p)), suc (max p (slice_index from p)))
 
 abbrev pub all_ways : List ℕ → ℕ → List (ℕ × ℕ)
 all_ways from base = map (way_of from base) (places base (length from))
 
--- the stretches of which each has to be in one cluster: in the older specification, and in a syllable of more than 127 glyphs, all from the base on; else those ways
+-- the stretches of which each has to be in one cluster: in the older specification, and in a
+-- syllable of more than 127 glyphs, all from the base on; else those ways
 abbrev pub kept_together : Rules → List ℕ → ℕ → List (ℕ × ℕ)
-kept_together r from base = if r.old || nat_lt 127 (length from) then (base, length from) ∷ [] else all_ways from base
+kept_together r from base =
+    if r.old || nat_lt 127 (length from) then (base, length from) ∷ [] else all_ways from base
 
--- From the clusters cs before to the clusters js after: each of these stretches is in one cluster. No more is merged: where all
--- clusters are different, neighbours share one only if such a stretch holds both, each run so joined has the least that its
--- glyphs had, and each glyph before the base keeps its own.
+-- From the clusters cs before to the clusters js after: each of these stretches is in one cluster.
+-- No more is merged: where all clusters are different, neighbours share one only if such a stretch
+-- holds both, each run so joined has the least that its glyphs had, and each glyph before the base
+-- keeps its own.
 pub record OrderMerges (base : ℕ) (sts : List (ℕ × ℕ)) (from cs js : List ℕ) : Type 0 where
   pub together : AllByRecursion (InOneCluster js) sts
   pub exact : AllDifferent cs → ExactCuts (pick from cs) sts js
@@ -38,34 +42,48 @@ pub record OrderMerges (base : ℕ) (sts : List (ℕ × ℕ)) (from cs js : List
 
 -- so of any syllable with positions, at the levels that merge
 abbrev pub OrderMergesLaw : Type 0
-OrderMergesLaw = (r : Rules) (level : BufferClusterLevel) (gs : List hb_glyph_info_t) (cs : List ℕ) →
+OrderMergesLaw =
+    (r : Rules) (level : BufferClusterLevel) (gs : List hb_glyph_info_t) (cs : List ℕ) →
     merges level ≡ true → length cs ≡ length gs →
-    OrderMerges (ordered_base (in_order gs)) (kept_together r (ordered_places gs) (ordered_base (in_order gs))) (ordered_places gs) cs (joined_step level (order_step r gs) cs)
+    OrderMerges (ordered_base (in_order gs))
+    (kept_together r (ordered_places gs) (ordered_base (in_order gs))) (ordered_places gs) cs
+    (joined_step level (order_step r gs) cs)
 
--- In a whole text: the clusters as the order of a syllable begins, when those before it are reordered and it has come to its last step.
-abbrev pub as_order_begins : Rules → Option Script → BufferClusterLevel → ℕ → List (List hb_glyph_info_t) → List hb_glyph_info_t → List ℕ → List ℕ
+-- In a whole text: the clusters as the order of a syllable begins, when those before it are
+-- reordered and it has come to its last step.
+abbrev pub as_order_begins : Rules → Option Script → BufferClusterLevel → ℕ →
+    List (List hb_glyph_info_t) → List hb_glyph_info_t → List ℕ → List ℕ
 as_order_begins r script level n before syl cs =
     let s = glyphs_before before in
-    joined_steps level (steps_along n 0 (map (λ piece. (length piece, initial_steps r script piece)) before) ++ map (widened s (s + length syl) n) (take 2 (initial_steps r script syl))) cs
+    joined_steps level (steps_along n 0
+    (map (λ piece. (length piece, initial_steps r script piece)) before)
+    ++ map (widened s (s + length syl) n) (take 2 (initial_steps r script syl))) cs
 
--- From the clusters cs of a text as the order of the syllable from s to e begins, to the clusters js after the pause: each of the
--- syllable's stretches is in one cluster, and where its clusters are its own, no more is merged.
+-- From the clusters cs of a text as the order of the syllable from s to e begins, to the clusters
+-- js after the pause: each of the syllable's stretches is in one cluster, and where its clusters
+-- are its own, no more is merged.
 pub record SyllableMerges (s e base : ℕ) (sts : List (ℕ × ℕ)) (from cs js : List ℕ) : Type 0 where
   pub together : AllByRecursion (InOneCluster js) (shifted s sts)
   pub own : OwnClusters s e cs → OrderMerges base sts from (stretch_of s e cs) (stretch_of s e js)
 
--- so each syllable that is reordered, of a text gs (its order view) with clusters cs before the moves and js after them
-abbrev pub EachSyllableMerges : Rules → Option Script → BufferClusterLevel → List hb_glyph_info_t → List ℕ → List ℕ → Type 0
-EachSyllableMerges r script level gs cs js = (before behind : List (List hb_glyph_info_t)) (syl : List hb_glyph_info_t) →
+-- so each syllable that is reordered, of a text gs (its order view) with clusters cs before the
+-- moves and js after them
+abbrev pub EachSyllableMerges : Rules → Option Script → BufferClusterLevel → List hb_glyph_info_t →
+    List ℕ → List ℕ → Type 0
+EachSyllableMerges r script level gs cs js =
+    (before behind : List (List hb_glyph_info_t)) (syl : List hb_glyph_info_t) →
     syllables gs ≡ before ++ syl ∷ behind → is_reordered syl ≡ true →
     let s = glyphs_before before in
     let xs = positioned r script syl in
     let from = ordered_places xs in
     let base = ordered_base (in_order xs) in
-    SyllableMerges s (s + length syl) base (kept_together r from base) from (as_order_begins r script level (length gs) before syl cs) js
+    SyllableMerges s (s + length syl) base (kept_together r from base) from
+    (as_order_begins r script level (length gs) before syl cs) js
 
 -- at the levels that merge
 abbrev pub InitialClustersLaw : Type 0
-InitialClustersLaw = (r : Rules) (script : Option Script) (level : BufferClusterLevel) (gs : List hb_glyph_info_t) (cs : List ℕ) →
+InitialClustersLaw = (r : Rules) (script : Option Script) (level : BufferClusterLevel)
+    (gs : List hb_glyph_info_t) (cs : List ℕ) →
     merges level ≡ true → length cs ≡ length gs →
-    EachSyllableMerges r script level gs cs (joined_steps level (text_steps (initial_steps r script) gs) cs)
+    EachSyllableMerges r script level gs cs
+    (joined_steps level (text_steps (initial_steps r script) gs) cs)

@@ -1,4 +1,5 @@
--- Positions by the font: a consonant for which the font has a below-base or a post-base form isn't of position BASE_C.
+-- Positions by the font: a consonant for which the font has a below-base or a post-base form isn't
+-- of position BASE_C.
 use Rattle.std.specs.Prelude.{ℕ, ◌==◌, Bool, ◌||◌, List, [], ◌∷◌, map, Option, None, Some, if◌then◌else◌}
 use Rattle.shapers_buffer.specs.declared.buffer.glyph.hb_glyph_info_t.{hb_glyph_info_t}
 use Rattle.shapers_base.specs.declared.font.GlyphId.{GlyphId}
@@ -12,9 +13,11 @@ use Rattle.shapers_indic.specs.Glyphs.{at_position, has_position, number}
 
 -- whether a feature would substitute the virama's glyph v and c, in either order
 abbrev pub joins_virama : Font → Map → IndicWouldSubstituteFeature → GlyphId → GlyphId → Bool
-joins_virama font m q v c = would_by font.applies m q (v ∷ c ∷ []) || would_by font.applies m q (c ∷ v ∷ [])
+joins_virama font m q v c =
+    would_by font.applies m q (v ∷ c ∷ []) || would_by font.applies m q (c ∷ v ∷ [])
 
--- whether the font has a below-base form of c, by blwf or vatu; a post-base form or one reordered before the base, by pstf or pref
+-- whether the font has a below-base form of c, by blwf or vatu; a post-base form or one reordered
+-- before the base, by pstf or pref
 abbrev pub is_below_base : Font → Map → indic_shape_plan_t → GlyphId → GlyphId → Bool
 is_below_base font m p v c = joins_virama font m p.blwf v c || joins_virama font m p.vatu v c
 
@@ -23,20 +26,26 @@ is_post_base font m p v c = joins_virama font m p.pstf v c || joins_virama font 
 
 -- the position of a consonant by the font
 abbrev pub consonant_position : Font → Map → indic_shape_plan_t → GlyphId → GlyphId → ℕ
-consonant_position font m p v c = if is_below_base font m p v c then POS_BELOW_C else if is_post_base font m p v c then POS_POST_C else POS_BASE_C
+consonant_position font m p v c =
+    if is_below_base font m p v c then POS_BELOW_C
+    else if is_post_base font m p v c then POS_POST_C else POS_BASE_C
 
 -- a glyph with its position by the font, where the table has BASE_C for it
 abbrev pub by_virama : Font → Map → indic_shape_plan_t → GlyphId → hb_glyph_info_t → hb_glyph_info_t
-by_virama font m p v g = if has_position POS_BASE_C g then at_position (consonant_position font m p v (number g)) g else g
+by_virama font m p v g =
+    if has_position POS_BASE_C g then at_position (consonant_position font m p v (number g)) g
+    else g
 
 -- the glyph of the script's virama, where it has one and the font has a glyph for it
 abbrev pub virama_glyph : Font → indic_shape_plan_t → Option GlyphId
 virama_glyph font p = if p.config.virama == 0 then None else font.nominal p.config.virama
 
 -- the text with the positions by the font, which asks by that glyph
-abbrev pub all_by_virama : Font → Map → indic_shape_plan_t → Option GlyphId → List hb_glyph_info_t → List hb_glyph_info_t
+abbrev pub all_by_virama : Font → Map → indic_shape_plan_t → Option GlyphId → List hb_glyph_info_t →
+    List hb_glyph_info_t
 all_by_virama font m p None gs = gs
 all_by_virama font m p (Some v) gs = map (by_virama font m p v) gs
 
-abbrev pub positions_by_font : Font → Map → indic_shape_plan_t → List hb_glyph_info_t → List hb_glyph_info_t
+abbrev pub positions_by_font : Font → Map → indic_shape_plan_t → List hb_glyph_info_t →
+    List hb_glyph_info_t
 positions_by_font font m p gs = all_by_virama font m p (virama_glyph font p) gs

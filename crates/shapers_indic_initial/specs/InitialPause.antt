@@ -1,4 +1,5 @@
--- The pause of the initial reordering: positions by the font, dotted circles, and then each syllable.
+-- The pause of the initial reordering: positions by the font, dotted circles, and then each
+-- syllable.
 use Rattle.std.specs.Prelude.{List, Option, Some}
 use Rattle.shapers_buffer.specs.declared.buffer.glyph.hb_glyph_info_t.{hb_glyph_info_t}
 use Rattle.shapers_buffer.specs.declared.buffer.refusal.ShaperError.{ShaperError}
@@ -20,9 +21,15 @@ use Rattle.shapers_syllabic.specs.declared.ot_shaper_syllabic.circles.DottedCirc
 use Rattle.shapers_syllabic.specs.Reordering.{SyllablesReordered, circles_of_sort}
 use Rattle.shapers_syllabic.specs.declared.ot_shaper_syllabic.pause.CircleSort.{CircleSort}
 
--- the dotted circles: behind a repha that opens a broken syllable, and of the last position, which the base's replaces where a circle is the base
+-- the dotted circles: behind a repha that opens a broken syllable, and of the last position, which
+-- the base's replaces where a circle is the base
 abbrev pub indic_circles : CircleSort
-indic_circles = record { broken_kind = BROKEN_CLUSTER; category = OT_DOTTEDCIRCLE; repha = Some OT_Repha; position = Some POS_END }
+indic_circles = record {
+  broken_kind = BROKEN_CLUSTER;
+  category = OT_DOTTEDCIRCLE;
+  repha = Some OT_Repha;
+  position = Some POS_END;
+}
 
 -- the circles that a buffer gets
 abbrev pub initial_circles : Font → Buffer → Option DottedCircles
@@ -30,20 +37,27 @@ initial_circles font b = circles_of_sort indic_circles font b
 
 -- the text with positions by the font and with its circles
 abbrev pub with_positions_and_circles : Font → Map → indic_shape_plan_t → Buffer → Buffer
-with_positions_and_circles font m p b = record b { glyphs = circled (initial_circles font b) (positions_by_font font m p b.glyphs) }
+with_positions_and_circles font m p b =
+    record b { glyphs = circled (initial_circles font b) (positions_by_font font m p b.glyphs) }
 
 -- the buffer before and after the pause
 abbrev pub InitiallyReordered : Font → Map → indic_shape_plan_t → Buffer → Buffer → Type 0
-InitiallyReordered font m p old new = SyllablesReordered (initial_order (rules_of font m p) old.script) (initial_steps (rules_of font m p) old.script) (with_positions_and_circles font m p old) new
+InitiallyReordered font m p old new =
+    SyllablesReordered (initial_order (rules_of font m p) old.script)
+    (initial_steps (rules_of font m p) old.script) (with_positions_and_circles font m p old) new
 
 -- the refusal of a text with a syllable of unknown kind
 abbrev pub initial_refusal : Buffer → Option ShaperError
 initial_refusal b = unknown_refusal NON_INDIC_CLUSTER b.glyphs
 
--- Positions by the font go with each glyph, so that they may as well be given to each syllable for itself, before its order: what
--- a syllable becomes then, and the steps that lead there.
-abbrev pub order_by_font : Font → Map → indic_shape_plan_t → Option Script → List hb_glyph_info_t → List hb_glyph_info_t
-order_by_font font m p script gs = initial_order (rules_of font m p) script (positions_by_font font m p gs)
+-- Positions by the font go with each glyph, so that they may as well be given to each syllable for
+-- itself, before its order: what a syllable becomes then, and the steps that lead there.
+abbrev pub order_by_font : Font → Map → indic_shape_plan_t → Option Script → List hb_glyph_info_t →
+    List hb_glyph_info_t
+order_by_font font m p script gs =
+    initial_order (rules_of font m p) script (positions_by_font font m p gs)
 
-abbrev pub steps_by_font : Font → Map → indic_shape_plan_t → Option Script → List hb_glyph_info_t → List Step
-steps_by_font font m p script gs = initial_steps (rules_of font m p) script (positions_by_font font m p gs)
+abbrev pub steps_by_font : Font → Map → indic_shape_plan_t → Option Script → List hb_glyph_info_t →
+    List Step
+steps_by_font font m p script gs =
+    initial_steps (rules_of font m p) script (positions_by_font font m p gs)

@@ -1,4 +1,5 @@
--- The positions of a syllable's glyphs, by which it is ordered. (OpenType, development of Indic scripts: "Reorder characters".)
+-- The positions of a syllable's glyphs, by which it is ordered. (OpenType, development of Indic
+-- scripts: "Reorder characters".)
 use Rattle.std.specs.Prelude.{ℕ, ◌+◌, ◌==◌, min, nat_le, nat_lt, Bool, ◌&&◌, ◌||◌, not, List, [], ◌∷◌, ◌++◌, length, map, take, drop, find, reverse, Option, None, Some, codes, if◌then◌else◌}
 use Rattle.std.specs.List.{enumerate_from, list_any}
 use Rattle.std.specs.Option.{option_map_or}
@@ -13,28 +14,37 @@ use Rattle.shapers_indic_initial.specs.InitialRules.{Rules}
 use Rattle.shapers_indic.specs.Plan.{is_script}
 use Rattle.shapers_syllabic.specs.Consonants.{is_consonant}
 
--- the position of the glyph at place i, where it has p so far: the reph's; at most PRE_C before the base; BASE_C on it
+-- the position of the glyph at place i, where it has p so far: the reph's; at most PRE_C before the
+-- base; BASE_C on it
 abbrev pub position_by_base : ℕ → Bool → ℕ → ℕ → ℕ
-position_by_base base reph i p = if reph && i == 0 then POS_RA_TO_BECOME_REPH else if nat_lt i base then min POS_PRE_C p else if i == base then POS_BASE_C else p
+position_by_base base reph i p =
+    if reph && i == 0 then POS_RA_TO_BECOME_REPH
+    else if nat_lt i base then min POS_PRE_C p else if i == base then POS_BASE_C else p
 
 abbrev pub by_base : ℕ → Bool → List hb_glyph_info_t → List hb_glyph_info_t
-by_base base reph gs = map (λ t. at_position (position_by_base base reph t.0 t.1.auxiliary) t.1) (enumerate_from 0 gs)
+by_base base reph gs =
+    map (λ t. at_position (position_by_base base reph t.0 t.1.auxiliary) t.1) (enumerate_from 0 gs)
 
--- the older specification: the first H after the base goes behind the last consonant after it; in Kannada not over another H. The places of both.
+-- the older specification: the first H after the base goes behind the last consonant after it; in
+-- Kannada not over another H. The places of both.
 abbrev pub is_passed_by_halant : Option Script → hb_glyph_info_t → Bool
-is_passed_by_halant script g = is_consonant g || (is_script script (Some (record { 0 = codes "Knda" })) && has_category OT_H g)
+is_passed_by_halant script g =
+    is_consonant g || (is_script script (Some (record { 0 = codes "Knda" })) && has_category OT_H g)
 
 abbrev pub halant_after : ℕ → List hb_glyph_info_t → Option ℕ
 halant_after base gs = least_place (passes (has_category OT_H) gs) (base + 1) (length gs)
 
 abbrev pub last_after_halant : Option Script → List hb_glyph_info_t → ℕ → Option ℕ
-last_after_halant script gs h = greatest_place (passes (is_passed_by_halant script) gs) (h + 1) (length gs)
+last_after_halant script gs h =
+    greatest_place (passes (is_passed_by_halant script) gs) (h + 1) (length gs)
 
 -- the list with the element at place h behind the one at place j
 abbrev pub moved_behind : {X : Type 0} → ℕ → ℕ → List X → List X
-moved_behind h j xs = take h xs ++ (stretch_of (h + 1) (j + 1) xs ++ (stretch_of h (h + 1) xs ++ drop (j + 1) xs))
+moved_behind h j xs =
+    take h xs ++ (stretch_of (h + 1) (j + 1) xs ++ (stretch_of h (h + 1) xs ++ drop (j + 1) xs))
 
--- the places of n glyphs, where the one at the first of these places has moved behind the one at the second
+-- the places of n glyphs, where the one at the first of these places has moved behind the one at
+-- the second
 abbrev pub moved_places : Option (ℕ × ℕ) → ℕ → List ℕ
 moved_places None n = places 0 n
 moved_places (Some move) n = moved_behind move.0 move.1 (places 0 n)
@@ -42,32 +52,42 @@ moved_places (Some move) n = moved_behind move.0 move.1 (places 0 n)
 -- for each place the old place of what stands there once that H has moved
 abbrev pub halant_to : List hb_glyph_info_t → ℕ → Option ℕ → List ℕ
 halant_to gs h None = places 0 (length gs)
-halant_to gs h (Some j) = if passes (has_category OT_H) gs j then places 0 (length gs) else moved_behind h j (places 0 (length gs))
+halant_to gs h (Some j) =
+    if passes (has_category OT_H) gs j then places 0 (length gs)
+    else moved_behind h j (places 0 (length gs))
 
 abbrev pub halant_from : Option Script → List hb_glyph_info_t → Option ℕ → List ℕ
 halant_from script gs None = places 0 (length gs)
 halant_from script gs (Some h) = halant_to gs h (last_after_halant script gs h)
 
 abbrev pub halant_places : Rules → Option Script → ℕ → List hb_glyph_info_t → List ℕ
-halant_places r script base gs = if r.old then halant_from script gs (halant_after base gs) else places 0 (length gs)
+halant_places r script base gs =
+    if r.old then halant_from script gs (halant_after base gs) else places 0 (length gs)
 
 -- whether a glyph goes with what stands before it, and whether attached glyphs go with this one
 abbrev pub is_attached : hb_glyph_info_t → Bool
-is_attached g = list_any (λ c. c == g.category) (OT_ZWJ ∷ OT_ZWNJ ∷ OT_N ∷ OT_RS ∷ OT_CM ∷ OT_H ∷ [])
+is_attached g =
+    list_any (λ c. c == g.category) (OT_ZWJ ∷ OT_ZWNJ ∷ OT_N ∷ OT_RS ∷ OT_CM ∷ OT_H ∷ [])
 
 abbrev pub carries : hb_glyph_info_t → Bool
 carries g = not (is_attached g) && not (has_position POS_SMVD g)
 
--- an attached glyph has the position of the nearest glyph before it that carries it, 0 if there is none
+-- an attached glyph has the position of the nearest glyph before it that carries it, 0 if there is
+-- none
 abbrev pub attached_to : List hb_glyph_info_t → hb_glyph_info_t → hb_glyph_info_t
-attached_to before g = if is_attached g then at_position (option_map_or (λ h. h.auxiliary) (find carries (reverse before)) 0) g else g
+attached_to before g =
+    if is_attached g then at_position
+    (option_map_or (λ h. h.auxiliary) (find carries (reverse before)) 0) g
+    else g
 
 abbrev pub with_attached : List hb_glyph_info_t → List hb_glyph_info_t
 with_attached gs = map (λ t. attached_to t.0 t.1) (each_after [] gs)
 
--- a syllable modifier goes with a postfixed matra directly behind it, unless that stands with the modifiers
+-- a syllable modifier goes with a postfixed matra directly behind it, unless that stands with the
+-- modifiers
 abbrev pub draws_sign : hb_glyph_info_t → hb_glyph_info_t → Bool
-draws_sign g next = has_category OT_SM g && has_category OT_MPst next && not (has_position POS_SMVD next)
+draws_sign g next =
+    has_category OT_SM g && has_category OT_MPst next && not (has_position POS_SMVD next)
 
 abbrev pub before_next : hb_glyph_info_t → List hb_glyph_info_t → hb_glyph_info_t
 before_next g [] = g
@@ -77,9 +97,14 @@ abbrev pub with_signs : List hb_glyph_info_t → List hb_glyph_info_t
 with_signs [] = []
 with_signs (g ∷ gs) = before_next g gs ∷ with_signs gs
 
--- an H doesn't go with a left matra: it has the position of the nearest glyph before it that is no such matra's, if there is one
+-- an H doesn't go with a left matra: it has the position of the nearest glyph before it that is no
+-- such matra's, if there is one
 abbrev pub halant_behind : List hb_glyph_info_t → hb_glyph_info_t → hb_glyph_info_t
-halant_behind before g = if has_category OT_H g && has_position POS_PRE_M g then at_position (option_map_or (λ h. h.auxiliary) (find (λ h. not (has_position POS_PRE_M h)) (reverse before)) POS_PRE_M) g else g
+halant_behind before g =
+    if has_category OT_H g
+    && has_position POS_PRE_M g then at_position (option_map_or (λ h. h.auxiliary)
+    (find (λ h. not (has_position POS_PRE_M h)) (reverse before)) POS_PRE_M) g
+    else g
 
 abbrev pub with_halants : List hb_glyph_info_t → List hb_glyph_info_t
 with_halants gs = map (λ t. halant_behind t.0 t.1) (each_after [] gs)
@@ -92,13 +117,15 @@ with_marks_attached gs = with_halants (with_signs (with_attached gs))
 abbrev pub bounds : hb_glyph_info_t → Bool
 bounds g = is_consonant g || is_matra g
 
--- after the base a consonant owns what stands before it since the last consonant or matra, but for modifiers and what is behind them
+-- after the base a consonant owns what stands before it since the last consonant or matra, but for
+-- modifiers and what is behind them
 abbrev pub owned_by : Option hb_glyph_info_t → hb_glyph_info_t → hb_glyph_info_t
 owned_by None g = g
 owned_by (Some h) g = if is_consonant h then at_position h.auxiliary g else g
 
 abbrev pub with_owner : List hb_glyph_info_t → hb_glyph_info_t → hb_glyph_info_t
-with_owner after g = if bounds g || nat_le POS_SMVD g.auxiliary then g else owned_by (find bounds after) g
+with_owner after g =
+    if bounds g || nat_le POS_SMVD g.auxiliary then g else owned_by (find bounds after) g
 
 abbrev pub with_owners : List hb_glyph_info_t → List hb_glyph_info_t
 with_owners [] = []

@@ -1,4 +1,5 @@
--- The initial reordering of a syllable: what it becomes, and the merges and moves that lead there. (OpenType, development of Indic scripts.)
+-- The initial reordering of a syllable: what it becomes, and the merges and moves that lead there.
+-- (OpenType, development of Indic scripts.)
 use Rattle.std.specs.Prelude.{ℕ, Bool, List, [], ◌∷◌, ◌++◌, length, Option, if◌then◌else◌}
 use Rattle.shapers_buffer.specs.declared.buffer.glyph.hb_glyph_info_t.{hb_glyph_info_t}
 use Rattle.shapers_buffer.specs.declared.buffer.tag.Script.{Script}
@@ -14,11 +15,13 @@ use Rattle.shapers_syllabic.specs.declared.ot_shaper_syllabic.kinds.indic_syllab
 
 -- whether a syllable is reordered: one of a consonant or a vowel, a standalone one, or a broken one
 abbrev pub is_reordered : List hb_glyph_info_t → Bool
-is_reordered gs = is_of_kinds (CONSONANT_SYLLABLE ∷ VOWEL_SYLLABLE ∷ STANDALONE_CLUSTER ∷ BROKEN_CLUSTER ∷ []) gs
+is_reordered gs =
+    is_of_kinds (CONSONANT_SYLLABLE ∷ VOWEL_SYLLABLE ∷ STANDALONE_CLUSTER ∷ BROKEN_CLUSTER ∷ []) gs
 
 -- the step of Kannada: H and a ZWJ behind it merge and change places
 abbrev pub joiner_step : Option Script → List hb_glyph_info_t → Step
-joiner_step script gs = if joiner_comes_first script gs then swap_step (length gs) 1 else still_step (length gs)
+joiner_step script gs =
+    if joiner_comes_first script gs then swap_step (length gs) 1 else still_step (length gs)
 
 abbrev pub joiner_steps : Option Script → List hb_glyph_info_t → List Step
 joiner_steps script gs = joiner_step script gs ∷ []
@@ -33,13 +36,15 @@ with_base r gs = by_base (base_place r gs) (has_reph r gs) gs
 
 -- the step of the older specification's H
 abbrev pub halant_step : Rules → Option Script → ℕ → List hb_glyph_info_t → Step
-halant_step r script base gs = record { merged_first = []; places = halant_places r script base gs; merged_then = [] }
+halant_step r script base gs =
+    record { merged_first = []; places = halant_places r script base gs; merged_then = [] }
 
 abbrev pub halant_steps : Rules → Option Script → ℕ → List hb_glyph_info_t → List Step
 halant_steps r script base gs = halant_step r script base gs ∷ []
 
 -- the syllable in which it has moved
-abbrev pub with_halant_moved : Rules → Option Script → ℕ → List hb_glyph_info_t → List hb_glyph_info_t
+abbrev pub with_halant_moved : Rules → Option Script → ℕ → List hb_glyph_info_t →
+    List hb_glyph_info_t
 with_halant_moved r script base gs = pick (halant_places r script base gs) gs
 
 -- the positions of marks and of what consonants own
@@ -47,15 +52,21 @@ abbrev pub with_marks_and_owners : ℕ → List hb_glyph_info_t → List hb_glyp
 with_marks_and_owners base gs = with_owners_after base (with_marks_attached gs)
 
 -- the syllable after that, all its positions set
-abbrev pub with_all_positions : Rules → Option Script → ℕ → List hb_glyph_info_t → List hb_glyph_info_t
-with_all_positions r script base gs = with_marks_and_owners base (with_halant_moved r script base gs)
+abbrev pub with_all_positions : Rules → Option Script → ℕ → List hb_glyph_info_t →
+    List hb_glyph_info_t
+with_all_positions r script base gs =
+    with_marks_and_owners base (with_halant_moved r script base gs)
 
 abbrev pub positioned : Rules → Option Script → List hb_glyph_info_t → List hb_glyph_info_t
-positioned r script gs = let opened = with_joiner_first script gs in with_all_positions r script (base_place r opened) (with_base r opened)
+positioned r script gs =
+    let opened = with_joiner_first script gs in
+    with_all_positions r script (base_place r opened) (with_base r opened)
 
 -- the steps on the way there
 abbrev pub opening_steps : Rules → Option Script → List hb_glyph_info_t → List Step
-opening_steps r script gs = let opened = with_joiner_first script gs in joiner_step script gs ∷ halant_step r script (base_place r opened) (with_base r opened) ∷ []
+opening_steps r script gs =
+    let opened = with_joiner_first script gs in
+    joiner_step script gs ∷ halant_step r script (base_place r opened) (with_base r opened) ∷ []
 
 -- a syllable with positions in the order that they give
 abbrev pub in_order : List hb_glyph_info_t → List hb_glyph_info_t
@@ -63,7 +74,11 @@ in_order gs = pick (ordered_places gs) gs
 
 -- the step of the order, and what merges then
 abbrev pub order_step : Rules → List hb_glyph_info_t → Step
-order_step r gs = record { merged_first = []; places = ordered_places gs; merged_then = ordered_stretches r (ordered_places gs) (ordered_base (in_order gs)) }
+order_step r gs = record {
+  merged_first = [];
+  places = ordered_places gs;
+  merged_then = ordered_stretches r (ordered_places gs) (ordered_base (in_order gs));
+}
 
 -- an ordered syllable with its masks
 abbrev pub masked_in_order : Rules → Option Script → List hb_glyph_info_t → List hb_glyph_info_t
@@ -71,11 +86,13 @@ masked_in_order r script gs = with_initial_masks r script (ordered_base gs) gs
 
 -- what a syllable becomes
 abbrev pub initial_order : Rules → Option Script → List hb_glyph_info_t → List hb_glyph_info_t
-initial_order r script gs = if is_reordered gs then masked_in_order r script (in_order (positioned r script gs)) else gs
+initial_order r script gs =
+    if is_reordered gs then masked_in_order r script (in_order (positioned r script gs)) else gs
 
 -- the steps that lead there: those of the positions, and then that of the order
 abbrev pub steps_of_reordered : Rules → Option Script → List hb_glyph_info_t → List Step
-steps_of_reordered r script gs = opening_steps r script gs ++ order_step r (positioned r script gs) ∷ []
+steps_of_reordered r script gs =
+    opening_steps r script gs ++ order_step r (positioned r script gs) ∷ []
 
 abbrev pub initial_steps : Rules → Option Script → List hb_glyph_info_t → List Step
 initial_steps r script gs = if is_reordered gs then steps_of_reordered r script gs else []

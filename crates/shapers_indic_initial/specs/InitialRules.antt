@@ -7,7 +7,8 @@ use Rattle.shapers_base.specs.Font.{Font}
 use Rattle.shapers_base.specs.Map.{Map}
 use Rattle.shapers_base.specs.Questions.{would_by}
 
--- what the script asks for, whether the older specification holds, the masks by feature, and of which glyphs the font forms a reph or a consonant that is reordered before the base
+-- what the script asks for, whether the older specification holds, the masks by feature, and of
+-- which glyphs the font forms a reph or a consonant that is reordered before the base
 pub record Rules : Type 0 where
   pub config : IndicConfig
   pub old : Bool
@@ -17,7 +18,13 @@ pub record Rules : Type 0 where
 
 -- so by a plan and a font
 abbrev pub rules_of : Font → Map → indic_shape_plan_t → Rules
-rules_of font m p = record { config = p.config; old = p.is_old_spec; masks = p.mask_array; forms_reph = would_by font.applies m p.rphf; forms_pref = would_by font.applies m p.pref }
+rules_of font m p = record {
+  config = p.config;
+  old = p.is_old_spec;
+  masks = p.mask_array;
+  forms_reph = would_by font.applies m p.rphf;
+  forms_pref = would_by font.applies m p.pref;
+}
 
 -- the mask of a feature
 abbrev pub mask_at : Rules → ℕ → ℕ

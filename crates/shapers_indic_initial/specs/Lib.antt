@@ -9,4 +9,5 @@ pub mod InitialPause
 pub mod InitialPositions
 pub mod InitialReordering
 pub mod InitialRules
+pub mod MarkWalk
 pub mod OrderWalk

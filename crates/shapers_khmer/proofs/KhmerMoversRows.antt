@@ -89,7 +89,7 @@ coengs = refl
 
 -- a glyph with all fields set: nothing but its mask changes, and only where that is wanted
 abbrev full : hb_glyph_info_t
-full = record default_glyph { glyph_id = 0x179A; cluster = 7; mask = 0x1003; syllable = 0x21; category = 4; auxiliary = 5; modified_combining_class = 9; lig_comp = 2 }
+full = record default_glyph { glyph_id = 0x179A; cluster = 7; mask = 0x1003; var = 0x7A; syllable = 0x21; category = 4; auxiliary = 5; modified_combining_class = 9; lig_comp = 2 }
 
 wanted : with_mask_if true 0x25 full ≡ record full { mask = 0x1023 }
 wanted = refl

@@ -34,7 +34,7 @@ decompositions = refl
 
 -- a glyph with all fields set: nothing but the named ones change
 abbrev full : hb_glyph_info_t
-full = record default_glyph { glyph_id = 0x179A; cluster = 7; mask = 0x1003; syllable = 0x21; category = 4; auxiliary = 5; general_category = Lo; modified_combining_class = 9; lig_comp = 2 }
+full = record default_glyph { glyph_id = 0x179A; cluster = 7; mask = 0x1003; var = 0x7A; syllable = 0x21; category = 4; auxiliary = 5; general_category = Lo; modified_combining_class = 9; lig_comp = 2 }
 
 categories : with_category table full ≡ record full { category = 15 }
 categories = refl

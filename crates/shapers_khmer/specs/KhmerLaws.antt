@@ -19,4 +19,5 @@ KhmerReadsNoSerials = (r : KhmerOrder) → ReadsNoSerials (khmer_order r) khmer_
 
 -- a set-up and a reordering pause directly after it may be cut between any two spans
 abbrev pub KhmerCutsBetweenSpans : Type 0
-KhmerCutsBetweenSpans = (r : KhmerOrder) → PauseCutsBetweenSpans (khmer_order r) khmer_steps BROKEN_CLUSTER
+KhmerCutsBetweenSpans =
+    (r : KhmerOrder) → PauseCutsBetweenSpans (khmer_order r) khmer_steps BROKEN_CLUSTER

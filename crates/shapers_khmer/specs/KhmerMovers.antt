@@ -7,17 +7,19 @@ use Rattle.shapers_buffer.specs.declared.buffer.glyph.hb_glyph_info_t.{hb_glyph_
 use Rattle.shapers_khmer.specs.Khmer.{is_coeng, is_left_vowel, is_reordered, is_ro, khmer_masked, khmer_moves, khmer_order, khmer_places, merged_for, sorts_of, with_mask}
 use Rattle.shapers_khmer.specs.declared.ot_shaper_khmer.reordering.KhmerOrder.{KhmerOrder}
 
--- whether a syllable of these categories is regular: its first is neither Coeng nor a left vowel, and each Coeng is last or
--- directly followed by neither
+-- whether a syllable of these categories is regular: its first is neither Coeng nor a left vowel,
+-- and each Coeng is last or directly followed by neither
 abbrev pub is_coeng_or_left_vowel : ℕ → Bool
 is_coeng_or_left_vowel sort = is_coeng sort || is_left_vowel sort
 
 abbrev pub is_regular : List ℕ → Bool
 is_regular [] = true
-is_regular (first ∷ sorts) = not (is_coeng_or_left_vowel first) && list_all (λ p. not (is_coeng p.0 && is_coeng_or_left_vowel p.1)) (zip (first ∷ sorts) sorts)
+is_regular (first ∷ sorts) =
+    not (is_coeng_or_left_vowel first)
+    && list_all (λ p. not (is_coeng p.0 && is_coeng_or_left_vowel p.1)) (zip (first ∷ sorts) sorts)
 
--- A part of a syllable: Coeng with the glyph behind it, by its place and the category of that glyph; or another glyph
--- alone, or a last Coeng, by its place and category.
+-- A part of a syllable: Coeng with the glyph behind it, by its place and the category of that
+-- glyph; or another glyph alone, or a last Coeng, by its place and category.
 pub data Part : Type 0 where
   Coeng : (place behind : ℕ) → Part
   Alone : (place sort : ℕ) → Part
@@ -31,7 +33,9 @@ places_of (Alone place sort) = place ∷ []
 abbrev pub parts_from : ℕ → List ℕ → List Part
 parts_from place [] = []
 parts_from place (x ∷ []) = Alone place x ∷ []
-parts_from place (x ∷ (y ∷ sorts)) = if is_coeng x then Coeng place y ∷ parts_from (place + 2) sorts else Alone place x ∷ parts_from (place + 1) (y ∷ sorts)
+parts_from place (x ∷ (y ∷ sorts)) =
+    if is_coeng x then Coeng place y ∷ parts_from (place + 2) sorts
+    else Alone place x ∷ parts_from (place + 1) (y ∷ sorts)
 
 -- what stands behind the Coengs of parts
 abbrev pub behind_coengs : List Part → List ℕ
@@ -39,9 +43,12 @@ behind_coengs [] = []
 behind_coengs (Coeng place behind ∷ parts) = behind ∷ behind_coengs parts
 behind_coengs (Alone place sort ∷ parts) = behind_coengs parts
 
--- whether a Ro moves with its Coeng, by what stands behind the Coengs before it: fewer than three others, and then Ros alone
+-- whether a Ro moves with its Coeng, by what stands behind the Coengs before it: fewer than three
+-- others, and then Ros alone
 abbrev pub moves_behind : List ℕ → Bool
-moves_behind before = let others = prefix_len (λ y. not (is_ro y)) before in nat_lt others 3 && list_all is_ro (drop others before)
+moves_behind before =
+    let others = prefix_len (λ y. not (is_ro y)) before in
+    nat_lt others 3 && list_all is_ro (drop others before)
 
 -- whether a part moves, by the parts before it
 abbrev pub is_mover : List Part × Part → Bool
@@ -52,11 +59,13 @@ is_mover (before, Alone place sort) = is_left_vowel sort
 abbrev pub order_by_movers : List ℕ → List ℕ
 order_by_movers sorts =
     let parts = each_after [] (parts_from 0 sorts) in
-    flat_map (λ e. places_of e.1) (reverse (filter is_mover parts) ++ filter (λ e. not (is_mover e)) parts)
+    flat_map (λ e. places_of e.1)
+    (reverse (filter is_mover parts) ++ filter (λ e. not (is_mover e)) parts)
 
 -- the order by cases of a regular syllable is that by its movers
 abbrev pub KhmerMoversLaw : Type 0
-KhmerMoversLaw = (gs : List hb_glyph_info_t) → is_regular (sorts_of gs) ≡ true → khmer_places gs ≡ order_by_movers (sorts_of gs)
+KhmerMoversLaw = (gs : List hb_glyph_info_t) → is_regular (sorts_of gs) ≡ true →
+    khmer_places gs ≡ order_by_movers (sorts_of gs)
 
 -- MASKS. The places of the Coengs that move with their Ro
 abbrev pub coeng_place : Part → List ℕ
@@ -64,32 +73,39 @@ coeng_place (Coeng place behind) = place ∷ []
 coeng_place (Alone place sort) = []
 
 abbrev pub moving_coengs : List ℕ → List ℕ
-moving_coengs sorts = flat_map (λ e. coeng_place e.1) (filter is_mover (each_after [] (parts_from 0 sorts)))
+moving_coengs sorts =
+    flat_map (λ e. coeng_place e.1) (filter is_mover (each_after [] (parts_from 0 sorts)))
 
 -- the glyph with a mask besides its own, if it is wanted
 abbrev pub with_mask_if : Bool → ℕ → hb_glyph_info_t → hb_glyph_info_t
 with_mask_if wanted m g = if wanted then with_mask m g else g
 
--- the glyph at a place with its masks: blwf, abvf and pstf on all but the first, pref on each pair that moves, cfar behind one
+-- the glyph at a place with its masks: blwf, abvf and pstf on all but the first, pref on each pair
+-- that moves, cfar behind one
 abbrev pub masked_at : KhmerOrder → List ℕ → ℕ → hb_glyph_info_t → hb_glyph_info_t
 masked_at r coengs place g =
     with_mask_if (list_any (λ p. nat_lt (p + 1) place) coengs) r.cfar
-    (with_mask_if (list_any (λ p. place == p || place == p + 1) coengs) r.pref (with_mask_if (nat_lt 0 place) r.others g))
+    (with_mask_if (list_any (λ p. place == p || place == p + 1) coengs) r.pref
+    (with_mask_if (nat_lt 0 place) r.others g))
 
 abbrev pub masked_by_movers : KhmerOrder → List hb_glyph_info_t → List hb_glyph_info_t
-masked_by_movers r gs = map (λ e. masked_at r (moving_coengs (sorts_of gs)) e.0 e.1) (enumerate_from 0 gs)
+masked_by_movers r gs =
+    map (λ e. masked_at r (moving_coengs (sorts_of gs)) e.0 e.1) (enumerate_from 0 gs)
 
 -- the masks by cases of a regular syllable are those by its movers
 abbrev pub KhmerMoversMasksLaw : Type 0
-KhmerMoversMasksLaw = (r : KhmerOrder) (gs : List hb_glyph_info_t) → is_regular (sorts_of gs) ≡ true → khmer_masked r gs ≡ masked_by_movers r gs
+KhmerMoversMasksLaw = (r : KhmerOrder) (gs : List hb_glyph_info_t) →
+    is_regular (sorts_of gs) ≡ true → khmer_masked r gs ≡ masked_by_movers r gs
 
 -- what a syllable becomes, by its movers: the glyphs with their masks, in that order
 abbrev pub khmer_by_movers : KhmerOrder → List hb_glyph_info_t → List hb_glyph_info_t
-khmer_by_movers r gs = if is_reordered gs then pick (order_by_movers (sorts_of gs)) (masked_by_movers r gs) else gs
+khmer_by_movers r gs =
+    if is_reordered gs then pick (order_by_movers (sorts_of gs)) (masked_by_movers r gs) else gs
 
 -- so a regular syllable becomes
 abbrev pub KhmerByMoversLaw : Type 0
-KhmerByMoversLaw = (r : KhmerOrder) (gs : List hb_glyph_info_t) → is_regular (sorts_of gs) ≡ true → khmer_order r gs ≡ khmer_by_movers r gs
+KhmerByMoversLaw = (r : KhmerOrder) (gs : List hb_glyph_info_t) → is_regular (sorts_of gs) ≡ true →
+    khmer_order r gs ≡ khmer_by_movers r gs
 
 -- MERGES. What merges for a part that moves: from the syllable's start to its end, this included
 abbrev pub merged_over : Part → ℕ × ℕ
@@ -97,8 +113,11 @@ merged_over (Coeng place behind) = (0, place + 2)
 merged_over (Alone place sort) = (0, place + 1)
 
 abbrev pub merges_by_movers : List ℕ → List (ℕ × ℕ)
-merges_by_movers sorts = map (λ e. merged_over e.1) (filter is_mover (each_after [] (parts_from 0 sorts)))
+merges_by_movers sorts =
+    map (λ e. merged_over e.1) (filter is_mover (each_after [] (parts_from 0 sorts)))
 
 -- the merges by cases of a regular syllable are those for its movers, in order
 abbrev pub KhmerMoversMergesLaw : Type 0
-KhmerMoversMergesLaw = (gs : List hb_glyph_info_t) → is_regular (sorts_of gs) ≡ true → map merged_for (khmer_moves gs) ≡ merges_by_movers (sorts_of gs)
+KhmerMoversMergesLaw =
+    (gs : List hb_glyph_info_t) → is_regular (sorts_of gs) ≡ true →
+    map merged_for (khmer_moves gs) ≡ merges_by_movers (sorts_of gs)

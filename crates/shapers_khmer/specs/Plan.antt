@@ -9,7 +9,8 @@ use Rattle.shapers_base.specs.Map.{Map, mask_of}
 abbrev pub basic_features : List String
 basic_features = "pref" ∷ "blwf" ∷ "abvf" ∷ "pstf" ∷ "cfar" ∷ []
 
--- the masks that the plan keeps: those of the basic features, and none for the four features that hold for the whole text
+-- the masks that the plan keeps: those of the basic features, and none for the four features that
+-- hold for the whole text
 abbrev pub khmer_masks : Map → List ℕ
 khmer_masks m = map (λ tag. mask_of (record { 0 = codes tag }) m) basic_features ++ replicate 4 0
 

@@ -8,9 +8,12 @@ use Rattle.shapers_base.specs.Planner.{added, enabled, disabled, pause_for}
 -- its features, in order (OpenType)
 abbrev pub khmer_list : List Request
 khmer_list =
-    pause_for SetupSyllablesKhmer ∷ pause_for ReorderKhmer ∷ enabled F_PER_SYLLABLE "locl" ∷ enabled F_PER_SYLLABLE "ccmp" ∷ []
-    ++ map (added (bit_or F_MANUAL_JOINERS F_PER_SYLLABLE)) ("pref" ∷ "blwf" ∷ "abvf" ∷ "pstf" ∷ "cfar" ∷ [])
-    ++ pause_for SyllabicClearVar ∷ map (added (bit_or F_GLOBAL F_MANUAL_JOINERS)) ("pres" ∷ "abvs" ∷ "blws" ∷ "psts" ∷ [])
+    pause_for SetupSyllablesKhmer ∷ pause_for ReorderKhmer ∷ enabled F_PER_SYLLABLE "locl"
+    ∷ enabled F_PER_SYLLABLE "ccmp" ∷ []
+    ++ map (added (bit_or F_MANUAL_JOINERS F_PER_SYLLABLE))
+    ("pref" ∷ "blwf" ∷ "abvf" ∷ "pstf" ∷ "cfar" ∷ [])
+    ++ pause_for SyllabicClearVar
+    ∷ map (added (bit_or F_GLOBAL F_MANUAL_JOINERS)) ("pres" ∷ "abvs" ∷ "blws" ∷ "psts" ∷ [])
 
 -- what Khmer asks after the lists of all
 abbrev pub khmer_overrides : List Request

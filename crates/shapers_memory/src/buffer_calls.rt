@@ -5,7 +5,7 @@ use crate::fault::{Fault, Refusals, check};
 use crate::font::Font;
 use crate::sum::sum_of_buffer;
 use rustybuzz_shapers::buffer::{
-    BufferClusterLevel, BufferFlags, Direction, GlyphPosition, Script, ShaperError, hb_buffer_t,
+    BufferClusterLevel, BufferFlags, Direction, GlyphPosition, Script, hb_buffer_t,
     hb_glyph_info_t, hb_unicode_general_category_t,
 };
 use rustybuzz_shapers::map::hb_ot_map_t;

@@ -10,7 +10,7 @@ use Rattle.shapers_stretch.specs.Recorded.{recorded, start_of, tiles_recorded}
 
 -- a glyph with all fields set
 abbrev set : ℕ → ℕ → ℕ → hb_glyph_info_t
-set marks component action = record { glyph_id = 5; cluster = 6; mask = 7; syllable = 8; category = 9; auxiliary = action; general_category = Lo; modified_combining_class = 11; lig_comp = component; marks = record { 0 = marks } }
+set marks component action = record { glyph_id = 5; cluster = 6; mask = 7; var = 0x7A; syllable = 8; category = 9; auxiliary = action; general_category = Lo; modified_combining_class = 11; lig_comp = component; marks = record { 0 = marks } }
 
 -- odd and even components, the ends among them; without the mark nothing changes, and no other mark counts
 rows : map recorded (set 4 3 1 ∷ set 4 2 1 ∷ set 4 0 1 ∷ set 4 1 1 ∷ set 4 15 1 ∷ set 31 14 1 ∷ set 0 3 1 ∷ set 27 3 1 ∷ []) ≡ set 4 3 9 ∷ set 4 2 8 ∷ set 4 0 8 ∷ set 4 1 9 ∷ set 4 15 9 ∷ set 31 14 8 ∷ set 0 3 1 ∷ set 27 3 1 ∷ []

@@ -27,7 +27,7 @@ widths n = if n == 2 then pos 100 else if n == 3 then pos 200 else if n == 4 the
 -- a cell by its glyph, its cluster, its category, its action and its advance; other fields are set, to be kept
 abbrev cell : ℕ → ℕ → hb_unicode_general_category_t → ℕ → ℤ → Cell
 cell n cluster category action advance =
-    let g : hb_glyph_info_t = record { glyph_id = n; cluster = cluster; mask = 16; syllable = 8; category = 9; auxiliary = action; general_category = category; modified_combining_class = 11; lig_comp = 5; marks = record { 0 = 7 } } in
+    let g : hb_glyph_info_t = record { glyph_id = n; cluster = cluster; mask = 16; var = 0x7A; syllable = 8; category = 9; auxiliary = action; general_category = category; modified_combining_class = 11; lig_comp = 5; marks = record { 0 = 7 } } in
     let p : GlyphPosition = record { x_advance = advance; y_advance = pos 12; x_offset = pos 13; y_offset = negsuc 13 } in
     (g, p)
 

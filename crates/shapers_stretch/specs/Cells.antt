@@ -1,4 +1,5 @@
--- A text in parts: each ends with a longest run of tiles, before which stands its word. A cell is a glyph with its position.
+-- A text in parts: each ends with a longest run of tiles, before which stands its word. A cell is a
+-- glyph with its position.
 use Rattle.std.specs.Prelude.{◌==◌, Bool, false, not, ◌&&◌, ◌||◌, List, [], ◌∷◌, map, if◌then◌else◌}
 use Rattle.std.specs.List.{onto_first}
 use Rattle.shapers_buffer.specs.declared.buffer.category.hb_unicode_general_category_t.{hb_unicode_general_category_t}
@@ -46,9 +47,11 @@ is_word_category Sm = true
 is_word_category So = true
 is_word_category _ = false
 
--- whether a glyph can belong to the word before a run: it is no tile, and undrawn by nature or of a category of words
+-- whether a glyph can belong to the word before a run: it is no tile, and undrawn by nature or of a
+-- category of words
 abbrev pub in_word : hb_glyph_info_t → Bool
-in_word g = not (is_tile g) && (is_ignorable g.marks && not (is_substituted g.marks) || is_word_category g.general_category)
+in_word g = not (is_tile g)
+    && (is_ignorable g.marks && not (is_substituted g.marks) || is_word_category g.general_category)
 
 -- the list cut wherever two neighbours stand so
 abbrev pub cut_here : {X : Type 0} → (X → X → Bool) → X → List X → Bool
@@ -57,7 +60,9 @@ cut_here apart x (y ∷ ys) = apart x y
 
 abbrev pub cut_between : {X : Type 0} → (X → X → Bool) → List X → List (List X)
 cut_between apart [] = []
-cut_between apart (x ∷ xs) = if cut_here apart x xs then (x ∷ []) ∷ cut_between apart xs else onto_first x (cut_between apart xs)
+cut_between apart (x ∷ xs) =
+    if cut_here apart x xs then (x ∷ []) ∷ cut_between apart xs
+    else onto_first x (cut_between apart xs)
 
 -- whether a run of tiles ends between two cells
 abbrev pub run_ends : Cell → Cell → Bool

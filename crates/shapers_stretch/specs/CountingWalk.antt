@@ -1,4 +1,5 @@
--- How the first pass finds what is added: where copies stand by how far each moves the pen, and how far it has come.
+-- How the first pass finds what is added: where copies stand by how far each moves the pen, and how
+-- far it has come.
 use Rattle.std.specs.Prelude.{◌≡◌, ◌≤◌, ◌+◌, ◌^◌, ◌≤ℤ◌, ℕ, ℤ, pos, negsuc, ◌+ℤ◌, ◌-ℤ◌, Bool, ◌&&◌, true, false, List, [], ◌∷◌, length, reverse, take, flat_map, replicate, Option, None, Some, if◌then◌else◌}
 use Rattle.std.specs.List.{list_all}
 use Rattle.shapers_buffer.specs.declared.buffer.glyph.hb_glyph_info_t.{hb_glyph_info_t}
@@ -30,7 +31,9 @@ last_at false behind move = behind -ℤ move
 -- where copies that move the pen so far stand, from here on
 abbrev pub offsets_on : Bool → ℤ → List ℤ → List ℤ
 offsets_on right_to_left pen [] = []
-offsets_on right_to_left pen (move ∷ moves) = stands_at right_to_left pen move ∷ offsets_on right_to_left (pen_behind right_to_left pen move) moves
+offsets_on right_to_left pen (move ∷ moves) =
+    stands_at right_to_left pen move
+    ∷ offsets_on right_to_left (pen_behind right_to_left pen move) moves
 
 -- how far the copies of a tile move it, and those of a run
 abbrev pub moves_of : Font → Lay → hb_glyph_info_t → List ℤ
@@ -57,25 +60,34 @@ pub record IsLay (lay : Lay) : Type 0 where
   pub high : lay.overlap ≤ℤ pos (2 ^ 66)
   pub start : IsNumber lay.start
 
--- a walk over copies that stops where an offset doesn't fit, and else answers where the pen is behind them
+-- a walk over copies that stops where an offset doesn't fit, and else answers where the pen is
+-- behind them
 abbrev pub WalksPen : Bool → ℤ → List ℤ → Option ℤ → Type 0
 WalksPen right_to_left pen moves None = offsets_fit right_to_left pen moves ≡ false
-WalksPen right_to_left pen moves (Some behind) = (offsets_fit right_to_left pen moves ≡ true) × (behind ≡ pen_behind right_to_left pen (total moves)) × IsNumber behind
+WalksPen right_to_left pen moves (Some behind) =
+    (offsets_fit right_to_left pen moves ≡ true)
+    × (behind ≡ pen_behind right_to_left pen (total moves)) × IsNumber behind
 
 -- how many copies a run adds, unless a number of it doesn't fit
 abbrev pub run_added : StretchStart → Bool → Font → Run → List hb_glyph_info_t → Option ℕ
-run_added choice right_to_left font z tiles = if list_all fits_i32 (numbers choice z) && offsets_fit right_to_left (start choice right_to_left z) (run_moves font (lay_of choice right_to_left z) tiles) then Some (copies_added z) else None
+run_added choice right_to_left font z tiles =
+    if list_all fits_i32 (numbers choice z)
+    && offsets_fit right_to_left (start choice right_to_left z)
+    (run_moves font (lay_of choice right_to_left z) tiles) then Some (copies_added z)
+    else None
 
 -- how many cells a stretched text has more, unless a number of it doesn't fit
 abbrev pub CountsAdded : Laying → List Cell → Option ℕ → Type 0
 CountsAdded how cs None = overflows how cs ≡ true
-CountsAdded how cs (Some added) = (overflows how cs ≡ false) × (length (stretched how cs) ≡ length cs + added)
+CountsAdded how cs (Some added) =
+    (overflows how cs ≡ false) × (length (stretched how cs) ≡ length cs + added)
 
 -- The text behind `end` is counted: no number of it overflows, and so many cells are added.
 pub record IsCounted (how : Laying) (cs : List Cell) (end added : ℕ) : Type 0 where
   pub within : end ≤ length cs
   pub fits : overflows how cs ≡ overflows how (take end cs)
-  pub longer : length (stretched how cs) + end ≡ (length (stretched how (take end cs)) + length cs) + added
+  pub longer : length (stretched how cs) + end
+      ≡ (length (stretched how (take end cs)) + length cs) + added
 
 -- the refusal that the numbers of a text in working order give
 abbrev pub text_refusal : Laying → List Cell → Option ShaperError

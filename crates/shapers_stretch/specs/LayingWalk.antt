@@ -16,36 +16,45 @@ use Rattle.shapers_stretch.specs.declared.ot_shaper_arabic_stretch.measuring.Run
 -- copies laid from a pen on
 abbrev pub laid_on : Bool → ℤ → List Copy → List Cell
 laid_on right_to_left pen [] = []
-laid_on right_to_left pen (c ∷ cs) = laid_at (stands_at right_to_left pen c.move) c.tile ∷ laid_on right_to_left (pen_behind right_to_left pen c.move) cs
+laid_on right_to_left pen (c ∷ cs) =
+    laid_at (stands_at right_to_left pen c.move) c.tile
+    ∷ laid_on right_to_left (pen_behind right_to_left pen c.move) cs
 
 -- the offsets of cells
 abbrev pub offsets : List Cell → List ℤ
 offsets cs = map (λ c. c.1.x_offset) cs
 
 -- These copies can be laid before the pen's place: there is room for them, and their offsets fit.
-pub record CanLay (right_to_left : Bool) (copies : List Copy) (pen : Pen) (gs : List hb_glyph_info_t) (ps : List GlyphPosition) : Type 0 where
+pub record CanLay (right_to_left : Bool) (copies : List Copy) (pen : Pen) (gs : List
+    hb_glyph_info_t) (ps : List GlyphPosition) : Type 0 where
   pub fits : list_all fits_i32 (offsets (laid_on right_to_left pen.at copies)) ≡ true
   pub room : length copies ≤ pen.place
   pub within : pen.place ≤ length gs
   pub both : length gs ≡ length ps
 
--- Copies were laid from `before` to `after`: the first of them stands last, and what stands before them is as it was.
-pub record Lays (right_to_left : Bool) (copies : List Copy) (before after : Pen) (old now : List Cell) : Type 0 where
+-- Copies were laid from `before` to `after`: the first of them stands last, and what stands before
+-- them is as it was.
+pub record Lays (right_to_left : Bool) (copies : List Copy) (before after : Pen) (old now : List
+    Cell) : Type 0 where
   pub pen : after.at ≡ pen_behind right_to_left before.at (moves copies)
   pub place : after.place + length copies ≡ before.place
   pub kept : take after.place now ≡ take after.place old
-  pub behind : drop after.place now ≡ reverse (laid_on right_to_left before.at copies) ++ drop before.place old
+  pub behind : drop after.place now
+      ≡ reverse (laid_on right_to_left before.at copies) ++ drop before.place old
 
 -- how tiles are laid, from its parts
 abbrev pub laying_by : Font → StretchStart → Bool → Laying
-laying_by font choice right_to_left = record { font = font; choice = choice; right_to_left = right_to_left }
+laying_by font choice right_to_left =
+    record { font = font; choice = choice; right_to_left = right_to_left }
 
 -- the text in the first cells of slices
 abbrev pub text_of : ℕ → List hb_glyph_info_t → List GlyphPosition → List Cell
 text_of end gs ps = take end (zip gs ps)
 
--- The text before `end` is unlaid: stretched it fills the places before `place`, and reading is ahead.
-pub record IsUnlaid (how : Laying) (gs : List hb_glyph_info_t) (ps : List GlyphPosition) (end place : ℕ) : Type 0 where
+-- The text before `end` is unlaid: stretched it fills the places before `place`, and reading is
+-- ahead.
+pub record IsUnlaid (how : Laying) (gs : List hb_glyph_info_t) (ps : List GlyphPosition) (end place
+    : ℕ) : Type 0 where
   pub both : length gs ≡ length ps
   pub room : length (stretched how (text_of end gs ps)) ≡ place
   pub ahead : end ≤ place
@@ -58,12 +67,15 @@ abbrev pub whole_of : Laying → List hb_glyph_info_t → List GlyphPosition →
 whole_of how gs ps end place = stretched how (text_of end gs ps) ++ drop place (zip gs ps)
 
 -- in the middle of laying the whole: the writer never overtakes the reader
-pub record IsLaidFrom (how : Laying) (whole : List Cell) (gs : List hb_glyph_info_t) (ps : List GlyphPosition) (end place : ℕ) : Type 0 where
+pub record IsLaidFrom (how : Laying) (whole : List Cell) (gs : List hb_glyph_info_t) (ps : List
+    GlyphPosition) (end place : ℕ) : Type 0 where
   pub left : IsUnlaid how gs ps end place
   pub joined : whole_of how gs ps end place ≡ whole
 
--- The first cells of these slices are a text that stretched fills them: glyph numbers are in range, and no number of it overflows.
-pub record HasRoom (how : Laying) (gs : List hb_glyph_info_t) (ps : List GlyphPosition) (len : ℕ) : Type 0 where
+-- The first cells of these slices are a text that stretched fills them: glyph numbers are in range,
+-- and no number of it overflows.
+pub record HasRoom (how : Laying) (gs : List hb_glyph_info_t) (ps : List GlyphPosition) (len :
+    ℕ) : Type 0 where
   pub both : length gs ≡ length ps
   pub in_range : len ≤ length gs
   pub room : length (stretched how (text_of len gs ps)) ≡ length gs
@@ -77,13 +89,17 @@ pub record IsLayOf (z : Run) (lay : Lay) : Type 0 where
   pub low : pos 0 ≤ℤ lay.overlap
   pub high : lay.overlap ≤ℤ pos (2 ^ 66)
 
--- What stands before `tiles` and what stands from there to `end` in slices: a word and its run, where no number overflows and where there
--- is room for the run's copies before `place`.
-pub record CanLayRun (how : Laying) (word tiles : List Cell) (first end place : ℕ) (gs : List hb_glyph_info_t) (ps : List GlyphPosition) : Type 0 where
+-- What stands before `tiles` and what stands from there to `end` in slices: a word and its run,
+-- where no number overflows and where there is room for the run's copies before `place`.
+pub record CanLayRun (how : Laying) (word tiles : List Cell) (first end place : ℕ) (gs : List
+    hb_glyph_info_t) (ps : List GlyphPosition) : Type 0 where
   pub order : first ≤ end
   pub ahead : end ≤ place
   pub within : place ≤ length gs
   pub both : length gs ≡ length ps
   pub glyph_numbers : AllByRecursion (λ g. g.glyph_id ≤ 65535) (take end gs)
-  pub fits : let z = measured how.font (positions_of word) (glyphs_of tiles) in list_all fits_i32 (numbers how.choice z ++ offsets (laid_run how z tiles)) ≡ true
-  pub room : first + length (copies how.font (measured how.font (positions_of word) (glyphs_of tiles)) tiles) ≤ place
+  pub fits : let z = measured how.font (positions_of word) (glyphs_of tiles) in
+      list_all fits_i32 (numbers how.choice z ++ offsets (laid_run how z tiles)) ≡ true
+  pub room : first
+      + length (copies how.font (measured how.font (positions_of word) (glyphs_of tiles)) tiles)
+      ≤ place

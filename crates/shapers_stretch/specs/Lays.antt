@@ -16,12 +16,17 @@ pub record RunFits (z : Run) : Type 0 where
   pub left : FitsSigned w32 (left z)
 
 abbrev pub lay_of : StretchStart → Bool → Run → Lay
-lay_of choice right_to_left z = record { added = added z; overlap = overlap z; start = start choice right_to_left z }
+lay_of choice right_to_left z =
+    record { added = added z; overlap = overlap z; start = start choice right_to_left z }
 
 abbrev pub lay_if_fits : StretchStart → Bool → Run → Option Lay
-lay_if_fits choice right_to_left z = if list_all fits_i32 (numbers choice z) then Some (lay_of choice right_to_left z) else None
+lay_if_fits choice right_to_left z =
+    if list_all fits_i32 (numbers choice z) then Some (lay_of choice right_to_left z) else None
 
 -- the start alone, where the numbers of its choice fit
 abbrev pub start_if_fits : StretchStart → Bool → Run → Option ℤ
 start_if_fits AsCode right_to_left z = Some (start AsCode right_to_left z)
-start_if_fits Centred right_to_left z = if list_all fits_i32 (laid_width z ∷ (z.word -ℤ laid_width z) ∷ []) then Some (start Centred right_to_left z) else None
+start_if_fits Centred right_to_left z =
+    if list_all fits_i32 (laid_width z ∷ (z.word -ℤ laid_width z) ∷ []) then Some
+    (start Centred right_to_left z)
+    else None

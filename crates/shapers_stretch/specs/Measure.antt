@@ -1,5 +1,6 @@
--- The numbers of a stretched mark, over whole numbers without bound, from what its run measures: the advance of the word, of the
--- fixed and of the repeating tiles, and how many tiles repeat. Division rounds toward zero.
+-- The numbers of a stretched mark, over whole numbers without bound, from what its run measures:
+-- the advance of the word, of the fixed and of the repeating tiles, and how many tiles repeat.
+-- Division rounds toward zero.
 use Rattle.std.specs.Prelude.{ℕ, suc, ◌*◌, ◌-◌, nat_lt, ℤ, pos, negsuc, ◌^◌, ◌+ℤ◌, ◌-ℤ◌, ◌*ℤ◌, neg_ℤ, nat_abs, int_lt, int_div, Bool, ◌&&◌, List, [], ◌∷◌, ◌++◌, fold, if◌then◌else◌}
 use Rattle.shapers_stretch.specs.declared.ot_shaper_arabic_stretch.measuring.Run.{Run}
 use Rattle.shapers_base.specs.declared.plan.arabic.StretchStart.{StretchStart}
@@ -15,7 +16,8 @@ reach z n = pos (suc n) *ℤ z.repeating
 
 -- how many times more they fit into what is left
 abbrev pub fit : ℤ → ℤ → ℕ
-fit width room = if int_lt width room && int_lt (pos 0) width then nat_abs (int_div room width) - 1 else 0
+fit width room =
+    if int_lt width room && int_lt (pos 0) width then nat_abs (int_div room width) - 1 else 0
 
 abbrev pub fitting : Run → ℕ
 fitting z = fit z.repeating (left z)
@@ -51,14 +53,16 @@ laid_width z = (z.fixed +ℤ reach z (added z)) -ℤ pos (copies_added z) *ℤ o
 abbrev pub half_gap : Run → ℤ
 half_gap z = int_div (z.word -ℤ laid_width z) (pos 2)
 
--- where the first tile begins; of the two choices the second lays along the direction in which tiles follow one another
+-- where the first tile begins; of the two choices the second lays along the direction in which
+-- tiles follow one another
 abbrev pub start : StretchStart → Bool → Run → ℤ
 start AsCode right_to_left z = if squeezes z then pos 0 else int_div (left z) (pos 2)
 start Centred right_to_left z = if right_to_left then neg_ℤ (half_gap z) else half_gap z
 
 -- the numbers that must fit 32 bits
 abbrev pub run_numbers : Run → List ℤ
-run_numbers z = z.word ∷ z.fixed ∷ z.repeating ∷ left z ∷ reach z (added z) ∷ pos (copies_added z) ∷ []
+run_numbers z =
+    z.word ∷ z.fixed ∷ z.repeating ∷ left z ∷ reach z (added z) ∷ pos (copies_added z) ∷ []
 
 abbrev pub numbers : StretchStart → Run → List ℤ
 numbers AsCode z = run_numbers z

@@ -21,7 +21,10 @@ recorded g = if is_multiplied g.marks then record g { auxiliary = tile_action g.
 
 -- the buffer with its tiles recorded, and with the mark "has stch" if there is one
 abbrev pub with_tiles : Buffer → Buffer
-with_tiles b = record b { glyphs = map recorded b.glyphs; stch = list_any (λ g. is_multiplied g.marks) b.glyphs || b.stch }
+with_tiles b = record b {
+  glyphs = map recorded b.glyphs;
+  stch = list_any (λ g. is_multiplied g.marks) b.glyphs || b.stch;
+}
 
 -- whether the font stretches marks, and where they begin, as Arabic keeps them in the plan
 abbrev pub has_stch : PlanData → Bool

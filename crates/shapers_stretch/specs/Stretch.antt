@@ -1,4 +1,5 @@
--- Stretched marks: the tiles of a run are laid, and laid again, over the word before it. (OpenType `stch`.)
+-- Stretched marks: the tiles of a run are laid, and laid again, over the word before it. (OpenType
+-- `stch`.)
 use Rattle.std.specs.Prelude.{ℕ, nat_lt, ℤ, pos, ◌+ℤ◌, ◌-ℤ◌, Bool, not, ◌&&◌, List, [], ◌∷◌, ◌++◌, length, map, filter, flat_map, replicate, reverse, take, drop, Option, None, Some, if◌then◌else◌}
 use Rattle.std.specs.List.{list_all, list_any, sum_by, zip}
 use Rattle.shapers_buffer.specs.declared.buffer.glyph.GlyphPosition.{GlyphPosition}
@@ -56,7 +57,9 @@ pub record Copy : Type 0 where
 abbrev pub copies_of : Font → Run → Cell → List Copy
 copies_of font z c =
     let width = width_of font c.0 in
-    record { tile = c; move = width } ∷ (if repeats c.0 then replicate (added z) (record { tile = c; move = width -ℤ overlap z }) else [])
+    record { tile = c; move = width }
+    ∷ (if repeats c.0 then replicate (added z) (record { tile = c; move = width -ℤ overlap z })
+    else [])
 
 -- the copies of a run as they are laid, from its last tile to its first
 abbrev pub copies : Font → Run → List Cell → List Copy
@@ -66,9 +69,11 @@ copies font z tiles = flat_map (copies_of font z) (reverse tiles)
 abbrev pub moves : List Copy → ℤ
 moves laid = total (map (λ copy. copy.move) laid)
 
--- where a copy stands when others were laid before it: right to left behind its own move, else before it
+-- where a copy stands when others were laid before it: right to left behind its own move, else
+-- before it
 abbrev pub offset : Bool → ℤ → List Copy → Copy → ℤ
-offset right_to_left from before copy = if right_to_left then from -ℤ moves (before ++ copy ∷ []) else from +ℤ moves before
+offset right_to_left from before copy =
+    if right_to_left then from -ℤ moves (before ++ copy ∷ []) else from +ℤ moves before
 
 -- the copy as a cell: its tile, without advance, and there
 abbrev pub laid_at : ℤ → Cell → Cell
@@ -76,18 +81,20 @@ laid_at x c = let at : GlyphPosition = record c.1 { x_advance = pos 0; x_offset 
 
 -- the laid list of a run: each copy where those before it leave it
 abbrev pub laid : Bool → ℤ → List Copy → List Cell
-laid right_to_left from copies = map (λ p. laid_at (offset right_to_left from p.0 p.1) p.1.tile) (each_after [] copies)
+laid right_to_left from copies =
+    map (λ p. laid_at (offset right_to_left from p.0 p.1) p.1.tile) (each_after [] copies)
 
 -- the laid list of a part's run, of which these are the tiles
 abbrev pub laid_run : Laying → Run → List Cell → List Cell
-laid_run how z tiles = laid how.right_to_left (start how.choice how.right_to_left z) (copies how.font z tiles)
+laid_run how z tiles =
+    laid how.right_to_left (start how.choice how.right_to_left z) (copies how.font z tiles)
 
 -- no break inside these cells
 abbrev pub unbroken : List Cell → List Cell
 unbroken cs = zip (flagged 3 (glyphs_of cs)) (positions_of cs)
 
--- A part stretched: word and run flagged together, and the laid list in the place of the run, later copies before earlier ones.
--- Without a run it stays.
+-- A part stretched: word and run flagged together, and the laid list in the place of the run, later
+-- copies before earlier ones. Without a run it stays.
 abbrev pub stretched_over : Laying → Run → List Cell → List Cell → List Cell
 stretched_over how z word tiles =
     let whole = unbroken (word ++ tiles) in
@@ -98,7 +105,9 @@ has_run part = nat_lt 0 (length (tiles_of part))
 
 abbrev pub stretched_part : Laying → List Cell → List Cell
 stretched_part how part =
-    if not (has_run part) then part else before_word part ++ stretched_over how (run_of how.font part) (word_of part) (tiles_of part)
+    if not (has_run part) then part
+    else before_word part
+    ++ stretched_over how (run_of how.font part) (word_of part) (tiles_of part)
 
 -- a text stretched, part by part
 abbrev pub stretched : Laying → List Cell → List Cell
@@ -108,7 +117,9 @@ stretched how cs = flat_map (stretched_part how) (parts cs)
 abbrev pub part_overflows : Laying → List Cell → Bool
 part_overflows how part =
     let z = run_of how.font part in
-    has_run part && not (list_all fits_i32 (numbers how.choice z ++ map (λ c. c.1.x_offset) (laid_run how z (tiles_of part))))
+    has_run part
+    && not (list_all fits_i32 (numbers how.choice z
+    ++ map (λ c. c.1.x_offset) (laid_run how z (tiles_of part))))
 
 abbrev pub overflows : Laying → List Cell → Bool
 overflows how cs = list_any (part_overflows how) (parts cs)
@@ -130,11 +141,13 @@ cells_in_order b = in_order (runs_leftward b.direction) (cells b)
 -- how many copies are added to the runs of a buffer together
 abbrev pub copies_in : Font → Buffer → ℕ
 copies_in font b =
-    if b.stch then sum_by (λ part. copies_added (run_of font part)) (parts (cells_in_order b)) else 0
+    if b.stch then sum_by (λ part. copies_added (run_of font part)) (parts (cells_in_order b))
+    else 0
 
 -- how the tiles of a buffer are laid
 abbrev pub laying : Font → StretchStart → Buffer → Laying
-laying font choice b = record { font = font; choice = choice; right_to_left = runs_leftward b.direction }
+laying font choice b =
+    record { font = font; choice = choice; right_to_left = runs_leftward b.direction }
 
 abbrev pub stretched_cells : Font → StretchStart → Buffer → List Cell
 stretched_cells font choice b =

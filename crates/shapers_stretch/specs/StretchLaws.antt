@@ -53,9 +53,9 @@ abbrev pub start_in : Laying → List Cell → ℤ
 start_in how part = start how.choice how.right_to_left (run_of how.font part)
 
 -- What a part with a run became. In front stands what stood before the run, with its positions, and
--- so with the word's advance. Behind it stand the copies, the one that is laid first last. They have
--- no advance, and stand where their moves lead. All moves together are the laid width, and where the
--- tiles fit, that covers the word.
+-- so with the word's advance. Behind it stand the copies, the one that is laid first last. They
+-- have no advance, and stand where their moves lead. All moves together are the laid width, and
+-- where the tiles fit, that covers the word.
 pub record RunIsLaid (how : Laying) (part piece : List Cell) : Type 0 where
   pub front : List Cell
   pub copies : List Cell
@@ -82,7 +82,8 @@ pub record TextIsLaid (how : Laying) (old new : List Cell) : Type 0 where
   pub after : flat_map (λ piece. piece) pieces ≡ new
   pub each : AllZip (PartIsLaid how) (parts old) pieces
 
--- So it is, in working order, for what stretching makes of a buffer that is marked to have stretches.
+-- So it is, in working order, for what stretching makes of a buffer that is marked to have
+-- stretches.
 abbrev pub WidthsHold : Type 0
 WidthsHold = (font : Font) (choice : StretchStart) (old new : Buffer) →
     old.stch ≡ true → length old.positions ≡ length old.glyphs →

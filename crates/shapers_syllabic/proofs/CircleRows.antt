@@ -92,7 +92,7 @@ rephas_alone = refl
 
 -- a glyph with all fields set stays as it is, and each field of the circle
 abbrev full : hb_glyph_info_t
-full = record { glyph_id = 0x916; cluster = 5; mask = 0x1F; syllable = 0x24; category = 1; auxiliary = 3; general_category = Mn; modified_combining_class = 9; lig_comp = 2; marks = record { 0 = 31 } }
+full = record { glyph_id = 0x916; cluster = 5; mask = 0x1F; var = 0x7A; syllable = 0x24; category = 1; auxiliary = 3; general_category = Mn; modified_combining_class = 9; lig_comp = 2; marks = record { 0 = 31 } }
 
 all_fields : circled_text 4 (Some 14) (Some 6) (broken_text (full ∷ [])) ≡ record default_glyph { glyph_id = 7; cluster = 5; mask = 0x1F; syllable = 0x24; category = 11; auxiliary = 6 } ∷ full ∷ []
 all_fields = refl

@@ -20,9 +20,9 @@ use Rattle.shapers_syllabic.specs.ReorderingLaws.{paused_carried, paused_order}
 
 -- what is carried along, and what is hidden, field by field
 abbrev full : hb_glyph_info_t
-full = record { glyph_id = 0x916; cluster = 5; mask = 0x1F; syllable = 0x24; category = 1; auxiliary = 3; general_category = Mn; modified_combining_class = 9; lig_comp = 2; marks = record { 0 = 31 } }
+full = record { glyph_id = 0x916; cluster = 5; mask = 0x1F; var = 0x7A; syllable = 0x24; category = 1; auxiliary = 3; general_category = Mn; modified_combining_class = 9; lig_comp = 2; marks = record { 0 = 31 } }
 
-carried_full : carried full ≡ record { glyph_id = 0x916; cluster = 5; mask = 7; syllable = 0x24; category = 0; auxiliary = 0; general_category = Mn; modified_combining_class = 9; lig_comp = 2; marks = record { 0 = 0 } }
+carried_full : carried full ≡ record { glyph_id = 0x916; cluster = 5; mask = 7; var = 0x7A; syllable = 0x24; category = 0; auxiliary = 0; general_category = Mn; modified_combining_class = 9; lig_comp = 2; marks = record { 0 = 0 } }
 carried_full = refl
 
 carried_masks : map (λ m. (carried (record full { mask = m })).mask) (0 ∷ 1 ∷ 2 ∷ 4 ∷ 7 ∷ 8 ∷ 9 ∷ 16 ∷ 0x7FFFFFFF ∷ 0x80000000 ∷ []) ≡ 0 ∷ 1 ∷ 2 ∷ 4 ∷ 7 ∷ 0 ∷ 1 ∷ 0 ∷ 7 ∷ 0 ∷ []

@@ -30,7 +30,7 @@ kinds_of_bytes = refl
 
 -- clearing takes one field back and keeps the others
 abbrev full : hb_glyph_info_t
-full = record { glyph_id = 0x916; cluster = 5; mask = 0x1F; syllable = 0x24; category = 1; auxiliary = 3; general_category = Mn; modified_combining_class = 9; lig_comp = 2; marks = record { 0 = 31 } }
+full = record { glyph_id = 0x916; cluster = 5; mask = 0x1F; var = 0x7A; syllable = 0x24; category = 1; auxiliary = 3; general_category = Mn; modified_combining_class = 9; lig_comp = 2; marks = record { 0 = 31 } }
 
 cleared_syllable : in_syllable 0 full ≡ record full { syllable = 0 }
 cleared_syllable = refl

@@ -4,7 +4,8 @@ use Rattle.shapers_buffer.specs.declared.buffer.glyph.hb_glyph_info_t.{hb_glyph_
 use Rattle.shapers_buffer.specs.Category.{is_mark}
 use Rattle.shapers_base.specs.Font.{CharacterTables}
 
--- the composition of two characters by the table; a mark composes with nothing behind it, so that a split vowel stays split
+-- the composition of two characters by the table; a mark composes with nothing behind it, so that a
+-- split vowel stays split
 abbrev pub composed_behind : CharacterTables → ℕ → ℕ → Option ℕ
 composed_behind t a b = if is_mark (t.general a) then None else t.composed a b
 
@@ -13,4 +14,5 @@ abbrev pub with_category : CharacterTables → hb_glyph_info_t → hb_glyph_info
 with_category t g = record g { category = (t.indic g.glyph_id).0 }
 
 abbrev pub with_category_and_position : CharacterTables → hb_glyph_info_t → hb_glyph_info_t
-with_category_and_position t g = record g { category = (t.indic g.glyph_id).0; auxiliary = (t.indic g.glyph_id).1 }
+with_category_and_position t g =
+    record g { category = (t.indic g.glyph_id).0; auxiliary = (t.indic g.glyph_id).1 }

@@ -24,7 +24,10 @@ no_marks gs = map (λ g. false) gs
 
 -- for each glyph of what a syllable becomes, whether it is the circle
 abbrev pub marks_in : DottedCircles → List hb_glyph_info_t → List Bool
-marks_in rule gs = if is_of_kind rule.broken_kind gs then no_marks (take (rephas_len rule.repha gs) gs) ++ true ∷ no_marks (drop (rephas_len rule.repha gs) gs) else no_marks gs
+marks_in rule gs =
+    if is_of_kind rule.broken_kind gs then no_marks (take (rephas_len rule.repha gs) gs) ++ true
+    ∷ no_marks (drop (rephas_len rule.repha gs) gs)
+    else no_marks gs
 
 -- for each place of the text with its circles, whether a circle stands there
 abbrev pub circle_marks : DottedCircles → List hb_glyph_info_t → List Bool
@@ -32,11 +35,14 @@ circle_marks rule gs = flat_map (marks_in rule) (syllables gs)
 
 -- the circles: one for each broken syllable, in order
 abbrev pub circles_of : DottedCircles → List hb_glyph_info_t → List hb_glyph_info_t
-circles_of rule gs = map (λ piece. circle_in piece rule.circle) (filter (is_of_kind rule.broken_kind) (syllables gs))
+circles_of rule gs =
+    map (λ piece. circle_in piece rule.circle) (filter (is_of_kind rule.broken_kind) (syllables gs))
 
 -- the unmarked places of the text with its circles are the text, and the marked ones its circles
 abbrev pub CirclesCanBeErased : Type 0
-CirclesCanBeErased = (rule : DottedCircles) (gs : List hb_glyph_info_t) → (unmarked (circle_marks rule gs) (with_circles rule gs) ≡ gs) × (marked (circle_marks rule gs) (with_circles rule gs) ≡ circles_of rule gs)
+CirclesCanBeErased = (rule : DottedCircles) (gs : List hb_glyph_info_t) →
+    (unmarked (circle_marks rule gs) (with_circles rule gs) ≡ gs)
+    × (marked (circle_marks rule gs) (with_circles rule gs) ≡ circles_of rule gs)
 
 -- each cluster of the new glyphs is one that the old ones had
 abbrev pub NoNewCluster : List hb_glyph_info_t → List hb_glyph_info_t → Type 0
@@ -44,4 +50,5 @@ NoNewCluster old new = All (Contains (clusters old)) (clusters new)
 
 -- so of the text with its circles
 abbrev pub CirclesKeepClusters : Type 0
-CirclesKeepClusters = (rule : DottedCircles) (gs : List hb_glyph_info_t) → NoNewCluster gs (with_circles rule gs)
+CirclesKeepClusters =
+    (rule : DottedCircles) (gs : List hb_glyph_info_t) → NoNewCluster gs (with_circles rule gs)

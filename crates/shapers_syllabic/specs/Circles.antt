@@ -18,7 +18,8 @@ abbrev pub is_of_kinds : List ℕ → List hb_glyph_info_t → Bool
 is_of_kinds kinds [] = false
 is_of_kinds kinds (g ∷ gs) = list_any (λ kind. kind == kind_of g.syllable) kinds
 
--- how many glyphs of a syllable stand in front of its circle: the leading rephas, where there is a category of rephas
+-- how many glyphs of a syllable stand in front of its circle: the leading rephas, where there is a
+-- category of rephas
 abbrev pub rephas_len : Option ℕ → List hb_glyph_info_t → ℕ
 rephas_len None gs = 0
 rephas_len (Some repha) gs = prefix_len (λ g. g.category == repha) gs
@@ -26,11 +27,13 @@ rephas_len (Some repha) gs = prefix_len (λ g. g.category == repha) gs
 -- the circle of a syllable: it takes cluster, mask and syllable byte from the first glyph
 abbrev pub circle_in : List hb_glyph_info_t → hb_glyph_info_t → hb_glyph_info_t
 circle_in [] circle = circle
-circle_in (g ∷ gs) circle = record circle { cluster = g.cluster; mask = g.mask; syllable = g.syllable }
+circle_in (g ∷ gs) circle =
+    record circle { cluster = g.cluster; mask = g.mask; syllable = g.syllable }
 
 -- the syllable with its circle: the leading rephas, the circle, the rest
 abbrev pub with_circle : DottedCircles → List hb_glyph_info_t → List hb_glyph_info_t
-with_circle rule gs = take (rephas_len rule.repha gs) gs ++ circle_in gs rule.circle ∷ drop (rephas_len rule.repha gs) gs
+with_circle rule gs = take (rephas_len rule.repha gs) gs ++ circle_in gs rule.circle
+    ∷ drop (rephas_len rule.repha gs) gs
 
 -- what a syllable becomes: with its circle, if it is broken
 abbrev pub circled_syllable : DottedCircles → List hb_glyph_info_t → List hb_glyph_info_t
@@ -48,10 +51,19 @@ count_of_kind k gs = count_by (is_of_kind k) (syllables gs)
 abbrev pub wants_circles : Buffer → Bool
 wants_circles b = b.broken && not (asks 0x20 b)
 
--- the circles that a buffer gets, where the font has this glyph for them: of a kind of broken syllables, with a category and an auxiliary byte, behind rephas of a category
-abbrev pub circles_for : Option GlyphId → ℕ → ℕ → Option ℕ → Option ℕ → Buffer → Option DottedCircles
+-- the circles that a buffer gets, where the font has this glyph for them: of a kind of broken
+-- syllables, with a category and an auxiliary byte, behind rephas of a category
+abbrev pub circles_for : Option GlyphId → ℕ → ℕ → Option ℕ → Option ℕ → Buffer →
+    Option DottedCircles
 circles_for None k sort repha place b = None
-circles_for (Some glyph) k sort repha place b = if wants_circles b then Some (record { broken_kind = k; circle = record default_glyph { glyph_id = glyph.0; category = sort; auxiliary = unwrap_or place 0 }; repha = repha }) else None
+circles_for (Some glyph) k sort repha place b =
+    if wants_circles b then Some (record {
+      broken_kind = k;
+      circle = record default_glyph
+          { glyph_id = glyph.0; category = sort; auxiliary = unwrap_or place 0 };
+      repha = repha;
+    })
+    else None
 
 -- the text with these circles, and without any
 abbrev pub circled : Option DottedCircles → List hb_glyph_info_t → List hb_glyph_info_t

@@ -1,4 +1,5 @@
--- Reordering syllable by syllable: what a syllable becomes, and the merges and moves that lead there.
+-- Reordering syllable by syllable: what a syllable becomes, and the merges and moves that lead
+-- there.
 use Rattle.std.specs.Prelude.{ℕ, ◌%◌, ◌≡◌, List, Option, None, Some, option_map, length, map}
 use Rattle.std.specs.List.{flat_map}
 use Rattle.shapers_buffer.specs.declared.buffer.glyph.hb_glyph_info_t.{hb_glyph_info_t}
@@ -15,40 +16,55 @@ use Rattle.shapers_syllabic.specs.declared.ot_shaper_syllabic.circles.DottedCirc
 use Rattle.shapers_syllabic.specs.Circles.{circled, circles_for}
 use Rattle.shapers_clusters.specs.Steps.{Step, run_steps, steps_along, widened}
 
--- The view of what a reordering carries along: it hides feature masks, category, auxiliary byte and marks, which it may change.
+-- The view of what a reordering carries along: it hides feature masks, category, auxiliary byte and
+-- marks, which it may change.
 abbrev pub carried : hb_glyph_info_t → hb_glyph_info_t
 carried g = record g { mask = g.mask % 8; category = 0; auxiliary = 0; marks = no_marks }
 
 -- what a text becomes whose syllables each become what the meaning says: the text order
-abbrev pub text_order : (List hb_glyph_info_t → List hb_glyph_info_t) → List hb_glyph_info_t → List hb_glyph_info_t
+abbrev pub text_order : (List hb_glyph_info_t → List hb_glyph_info_t) → List hb_glyph_info_t →
+    List hb_glyph_info_t
 text_order meaning gs = flat_map meaning (syllables gs)
 
 -- the steps of all syllables of a text, one after another, as steps over its places
 abbrev pub text_steps : (List hb_glyph_info_t → List Step) → List hb_glyph_info_t → List Step
-text_steps steps gs = steps_along (length gs) 0 (map (λ syl. (length syl, steps syl)) (syllables gs))
+text_steps steps gs =
+    steps_along (length gs) 0 (map (λ syl. (length syl, steps syl)) (syllables gs))
 
 -- how many glyphs stand in some syllables: where the next one stands
 abbrev pub glyphs_before : List (List hb_glyph_info_t) → ℕ
 glyphs_before before = length (flat_map (λ piece. piece) before)
 
--- The buffer before and after the syllable from s to e is reordered: its order view becomes what the meaning says, and to the
--- view of what is carried along, cluster and glyph flags among it, the glyphs are those that the steps lead to.
-pub record SyllableReordered (meaning : List hb_glyph_info_t → List hb_glyph_info_t) (steps : List hb_glyph_info_t → List Step) (s e : ℕ) (old new : Buffer) : Type 0 where
+-- The buffer before and after the syllable from s to e is reordered: its order view becomes what
+-- the meaning says, and to the view of what is carried along, cluster and glyph flags among it, the
+-- glyphs are those that the steps lead to.
+pub record SyllableReordered (meaning : List hb_glyph_info_t →
+    List hb_glyph_info_t) (steps : List hb_glyph_info_t →
+    List Step) (s e : ℕ) (old new : Buffer) : Type 0 where
   pub others : but_places new ≡ record (but_places old) { glyphs = new.glyphs }
   pub order : order_view new.glyphs ≡ with_stretch s e meaning (order_view old.glyphs)
-  pub moved : map carried new.glyphs ≡ map carried (run_steps old.level (map (widened s e (length old.glyphs)) (steps (stretch_of s e (order_view old.glyphs)))) old.glyphs)
+  pub moved : map carried new.glyphs
+      ≡ map carried (run_steps old.level (map (widened s e (length old.glyphs))
+      (steps (stretch_of s e (order_view old.glyphs)))) old.glyphs)
 
--- The same of a whole text: the order view is the text order, and the glyphs are those that all steps lead to, syllable by syllable.
-pub record SyllablesReordered (meaning : List hb_glyph_info_t → List hb_glyph_info_t) (steps : List hb_glyph_info_t → List Step) (old new : Buffer) : Type 0 where
+-- The same of a whole text: the order view is the text order, and the glyphs are those that all
+-- steps lead to, syllable by syllable.
+pub record SyllablesReordered (meaning : List hb_glyph_info_t →
+    List hb_glyph_info_t) (steps : List hb_glyph_info_t →
+    List Step) (old new : Buffer) : Type 0 where
   pub others : but_places new ≡ record (but_places old) { glyphs = new.glyphs }
   pub order : order_view new.glyphs ≡ text_order meaning (order_view old.glyphs)
-  pub moved : map carried new.glyphs ≡ map carried (run_steps old.level (text_steps steps (order_view old.glyphs)) old.glyphs)
+  pub moved : map carried new.glyphs
+      ≡ map carried (run_steps old.level (text_steps steps (order_view old.glyphs)) old.glyphs)
 
--- the circles that a buffer gets, where the font has a glyph for them, as the shaper has its circles
+-- the circles that a buffer gets, where the font has a glyph for them, as the shaper has its
+-- circles
 abbrev pub circles_of_sort : CircleSort → Font → Buffer → Option DottedCircles
-circles_of_sort sort font b = circles_for (font.nominal 0x25CC) sort.broken_kind sort.category sort.repha sort.position b
+circles_of_sort sort font b =
+    circles_for (font.nominal 0x25CC) sort.broken_kind sort.category sort.repha sort.position b
 
--- the first place of the first syllable of unknown kind, where there is a last known kind, and the refusal that it gives
+-- the first place of the first syllable of unknown kind, where there is a last known kind, and the
+-- refusal that it gives
 abbrev pub first_unknown : Option ℕ → List hb_glyph_info_t → Option ℕ
 first_unknown None gs = None
 first_unknown (Some last) gs = unknown_syllable last gs
@@ -57,5 +73,7 @@ abbrev pub kind_refusal : Option ℕ → List hb_glyph_info_t → Option ShaperE
 kind_refusal last gs = option_map (λ place. UnknownSyllable place) (first_unknown last gs)
 
 -- A reordering pause: dotted circles come into the text, and then its syllables are reordered.
-abbrev pub PauseReordered : Option DottedCircles → (List hb_glyph_info_t → List hb_glyph_info_t) → (List hb_glyph_info_t → List Step) → Buffer → Buffer → Type 0
-PauseReordered circles meaning steps old new = SyllablesReordered meaning steps (record old { glyphs = circled circles old.glyphs }) new
+abbrev pub PauseReordered : Option DottedCircles → (List hb_glyph_info_t → List hb_glyph_info_t) →
+    (List hb_glyph_info_t → List Step) → Buffer → Buffer → Type 0
+PauseReordered circles meaning steps old new =
+    SyllablesReordered meaning steps (record old { glyphs = circled circles old.glyphs }) new

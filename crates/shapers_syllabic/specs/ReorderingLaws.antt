@@ -18,101 +18,163 @@ use Rattle.shapers_syllabic.specs.Borders.{MeetAtBorder, SameButSerials, spans_s
 use Rattle.shapers_syllabic.specs.Circles.{circled}
 use Rattle.shapers_syllabic.specs.Reordering.{PauseReordered, SyllablesReordered, carried, text_order, text_steps}
 
--- What an instance of `Reorder` owes of what its syllables become and of the steps that lead there: the steps fit the syllable
--- and take each of its places once, and to the view of what is carried along the syllable becomes what stood at their old places.
-pub record ReorderLaws (meaning : List hb_glyph_info_t → List hb_glyph_info_t) (steps : List hb_glyph_info_t → List Step) : Type 0 where
+-- What an instance of `Reorder` owes of what its syllables become and of the steps that lead there:
+-- the steps fit the syllable and take each of its places once, and to the view of what is carried
+-- along the syllable becomes what stood at their old places.
+pub record ReorderLaws (meaning : List hb_glyph_info_t →
+    List hb_glyph_info_t) (steps : List hb_glyph_info_t → List Step) : Type 0 where
   pub fits : (gs : List hb_glyph_info_t) → FitSteps (length gs) (steps gs)
   pub permutes : (gs : List hb_glyph_info_t) → AllByRecursion (Permutes (length gs)) (steps gs)
-  pub agrees : (gs : List hb_glyph_info_t) → seen carried (meaning gs) ≡ pick (old_places (length gs) (steps gs)) (seen carried gs)
+  pub agrees : (gs : List hb_glyph_info_t) →
+      seen carried (meaning gs) ≡ pick (old_places (length gs) (steps gs)) (seen carried gs)
 
--- The text order loses nothing: what is carried along, and glyph numbers alone, are those of the text in some order.
-pub record NothingLost (meaning : List hb_glyph_info_t → List hb_glyph_info_t) (gs : List hb_glyph_info_t) : Type 0 where
+-- The text order loses nothing: what is carried along, and glyph numbers alone, are those of the
+-- text in some order.
+pub record NothingLost (meaning : List hb_glyph_info_t →
+    List hb_glyph_info_t) (gs : List hb_glyph_info_t) : Type 0 where
   pub kept : IsPermutation (seen carried gs) (seen carried (text_order meaning gs))
-  pub numbers : IsPermutation (map (λ g. g.glyph_id) gs) (map (λ g. g.glyph_id) (text_order meaning gs))
+  pub numbers : IsPermutation (map (λ g. g.glyph_id) gs)
+      (map (λ g. g.glyph_id) (text_order meaning gs))
 
 abbrev pub ReorderingLosesNothing : Type 0
-ReorderingLosesNothing = (meaning : List hb_glyph_info_t → List hb_glyph_info_t) (steps : List hb_glyph_info_t → List Step) →
+ReorderingLosesNothing =
+    (meaning : List hb_glyph_info_t → List hb_glyph_info_t)
+    (steps : List hb_glyph_info_t → List Step) →
     ReorderLaws meaning steps → (gs : List hb_glyph_info_t) → NothingLost meaning gs
 
 -- the steps of each syllable move only inside what they merged first
 abbrev pub MoveMerged : (List hb_glyph_info_t → List Step) → Type 0
 MoveMerged steps = (gs : List hb_glyph_info_t) → AllByRecursion (MovesMerged (length gs)) (steps gs)
 
--- What holds of any text whose syllables are reordered: no glyph is lost, and the laws of steps, through the view. If the steps of each syllable move
--- only inside what they merged first: the laws of a hook that reorders, exact cuts and the cluster law among them.
-pub record TextReordered (steps : List hb_glyph_info_t → List Step) (old new : Buffer) : Type 0 where
+-- What holds of any text whose syllables are reordered: no glyph is lost, and the laws of steps,
+-- through the view. If the steps of each syllable move only inside what they merged first: the laws
+-- of a hook that reorders, exact cuts and the cluster law among them.
+pub record TextReordered (steps : List hb_glyph_info_t →
+    List Step) (old new : Buffer) : Type 0 where
   pub kept : IsPermutation (seen carried old.glyphs) (seen carried new.glyphs)
-  pub glyphs : SeenStepsHold carried old.level (text_steps steps (order_view old.glyphs)) old.glyphs new.glyphs
+  pub glyphs : SeenStepsHold carried old.level (text_steps steps (order_view old.glyphs)) old.glyphs
+      new.glyphs
   pub merged : MoveMerged steps →
-      ReorderedHold carried old.level (text_steps steps (order_view old.glyphs)) old.glyphs new.glyphs
+      ReorderedHold carried old.level (text_steps steps (order_view old.glyphs)) old.glyphs
+      new.glyphs
 
 abbrev pub TextReorderedLaw : Type 0
-TextReorderedLaw = (meaning : List hb_glyph_info_t → List hb_glyph_info_t) (steps : List hb_glyph_info_t → List Step) (old new : Buffer) →
+TextReorderedLaw = (meaning : List hb_glyph_info_t → List hb_glyph_info_t)
+    (steps : List hb_glyph_info_t → List Step) (old new : Buffer) →
     ReorderLaws meaning steps → SyllablesReordered meaning steps old new →
     TextReordered steps old new
 
--- what a reordering pause makes of a text, by its definition: the order view; and what is carried along
-abbrev pub paused_order : Option DottedCircles → (List hb_glyph_info_t → List hb_glyph_info_t) → List hb_glyph_info_t → List hb_glyph_info_t
+-- what a reordering pause makes of a text, by its definition: the order view; and what is carried
+-- along
+abbrev pub paused_order : Option DottedCircles → (List hb_glyph_info_t → List hb_glyph_info_t) →
+    List hb_glyph_info_t → List hb_glyph_info_t
 paused_order circles meaning gs = text_order meaning (order_view (circled circles gs))
 
-abbrev pub paused_carried : Option DottedCircles → (List hb_glyph_info_t → List Step) → BufferClusterLevel → List hb_glyph_info_t → List hb_glyph_info_t
-paused_carried circles steps level gs = map carried (run_steps level (text_steps steps (order_view (circled circles gs))) (circled circles gs))
+abbrev pub paused_carried : Option DottedCircles → (List hb_glyph_info_t → List Step) →
+    BufferClusterLevel → List hb_glyph_info_t → List hb_glyph_info_t
+paused_carried circles steps level gs =
+    map carried (run_steps level (text_steps steps (order_view (circled circles gs)))
+    (circled circles gs))
 
 -- and its clusters
-abbrev pub paused_clusters : Option DottedCircles → (List hb_glyph_info_t → List Step) → BufferClusterLevel → List hb_glyph_info_t → List ℕ
-paused_clusters circles steps level gs = joined_steps level (text_steps steps (order_view (circled circles gs))) (clusters (circled circles gs))
+abbrev pub paused_clusters : Option DottedCircles → (List hb_glyph_info_t → List Step) →
+    BufferClusterLevel → List hb_glyph_info_t → List ℕ
+paused_clusters circles steps level gs =
+    joined_steps level (text_steps steps (order_view (circled circles gs)))
+    (clusters (circled circles gs))
 
--- A text cut at a border of syllables: the order view after the pause is that of the halves, one after the other. Where they
--- share no cluster, so are clusters and glyph flags and all else that is carried along.
-pub record PauseOfHalves (circles : Option DottedCircles) (meaning : List hb_glyph_info_t → List hb_glyph_info_t) (steps : List hb_glyph_info_t → List Step) (level : BufferClusterLevel) (gs hs new : List hb_glyph_info_t) : Type 0 where
+-- A text cut at a border of syllables: the order view after the pause is that of the halves, one
+-- after the other. Where they share no cluster, so are clusters and glyph flags and all else that
+-- is carried along.
+pub record PauseOfHalves (circles : Option DottedCircles) (meaning : List hb_glyph_info_t →
+    List hb_glyph_info_t) (steps : List hb_glyph_info_t →
+    List Step) (level : BufferClusterLevel) (gs hs new : List hb_glyph_info_t) : Type 0 where
   pub order : order_view new ≡ paused_order circles meaning gs ++ paused_order circles meaning hs
-  pub moved : ShareNone gs hs → map carried new ≡ paused_carried circles steps level gs ++ paused_carried circles steps level hs
+  pub moved : ShareNone gs hs →
+      map carried new
+      ≡ paused_carried circles steps level gs ++ paused_carried circles steps level hs
 
 -- so at every border of the buffer's syllables
-abbrev pub PauseCutsAtBorders : Option DottedCircles → (List hb_glyph_info_t → List hb_glyph_info_t) → (List hb_glyph_info_t → List Step) → Buffer → Buffer → Type 0
-PauseCutsAtBorders circles meaning steps old new = (gs hs : List hb_glyph_info_t) → old.glyphs ≡ gs ++ hs → MeetAtBorder gs hs → PauseOfHalves circles meaning steps old.level gs hs new.glyphs
+abbrev pub PauseCutsAtBorders : Option DottedCircles →
+    (List hb_glyph_info_t → List hb_glyph_info_t) → (List hb_glyph_info_t → List Step) → Buffer →
+    Buffer → Type 0
+PauseCutsAtBorders circles meaning steps old new =
+    (gs hs : List hb_glyph_info_t) → old.glyphs ≡ gs ++ hs → MeetAtBorder gs hs →
+    PauseOfHalves circles meaning steps old.level gs hs new.glyphs
 
 abbrev pub ReorderingCutsAtBorders : Type 0
-ReorderingCutsAtBorders = (circles : Option DottedCircles) (meaning : List hb_glyph_info_t → List hb_glyph_info_t) (steps : List hb_glyph_info_t → List Step) (old new : Buffer) →
+ReorderingCutsAtBorders =
+    (circles : Option DottedCircles) (meaning : List hb_glyph_info_t → List hb_glyph_info_t)
+    (steps : List hb_glyph_info_t → List Step) (old new : Buffer) →
     ReorderLaws meaning steps → PauseReordered circles meaning steps old new →
     PauseCutsAtBorders circles meaning steps old new
 
--- An instance that reads the kinds of syllables and not their serials: of the same syllable but for serials it makes the same but
--- for serials, by the same steps.
-pub record ReadsNoSerials (meaning : List hb_glyph_info_t → List hb_glyph_info_t) (steps : List hb_glyph_info_t → List Step) : Type 0 where
-  pub meant : (gs hs : List hb_glyph_info_t) → map unnumbered gs ≡ map unnumbered hs → map unnumbered (meaning gs) ≡ map unnumbered (meaning hs)
-  pub led : (gs hs : List hb_glyph_info_t) → map unnumbered gs ≡ map unnumbered hs → steps gs ≡ steps hs
+-- An instance that reads the kinds of syllables and not their serials: of the same syllable but for
+-- serials it makes the same but for serials, by the same steps.
+pub record ReadsNoSerials (meaning : List hb_glyph_info_t →
+    List hb_glyph_info_t) (steps : List hb_glyph_info_t → List Step) : Type 0 where
+  pub meant : (gs hs : List hb_glyph_info_t) → map unnumbered gs ≡ map unnumbered hs →
+      map unnumbered (meaning gs) ≡ map unnumbered (meaning hs)
+  pub led : (gs hs : List hb_glyph_info_t) → map unnumbered gs ≡ map unnumbered hs →
+      steps gs ≡ steps hs
 
 -- the glyph with a mask that is made of its own
 abbrev pub with_mask_by : (ℕ → ℕ) → hb_glyph_info_t → hb_glyph_info_t
 with_mask_by f g = record g { mask = f g.mask }
 
--- An instance that reads no masks: of a syllable with other masks it makes the same, each glyph with its own, by the same steps.
-pub record ReadsNoMasks (meaning : List hb_glyph_info_t → List hb_glyph_info_t) (steps : List hb_glyph_info_t → List Step) : Type 0 where
-  pub meant : (f : ℕ → ℕ) (gs : List hb_glyph_info_t) → meaning (map (with_mask_by f) gs) ≡ map (with_mask_by f) (meaning gs)
+-- An instance that reads no masks: of a syllable with other masks it makes the same, each glyph
+-- with its own, by the same steps.
+pub record ReadsNoMasks (meaning : List hb_glyph_info_t →
+    List hb_glyph_info_t) (steps : List hb_glyph_info_t → List Step) : Type 0 where
+  pub meant : (f : ℕ → ℕ) (gs : List hb_glyph_info_t) →
+      meaning (map (with_mask_by f) gs) ≡ map (with_mask_by f) (meaning gs)
   pub led : (f : ℕ → ℕ) (gs : List hb_glyph_info_t) → steps (map (with_mask_by f) gs) ≡ steps gs
 
--- A pause of such an instance, circles among it, makes the same of texts that are the same but for serials.
-pub record SameButSerialsAfter (circles : Option DottedCircles) (meaning : List hb_glyph_info_t → List hb_glyph_info_t) (steps : List hb_glyph_info_t → List Step) (level : BufferClusterLevel) (gs hs : List hb_glyph_info_t) : Type 0 where
-  pub order : map unnumbered (paused_order circles meaning gs) ≡ map unnumbered (paused_order circles meaning hs)
-  pub moved : map unnumbered (paused_carried circles steps level gs) ≡ map unnumbered (paused_carried circles steps level hs)
+-- A pause of such an instance, circles among it, makes the same of texts that are the same but for
+-- serials.
+pub record SameButSerialsAfter (circles : Option DottedCircles) (meaning : List hb_glyph_info_t →
+    List hb_glyph_info_t) (steps : List hb_glyph_info_t →
+    List Step) (level : BufferClusterLevel) (gs hs : List hb_glyph_info_t) : Type 0 where
+  pub order : map unnumbered (paused_order circles meaning gs)
+      ≡ map unnumbered (paused_order circles meaning hs)
+  pub moved : map unnumbered (paused_carried circles steps level gs)
+      ≡ map unnumbered (paused_carried circles steps level hs)
 
 abbrev pub SerialsDontCount : Type 0
-SerialsDontCount = (circles : Option DottedCircles) (meaning : List hb_glyph_info_t → List hb_glyph_info_t) (steps : List hb_glyph_info_t → List Step) (level : BufferClusterLevel) (gs hs : List hb_glyph_info_t) →
+SerialsDontCount = (circles : Option DottedCircles)
+    (meaning : List hb_glyph_info_t → List hb_glyph_info_t)
+    (steps : List hb_glyph_info_t → List Step) (level : BufferClusterLevel)
+    (gs hs : List hb_glyph_info_t) →
     ReadsNoSerials meaning steps → SameButSerials gs hs →
     SameButSerialsAfter circles meaning steps level gs hs
 
--- Spans set up, and a reordering pause directly after, cut between two spans: order view, and where the halves share no cluster
--- all that is carried along, are those of the halves, set up and reordered each for itself, one after the other, but for serials.
-pub record SetUpAndPauseOfHalves (circles : Option DottedCircles) (meaning : List hb_glyph_info_t → List hb_glyph_info_t) (steps : List hb_glyph_info_t → List Step) (ss ts : List Span) (broken_kind : ℕ) (gs hs : List hb_glyph_info_t) (old new : Buffer) : Type 0 where
-  pub order : map unnumbered (order_view new.glyphs) ≡ map unnumbered (paused_order circles meaning (spans_set_up ss broken_kind (record old { glyphs = gs })).glyphs) ++ map unnumbered (paused_order circles meaning (spans_set_up ts broken_kind (record old { glyphs = hs })).glyphs)
+-- Spans set up, and a reordering pause directly after, cut between two spans: order view, and where
+-- the halves share no cluster all that is carried along, are those of the halves, set up and
+-- reordered each for itself, one after the other, but for serials.
+pub record SetUpAndPauseOfHalves (circles : Option DottedCircles) (meaning : List hb_glyph_info_t →
+    List hb_glyph_info_t) (steps : List hb_glyph_info_t →
+    List Step) (ss ts : List Span) (broken_kind : ℕ) (gs hs : List hb_glyph_info_t) (old new :
+    Buffer) : Type 0 where
+  pub order : map unnumbered (order_view new.glyphs)
+      ≡ map unnumbered (paused_order circles meaning
+      (spans_set_up ss broken_kind (record old { glyphs = gs })).glyphs)
+      ++ map unnumbered (paused_order circles meaning
+      (spans_set_up ts broken_kind (record old { glyphs = hs })).glyphs)
   pub moved : ShareNone gs hs →
-      map unnumbered (map carried new.glyphs) ≡ map unnumbered (paused_carried circles steps old.level (spans_set_up ss broken_kind (record old { glyphs = gs })).glyphs) ++ map unnumbered (paused_carried circles steps old.level (spans_set_up ts broken_kind (record old { glyphs = hs })).glyphs)
+      map unnumbered (map carried new.glyphs)
+      ≡ map unnumbered (paused_carried circles steps old.level
+      (spans_set_up ss broken_kind (record old { glyphs = gs })).glyphs)
+      ++ map unnumbered (paused_carried circles steps old.level
+      (spans_set_up ts broken_kind (record old { glyphs = hs })).glyphs)
 
 abbrev pub PausesCutAtSpans : Type 0
-PausesCutAtSpans = (circles : Option DottedCircles) (meaning : List hb_glyph_info_t → List hb_glyph_info_t) (steps : List hb_glyph_info_t → List Step) (spans : List Span) (broken_kind : ℕ) (old new : Buffer) →
+PausesCutAtSpans = (circles : Option DottedCircles)
+    (meaning : List hb_glyph_info_t → List hb_glyph_info_t)
+    (steps : List hb_glyph_info_t → List Step) (spans : List Span) (broken_kind : ℕ)
+    (old new : Buffer) →
     ReorderLaws meaning steps → ReadsNoSerials meaning steps → All (λ span. span.kind ≤ 15) spans →
     PauseReordered circles meaning steps (spans_set_up spans broken_kind old) new →
     (ss ts : List Span) (gs hs : List hb_glyph_info_t) →
-    spans ≡ ss ++ ts → old.glyphs ≡ gs ++ hs → spans_cover (length gs) ss ≡ true → spans_cover (length hs) ts ≡ true →
+    spans ≡ ss ++ ts → old.glyphs ≡ gs ++ hs → spans_cover (length gs) ss ≡ true →
+    spans_cover (length hs) ts ≡ true →
     SetUpAndPauseOfHalves circles meaning steps ss ts broken_kind gs hs old new

@@ -13,28 +13,41 @@ use Rattle.shapers_syllabic.specs.Reordering.{PauseReordered}
 use Rattle.shapers_syllabic.specs.ReorderingLaws.{ReadsNoSerials, ReorderLaws, paused_clusters, paused_order}
 use Rattle.shapers_syllabic.specs.Syllabic.{unsafe_spans}
 
--- What pauses make of a text is what they make of its halves, one after the other: in the order view, as far as the view shows it;
--- and where the halves share no cluster, in the clusters too.
-pub record HalvesJoined (view : hb_glyph_info_t → hb_glyph_info_t) (made : List hb_glyph_info_t → List hb_glyph_info_t) (clusters_made : List hb_glyph_info_t → List ℕ) (gs hs xs ys new : List hb_glyph_info_t) : Type 0 where
+-- What pauses make of a text is what they make of its halves, one after the other: in the order
+-- view, as far as the view shows it; and where the halves share no cluster, in the clusters too.
+pub record HalvesJoined (view : hb_glyph_info_t → hb_glyph_info_t) (made : List hb_glyph_info_t →
+    List hb_glyph_info_t) (clusters_made : List hb_glyph_info_t →
+    List ℕ) (gs hs xs ys new : List hb_glyph_info_t) : Type 0 where
   pub order : map view (order_view new) ≡ map view (made xs) ++ map view (made ys)
   pub in_clusters : ShareNone gs hs → clusters new ≡ clusters_made xs ++ clusters_made ys
 
--- So at every cut between two spans. Each half is set up by the spans that cover it, and its bytes may then have other serials, as long
--- as neighbouring syllables differ.
-abbrev pub CutsBetweenSpans : (hb_glyph_info_t → hb_glyph_info_t) → (List Span → List hb_glyph_info_t → List hb_glyph_info_t) → (List hb_glyph_info_t → List hb_glyph_info_t) → (List hb_glyph_info_t → List ℕ) → List Span → List hb_glyph_info_t → List hb_glyph_info_t → Type 0
-CutsBetweenSpans view set_up made clusters_made spans old new = (ss ts : List Span) (gs hs xs ys : List hb_glyph_info_t) →
-    spans ≡ ss ++ ts → old ≡ gs ++ hs → spans_cover (length gs) ss ≡ true → spans_cover (length hs) ts ≡ true →
+-- So at every cut between two spans. Each half is set up by the spans that cover it, and its bytes
+-- may then have other serials, as long as neighbouring syllables differ.
+abbrev pub CutsBetweenSpans : (hb_glyph_info_t → hb_glyph_info_t) →
+    (List Span → List hb_glyph_info_t → List hb_glyph_info_t) →
+    (List hb_glyph_info_t → List hb_glyph_info_t) → (List hb_glyph_info_t → List ℕ) → List Span →
+    List hb_glyph_info_t → List hb_glyph_info_t → Type 0
+CutsBetweenSpans view set_up made clusters_made spans old new =
+    (ss ts : List Span) (gs hs xs ys : List hb_glyph_info_t) →
+    spans ≡ ss ++ ts → old ≡ gs ++ hs → spans_cover (length gs) ss ≡ true →
+    spans_cover (length hs) ts ≡ true →
     SameButSerials (set_up ss gs) xs → SameButSerials (set_up ts hs) ys →
     HalvesJoined view made clusters_made gs hs xs ys new
 
--- A set-up and a reordering pause directly after it, whatever circles it opens: serials of bytes apart.
-abbrev pub PauseCutsBetweenSpans : (List hb_glyph_info_t → List hb_glyph_info_t) → (List hb_glyph_info_t → List Step) → ℕ → Type 0
-PauseCutsBetweenSpans meaning steps broken_kind = (circles : Option DottedCircles) (spans : List Span) (old new : Buffer) →
+-- A set-up and a reordering pause directly after it, whatever circles it opens: serials of bytes
+-- apart.
+abbrev pub PauseCutsBetweenSpans : (List hb_glyph_info_t → List hb_glyph_info_t) →
+    (List hb_glyph_info_t → List Step) → ℕ → Type 0
+PauseCutsBetweenSpans meaning steps broken_kind =
+    (circles : Option DottedCircles) (spans : List Span) (old new : Buffer) →
     All (λ span. span.kind ≤ 15) spans →
     PauseReordered circles meaning steps (spans_set_up spans broken_kind old) new →
-    CutsBetweenSpans unnumbered unsafe_spans (paused_order circles meaning) (paused_clusters circles steps old.level) spans old.glyphs new.glyphs
+    CutsBetweenSpans unnumbered unsafe_spans (paused_order circles meaning)
+    (paused_clusters circles steps old.level) spans old.glyphs new.glyphs
 
 abbrev pub PausesCutBetweenSpans : Type 0
-PausesCutBetweenSpans = (meaning : List hb_glyph_info_t → List hb_glyph_info_t) (steps : List hb_glyph_info_t → List Step) (broken_kind : ℕ) →
+PausesCutBetweenSpans =
+    (meaning : List hb_glyph_info_t → List hb_glyph_info_t)
+    (steps : List hb_glyph_info_t → List Step) (broken_kind : ℕ) →
     ReorderLaws meaning steps → ReadsNoSerials meaning steps →
     PauseCutsBetweenSpans meaning steps broken_kind

@@ -136,7 +136,7 @@ no_step = refl
 
 -- with a start above 0, where clusters are merged and flags fall, all other fields stay
 abbrev full : ℕ → ℕ → ℕ → hb_glyph_info_t
-full class c m = record { glyph_id = 0x05B7; cluster = c; mask = m; syllable = 0x24; category = 1; auxiliary = 3; general_category = Mn; modified_combining_class = class; lig_comp = 2; marks = record { 0 = 31 } }
+full class c m = record { glyph_id = 0x05B7; cluster = c; mask = m; var = 0x7A; syllable = 0x24; category = 1; auxiliary = 3; general_category = Mn; modified_combining_class = class; lig_comp = 2; marks = record { 0 = 31 } }
 
 full_swapped : run_step MonotoneGraphemes (mark_step 1 4 (full 20 0 15 ∷ full 21 1 15 ∷ full 23 2 15 ∷ full 220 3 15 ∷ [])) (full 20 0 15 ∷ full 21 1 15 ∷ full 23 2 15 ∷ full 220 3 15 ∷ []) ≡ full 20 0 15 ∷ full 21 1 15 ∷ full 220 2 8 ∷ full 23 2 15 ∷ []
 full_swapped = refl

@@ -24,7 +24,7 @@ above_base_elsewhere = refl
 
 -- NIKHAHIT and SARA AA copy SARA AM: of Thai 0E4D and 0E32, of Lao 0ECD and 0EB2; NIKHAHIT is a continuation of category Mn
 abbrev full : hb_glyph_info_t
-full = record { glyph_id = 0x0E33; cluster = 5; mask = 0x1F; syllable = 0x24; category = 1; auxiliary = 3; general_category = Cc; modified_combining_class = 9; lig_comp = 2; marks = record { 0 = 15 } }
+full = record { glyph_id = 0x0E33; cluster = 5; mask = 0x1F; var = 0x7A; syllable = 0x24; category = 1; auxiliary = 3; general_category = Cc; modified_combining_class = 9; lig_comp = 2; marks = record { 0 = 15 } }
 
 thai_nikhahit : nikhahit full ≡ record full { glyph_id = 0x0E4D; general_category = Mn; marks = record { 0 = 31 } }
 thai_nikhahit = refl

@@ -266,7 +266,7 @@ stretches = refl
 
 -- forms and flags change characters and masks alone
 abbrev full : hb_glyph_info_t
-full = record { glyph_id = 0x0E0D; cluster = 5; mask = 0x18; syllable = 0x24; category = 1; auxiliary = 3; general_category = Mn; modified_combining_class = 9; lig_comp = 2; marks = record { 0 = 31 } }
+full = record { glyph_id = 0x0E0D; cluster = 5; mask = 0x18; var = 0x7A; syllable = 0x24; category = 1; auxiliary = 3; general_category = Mn; modified_combining_class = 9; lig_comp = 2; marks = record { 0 = 31 } }
 
 forms_keep : pua_shaped has_all (full ∷ record full { glyph_id = 0x0E38 } ∷ record full { glyph_id = 0x0E48; cluster = 6 } ∷ record full { glyph_id = 0x0E48; cluster = 7 } ∷ []) ≡ record full { glyph_id = 0xF70F } ∷ record full { glyph_id = 0x0E38 } ∷ record full { glyph_id = 0xF70A; cluster = 6; mask = 0x1B } ∷ record full { glyph_id = 0x0E48; cluster = 7 } ∷ []
 forms_keep = refl

@@ -127,7 +127,7 @@ flags = refl
 
 -- a glyph whose fields are all set: without what the rewriting changes, and as it is kept where forms don't follow and where they do
 abbrev full : hb_glyph_info_t
-full = record { glyph_id = 0x916; cluster = 5; mask = 0x1F; syllable = 0x24; category = 1; auxiliary = 3; general_category = Mn; modified_combining_class = 9; lig_comp = 2; marks = record { 0 = 31 } }
+full = record { glyph_id = 0x916; cluster = 5; mask = 0x1F; var = 0x7A; syllable = 0x24; category = 1; auxiliary = 3; general_category = Mn; modified_combining_class = 9; lig_comp = 2; marks = record { 0 = 31 } }
 
 unnamed : without_name full ≡ record full { glyph_id = 0; general_category = Cc; marks = record { 0 = 15 } }
 unnamed = refl

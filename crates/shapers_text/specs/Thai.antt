@@ -14,24 +14,33 @@ use Rattle.shapers_buffer.specs.Lists.{last_run, before_last_run, each_after, op
 abbrev pub is_sara_am : ℕ → Bool
 is_sara_am u = u == 0x0E33 || u == 0x0EB3
 
--- an above-base mark of Thai: MAI HAN-AKAT, SARA I to SARA UEE, 0E3B, MAITAIKHU to YAMAKKAN (OpenType's note on Thai; 0E3B, free in
--- Unicode, stands for Lao's MAI KON)
+-- an above-base mark of Thai: MAI HAN-AKAT, SARA I to SARA UEE, 0E3B, MAITAIKHU to YAMAKKAN
+-- (OpenType's note on Thai; 0E3B, free in Unicode, stands for Lao's MAI KON)
 abbrev pub is_thai_above_base : ℕ → Bool
-is_thai_above_base u = u == 0x0E31 || (nat_le 0x0E34 u && nat_le u 0x0E37) || u == 0x0E3B || (nat_le 0x0E47 u && nat_le u 0x0E4E)
+is_thai_above_base u =
+    u == 0x0E31 || (nat_le 0x0E34 u && nat_le u 0x0E37) || u == 0x0E3B
+    || (nat_le 0x0E47 u && nat_le u 0x0E4E)
 
--- an above-base mark: one of Thai, once bit 0x80 is cleared, which leads from Lao to Thai (the order of the two blocks in Unicode)
+-- an above-base mark: one of Thai, once bit 0x80 is cleared, which leads from Lao to Thai (the
+-- order of the two blocks in Unicode)
 abbrev pub is_above_base : ℕ → Bool
 is_above_base u = is_thai_above_base (bit_and u 0xFFFFFF7F)
 
--- NIKHAHIT and SARA AA out of SARA AM (Unicode's decomposition of 0E33 and 0EB3): NIKHAHIT is a continuation of category Mn
+-- NIKHAHIT and SARA AA out of SARA AM (Unicode's decomposition of 0E33 and 0EB3): NIKHAHIT is a
+-- continuation of category Mn
 abbrev pub nikhahit : hb_glyph_info_t → hb_glyph_info_t
-nikhahit am = record am { glyph_id = am.glyph_id + 0x1A; general_category = Mn; marks = with_mark CONTINUATION am.marks }
+nikhahit am = record am {
+  glyph_id = am.glyph_id + 0x1A;
+  general_category = Mn;
+  marks = with_mark CONTINUATION am.marks;
+}
 
 abbrev pub sara_aa : hb_glyph_info_t → hb_glyph_info_t
 sara_aa am = record am { glyph_id = am.glyph_id - 1 }
 
--- What the rule of SARA AM reads of the elements of a text, and makes of them: their character, and the NIKHAHIT and SARA AA of a
--- SARA AM. So one rule serves glyphs, and characters with their places.
+-- What the rule of SARA AM reads of the elements of a text, and makes of them: their character, and
+-- the NIKHAHIT and SARA AA of a SARA AM. So one rule serves glyphs, and characters with their
+-- places.
 pub record SaraAmRule (X : Type 0) : Type 0 where
   pub character : X → ℕ
   pub nikhahit : X → X
@@ -44,9 +53,12 @@ is_am rule = λ x. is_sara_am (rule.character x)
 abbrev pub is_above : {X : Type 0} → SaraAmRule X → X → Bool
 is_above rule = λ x. is_above_base (rule.character x)
 
--- `.. W SARA_AM` as `.. NIKHAHIT W SARA_AA`, W the longest run of above-base marks there (OpenType's notes on Thai and Lao)
+-- `.. W SARA_AM` as `.. NIKHAHIT W SARA_AA`, W the longest run of above-base marks there
+-- (OpenType's notes on Thai and Lao)
 abbrev pub piece_in_two : {X : Type 0} → SaraAmRule X → List X → X → List X
-piece_in_two rule text am = before_last_run (is_above rule) text ++ (rule.nikhahit am ∷ (last_run (is_above rule) text ++ rule.sara_aa am ∷ []))
+piece_in_two rule text am =
+    before_last_run (is_above rule) text
+    ++ (rule.nikhahit am ∷ (last_run (is_above rule) text ++ rule.sara_aa am ∷ []))
 
 -- the text cut after each SARA AM, with each piece that ends with one in two
 abbrev pub in_two : {X : Type 0} → SaraAmRule X → List X → List X
@@ -70,13 +82,18 @@ characters gs = map (λ g. g.glyph_id) gs
 
 -- the rule on characters with their places: both parts of a SARA AM keep its place
 abbrev pub place_rule : SaraAmRule (ℕ × ℕ)
-place_rule = record { character = λ p. p.1; nikhahit = λ p. (p.0, p.1 + 0x1A); sara_aa = λ p. (p.0, p.1 - 1) }
+place_rule = record {
+  character = λ p. p.1;
+  nikhahit = λ p. (p.0, p.1 + 0x1A);
+  sara_aa = λ p. (p.0, p.1 - 1);
+}
 
 -- for each glyph of the result the old place that it copies
 abbrev pub sources : List ℕ → List ℕ
 sources us = map (λ p. p.0) (in_two place_rule (enumerate_from 0 us))
 
--- whether a SARA AM without marks joins the glyph before it: where clusters are whole graphemes (Unicode's UAX 29: SARA AM is a spacing mark)
+-- whether a SARA AM without marks joins the glyph before it: where clusters are whole graphemes
+-- (Unicode's UAX 29: SARA AM is a spacing mark)
 abbrev pub joins_before : BufferClusterLevel → Bool
 joins_before MonotoneGraphemes = true
 joins_before MonotoneCharacters = false
@@ -93,9 +110,11 @@ stretch_of_sara_am level am w =
 abbrev pub stretches_at : BufferClusterLevel → ℕ → ℕ → ℕ → List (ℕ × ℕ)
 stretches_at level place u w = if is_sara_am u then stretch_of_sara_am level place w else []
 
--- the merged stretches, from the left, of characters each given with what stands before it; those of a text
+-- the merged stretches, from the left, of characters each given with what stands before it; those
+-- of a text
 abbrev pub stretches_of_each : BufferClusterLevel → List (List ℕ × ℕ) → List (ℕ × ℕ)
-stretches_of_each level each = flat_map (λ p. stretches_at level (length p.0) p.1 (suffix_len is_above_base p.0)) each
+stretches_of_each level each =
+    flat_map (λ p. stretches_at level (length p.0) p.1 (suffix_len is_above_base p.0)) each
 
 abbrev pub sara_am_stretches : BufferClusterLevel → List ℕ → List (ℕ × ℕ)
 sara_am_stretches level us = stretches_of_each level (each_after [] us)

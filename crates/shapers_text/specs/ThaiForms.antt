@@ -18,7 +18,8 @@ use Rattle.shapers_text.specs.declared.ot_shaper_thai.forms.Action.{Action}
 use Rattle.shapers_text.specs.declared.ot_shaper_thai.forms.Action.TheVariants.{NOP, SD, SL, SDL, RD}
 use Rattle.shapers_text.specs.declared.ot_shaper_thai.forms.PuaMapping.{PuaMapping}
 
--- the type of a character as a consonant: ascending, with a removable descender, with a strict descender, or another (the Thai note's NC, AC, RC, DC)
+-- the type of a character as a consonant: ascending, with a removable descender, with a strict
+-- descender, or another (the Thai note's NC, AC, RC, DC)
 abbrev pub consonant_type : ℕ → Consonant
 consonant_type u =
     if u == 0x0E1B || u == 0x0E1D || u == 0x0E1F then AC
@@ -30,7 +31,8 @@ consonant_type u =
 -- its type as a mark: a vowel above, a vowel below, or a tone above (the Thai note's AV, BV, T)
 abbrev pub mark_type : ℕ → Mark
 mark_type u =
-    if u == 0x0E31 || (nat_le 0x0E34 u && nat_le u 0x0E37) || u == 0x0E47 || (nat_le 0x0E4D u && nat_le u 0x0E4E) then AV
+    if u == 0x0E31 || (nat_le 0x0E34 u && nat_le u 0x0E37) || u == 0x0E47
+    || (nat_le 0x0E4D u && nat_le u 0x0E4E) then AV
     else if nat_le 0x0E38 u && nat_le u 0x0E3A then BV
     else if nat_le 0x0E48 u && nat_le u 0x0E4C then T
     else NotMark
@@ -80,19 +82,23 @@ pua u win mac = record { 0 = u; 1 = win; 2 = mac }
 -- marks shifted down
 abbrev pub sd_mappings : List PuaMapping
 sd_mappings =
-    pua 0x0E48 0xF70A 0xF88B ∷ pua 0x0E49 0xF70B 0xF88E ∷ pua 0x0E4A 0xF70C 0xF891 ∷ pua 0x0E4B 0xF70D 0xF894 ∷ pua 0x0E4C 0xF70E 0xF897
+    pua 0x0E48 0xF70A 0xF88B ∷ pua 0x0E49 0xF70B 0xF88E ∷ pua 0x0E4A 0xF70C 0xF891
+    ∷ pua 0x0E4B 0xF70D 0xF894 ∷ pua 0x0E4C 0xF70E 0xF897
     ∷ pua 0x0E38 0xF718 0xF89B ∷ pua 0x0E39 0xF719 0xF89C ∷ pua 0x0E3A 0xF71A 0xF89D ∷ []
 
 -- marks shifted down and left
 abbrev pub sdl_mappings : List PuaMapping
 sdl_mappings =
-    pua 0x0E48 0xF705 0xF88C ∷ pua 0x0E49 0xF706 0xF88F ∷ pua 0x0E4A 0xF707 0xF892 ∷ pua 0x0E4B 0xF708 0xF895 ∷ pua 0x0E4C 0xF709 0xF898 ∷ []
+    pua 0x0E48 0xF705 0xF88C ∷ pua 0x0E49 0xF706 0xF88F ∷ pua 0x0E4A 0xF707 0xF892
+    ∷ pua 0x0E4B 0xF708 0xF895 ∷ pua 0x0E4C 0xF709 0xF898 ∷ []
 
 -- marks shifted left
 abbrev pub sl_mappings : List PuaMapping
 sl_mappings =
-    pua 0x0E48 0xF713 0xF88A ∷ pua 0x0E49 0xF714 0xF88D ∷ pua 0x0E4A 0xF715 0xF890 ∷ pua 0x0E4B 0xF716 0xF893 ∷ pua 0x0E4C 0xF717 0xF896
-    ∷ pua 0x0E31 0xF710 0xF884 ∷ pua 0x0E34 0xF701 0xF885 ∷ pua 0x0E35 0xF702 0xF886 ∷ pua 0x0E36 0xF703 0xF887 ∷ pua 0x0E37 0xF704 0xF888
+    pua 0x0E48 0xF713 0xF88A ∷ pua 0x0E49 0xF714 0xF88D ∷ pua 0x0E4A 0xF715 0xF890
+    ∷ pua 0x0E4B 0xF716 0xF893 ∷ pua 0x0E4C 0xF717 0xF896
+    ∷ pua 0x0E31 0xF710 0xF884 ∷ pua 0x0E34 0xF701 0xF885 ∷ pua 0x0E35 0xF702 0xF886
+    ∷ pua 0x0E36 0xF703 0xF887 ∷ pua 0x0E37 0xF704 0xF888
     ∷ pua 0x0E47 0xF712 0xF889 ∷ pua 0x0E4D 0xF711 0xF899 ∷ []
 
 -- bases without their descender
@@ -131,7 +137,8 @@ marks_below before = count_by (λ u. stands_below (mark_type u)) (last_run is_th
 
 -- what a mark does after this text
 abbrev pub action_after : List ℕ → ℕ → Action
-action_after before u = action_of (base_type before) (mark_type u) (marks_above before) (marks_below before)
+action_after before u =
+    action_of (base_type before) (mark_type u) (marks_above before) (marks_below before)
 
 -- whether a vowel below follows among the marks of this base
 abbrev pub has_below : List ℕ → Bool
@@ -145,7 +152,8 @@ is_removable AC = false
 is_removable DC = false
 is_removable NotConsonant = false
 
--- the form of a character between two texts: a mark by its action, a base without its descender where a vowel below follows
+-- the form of a character between two texts: a mark by its action, a base without its descender
+-- where a vowel below follows
 abbrev pub form_between : (ℕ → Bool) → List ℕ → ℕ → List ℕ → ℕ
 form_between has before u after =
     if is_thai_mark u then shaped_by has u (action_after before u)
@@ -155,7 +163,8 @@ form_between has before u after =
 -- the forms of a text between two texts, each by what stands before and after it
 abbrev pub forms_between : (ℕ → Bool) → List ℕ → List ℕ → List ℕ → List ℕ
 forms_between has before [] after = []
-forms_between has before (u ∷ us) after = form_between has before u (us ++ after) ∷ forms_between has (before ++ u ∷ []) us after
+forms_between has before (u ∷ us) after =
+    form_between has before u (us ++ after) ∷ forms_between has (before ++ u ∷ []) us after
 
 -- the glyphs with other characters
 abbrev pub with_character : hb_glyph_info_t → ℕ → hb_glyph_info_t
@@ -172,7 +181,8 @@ with_forms has gs = with_characters (forms_between has [] (characters gs) []) gs
 abbrev pub base_place : List ℕ → ℕ
 base_place before = length before - suffix_len is_thai_mark before - 1
 
--- from each mark's base to the mark, in turn, of a text given with what stands before each character
+-- from each mark's base to the mark, in turn, of a text given with what stands before each
+-- character
 abbrev pub stretch_of_mark : ℕ → ℕ → ℕ → List (ℕ × ℕ)
 stretch_of_mark base place u = if is_thai_mark u then (base, place) ∷ [] else []
 
@@ -182,20 +192,27 @@ mark_stretches_of_each each = flat_map (λ p. stretch_of_mark (base_place p.0) (
 abbrev pub mark_stretches : List ℕ → List (ℕ × ℕ)
 mark_stretches us = mark_stretches_of_each (each_after [] us)
 
--- forms and flags (HarfBuzz's glyph flags): a break between a base and its marks would change the forms
+-- forms and flags (HarfBuzz's glyph flags): a break between a base and its marks would change the
+-- forms
 abbrev pub pua_shaped : (ℕ → Bool) → List hb_glyph_info_t → List hb_glyph_info_t
 pua_shaped has gs = with_forms has (unsafe_all (mark_stretches (characters gs)) gs)
 
 -- the whole rewriting, with the private use forms or without
-abbrev pub preprocessed_text : Bool → (ℕ → Bool) → BufferClusterLevel → List hb_glyph_info_t → List hb_glyph_info_t
+abbrev pub preprocessed_text : Bool → (ℕ → Bool) → BufferClusterLevel → List hb_glyph_info_t →
+    List hb_glyph_info_t
 preprocessed_text forms has level gs =
     let text = glyphs_in_two (merge_all level (sara_am_stretches level (characters gs)) gs) in
     if forms then pua_shaped has text else text
 
--- whether a plan asks for the forms: its script is Thai, and GSUB doesn't have it (the Thai note: for fonts without OpenType rules)
+-- whether a plan asks for the forms: its script is Thai, and GSUB doesn't have it (the Thai note:
+-- for fonts without OpenType rules)
 abbrev pub asks_for_forms : hb_ot_shape_plan_t → Bool
 asks_for_forms plan = wants_forms plan.script plan.ot_map.found
 
 -- the whole hook on a buffer
 abbrev pub preprocessed_in_thai : hb_ot_shape_plan_t → Font → Buffer → Buffer
-preprocessed_in_thai plan font b = record b { glyphs = preprocessed_text (asks_for_forms plan) (has_nominal font) b.level b.glyphs }
+preprocessed_in_thai plan font b =
+    record b {
+      glyphs = preprocessed_text (asks_for_forms plan) (has_nominal font) b.level
+          b.glyphs;
+    }

@@ -16,32 +16,44 @@ use Rattle.shapers_clusters.specs.Laws.{ClustersMade}
 use Rattle.shapers_text.specs.ThaiForms.{preprocessed_text}
 use Rattle.shapers_text.specs.Thai.{is_sara_am, is_above_base, in_parts, glyph_rule, characters, glyphs_in_two, sources, sara_am_stretches}
 
--- where the NIKHAHIT of a SARA AM stands in the result, if xs is the text before it: behind what comes of the text before its marks
+-- where the NIKHAHIT of a SARA AM stands in the result, if xs is the text before it: behind what
+-- comes of the text before its marks
 abbrev pub new_place : List ℕ → ℕ
 new_place xs = length (sources (before_last_run is_above_base xs))
 
--- What the rewriting of the characters us makes of their clusters cs: js. They are the clusters of made glyphs, each having that
--- of its source after the merges, with exact cuts; and each place of the text is the source of some glyph. At the levels that merge, wherever the text is xs, a SARA AM and ys, all places
--- between its NIKHAHIT and where that stood before its move share one cluster.
+-- What the rewriting of the characters us makes of their clusters cs: js. They are the clusters of
+-- made glyphs, each having that of its source after the merges, with exact cuts; and each place of
+-- the text is the source of some glyph. At the levels that merge, wherever the text is xs, a SARA
+-- AM and ys, all places between its NIKHAHIT and where that stood before its move share one
+-- cluster.
 pub record ClustersInTwo (level : BufferClusterLevel) (us cs js : List ℕ) : Type 0 where
   pub made : ClustersMade level (sara_am_stretches level us) (sources us) cs js
   pub none_lost : (p : ℕ) → p < length us → Contains (sources us) p
-  pub cluster_law : merges level ≡ true → (xs : List ℕ) (u : ℕ) (ys : List ℕ) → us ≡ xs ++ u ∷ ys → is_sara_am u ≡ true → ShareCluster js (new_place xs) (new_place xs + suffix_len is_above_base xs)
+  pub cluster_law : merges level ≡ true → (xs : List ℕ) (u : ℕ) (ys : List ℕ) → us ≡ xs ++ u ∷ ys →
+      is_sara_am u ≡ true →
+      ShareCluster js (new_place xs) (new_place xs + suffix_len is_above_base xs)
 
 -- a glyph without what the rewriting changes
 abbrev pub without_name : hb_glyph_info_t → hb_glyph_info_t
-without_name g = record g { glyph_id = 0; general_category = Cc; marks = without_mark CONTINUATION g.marks }
+without_name g =
+    record g { glyph_id = 0; general_category = Cc; marks = without_mark CONTINUATION g.marks }
 
--- What it gives: rs. But for its order it is the merged text with each SARA AM taken in rule. Each glyph is its source after the merges in all but character, category and continuation; so no cluster rises,
--- and glyph flags stay unless it fell.
+-- What it gives: rs. But for its order it is the merged text with each SARA AM taken in rule. Each
+-- glyph is its source after the merges in all but character, category and continuation; so no
+-- cluster rises, and glyph flags stay unless it fell.
 pub record InTwoHolds (level : BufferClusterLevel) (gs rs : List hb_glyph_info_t) : Type 0 where
-  pub made : map without_name rs ≡ map without_name (pick (sources (characters gs)) (merge_all level (sara_am_stretches level (characters gs)) gs))
-  pub kept : IsPermutation (flat_map (in_parts glyph_rule) (merge_all level (sara_am_stretches level (characters gs)) gs)) rs
+  pub made : map without_name rs
+      ≡ map without_name (pick (sources (characters gs))
+      (merge_all level (sara_am_stretches level (characters gs)) gs))
+  pub kept : IsPermutation (flat_map (in_parts glyph_rule)
+      (merge_all level (sara_am_stretches level (characters gs)) gs)) rs
   pub in_clusters : ClustersInTwo level (characters gs) (clusters gs) (clusters rs)
   pub falls : AllZip FlagsFall (pick (sources (characters gs)) gs) rs
 
 abbrev pub InTwoLaw : Type 0
-InTwoLaw = (level : BufferClusterLevel) (gs : List hb_glyph_info_t) → InTwoHolds level gs (glyphs_in_two (merge_all level (sara_am_stretches level (characters gs)) gs))
+InTwoLaw = (level : BufferClusterLevel) (gs : List hb_glyph_info_t) →
+    InTwoHolds level gs
+    (glyphs_in_two (merge_all level (sara_am_stretches level (characters gs)) gs))
 
 -- a glyph without what the private use forms change
 abbrev pub without_form : hb_glyph_info_t → hb_glyph_info_t
@@ -53,14 +65,18 @@ pub record FormsHold (plain shaped : List hb_glyph_info_t) : Type 0 where
   pub clusters_stay : clusters shaped ≡ clusters plain
 
 abbrev pub FormsLaw : Type 0
-FormsLaw = (has : ℕ → Bool) (level : BufferClusterLevel) (gs : List hb_glyph_info_t) → FormsHold (preprocessed_text false has level gs) (preprocessed_text true has level gs)
+FormsLaw = (has : ℕ → Bool) (level : BufferClusterLevel) (gs : List hb_glyph_info_t) →
+    FormsHold (preprocessed_text false has level gs) (preprocessed_text true has level gs)
 
 -- the order view, and without the characters, which the forms change
 abbrev pub kept_view : Bool → hb_glyph_info_t → hb_glyph_info_t
 kept_view false g = plain g
 kept_view true g = record (plain g) { glyph_id = 0 }
 
--- No glyph is lost, and none made but the two parts of each SARA AM: the order view is the old one with each SARA AM taken in two,
--- in some order; where the private use forms follow, but for the characters.
+-- No glyph is lost, and none made but the two parts of each SARA AM: the order view is the old one
+-- with each SARA AM taken in two, in some order; where the private use forms follow, but for the
+-- characters.
 abbrev pub KeptInTwo : Bool → List hb_glyph_info_t → List hb_glyph_info_t → Type 0
-KeptInTwo forms gs rs = IsPermutation (map (kept_view forms) (flat_map (in_parts glyph_rule) gs)) (map (kept_view forms) rs)
+KeptInTwo forms gs rs =
+    IsPermutation (map (kept_view forms) (flat_map (in_parts glyph_rule) gs))
+    (map (kept_view forms) rs)

@@ -1,4 +1,5 @@
--- How far the code has come in its walks over a Thai text: the forms from the start on, the rewriting from the end back.
+-- How far the code has come in its walks over a Thai text: the forms from the start on, the
+-- rewriting from the end back.
 use Rattle.std.specs.Prelude.{ℕ, ◌+◌, ◌-◌, if◌then◌else◌, Bool, List, ◌∷◌, ◌++◌, length, slice_index_or, slice_set, Option, None, Some}
 use Rattle.std.specs.List.{suffix_len}
 use Rattle.shapers_buffer.specs.declared.buffer.glyph.hb_glyph_info_t.{hb_glyph_info_t}
@@ -49,7 +50,8 @@ types_of u = record { 0 = consonant_type u; 1 = mark_type u }
 
 -- the base and the counts after one more character, at place i
 abbrev pub counted_base : Mark → Base → ℕ → ℕ → Base
-counted_base NotMark base i u = record { place = i; consonant = consonant_type u; above = 0; below = 0 }
+counted_base NotMark base i u =
+    record { place = i; consonant = consonant_type u; above = 0; below = 0 }
 counted_base AV base i u = record base { above = base.above + 1 }
 counted_base T base i u = record base { above = base.above + 1 }
 counted_base BV base i u = record base { below = base.below + 1 }
@@ -69,17 +71,21 @@ merged_front level len gs = merge_all level (sara_am_stretches level (take len (
 abbrev pub HasRoom : ℕ → List hb_glyph_info_t → Type 0
 HasRoom len gs = (len ≤ length gs) × (length gs ≡ length (glyphs_in_two (take len gs)))
 
--- what the text so far becomes: with a NIKHAHIT pending, that stands before its last above-base marks
+-- what the text so far becomes: with a NIKHAHIT pending, that stands before its last above-base
+-- marks
 abbrev pub text_with_pending : {X : Type 0} → SaraAmRule X → List X → X → List X
-text_with_pending rule text nikhahit = in_two rule (before_last_run (is_above rule) text) ++ nikhahit ∷ last_run (is_above rule) text
+text_with_pending rule text nikhahit =
+    in_two rule (before_last_run (is_above rule) text) ++ nikhahit ∷ last_run (is_above rule) text
 
 -- what the text becomes on glyphs, with a NIKHAHIT pending or none
 abbrev pub text_to_write : List hb_glyph_info_t → Option hb_glyph_info_t → List hb_glyph_info_t
 text_to_write text None = in_two glyph_rule text
 text_to_write text (Some nikhahit) = text_with_pending glyph_rule text nikhahit
 
--- The text before `end`, and a NIKHAHIT that may be pending, is still to be written: just so many places are left, and reading is ahead.
-pub record IsUnwritten (glyphs : List hb_glyph_info_t) (end : ℕ) (pending : Option hb_glyph_info_t) (place : ℕ) : Type 0 where
+-- The text before `end`, and a NIKHAHIT that may be pending, is still to be written: just so many
+-- places are left, and reading is ahead.
+pub record IsUnwritten (glyphs : List hb_glyph_info_t) (end : ℕ) (pending : Option
+    hb_glyph_info_t) (place : ℕ) : Type 0 where
   pub room : length (text_to_write (take end glyphs) pending) ≡ place
   pub ahead : end ≤ place
   pub within : place ≤ length glyphs
@@ -89,6 +95,7 @@ abbrev pub whole_of : List hb_glyph_info_t → ℕ → Option hb_glyph_info_t �
 whole_of glyphs end pending place = text_to_write (take end glyphs) pending ++ drop place glyphs
 
 -- in the middle of writing the whole
-pub record Written (whole glyphs : List hb_glyph_info_t) (end : ℕ) (pending : Option hb_glyph_info_t) (place : ℕ) : Type 0 where
+pub record Written (whole glyphs : List hb_glyph_info_t) (end : ℕ) (pending : Option
+    hb_glyph_info_t) (place : ℕ) : Type 0 where
   pub left : IsUnwritten glyphs end pending place
   pub joined : whole_of glyphs end pending place ≡ whole

@@ -1,6 +1,6 @@
 //! Thai and Lao: SARA AM in two, and for fonts whose GSUB table doesn't know Thai its private use
 //! forms.
-ghost use Rattle.std.specs.Prelude.{◌≡◌, ℕ, [], length, false, is_some, IsOk, OnOk, OnErr};
+ghost use Rattle.std.specs.Prelude.{◌≡◌, [], length, false, IsOk, OnOk, OnErr};
 ghost use Rattle.std.specs.List.{list_any};
 ghost use Rattle.shapers_buffer.specs.Glyph.{clusters};
 ghost use Rattle.shapers_buffer.specs.Refusals.{RefusesLength};

@@ -1,5 +1,6 @@
 mod ConstantRows
 pub mod MaskLemmas
+mod OneFront
 mod Pieces
 mod Reordered
 mod RequestRows

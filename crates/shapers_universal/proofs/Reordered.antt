@@ -63,10 +63,10 @@ syllable_reordered s e old new h l others is =
 length-merged : (level : BufferClusterLevel) (sts : List (ℕ × ℕ)) (gs : List hb_glyph_info_t) → length (merge_all level sts gs) ≡ length gs
 length-merged level sts gs = sym (length-map (merge_all level sts gs) plain) ∙ ap length (order_view-merge_all level sts gs) ∙ length-map gs plain
 
-abbrev syllable_merges : ℕ → ℕ → ℕ → List hb_glyph_info_t → List (ℕ × ℕ)
+abbrev pub syllable_merges : ℕ → ℕ → ℕ → List hb_glyph_info_t → List (ℕ × ℕ)
 syllable_merges s behind e gs = (s, behind) ∷ fronts_from s behind (stretch_of behind e gs)
 
-syllable_ran : (level : BufferClusterLevel) (s e behind : ℕ) (gs : List hb_glyph_info_t) → s ≤ e → e ≤ length gs → is_reordered (stretch_of s e gs) ≡ true → behind ≡ s + reph_run (stretch_of s e gs) → run_steps level (map (widened s e (length gs)) (universal_steps (stretch_of s e gs))) gs ≡ with_stretch s e (λ _. pick (places_in_order s behind e gs) (merge_all level (syllable_merges s behind e gs) gs)) (merge_all level (syllable_merges s behind e gs) gs)
+pub syllable_ran : (level : BufferClusterLevel) (s e behind : ℕ) (gs : List hb_glyph_info_t) → s ≤ e → e ≤ length gs → is_reordered (stretch_of s e gs) ≡ true → behind ≡ s + reph_run (stretch_of s e gs) → run_steps level (map (widened s e (length gs)) (universal_steps (stretch_of s e gs))) gs ≡ with_stretch s e (λ _. pick (places_in_order s behind e gs) (merge_all level (syllable_merges s behind e gs) gs)) (merge_all level (syllable_merges s behind e gs) gs)
 syllable_ran level s e behind gs h l kind is =
     let zs = stretch_of s e gs in
     let n = length gs in
@@ -135,7 +135,7 @@ parts_reordered s e behind b0 b3 b4 h l kind is m done =
     (glyphs ∙ ap (λ xs. with_stretch s e (λ _. pick (listed s e b3.places) xs) xs) there ∙ ap (λ ps. with_stretch s e (λ _. pick ps ms) ms) m.reads ∙ sym (syllable_ran b0.level s e behind gs h l kind is))
 
 -- a syllable in which nothing moves
-still_pieces : {X : Type 0} (t : X → Bool) (qs : List (List X)) → list_any t (flat_map (λ q. q) qs) ≡ false → flat_map (reversed_first t) qs ≡ flat_map (λ q. q) qs
+pub still_pieces : {X : Type 0} (t : X → Bool) (qs : List (List X)) → list_any t (flat_map (λ q. q) qs) ≡ false → flat_map (reversed_first t) qs ≡ flat_map (λ q. q) qs
 still_pieces t [] h = refl
 still_pieces t (q ∷ qs) h =
     let parts : (list_any t q ≡ false) × (list_any t (flat_map (λ p. p) qs) ≡ false) = or_parts (list_any t q) (list_any t (flat_map (λ p. p) qs)) (sym (list_any-append t q (flat_map (λ p. p) qs)) ∙ h) in
@@ -153,11 +153,11 @@ still_order s e gs l none =
     ∙ still_pieces (goes_front_at gs) qs (ap (list_any (goes_front_at gs)) whole ∙ calm)
     ∙ whole
 
-no_reph : (gs : List hb_glyph_info_t) → has_reph gs ≡ false → reph_run gs ≡ 0
+pub no_reph : (gs : List hb_glyph_info_t) → has_reph gs ≡ false → reph_run gs ≡ 0
 no_reph [] h = refl
 no_reph (g ∷ gs) h = rw h refl
 
-merge_nothing : (level : BufferClusterLevel) (s : ℕ) (gs : List hb_glyph_info_t) → merge level s s gs ≡ gs
+pub merge_nothing : (level : BufferClusterLevel) (s : ℕ) (gs : List hb_glyph_info_t) → merge level s s gs ≡ gs
 merge_nothing level s gs =
     let few : nat_lt (s - s) 2 ≡ true = grind (arith, nat_tests) in
     rw few (elim (merges level) as (λ b. (if b && false then merged s s gs else gs) ≡ gs) [ true ↦ refl | false ↦ refl ])

@@ -1,18 +1,20 @@
 -- The merges of a syllable: those of its steps, one after another, and as the code makes them.
-use Rattle.std.proofs.Common.{◌≡◌, ℕ, suc, ◌+◌, ◌-◌, ◌<◌, ◌≤◌, ◌==◌, eq-eqb, inl, inr, Bool, true, false, if◌then◌else◌, List, [], ◌∷◌, ◌++◌, map, filter, length, take, drop, get_or, Some, refl, ap, sym, ◌∙◌, subst, arith, append_assoc, length-append, length-take-le}
+use Rattle.std.proofs.Common.{◌≡◌, ℕ, suc, ◌+◌, ◌-◌, ◌<◌, ◌≤◌, inl, inr, Bool, true, false, if◌then◌else◌, List, [], ◌∷◌, ◌++◌, map, filter, length, take, drop, get_or, Some, refl, ap, sym, ◌∙◌, subst, arith, append_assoc, length-append, length-take-le}
 use Rattle.std.specs.List.{list_any, onto_first, range_with_len, slice_get}
 use Rattle.std.proofs.lemmas.Bool.{cases_Bool, or_parts}
 use Rattle.std.proofs.lemmas.Bool.Decides.{nat_tests}
 use Rattle.std.proofs.lemmas.List.{append-nil, get_or-map, length-map}
 use Rattle.std.proofs.lemmas.List.Folds.{list_any-append}
 use Rattle.shapers_buffer.specs.declared.buffer.glyph.hb_glyph_info_t.{hb_glyph_info_t}
-use Rattle.shapers_buffer.specs.Clusters.{in_one_cluster, merge, merge_all, merges, stretch_of}
+use Rattle.shapers_buffer.specs.declared.buffer.cluster_runs.ClusterRun.{ClusterRun}
+use Rattle.shapers_buffer.specs.ClusterRuns.{RunFits, with_run}
+use Rattle.shapers_buffer.specs.Clusters.{merge, merge_all, stretch_of}
 use Rattle.shapers_buffer.specs.Buffer.{Buffer}
 use Rattle.shapers_buffer.specs.Glyph.{default_glyph, order_view, plain}
 use Rattle.shapers_buffer.specs.Lists.{cut_after}
 use Rattle.shapers_buffer.proofs.ClusterLemmas.{length-stretch}
 use Rattle.shapers_clusters.specs.Steps.{all_first, shifted, steps_along, widened}
-use Rattle.shapers_clusters.proofs.Merging.{length-merge, order_view-merge}
+use Rattle.shapers_clusters.proofs.Merging.{order_view-merge, order_view-with_run}
 use Rattle.shapers_universal.specs.Universal.{first_last, goes_front, goes_front_at, is_halant, is_reordered, piece_step, piece_steps, reph_run, universal_steps}
 use Rattle.shapers_universal.specs.UniversalWalk.{fronts_from}
 use Rattle.shapers_universal.proofs.UniversalLists.{length-first_last}
@@ -156,14 +158,6 @@ fronts_next start i e gs h l = ap (fronts_from start i) (stretch_more i e gs h l
 pub fronts_end : (start i e : ℕ) (gs : List hb_glyph_info_t) → e ≤ i → fronts_from start i (stretch_of i e gs) ≡ []
 fronts_end start i e gs h = let m : e - i ≡ 0 = omega arith in ap (λ k. fronts_from start i (take k (drop i gs))) m
 
--- one glyph is in one cluster
-one_glyph : (gs : List hb_glyph_info_t) → in_one_cluster (take 1 gs) ≡ true
-one_glyph [] = refl
-one_glyph (g ∷ gs) = let same : (g.cluster == g.cluster) ≡ true = eq-eqb g.cluster g.cluster refl in rw same refl
-
-pub one_place : (s : ℕ) (gs : List hb_glyph_info_t) → in_one_cluster (stretch_of s (s + 1) gs) ≡ true
-one_place s gs = let m : s + 1 - s ≡ 1 = omega arith in ap (λ k. in_one_cluster (take k (drop s gs))) m ∙ one_glyph (drop s gs)
-
 -- what is read where only merges were made
 pub seen_at : (t : hb_glyph_info_t → Bool) → ((g : hb_glyph_info_t) → t (plain g) ≡ t g) → (i : ℕ) (gs hs : List hb_glyph_info_t) → i < length gs → order_view hs ≡ order_view gs → t (at hs i) ≡ t (at gs i)
 seen_at t blind i gs hs l same =
@@ -174,43 +168,41 @@ seen_at t blind i gs hs l same =
     ∙ ap t (get_or-map plain gs i default_glyph (plain default_glyph) l)
     ∙ blind (at gs i)
 
--- The walk that merges, on its way: what is left to merge makes of the glyphs what they become.
-pub record Merging (s behind e start last i : ℕ) (b0 b : Buffer) : Type 0 where
+-- The walk that merges, on its way: what is left to merge makes of the glyphs, with a run that isn't written yet, what
+-- they become.
+pub record Merging (s behind e start i : ℕ) (run : ClusterRun) (b0 b : Buffer) : Type 0 where
   pub others : b ≡ record b0 { glyphs = b.glyphs }
-  pub left : merge_all b0.level (fronts_from start i (stretch_of i e b0.glyphs)) b.glyphs ≡ merge_all b0.level (fronts_from s behind (stretch_of behind e b0.glyphs)) b0.glyphs
+  pub left : merge_all b0.level (fronts_from start i (stretch_of i e b0.glyphs)) (with_run run b.glyphs) ≡ merge_all b0.level (fronts_from s behind (stretch_of behind e b0.glyphs)) b0.glyphs
   pub view : order_view b.glyphs ≡ order_view b0.glyphs
   pub as_long : length b.glyphs ≡ length b0.glyphs
-  pub started : start ≤ last
-  pub passed : last ≤ i
-  pub one : merges b0.level ≡ true → in_one_cluster (stretch_of start (last + 1) b.glyphs) ≡ true
+  pub started : start ≤ i
+  pub fits : RunFits run b.glyphs
 
-pub merging_starts : (s behind e : ℕ) (b : Buffer) → s ≤ behind → Merging s behind e s s behind b b
-merging_starts s behind e b h = record { others = refl; left = refl; view = refl; as_long = refl; started = omega arith; passed = h; one = λ on. one_place s b.glyphs }
+pub merging_starts : (s behind e : ℕ) (b : Buffer) → s ≤ behind → Merging s behind e s behind (record { start = 0; end = 0; cluster = 0 }) b b
+merging_starts s behind e b h = record { others = refl; left = refl; view = refl; as_long = refl; started = h; fits = record { in_order = omega arith; in_range = omega arith; least = refl } }
 
 next_is : (i : ℕ) → suc i ≡ i + 1
 next_is i = omega arith
 
-pub merging_front : (s behind e start last i : ℕ) (b0 b b1 : Buffer) → i < e → e ≤ length b0.glyphs → Merging s behind e start last i b0 b → goes_front (at b.glyphs i) ≡ true → b1 ≡ record b { glyphs = merge b.level start (i + 1) b.glyphs } → (merges b.level ≡ true → in_one_cluster (stretch_of start (i + 1) b1.glyphs) ≡ true) → Merging s behind e start i (i + 1) b0 b1
-merging_front s behind e start last i b0 b b1 h l m passes is one =
+pub merging_front : (s behind e start i : ℕ) (run next : ClusterRun) (b0 b b1 : Buffer) → i < e → e ≤ length b0.glyphs → Merging s behind e start i run b0 b → goes_front (at b.glyphs i) ≡ true → b1 ≡ record b { glyphs = b1.glyphs } → with_run next b1.glyphs ≡ merge b.level start (i + 1) (with_run run b.glyphs) → RunFits next b1.glyphs → length b1.glyphs ≡ length b.glyphs → Merging s behind e start (i + 1) next b0 b1
+merging_front s behind e start i run next b0 b b1 h l m passes others merged fits long =
     let gs = b0.glyphs in
     let level : b.level ≡ b0.level = ap (λ (x : Buffer). x.level) m.others in
     let there : goes_front (at gs i) ≡ true = sym (seen_at goes_front (λ g. refl) i gs b.glyphs (omega arith) m.view) ∙ passes in
-    let glyphs : b1.glyphs ≡ merge b0.level start (i + 1) b.glyphs = ap (λ (x : Buffer). x.glyphs) is ∙ ap (λ v. merge v start (i + 1) b.glyphs) level in
     let here : fronts_from start i (stretch_of i e gs) ≡ (start, i + 1) ∷ fronts_from start (i + 1) (stretch_of (i + 1) e gs) =
     fronts_next start i e gs h l ∙ ap (λ c. if c then (start, suc i) ∷ fronts_from start (suc i) (stretch_of (suc i) e gs) else fronts_from (if is_halant (at gs i) then suc i else start) (suc i) (stretch_of (suc i) e gs)) there
     ∙ ap (λ k. (start, k) ∷ fronts_from start k (stretch_of k e gs)) (next_is i) in
     record {
-      others = is ∙ ap (λ (x : Buffer). let y : Buffer = record x { glyphs = merge b.level start (i + 1) b.glyphs } in y) m.others ∙ ap (λ xs. let y : Buffer = record b0 { glyphs = xs } in y) (sym (ap (λ (x : Buffer). x.glyphs) is));
-      left = ap (merge_all b0.level (fronts_from start (i + 1) (stretch_of (i + 1) e gs))) glyphs ∙ ap (λ sts. merge_all b0.level sts b.glyphs) (sym here) ∙ m.left;
-      view = ap order_view glyphs ∙ order_view-merge b0.level start (i + 1) b.glyphs ∙ m.view;
-      as_long = ap length glyphs ∙ length-merge b0.level start (i + 1) b.glyphs (omega (arith, m.as_long)) ∙ m.as_long;
-      started = omega (arith, m.started, m.passed);
-      passed = omega arith;
-      one = λ on. one (ap merges level ∙ on);
+      others = others ∙ ap (λ (x : Buffer). let y : Buffer = record x { glyphs = b1.glyphs } in y) m.others;
+      left = ap (merge_all b0.level (fronts_from start (i + 1) (stretch_of (i + 1) e gs))) (merged ∙ ap (λ v. merge v start (i + 1) (with_run run b.glyphs)) level) ∙ ap (λ sts. merge_all b0.level sts (with_run run b.glyphs)) (sym here) ∙ m.left;
+      view = sym (order_view-with_run next b1.glyphs fits.in_order) ∙ ap order_view merged ∙ order_view-merge b.level start (i + 1) (with_run run b.glyphs) ∙ order_view-with_run run b.glyphs m.fits.in_order ∙ m.view;
+      as_long = long ∙ m.as_long;
+      started = omega (arith, m.started);
+      fits = fits;
     }
 
-pub merging_halant : (s behind e start last i : ℕ) (b0 b b1 : Buffer) → i < e → e ≤ length b0.glyphs → Merging s behind e start last i b0 b → goes_front (at b.glyphs i) ≡ false → is_halant (at b.glyphs i) ≡ true → b1 ≡ b → Merging s behind e (i + 1) (i + 1) (i + 1) b0 b1
-merging_halant s behind e start last i b0 b b1 h l m fails ends same =
+pub merging_halant : (s behind e start i : ℕ) (run : ClusterRun) (b0 b b1 : Buffer) → i < e → e ≤ length b0.glyphs → Merging s behind e start i run b0 b → goes_front (at b.glyphs i) ≡ false → is_halant (at b.glyphs i) ≡ true → b1 ≡ b → Merging s behind e (i + 1) (i + 1) run b0 b1
+merging_halant s behind e start i run b0 b b1 h l m fails ends same =
     let gs = b0.glyphs in
     let here : goes_front (at gs i) ≡ false = sym (seen_at goes_front (λ g. refl) i gs b.glyphs (omega arith) m.view) ∙ fails in
     let there : is_halant (at gs i) ≡ true = sym (seen_at is_halant (λ g. refl) i gs b.glyphs (omega arith) m.view) ∙ ends in
@@ -219,18 +211,17 @@ merging_halant s behind e start last i b0 b b1 h l m fails ends same =
     ∙ ap (λ c. if c then (start, suc i) ∷ fronts_from start (suc i) (stretch_of (suc i) e gs) else fronts_from (if is_halant (at gs i) then suc i else start) (suc i) (stretch_of (suc i) e gs)) here
     ∙ ap (λ c. fronts_from (if c then suc i else start) (suc i) (stretch_of (suc i) e gs)) there
     ∙ ap (λ k. fronts_from k k (stretch_of k e gs)) (next_is i) in
-    subst (Merging s behind e (i + 1) (i + 1) (i + 1) b0) (sym same) (record {
+    subst (Merging s behind e (i + 1) (i + 1) run b0) (sym same) (record {
       others = m.others;
-      left = ap (λ sts. merge_all b0.level sts b.glyphs) (sym on) ∙ m.left;
+      left = ap (λ sts. merge_all b0.level sts (with_run run b.glyphs)) (sym on) ∙ m.left;
       view = m.view;
       as_long = m.as_long;
       started = omega arith;
-      passed = omega arith;
-      one = λ up. one_place (i + 1) b.glyphs;
+      fits = m.fits;
     })
 
-pub merging_rest : (s behind e start last i : ℕ) (b0 b b1 : Buffer) → i < e → e ≤ length b0.glyphs → Merging s behind e start last i b0 b → goes_front (at b.glyphs i) ≡ false → is_halant (at b.glyphs i) ≡ false → b1 ≡ b → Merging s behind e start last (i + 1) b0 b1
-merging_rest s behind e start last i b0 b b1 h l m fails goes same =
+pub merging_rest : (s behind e start i : ℕ) (run : ClusterRun) (b0 b b1 : Buffer) → i < e → e ≤ length b0.glyphs → Merging s behind e start i run b0 b → goes_front (at b.glyphs i) ≡ false → is_halant (at b.glyphs i) ≡ false → b1 ≡ b → Merging s behind e start (i + 1) run b0 b1
+merging_rest s behind e start i run b0 b b1 h l m fails goes same =
     let gs = b0.glyphs in
     let here : goes_front (at gs i) ≡ false = sym (seen_at goes_front (λ g. refl) i gs b.glyphs (omega arith) m.view) ∙ fails in
     let there : is_halant (at gs i) ≡ false = sym (seen_at is_halant (λ g. refl) i gs b.glyphs (omega arith) m.view) ∙ goes in
@@ -239,19 +230,19 @@ merging_rest s behind e start last i b0 b b1 h l m fails goes same =
     ∙ ap (λ c. if c then (start, suc i) ∷ fronts_from start (suc i) (stretch_of (suc i) e gs) else fronts_from (if is_halant (at gs i) then suc i else start) (suc i) (stretch_of (suc i) e gs)) here
     ∙ ap (λ c. fronts_from (if c then suc i else start) (suc i) (stretch_of (suc i) e gs)) there
     ∙ ap (λ k. fronts_from start k (stretch_of k e gs)) (next_is i) in
-    subst (Merging s behind e start last (i + 1) b0) (sym same) (record {
+    subst (Merging s behind e start (i + 1) run b0) (sym same) (record {
       others = m.others;
-      left = ap (λ sts. merge_all b0.level sts b.glyphs) (sym on) ∙ m.left;
+      left = ap (λ sts. merge_all b0.level sts (with_run run b.glyphs)) (sym on) ∙ m.left;
       view = m.view;
       as_long = m.as_long;
-      started = m.started;
-      passed = omega (arith, m.passed);
-      one = m.one;
+      started = omega (arith, m.started);
+      fits = m.fits;
     })
 
-pub merging_ends : (s behind e start last i : ℕ) (b0 b : Buffer) → e ≤ i → Merging s behind e start last i b0 b → b ≡ record b0 { glyphs = merge_all b0.level (fronts_from s behind (stretch_of behind e b0.glyphs)) b0.glyphs }
-merging_ends s behind e start last i b0 b h m =
-    m.others ∙ ap (λ xs. let y : Buffer = record b0 { glyphs = xs } in y) (ap (λ sts. merge_all b0.level sts b.glyphs) (sym (fronts_end start i e b0.glyphs h)) ∙ m.left)
+pub merging_ends : (s behind e start i : ℕ) (run : ClusterRun) (b0 b b1 : Buffer) → e ≤ i → Merging s behind e start i run b0 b → b1 ≡ record b { glyphs = with_run run b.glyphs } → b1 ≡ record b0 { glyphs = merge_all b0.level (fronts_from s behind (stretch_of behind e b0.glyphs)) b0.glyphs }
+merging_ends s behind e start i run b0 b b1 h m is =
+    is ∙ ap (λ (x : Buffer). let y : Buffer = record x { glyphs = with_run run b.glyphs } in y) m.others
+    ∙ ap (λ xs. let y : Buffer = record b0 { glyphs = xs } in y) (ap (λ sts. merge_all b0.level sts (with_run run b.glyphs)) (sym (fronts_end start i e b0.glyphs h)) ∙ m.left)
 
 -- what looks the same merges the same, and where nothing goes to the front nothing does
 pub fronts_from-view : (a i : ℕ) (gs : List hb_glyph_info_t) → fronts_from a i (order_view gs) ≡ fronts_from a i gs

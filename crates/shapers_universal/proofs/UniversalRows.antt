@@ -59,7 +59,7 @@ other_kind_steps = refl
 
 -- glyphs with all fields set: R B VPre, of which none changes
 abbrev full : ℕ → ℕ → hb_glyph_info_t
-full sort comp = record { glyph_id = 7; cluster = 5; mask = 0x1003; syllable = 0x22; category = sort; auxiliary = 3; general_category = Mn; modified_combining_class = 9; lig_comp = comp; marks = record { 0 = 31 } }
+full sort comp = record { glyph_id = 7; cluster = 5; mask = 0x1003; var = 0x7A; syllable = 0x22; category = sort; auxiliary = 3; general_category = Mn; modified_combining_class = 9; lig_comp = comp; marks = record { 0 = 31 } }
 
 fields_stay : universal_order (full 18 2 ∷ full 1 3 ∷ full 22 0 ∷ []) ≡ full 22 0 ∷ full 1 3 ∷ full 18 2 ∷ []
 fields_stay = refl

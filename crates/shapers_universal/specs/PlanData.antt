@@ -13,7 +13,8 @@ use Rattle.shapers_arabic.specs.PlanData.{arabic_plan}
 
 -- the scripts of this shaper whose letters join, by their tags (Unicode, ArabicShaping.txt)
 abbrev pub joining_scripts : List Script
-joining_scripts = map (λ tag. record { 0 = codes tag }) ("Adlm" ∷ "Arab" ∷ "Chrs" ∷ "Rohg" ∷ "Mand" ∷ "Mani" ∷ "Mong" ∷ "Nkoo" ∷ "Ougr" ∷ "Phag" ∷ "Phlp" ∷ "Sogd" ∷ "Syrc" ∷ [])
+joining_scripts = map (λ tag. record { 0 = codes tag }) ("Adlm" ∷ "Arab" ∷ "Chrs" ∷ "Rohg" ∷ "Mand"
+    ∷ "Mani" ∷ "Mong" ∷ "Nkoo" ∷ "Ougr" ∷ "Phag" ∷ "Phlp" ∷ "Sogd" ∷ "Syrc" ∷ [])
 
 -- whether a script is one of them
 abbrev pub joins_letters : Option Script → Bool

@@ -10,9 +10,11 @@ abbrev pub before_reordering : List Request
 before_reordering =
     pause_for SetupSyllablesUse ∷ map (enabled F_PER_SYLLABLE) ("locl" ∷ "ccmp" ∷ "nukt" ∷ [])
     ++ enabled (bit_or F_MANUAL_ZWJ F_PER_SYLLABLE) "akhn" ∷ pause_for ClearSubstitutionFlags
-    ∷ added (bit_or F_MANUAL_ZWJ F_PER_SYLLABLE) "rphf" ∷ pause_for RecordRphf ∷ pause_for ClearSubstitutionFlags
+    ∷ added (bit_or F_MANUAL_ZWJ F_PER_SYLLABLE) "rphf" ∷ pause_for RecordRphf
+    ∷ pause_for ClearSubstitutionFlags
     ∷ enabled (bit_or F_MANUAL_ZWJ F_PER_SYLLABLE) "pref" ∷ pause_for RecordPref
-    ∷ map (enabled (bit_or F_MANUAL_ZWJ F_PER_SYLLABLE)) ("rkrf" ∷ "abvf" ∷ "blwf" ∷ "half" ∷ "pstf" ∷ "vatu" ∷ "cjct" ∷ [])
+    ∷ map (enabled (bit_or F_MANUAL_ZWJ F_PER_SYLLABLE))
+    ("rkrf" ∷ "abvf" ∷ "blwf" ∷ "half" ∷ "pstf" ∷ "vatu" ∷ "cjct" ∷ [])
 
 abbrev pub after_reordering : List Request
 after_reordering =
@@ -20,4 +22,5 @@ after_reordering =
     ++ bare_pause ∷ map (enabled F_MANUAL_ZWJ) ("abvs" ∷ "blws" ∷ "haln" ∷ "pres" ∷ "psts" ∷ [])
 
 abbrev pub universal_list : List Request
-universal_list = before_reordering ++ pause_for ReorderUse ∷ pause_for SyllabicClearVar ∷ after_reordering
+universal_list =
+    before_reordering ++ pause_for ReorderUse ∷ pause_for SyllabicClearVar ∷ after_reordering

@@ -1,4 +1,5 @@
--- The order of a syllable in the universal shaper, and the merges and moves that lead there. (OpenType, the Universal Shaping Engine.)
+-- The order of a syllable in the universal shaper, and the merges and moves that lead there.
+-- (OpenType, the Universal Shaping Engine.)
 use Rattle.std.specs.Prelude.{ℕ, suc, ◌==◌, Bool, false, not, ◌&&◌, ◌||◌, List, [], ◌∷◌, ◌++◌, length, map, filter, reverse, take, drop, if◌then◌else◌}
 use Rattle.std.specs.List.{flat_map, list_any, prefix_len, range_with_len, slice_get}
 use Rattle.std.specs.Option.{option_map_or}
@@ -20,7 +21,8 @@ is_halant g = is_one_of (H ∷ HVM ∷ IS ∷ []) g && not (is_ligated g.marks)
 
 -- the categories of what stands after the base
 abbrev pub post_base : List ℕ
-post_base = FAbv ∷ FBlw ∷ FPst ∷ FMAbv ∷ FMBlw ∷ FMPst ∷ MAbv ∷ MBlw ∷ MPst ∷ MPre ∷ VAbv ∷ VBlw ∷ VPst ∷ VPre ∷ VMAbv ∷ VMBlw ∷ VMPst ∷ VMPre ∷ []
+post_base = FAbv ∷ FBlw ∷ FPst ∷ FMAbv ∷ FMBlw ∷ FMPst ∷ MAbv ∷ MBlw ∷ MPst ∷ MPre ∷ VAbv ∷ VBlw
+    ∷ VPst ∷ VPre ∷ VMAbv ∷ VMBlw ∷ VMPst ∷ VMPre ∷ []
 
 -- what a reph moves behind: all but a halant and what stands after the base
 abbrev pub is_passed : hb_glyph_info_t → Bool
@@ -44,7 +46,8 @@ first_behind n xs = first_last (take n xs) ++ drop n xs
 abbrev pub reph_moved : List hb_glyph_info_t → List hb_glyph_info_t
 reph_moved gs = first_behind (reph_run gs) gs
 
--- what goes to the front of its piece: a vowel or modifier before the base, of those that a lookup put in for one glyph the first
+-- what goes to the front of its piece: a vowel or modifier before the base, of those that a lookup
+-- put in for one glyph the first
 abbrev pub goes_front : hb_glyph_info_t → Bool
 goes_front g = is_one_of (VPre ∷ VMPre ∷ []) g && g.lig_comp == 0
 
@@ -54,7 +57,8 @@ reversed_first test xs = reverse (filter test xs) ++ filter (λ x. not (test x))
 
 -- whether syllables of this kind are reordered
 abbrev pub is_reordered : List hb_glyph_info_t → Bool
-is_reordered gs = is_of_kinds (VIRAMA_TERMINATED_CLUSTER ∷ SAKOT_TERMINATED_CLUSTER ∷ STANDARD_CLUSTER ∷ BROKEN_CLUSTER ∷ []) gs
+is_reordered gs = is_of_kinds (VIRAMA_TERMINATED_CLUSTER ∷ SAKOT_TERMINATED_CLUSTER
+    ∷ STANDARD_CLUSTER ∷ BROKEN_CLUSTER ∷ []) gs
 
 -- the pieces of a syllable: once its reph has moved it is cut after each halant
 abbrev pub pieces : List hb_glyph_info_t → List (List hb_glyph_info_t)
@@ -62,11 +66,16 @@ pieces gs = cut_after is_halant (reph_moved gs)
 
 -- the order: each piece with what goes to its front in front, reversed
 abbrev pub universal_order : List hb_glyph_info_t → List hb_glyph_info_t
-universal_order gs = if is_reordered gs then flat_map (reversed_first goes_front) (pieces gs) else gs
+universal_order gs =
+    if is_reordered gs then flat_map (reversed_first goes_front) (pieces gs) else gs
 
 -- the step of the reph: it merges with what it passes
 abbrev pub reph_step : List hb_glyph_info_t → Step
-reph_step gs = record { merged_first = (0, reph_run gs) ∷ []; places = first_behind (reph_run gs) (range_with_len 0 (length gs)); merged_then = [] }
+reph_step gs = record {
+  merged_first = (0, reph_run gs) ∷ [];
+  places = first_behind (reph_run gs) (range_with_len 0 (length gs));
+  merged_then = [];
+}
 
 -- the places of a piece, and whether what stands at one goes to the front
 abbrev pub places_of : List hb_glyph_info_t → List ℕ
@@ -75,9 +84,15 @@ places_of gs = range_with_len 0 (length gs)
 abbrev pub goes_front_at : List hb_glyph_info_t → ℕ → Bool
 goes_front_at gs i = option_map_or goes_front (slice_get gs i) false
 
--- the step of a piece: each glyph that goes to the front merges from the start of the piece to its place
+-- the step of a piece: each glyph that goes to the front merges from the start of the piece to its
+-- place
 abbrev pub piece_step : List hb_glyph_info_t → Step
-piece_step gs = record { merged_first = map (λ i. (0, suc i)) (filter (goes_front_at gs) (places_of gs)); places = reversed_first (goes_front_at gs) (places_of gs); merged_then = [] }
+piece_step gs = record {
+  merged_first = map (λ i. (0, suc i))
+      (filter (goes_front_at gs) (places_of gs));
+  places = reversed_first (goes_front_at gs) (places_of gs);
+  merged_then = [];
+}
 
 -- the steps of pieces that follow one another
 abbrev pub piece_steps : List (List hb_glyph_info_t) → List (ℕ × List Step)
@@ -85,4 +100,6 @@ piece_steps ps = map (λ piece. (length piece, piece_step piece ∷ [])) ps
 
 -- the steps of a syllable: that of its reph, and then those of its pieces
 abbrev pub universal_steps : List hb_glyph_info_t → List Step
-universal_steps gs = if is_reordered gs then reph_step gs ∷ steps_along (length gs) 0 (piece_steps (pieces gs)) else []
+universal_steps gs =
+    if is_reordered gs then reph_step gs ∷ steps_along (length gs) 0 (piece_steps (pieces gs))
+    else []

@@ -31,17 +31,24 @@ UniversalReadsNoSerials = ReadsNoSerials universal_order universal_steps
 abbrev pub UniversalReadsNoMasks : Type 0
 UniversalReadsNoMasks = ReadsNoMasks universal_order universal_steps
 
--- the glyphs that spans set up: their bytes, no break inside them, and the masks of rphf and of forms
-abbrev pub set_up_by_spans : PlanData → Map → List Span → List hb_glyph_info_t → List hb_glyph_info_t
+-- the glyphs that spans set up: their bytes, no break inside them, and the masks of rphf and of
+-- forms
+abbrev pub set_up_by_spans : PlanData → Map → List Span → List hb_glyph_info_t →
+    List hb_glyph_info_t
 set_up_by_spans kept m spans gs = with_syllable_masks kept m (unsafe_spans spans gs)
 
--- the glyph without what differs between a text and its halves: the serial of its byte and the masks of forms
+-- the glyph without what differs between a text and its halves: the serial of its byte and the
+-- masks of forms
 abbrev pub unjoined : PlanData → Map → hb_glyph_info_t → hb_glyph_info_t
 unjoined kept m g = unnumbered (formless_for (arabic_of kept) m g)
 
 -- A set-up and a reordering pause directly after it may be cut between any two spans.
 abbrev pub UniversalCutsBetweenSpans : Type 0
-UniversalCutsBetweenSpans = (kept : PlanData) (m : Map) (circles : Option DottedCircles) (spans : List Span) (old new : Buffer) →
+UniversalCutsBetweenSpans =
+    (kept : PlanData) (m : Map) (circles : Option DottedCircles) (spans : List Span)
+    (old new : Buffer) →
     All (λ span. span.kind ≤ 15) spans →
     PauseReordered circles universal_order universal_steps (syllables_set_up kept m spans old) new →
-    CutsBetweenSpans (unjoined kept m) (set_up_by_spans kept m) (paused_order circles universal_order) (paused_clusters circles universal_steps old.level) spans old.glyphs new.glyphs
+    CutsBetweenSpans (unjoined kept m) (set_up_by_spans kept m)
+    (paused_order circles universal_order) (paused_clusters circles universal_steps old.level)
+    spans old.glyphs new.glyphs

@@ -1,4 +1,5 @@
--- What the universal shaper sets on syllables before the lookups, and what it records after some of them.
+-- What the universal shaper sets on syllables before the lookups, and what it records after some of
+-- them.
 use Rattle.std.specs.Prelude.{ℕ, ◌-◌, ◌==◌, bit_and, bit_or, min, length, Bool, true, false, not, ◌&&◌, List, [], ◌∷◌, ◌++◌, map, take, drop, Option, None, Some, codes, if◌then◌else◌}
 use Rattle.std.specs.List.{flat_map, prefix_len}
 use Rattle.shapers_buffer.specs.declared.buffer.glyph.hb_glyph_info_t.{hb_glyph_info_t}
@@ -16,7 +17,8 @@ use Rattle.shapers_universal.specs.declared.ot_shaper_use.category.TheConstants.
 use Rattle.shapers_universal.specs.declared.ot_shaper_use.forms.FormMasks.{FormMasks}
 use Rattle.shapers_universal.specs.PlanData.{arabic_of, rphf_of}
 
--- how many glyphs in front of a syllable get the mask of rphf: a reph alone, else three, or as many as there are
+-- how many glyphs in front of a syllable get the mask of rphf: a reph alone, else three, or as many
+-- as there are
 abbrev pub reph_len : List hb_glyph_info_t → ℕ
 reph_len [] = 0
 reph_len (g ∷ gs) = if g.category == R then 1 else min 3 (length (g ∷ gs))
@@ -30,24 +32,31 @@ abbrev pub form_mask : Map → List ℕ → ℕ
 form_mask m tag = let mask = mask_of (record { 0 = tag }) m in if mask == m.global then 0 else mask
 
 abbrev pub form_masks : Map → FormMasks
-form_masks m = record { isol = form_mask m (codes "isol"); init = form_mask m (codes "init"); medi = form_mask m (codes "medi"); fina = form_mask m (codes "fina") }
+form_masks m = record {
+  isol = form_mask m (codes "isol");
+  init = form_mask m (codes "init");
+  medi = form_mask m (codes "medi");
+  fina = form_mask m (codes "fina");
+}
 
 -- the bits of all four
 abbrev pub all_forms : FormMasks → ℕ
 all_forms masks = bit_or (bit_or masks.isol masks.init) (bit_or masks.medi masks.fina)
 
--- whether a syllable stands in runs of joining ones: not one of hieroglyphs, and not what is in no cluster
+-- whether a syllable stands in runs of joining ones: not one of hieroglyphs, and not what is in no
+-- cluster
 abbrev pub joins_runs : List hb_glyph_info_t → Bool
 joins_runs [] = false
-joins_runs (g ∷ gs) = not (kind_of g.syllable == HIEROGLYPH_CLUSTER) && not (kind_of g.syllable == NON_CLUSTER)
+joins_runs (g ∷ gs) =
+    not (kind_of g.syllable == HIEROGLYPH_CLUSTER) && not (kind_of g.syllable == NON_CLUSTER)
 
 -- whether the first of these syllables does
 abbrev pub first_joins : List (List hb_glyph_info_t) → Bool
 first_joins [] = false
 first_joins (syl ∷ syls) = joins_runs syl
 
--- the form in a run, by whether a syllable of it stands before and whether one stands behind: a lone one isolated, the first
--- initial, the last final, the others medial
+-- the form in a run, by whether a syllable of it stands before and whether one stands behind: a
+-- lone one isolated, the first initial, the last final, the others medial
 abbrev pub mask_between : FormMasks → Bool → Bool → ℕ
 mask_between masks false false = masks.isol
 mask_between masks false true = masks.init
@@ -60,25 +69,30 @@ with_instead bits mask g = record g { mask = bit_or (bit_and g.mask (0xFFFFFFFF 
 
 -- the syllable in its form, with its mask in place of the bits of all forms
 abbrev pub formed : FormMasks → Bool → Bool → List hb_glyph_info_t → List hb_glyph_info_t
-formed masks before behind gs = if joins_runs gs then map (with_instead (all_forms masks) (mask_between masks before behind)) gs else gs
+formed masks before behind gs =
+    if joins_runs gs then map (with_instead (all_forms masks) (mask_between masks before behind)) gs
+    else gs
 
 -- these syllables in their forms, where a joining one stands before them or none
 abbrev pub in_forms : FormMasks → Bool → List (List hb_glyph_info_t) → List hb_glyph_info_t
 in_forms masks before [] = []
-in_forms masks before (syl ∷ syls) = formed masks before (first_joins syls) syl ++ in_forms masks (joins_runs syl) syls
+in_forms masks before (syl ∷ syls) =
+    formed masks before (first_joins syls) syl ++ in_forms masks (joins_runs syl) syls
 
 -- the text in its forms, where there is a mask for one
 abbrev pub with_forms : FormMasks → List hb_glyph_info_t → List hb_glyph_info_t
 with_forms masks gs = if all_forms masks == 0 then gs else in_forms masks false (syllables gs)
 
 -- the same where the plan has no plan of Arabic
-abbrev pub with_forms_for : Option arabic_shape_plan_t → Map → List hb_glyph_info_t → List hb_glyph_info_t
+abbrev pub with_forms_for : Option arabic_shape_plan_t → Map → List hb_glyph_info_t →
+    List hb_glyph_info_t
 with_forms_for None m gs = with_forms (form_masks m) gs
 with_forms_for (Some p) m gs = gs
 
 -- the text with the masks of rphf and of forms
 abbrev pub with_syllable_masks : PlanData → Map → List hb_glyph_info_t → List hb_glyph_info_t
-with_syllable_masks kept m gs = with_forms_for (arabic_of kept) m (flat_map (with_rphf (rphf_of kept)) (syllables gs))
+with_syllable_masks kept m gs =
+    with_forms_for (arabic_of kept) m (flat_map (with_rphf (rphf_of kept)) (syllables gs))
 
 -- the set-up of syllables: the spans, no break inside them, and these masks
 abbrev pub syllables_set_up : PlanData → Map → List Span → Buffer → Buffer
@@ -93,17 +107,21 @@ in_category sort g = record g { category = sort }
 -- the glyphs with their first one that a lookup put in of another category
 abbrev pub first_recorded : ℕ → List hb_glyph_info_t → List hb_glyph_info_t
 first_recorded sort [] = []
-first_recorded sort (g ∷ gs) = if is_substituted g.marks then in_category sort g ∷ gs else g ∷ first_recorded sort gs
+first_recorded sort (g ∷ gs) =
+    if is_substituted g.marks then in_category sort g ∷ gs else g ∷ first_recorded sort gs
 
 -- whether a glyph has bits of a mask
 abbrev pub has_bits : ℕ → hb_glyph_info_t → Bool
 has_bits mask g = not (bit_and g.mask mask == 0)
 
--- the record of rphf in a syllable: among its leading glyphs with that mask the first that a lookup put in becomes a reph
+-- the record of rphf in a syllable: among its leading glyphs with that mask the first that a lookup
+-- put in becomes a reph
 abbrev pub rphf_recorded : ℕ → List hb_glyph_info_t → List hb_glyph_info_t
-rphf_recorded mask gs = let n = prefix_len (has_bits mask) gs in first_recorded R (take n gs) ++ drop n gs
+rphf_recorded mask gs =
+    let n = prefix_len (has_bits mask) gs in first_recorded R (take n gs) ++ drop n gs
 
--- the records of a text, syllable by syllable; that of pref: the first glyph that a lookup put in becomes one before the base
+-- the records of a text, syllable by syllable; that of pref: the first glyph that a lookup put in
+-- becomes one before the base
 abbrev pub with_rphf_recorded : ℕ → Buffer → Buffer
 with_rphf_recorded mask b = record b { glyphs = flat_map (rphf_recorded mask) (syllables b.glyphs) }
 

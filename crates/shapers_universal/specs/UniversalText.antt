@@ -6,4 +6,5 @@ use Rattle.shapers_universal.specs.declared.ot_shaper_use.category.TheConstants.
 
 -- its dotted circles: bases, in syllables of the broken kind, behind their leading rephas
 abbrev pub universal_circles : CircleSort
-universal_circles = record { broken_kind = BROKEN_CLUSTER; category = B; repha = Some R; position = None }
+universal_circles =
+    record { broken_kind = BROKEN_CLUSTER; category = B; repha = Some R; position = None }

@@ -1,8 +1,9 @@
 -- Words of the walk over the places of a syllable.
-use Rattle.std.specs.Prelude.{ℕ, suc, ◌-◌, ◌==◌, Bool, false, not, List, [], ◌∷◌, ◌++◌, filter, reverse, if◌then◌else◌}
+use Rattle.std.specs.Prelude.{ℕ, suc, ◌≡◌, ◌-◌, ◌==◌, Bool, false, not, List, [], ◌∷◌, ◌++◌, filter, reverse, Option, None, Some, if◌then◌else◌}
 use Rattle.std.specs.List.{flat_map, range_with_len, slice_get}
 use Rattle.std.specs.Option.{option_map_or}
 use Rattle.shapers_buffer.specs.declared.buffer.glyph.hb_glyph_info_t.{hb_glyph_info_t}
+use Rattle.shapers_buffer.specs.Clusters.{stretch_of}
 use Rattle.shapers_buffer.specs.Lists.{cut_after}
 use Rattle.shapers_universal.specs.Universal.{first_behind, first_last, goes_front, goes_front_at, is_halant, reversed_first}
 use Rattle.shapers_universal.specs.declared.ot_shaper_use.category.TheConstants.{R}
@@ -25,7 +26,8 @@ is_halant_at gs i = option_map_or is_halant (slice_get gs i) false
 abbrev pub stays_at : List hb_glyph_info_t → ℕ → Bool
 stays_at gs i = not (goes_front_at gs i)
 
--- the places of a syllable from s to e in their new order, where the reph and what it passes end at `behind`
+-- the places of a syllable from s to e in their new order, where the reph and what it passes end at
+-- `behind`
 abbrev pub places_in_order : ℕ → ℕ → ℕ → List hb_glyph_info_t → List ℕ
 places_in_order s behind e gs =
     let places = first_behind (behind - s) (range_with_len s (e - s)) in
@@ -38,9 +40,26 @@ piece_places s behind e gs =
     let reph = first_last (range_with_len s (behind - s)) in
     reverse (filter (goes_front_at gs) places) ++ (reph ++ filter (stays_at gs) places)
 
--- what merges from place i on, in a piece that starts at `start`: each glyph that goes to the front, from there to its place
+-- what merges from place i on, in a piece that starts at `start`: each glyph that goes to the
+-- front, from there to its place
 abbrev pub fronts_from : ℕ → ℕ → List hb_glyph_info_t → List (ℕ × ℕ)
 fronts_from start i [] = []
 fronts_from start i (g ∷ gs) =
     if goes_front g then (start, suc i) ∷ fronts_from start (suc i) gs
     else fronts_from (if is_halant g then suc i else start) (suc i) gs
+
+-- where the piece starts in which a syllable ends, where it began in one that starts at `start`
+abbrev pub start_from : ℕ → ℕ → List hb_glyph_info_t → ℕ
+start_from start i [] = start
+start_from start i (g ∷ gs) = start_from (if is_halant g then suc i else start) (suc i) gs
+
+-- what merges in a syllable from s to e begins so: nothing does, or this first, and then what
+-- merges behind it
+abbrev pub MergesFirst : ℕ → ℕ → List hb_glyph_info_t → Option (ℕ × ℕ) → Type 0
+MergesFirst s e gs None = fronts_from s s (stretch_of s e gs) ≡ []
+MergesFirst s e gs (Some p) =
+    fronts_from s s (stretch_of s e gs) ≡ p ∷ fronts_from p.0 p.1 (stretch_of p.1 e gs)
+
+-- the places from s to e with the last in front
+abbrev pub last_first : ℕ → ℕ → List ℕ
+last_first s e = (e - 1) ∷ range_with_len s (e - 1 - s)

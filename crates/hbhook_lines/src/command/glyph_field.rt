@@ -1,7 +1,14 @@
 //! The lines `at I FIELD V`.
 use super::fields::{decimal, decimal_to, general_category, hexadecimal, signed};
+use crate::expected::{BYTE, Expected, FOUR_BYTES};
 use crate::fault::LineFault;
 use rustybuzz_shapers::buffer::{GlyphMarks, hb_glyph_info_t, hb_unicode_general_category_t};
+
+// The names of the fields.
+const FIELDS: &str = "glyph, cluster, mask, syllable, cat, aux, gc, class, comp, marks, adv";
+
+// What names marks.
+const MARKS: &str = "letters of slmic, or - alone for none";
 
 /// A field of a glyph or of its position, and its value.
 #[derive(Clone, Copy)]
@@ -23,18 +30,18 @@ impl GlyphField {
     /// The field of this name, with its value.
     pub(super) fn parse(name: &str, value: &str) -> Result<GlyphField, LineFault> {
         match name {
-            "glyph" => Ok(GlyphField::Glyph(decimal(value)?)),
-            "cluster" => Ok(GlyphField::Cluster(decimal(value)?)),
+            "glyph" => Ok(GlyphField::Glyph(decimal(value, FOUR_BYTES)?)),
+            "cluster" => Ok(GlyphField::Cluster(decimal(value, FOUR_BYTES)?)),
             "mask" => Ok(GlyphField::Mask(hexadecimal(value)?)),
-            "syllable" => Ok(GlyphField::Syllable(decimal(value)?)),
-            "cat" => Ok(GlyphField::Category(decimal(value)?)),
-            "aux" => Ok(GlyphField::Auxiliary(decimal(value)?)),
+            "syllable" => Ok(GlyphField::Syllable(decimal(value, BYTE)?)),
+            "cat" => Ok(GlyphField::Category(decimal(value, BYTE)?)),
+            "aux" => Ok(GlyphField::Auxiliary(decimal(value, BYTE)?)),
             "gc" => Ok(GlyphField::GeneralCategory(general_category(value)?)),
-            "class" => Ok(GlyphField::CombiningClass(decimal(value)?)),
+            "class" => Ok(GlyphField::CombiningClass(decimal(value, BYTE)?)),
             "comp" => Ok(GlyphField::Component(decimal_to(value, 15)?)),
             "marks" => Ok(GlyphField::Marks(marks_of(value)?)),
             "adv" => Ok(GlyphField::Advance(signed(value)?)),
-            _ => Err(LineFault::Unreadable),
+            _ => Err(LineFault::Unreadable(Expected::Word(FIELDS))),
         }
     }
 
@@ -60,7 +67,7 @@ impl GlyphField {
 fn marks_of(letters: &str) -> Result<GlyphMarks, LineFault> {
     let is_mark = |letter: u8| b"slmic".contains(&letter);
     if letters.is_empty() || letters != "-" && !letters.bytes().all(is_mark) {
-        return Err(LineFault::Unreadable);
+        return Err(LineFault::Unreadable(Expected::Word(MARKS)));
     }
     let mut marks = GlyphMarks::NONE;
     marks.set_substituted(letters.contains('s'));

@@ -1,7 +1,18 @@
 //! The lines `run NAME ..`.
 use super::fields::{character, decimal};
+use crate::expected::{COUNT, Expected};
 use crate::fault::LineFault;
 use rustybuzz_shapers::plan::Pause;
+
+// What may stand behind `run`.
+const CALLS: &str = "run preprocess, run masks, run postprocess, run marks S E, run compose A B, \
+    run decompose A, run pause NAME";
+
+// The names of the pauses.
+const PAUSES: &str = "setup_syllables_indic, setup_syllables_khmer, setup_syllables_myanmar, \
+    setup_syllables_use, initial_reordering, final_reordering, reorder_khmer, reorder_myanmar, \
+    reorder_use, record_rphf, record_pref, record_stch, arabic_fallback_shape, \
+    syllabic_clear_var, clear_substitution_flags";
 
 /// A hook or a pause, and what it is asked.
 #[derive(Clone, Copy)]
@@ -23,11 +34,14 @@ impl HookCall {
             ["preprocess"] => Ok(HookCall::Preprocess),
             ["masks"] => Ok(HookCall::Masks),
             ["postprocess"] => Ok(HookCall::Postprocess),
-            ["marks", start, end] => Ok(HookCall::Marks(decimal(start)?, decimal(end)?)),
+            ["marks", start, end] => Ok(HookCall::Marks(
+                decimal(start, COUNT)?,
+                decimal(end, COUNT)?,
+            )),
             ["compose", a, b] => Ok(HookCall::Compose(character(a)?, character(b)?)),
             ["decompose", ab] => Ok(HookCall::Decompose(character(ab)?)),
             ["pause", pause] => Ok(HookCall::Pause(pause_name(pause)?)),
-            _ => Err(LineFault::Unreadable),
+            _ => Err(LineFault::Unreadable(Expected::Fields(CALLS))),
         }
     }
 }
@@ -49,6 +63,6 @@ fn pause_name(name: &str) -> Result<Pause, LineFault> {
         "arabic_fallback_shape" => Ok(Pause::ArabicFallbackShape),
         "syllabic_clear_var" => Ok(Pause::SyllabicClearVar),
         "clear_substitution_flags" => Ok(Pause::ClearSubstitutionFlags),
-        _ => Err(LineFault::Unreadable),
+        _ => Err(LineFault::Unreadable(Expected::Word(PAUSES))),
     }
 }

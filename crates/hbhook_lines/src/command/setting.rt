@@ -1,5 +1,6 @@
 //! The lines `set K V`.
 use super::fields::{decimal, four_characters, hexadecimal, yes_or_no};
+use crate::expected::{COUNT, Expected};
 use crate::fault::LineFault;
 use bitflags::Flags;
 use rustybuzz_shapers::buffer::{BufferClusterLevel, BufferFlags, Direction, Script, hb_tag_t};
@@ -8,6 +9,16 @@ use rustybuzz_shapers::shaper::{
     ARABIC_SHAPER, HANGUL_SHAPER, HEBREW_SHAPER, INDIC_SHAPER, KHMER_SHAPER, MYANMAR_SHAPER,
     MYANMAR_ZAWGYI_SHAPER, THAI_SHAPER, UNIVERSAL_SHAPER, hb_ot_shaper_t,
 };
+
+// The names of the settings.
+const KEYS: &str = "shaper, script, chosen, found, gposmark, direction, level, flags, maxlen, \
+    global, positions, stretch";
+
+// The names of the shapers.
+const SHAPERS: &str = "arabic, hangul, hebrew, indic, khmer, myanmar, zawgyi, thai, universal";
+
+// The levels of clusters.
+const LEVEL: Expected = Expected::Number(2);
 
 /// A setting and its value.
 #[derive(Clone, Copy)]
@@ -45,11 +56,11 @@ impl Setting {
             "direction" => Ok(Setting::Direction(direction(value)?)),
             "level" => Ok(Setting::Level(cluster_level(value)?)),
             "flags" => Ok(Setting::Flags(buffer_flags(value)?)),
-            "maxlen" => Ok(Setting::MaxLen(decimal(value)?)),
+            "maxlen" => Ok(Setting::MaxLen(decimal(value, COUNT)?)),
             "global" => Ok(Setting::Global(hexadecimal(value)?)),
             "positions" => Ok(Setting::Positions(yes_or_no(value)?)),
             "stretch" => Ok(Setting::Stretch(stretch_start(value)?)),
-            _ => Err(LineFault::Unreadable),
+            _ => Err(LineFault::Unreadable(Expected::Word(KEYS))),
         }
     }
 }
@@ -65,7 +76,7 @@ fn named_shaper(name: &str) -> Result<hb_ot_shaper_t, LineFault> {
         "zawgyi" => Ok(MYANMAR_ZAWGYI_SHAPER),
         "thai" => Ok(THAI_SHAPER),
         "universal" => Ok(UNIVERSAL_SHAPER),
-        _ => Err(LineFault::Unreadable),
+        _ => Err(LineFault::Unreadable(Expected::Word(SHAPERS))),
     }
 }
 
@@ -73,28 +84,29 @@ fn direction(name: &str) -> Result<Direction, LineFault> {
     match name {
         "ltr" => Ok(Direction::LeftToRight),
         "rtl" => Ok(Direction::RightToLeft),
-        _ => Err(LineFault::Unreadable),
+        _ => Err(LineFault::Unreadable(Expected::Word("ltr, rtl"))),
     }
 }
 
 fn cluster_level(number: &str) -> Result<BufferClusterLevel, LineFault> {
-    match decimal(number)? {
+    match decimal(number, LEVEL)? {
         0 => Ok(BufferClusterLevel::MonotoneGraphemes),
         1 => Ok(BufferClusterLevel::MonotoneCharacters),
         2 => Ok(BufferClusterLevel::Characters),
-        _ => Err(LineFault::Unreadable),
+        _ => Err(LineFault::Unreadable(LEVEL)),
     }
 }
 
 // Flags of a buffer; an unknown bit doesn't read.
 fn buffer_flags(bits: &str) -> Result<BufferFlags, LineFault> {
-    BufferFlags::from_bits(hexadecimal(bits)?).ok_or(LineFault::Unreadable)
+    let expected = Expected::Condition("no bits but 20, 40 and 80");
+    BufferFlags::from_bits(hexadecimal(bits)?).ok_or(LineFault::Unreadable(expected))
 }
 
 fn stretch_start(name: &str) -> Result<StretchStart, LineFault> {
     match name {
         "code" => Ok(StretchStart::AsCode),
         "centred" => Ok(StretchStart::Centred),
-        _ => Err(LineFault::Unreadable),
+        _ => Err(LineFault::Unreadable(Expected::Word("code, centred"))),
     }
 }

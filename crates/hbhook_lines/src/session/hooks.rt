@@ -4,16 +4,44 @@ ghost use Rattle.rustybuzz_shapers.specs.Hooks.{PlanFits};
 
 use super::Session;
 use crate::command::HookCall;
+use crate::expected::Expected;
 use crate::fault::LineFault;
-use rustybuzz_shapers::buffer::Span;
+use rustybuzz_shapers::buffer::{Span, hb_glyph_info_t};
 use rustybuzz_shapers::plan::hb_ot_shape_plan_t;
 use rustybuzz_shapers::shaper::{Pause, Preprocess, hb_ot_shaper_t, pause_fits, run_pause};
+
+// What calls ask.
+const SHAPER: Expected = Expected::Condition("a line `set shaper` before it");
+
+const NO_POSITIONS: Expected = Expected::Condition(
+    "no positions: a line `set positions no` before it",
+);
+
+const POSITIONS: Expected = Expected::Condition(
+    "positions: a line `set positions yes` before it, and after the text",
+);
+
+const CHARACTERS: Expected = Expected::Condition("a buffer whose glyphs are characters");
+
+const GLYPH_NUMBERS: Expected = Expected::Condition("glyphs whose numbers are at most 65535");
+
+const JAMO: Expected = Expected::Condition("glyphs whose auxiliary bytes are at most 3");
+
+const PLACES: Expected = Expected::Condition(
+    "a first place up to the end, and an end up to the buffer's length",
+);
+
+const MARKS: Expected = Expected::Condition("32 places at most");
+
+const KINDS: Expected = Expected::Condition("spans whose kinds are at most 15");
+
+const DATA: Expected = Expected::Condition("a shaper that keeps what the pause reads");
 
 impl Session {
     /// Asks a hook of the shaper. Without a shaper, and where the call's conditions fail, the line
     /// doesn't read.
     pub(super) fn run(&mut self, call: HookCall) -> Result<(), LineFault> {
-        let shaper = self.settings.shaper.ok_or(LineFault::Unreadable)?;
+        let shaper = self.settings.shaper.ok_or(LineFault::Unreadable(SHAPER))?;
         let plan = shaper.with_data(self.settings.plan()?);
         match call {
             HookCall::Preprocess => self.preprocess(shaper, &plan),
@@ -33,6 +61,7 @@ impl Session {
         plan: &hb_ot_shape_plan_t,
     ) -> Result<(), LineFault> {
         self.check_no_positions()?;
+        check(text_fits(shaper, self.buffer.glyphs()), CHARACTERS)?;
         let answer = shaper.preprocess_text(plan, &self.settings.font, &mut self.buffer)?;
         match answer {
             Some(Preprocess::Done) => Ok(()),
@@ -50,7 +79,8 @@ impl Session {
         requires { PlanFits shaper plan.now }
     {
         self.check_no_positions()?;
-        check(shaper.glyphs_fit(plan, &self.buffer))?;
+        check(shaper.glyphs_fit(plan, &self.buffer), CHARACTERS)?;
+        check(auxiliary_bytes_fit(shaper, self.buffer.glyphs()), JAMO)?;
         let (font, tables) = (&self.settings.font, &self.settings.tables);
         let answer = shaper.setup_masks(plan, font, tables, &mut self.buffer);
         self.answer_if_absent(answer)
@@ -62,8 +92,8 @@ impl Session {
         shaper: hb_ot_shaper_t,
         plan: &hb_ot_shape_plan_t,
     ) -> Result<(), LineFault> {
-        check(self.buffer.positions_len() == self.buffer.len())?;
-        check(shaper.postprocess_fits(plan, &self.buffer))?;
+        check(self.buffer.positions_len() == self.buffer.len(), POSITIONS)?;
+        check(shaper.postprocess_fits(plan, &self.buffer), GLYPH_NUMBERS)?;
         let answer = shaper.postprocess_glyphs(plan, &self.settings.font, &mut self.buffer)?;
         self.answer_if_absent(answer)
     }
@@ -77,8 +107,8 @@ impl Session {
         end: usize,
     ) -> Result<(), LineFault> {
         self.check_no_positions()?;
-        check(start <= end && end <= self.buffer.len())?;
-        check(shaper.marks_fit(start, end))?;
+        check(start <= end && end <= self.buffer.len(), PLACES)?;
+        check(shaper.marks_fit(start, end), MARKS)?;
         let answer = shaper.reorder_marks(plan, &mut self.buffer, start, end);
         self.answer_if_absent(answer)
     }
@@ -118,8 +148,12 @@ impl Session {
     // A pause, which reads the spans so far.
     fn pause(&mut self, plan: &hb_ot_shape_plan_t, pause: Pause) -> Result<(), LineFault> {
         self.check_no_positions()?;
-        check(kinds_fit(self.settings.spans.as_slice()))?;
-        check(pause_fits(pause, plan))?;
+        check(kinds_fit(self.settings.spans.as_slice()), KINDS)?;
+        check(pause_fits(pause, plan), DATA)?;
+        check(
+            glyph_numbers_fit(pause, self.buffer.glyphs()),
+            GLYPH_NUMBERS,
+        )?;
         let (font, spans) = (&self.settings.font, self.settings.spans.as_slice());
         run_pause(pause, plan, font, spans, &mut self.buffer)?;
         Ok(())
@@ -129,7 +163,7 @@ impl Session {
     fn check_no_positions(&self) -> Result<(), LineFault>
         ensures { OnOk result (self.now.buffer.positions ≡ []) }
     {
-        check(self.buffer.positions_len() == 0)
+        check(self.buffer.positions_len() == 0, NO_POSITIONS)
     }
 
     // Prints that a hook is absent, where it is.
@@ -148,14 +182,31 @@ impl Session {
 }
 
 // A condition, without which the line doesn't read.
-fn check(holds: bool) -> Result<(), LineFault>
+fn check(holds: bool, condition: Expected) -> Result<(), LineFault>
     ensures { is_ok result ≡ holds }
 {
     if holds {
         Ok(())
     } else {
-        Err(LineFault::Unreadable)
+        Err(LineFault::Unreadable(condition))
     }
+}
+
+// Whether these glyphs are such as `preprocess` is given: for Hangul, characters.
+fn text_fits(shaper: hb_ot_shaper_t, glyphs: &[hb_glyph_info_t]) -> bool {
+    let is_character = |glyph: &hb_glyph_info_t| char::from_u32(glyph.glyph_id).is_some();
+    !matches!(shaper, hb_ot_shaper_t::Hangul) || glyphs.iter().all(is_character)
+}
+
+// Whether these auxiliary bytes are such as `masks` is given: for Hangul 0, or a kind of jamo.
+fn auxiliary_bytes_fit(shaper: hb_ot_shaper_t, glyphs: &[hb_glyph_info_t]) -> bool {
+    !matches!(shaper, hb_ot_shaper_t::Hangul) || glyphs.iter().all(|glyph| glyph.auxiliary <= 3)
+}
+
+// Whether these glyphs are such as the pause is given: for the initial reordering of Indic,
+// numbered as a font's are.
+fn glyph_numbers_fit(pause: Pause, glyphs: &[hb_glyph_info_t]) -> bool {
+    !matches!(pause, Pause::InitialReordering) || glyphs.iter().all(|glyph| glyph.glyph_id <= 65535)
 }
 
 // Whether the kind of each span fits the four bits that it has.

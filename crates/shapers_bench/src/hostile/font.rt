@@ -12,7 +12,7 @@ pub struct OneGlyph {
 }
 
 impl hb_font_t for OneGlyph {
-    ghost use Rattle.std.specs.Prelude.{◌==◌, ◌%◌, None, Some, false, not, if◌then◌else◌};
+    ghost use Rattle.std.specs.Prelude.{◌==◌, ◌%◌, None, Some, false, if◌then◌else◌};
 
     ghost font = { λ font. record {
       nominal = λ c. if c % 7 == font.lacks then None else Some (record { 0 = 5 });

@@ -1,5 +1,5 @@
 //! Readers and setters of the buffer's fields.
-ghost use Rattle.std.specs.Prelude.{◌≡◌, ◌==◌, ◌||◌, ◌<◌, ◌≤◌, length, take, not, slice_index_or, slice_set, if◌then◌else◌};
+ghost use Rattle.std.specs.Prelude.{◌≡◌, ◌==◌, ◌||◌, ◌<◌, ◌≤◌, length, take, slice_index_or, slice_set, if◌then◌else◌};
 ghost use Rattle.shapers_buffer.specs.Buffer.{can_be_positions};
 
 use super::{

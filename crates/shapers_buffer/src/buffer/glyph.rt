@@ -10,9 +10,13 @@ pub struct hb_glyph_info_t {
     pub cluster: u32,
     /// The features that are on, above the three glyph flags.
     pub mask: u32,
+    /// What the caller keeps with the glyph; the hooks carry it along and never read it.
+    pub var: u32,
     /// The syllable: a serial in the high four bits, the kind in the low four.
     pub syllable: u8,
+    /// What the character is in its syllable, by the shaper's own table (HarfBuzz's Indic and universal categories).
     pub category: u8,
+    /// What else its shaper notes of it: an Arabic form, a Hangul jamo's feature, an Indic or Myanmar position.
     pub auxiliary: u8,
     pub general_category: hb_unicode_general_category_t,
     pub modified_combining_class: u8,
@@ -27,6 +31,7 @@ impl hb_glyph_info_t {
         glyph_id: 0,
         cluster: 0,
         mask: 0,
+        var: 0,
         syllable: 0,
         category: 0,
         auxiliary: 0,

@@ -1,6 +1,6 @@
 //! The glyph flags: the low three bits of a mask, which tell line breakers and the like what a
 //! change of the text at a glyph would do.
-ghost use Rattle.std.specs.Prelude.{◌≡◌, ◌<◌, ◌≤◌, ◌==◌, length, map};
+ghost use Rattle.std.specs.Prelude.{◌≡◌, ◌≤◌, length, map};
 ghost use Rattle.shapers_buffer.specs.Buffer.{asks, has_flag};
 ghost use Rattle.shapers_buffer.specs.GlyphFlags.{flagged, with_bits, unsafe_inside, unsafe_to_concat_in, tatweel_inside};
 

@@ -1,4 +1,4 @@
-//! The marks of a glyph, in one byte: a glyph of 20 bytes walks faster than one of 24.
+//! The marks of a glyph, in one byte: a glyph has 24 bytes, and with a byte a mark it would have 28.
 ghost use Rattle.std.specs.Prelude.{◌≡◌};
 ghost use Rattle.shapers_buffer.specs.Marks.{SUBSTITUTED, LIGATED, MULTIPLIED, IGNORABLE, CONTINUATION, is_substituted, is_ligated, is_multiplied, is_ignorable, is_continuation, set_mark, MarksAreSetAlone};
 

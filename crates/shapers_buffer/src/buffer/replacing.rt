@@ -1,5 +1,5 @@
 //! Other glyphs for the buffer's, and glyphs copied with their positions.
-ghost use Rattle.std.specs.Prelude.{◌≡◌, ◌<◌, ◌≤◌, [], length, OnOk, OnErr};
+ghost use Rattle.std.specs.Prelude.{◌≡◌, ◌<◌, [], length, OnOk, OnErr};
 ghost use Rattle.shapers_buffer.specs.Buffer.{copied_to};
 ghost use Rattle.shapers_buffer.specs.Refusals.{RefusesLength};
 

@@ -1,5 +1,5 @@
 //! The buffer backwards.
-ghost use Rattle.std.specs.Prelude.{◌≡◌, ◌<◌, ◌≤◌, length, reverse};
+ghost use Rattle.std.specs.Prelude.{◌≡◌, ◌≤◌, length, reverse};
 ghost use Rattle.shapers_buffer.specs.Clusters.{with_stretch};
 
 use super::hb_buffer_t;

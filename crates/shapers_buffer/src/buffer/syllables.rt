@@ -1,5 +1,5 @@
 //! Syllables in the buffer: longest runs of glyphs of equal syllable bytes.
-ghost use Rattle.std.specs.Prelude.{◌≡◌, ◌==◌, ◌+◌, ◌<◌, ◌≤◌, All, is_ok, OnOk, OnErr, IfErr, IsTrue, length, drop, map};
+ghost use Rattle.std.specs.Prelude.{◌≡◌, ◌==◌, ◌+◌, ◌<◌, ◌≤◌, All, OnOk, OnErr, IsTrue, length, drop, map};
 ghost use Rattle.shapers_buffer.specs.Clusters.{with_stretch};
 ghost use Rattle.shapers_buffer.specs.Refusals.{RefusesInput};
 ghost use Rattle.shapers_buffer.specs.SyllableLaws.{SyllablesAreRuns};

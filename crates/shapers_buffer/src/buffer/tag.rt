@@ -5,12 +5,14 @@ ghost use Rattle.std.specs.Prelude.{◌≡◌};
 pub struct hb_tag_t(pub [u8; 4]);
 
 impl hb_tag_t {
+    /// The tag of four bytes, as `*b"rlig"` (OpenType, tags).
     pub fn from_bytes(bytes: [u8; 4]) -> Self
         ensures { result.0 ≡ bytes }
     {
         hb_tag_t(bytes)
     }
 
+    /// Its four bytes.
     pub fn to_bytes(self) -> [u8; 4]
         ensures { result ≡ self.0 }
     {
@@ -23,12 +25,14 @@ impl hb_tag_t {
 pub struct Script(pub [u8; 4]);
 
 impl Script {
+    /// The script whose ISO 15924 code has these bytes.
     pub fn from_bytes(bytes: [u8; 4]) -> Self
         ensures { result.0 ≡ bytes }
     {
         Script(bytes)
     }
 
+    /// The four bytes of its code.
     pub fn to_bytes(self) -> [u8; 4]
         ensures { result ≡ self.0 }
     {

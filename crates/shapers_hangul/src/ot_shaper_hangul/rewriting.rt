@@ -1,5 +1,6 @@
 //! The text rewritten, item after item.
-ghost use Rattle.std.specs.Prelude.{◌≡◌, ◌+◌, ◌<◌, ◌≤◌, ◌++◌, ◌∷◌, [], true, drop, length, take, OnOk, OnErr, IfOk, IfErr, IsOkUnless};
+ghost use Rattle.std.specs.Prelude.{◌≡◌, ◌+◌, ◌-◌, ◌<◌, ◌≤◌, ◌++◌, ◌∷◌, [], true, drop, length, take, OnOk, OnErr, IfOk, IfErr, IsOkUnless};
+ghost use Rattle.shapers_hangul.specs.RewritingWalk.{changes, InTurn, change_output, changed_from};
 ghost use Rattle.shapers_buffer.specs.Refusals.{RefusesLength};
 ghost use Rattle.shapers_buffer.specs.declared.buffer.refusal.ShaperError.TheVariants.{Memory, TooLong};
 ghost use Rattle.shapers_hangul.specs.Hangul.{first_item, item_len, items_at, characters, glyph_copies, outputs, Fit, all_joined, rewritten, wants_circles, is_kept, KeptBefore};
@@ -55,8 +56,8 @@ fn kept_len<F: hb_font_t>(face: &F, circles: bool, glyphs: &[hb_glyph_info_t]) -
     place
 }
 
-// The items of a text from a place on, each with the place of its first character, as long as
-// memory was found.
+// The items that change a text from a place on, each with the place of its first character, as long
+// as memory was found.
 #[derive(Drop)]
 struct Cut {
     items: Vec<(usize, Item)>,
@@ -74,20 +75,20 @@ impl Cut {
         }
     }
 
-    // One more.
+    // One more, unless it stays as it is.
     fn add(&mut self, place: usize, item: Item)
         ensures whole { self.new.is_whole ≡ true → self.old.is_whole ≡ true }
-        ensures added { let one = (place, item) ∷ [] in
+        ensures added { let one = changes ((place, item) ∷ []) in
             self.new.is_whole ≡ true → self.new.items.items ≡ self.old.items.items ++ one }
     {
-        if self.items.push((place, item)).is_err() {
+        if !item.is_kept() && self.items.push((place, item)).is_err() {
             self.is_whole = false;
         }
     }
 }
 
-// The length of the result, where the text stays up to the place `kept`, and the items from there
-// on. Refuses where the result would be longer than `limit`, and for nothing else.
+// The length of the result, where the text stays up to the place `kept`, and the items that change
+// it from there on. Refuses where the result would be longer than `limit`, and for nothing else.
 fn measure<F: hb_font_t>(
     face: &F,
     circles: bool,
@@ -102,7 +103,7 @@ fn measure<F: hb_font_t>(
     ensures length { let cut = items_at (F.font face.now) circles (characters glyphs.now) kept in
         RefusesLength limit (kept + length (outputs glyph_copies cut glyphs.now)) result }
     ensures items { let rest = items_at (F.font face.now) circles (characters glyphs.now) kept in
-        IfOk result (λ len. cut.new.is_whole ≡ true → cut.new.items.items ≡ rest) }
+        IfOk result (λ len. cut.new.is_whole ≡ true → cut.new.items.items ≡ changes rest) }
     ensures refusal { IfErr result (λ e. e ≡ TooLong) }
 {
     let mut room = limit - kept;
@@ -129,21 +130,62 @@ fn join_items(cut: &[(usize, Item)], level: BufferClusterLevel, glyphs: &mut [hb
     }
 }
 
-// Adds what the items become, one after another.
-fn write_items(
-    cut: &[(usize, Item)],
+// Adds the text from one place to another.
+fn write_stretch(
     glyphs: &[hb_glyph_info_t],
+    place: usize,
+    end: usize,
     list: &mut Vec<hb_glyph_info_t>,
 ) -> Result<(), ShaperError>
-    requires { Fit (length glyphs.now) cut.now }
-    ensures ok { let output = outputs glyph_copies cut.now glyphs.now in
+    requires in_order { place ≤ end }
+    requires within { end ≤ length glyphs.now }
+    ensures ok { let stretch = take (end - place) (drop place glyphs.now) in
+        OnOk result (list.new.items ≡ list.old.items ++ stretch) }
+    ensures refusal { IsOkUnless result Memory }
+{
+    if place == end {
+        return Ok(());
+    }
+    list.extend_from_slice(&glyphs[place..end])
+        .map_err(|_| ShaperError::Memory)
+}
+
+// Adds the text from a place on up to an item, and what the item becomes.
+fn write_change(
+    entry: &(usize, Item),
+    glyphs: &[hb_glyph_info_t],
+    place: usize,
+    list: &mut Vec<hb_glyph_info_t>,
+) -> Result<(), ShaperError>
+    requires in_order { place ≤ entry.now.0 }
+    requires within { entry.now.0 + item_len entry.now.1 ≤ length glyphs.now }
+    ensures ok { let output = change_output place entry.now glyphs.now in
         OnOk result (list.new.items ≡ list.old.items ++ output) }
     ensures refusal { IsOkUnless result Memory }
 {
+    write_stretch(glyphs, place, entry.0, list)?;
+    entry.1.write(rest_from(glyphs, entry.0), list)
+}
+
+// Adds the text from a place on, in which these items become what they become.
+fn write_changes(
+    cut: &[(usize, Item)],
+    glyphs: &[hb_glyph_info_t],
+    start: usize,
+    list: &mut Vec<hb_glyph_info_t>,
+) -> Result<(), ShaperError>
+    requires in_turn { InTurn (length glyphs.now) start cut.now }
+    ensures ok { let output = changed_from start cut.now glyphs.now in
+        OnOk result (list.new.items ≡ list.old.items ++ output) }
+    ensures refusal { IsOkUnless result Memory }
+{
+    let mut place = start;
     for entry in cut {
-        entry.1.write(rest_from(glyphs, entry.0), list)?;
+        write_change(entry, glyphs, place, list)?;
+        place = entry.0 + entry.1.len();
     }
-    Ok(())
+    list.extend_from_slice(rest_from(glyphs, place))
+        .map_err(|_| ShaperError::Memory)
 }
 
 // The text rewritten, to a length that is known: what its items flag and merge, on the old places,
@@ -157,16 +199,17 @@ fn rewritten(
     alloc: Global,
 ) -> Result<Vec<hb_glyph_info_t>, ShaperError>
     requires fit { Fit (length glyphs.now) cut.now }
+    requires in_turn { InTurn (length glyphs.now) kept cut.now }
     requires within { kept ≤ length glyphs.now }
     ensures ok { let joined = all_joined level cut.now glyphs.now in
-        IfOk result (λ list. list.items ≡ take kept joined ++ outputs glyph_copies cut.now joined) }
+        IfOk result (λ list. list.items ≡ take kept joined ++ changed_from kept cut.now joined) }
     ensures refusal { IsOkUnless result Memory }
 {
     let mut joined = Vec::from_slice(alloc, glyphs)?;
     join_items(cut, level, &mut joined);
     let mut list = Vec::with_capacity(alloc, len)?;
     list.extend_from_slice(&joined[..kept])?;
-    write_items(cut, joined.as_slice(), &mut list)?;
+    write_changes(cut, joined.as_slice(), kept, &mut list)?;
     Ok(list)
 }
 

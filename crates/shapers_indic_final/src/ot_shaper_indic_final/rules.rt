@@ -1,6 +1,5 @@
 //! What the final reordering reads of the plan and the font.
 ghost use Rattle.std.specs.Prelude.{◌≡◌};
-ghost use Rattle.shapers_buffer.specs.Glyph.{without_flags};
 ghost use Rattle.shapers_indic_final.specs.FinalRules.{has_no_half_forms, is_malayalam, rules_of, virama_glyph};
 
 use shapers_base::buffer::Script;

@@ -78,6 +78,7 @@ impl<'a, F: hb_font_t> ByVirama<'a, F> {
     }
 
     // Whether a feature would substitute the virama and a consonant, in either order.
+    #[inline(always)]
     fn joins(&self, feature: &IndicWouldSubstituteFeature, consonant: GlyphId) -> bool
         ensures { let font = F.font self.now.face.now in
             result ≡ joins_virama font self.now.map.now feature.now self.now.virama consonant }

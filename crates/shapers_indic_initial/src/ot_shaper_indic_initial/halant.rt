@@ -1,10 +1,9 @@
 //! The H that the older specification puts behind the last consonant, and the joiner that Kannada
 //! puts before it. (OpenType, development of Indic scripts.)
-ghost use Rattle.std.specs.Prelude.{◌≡◌, ◌<◌, IfSome, List, [], ◌∷◌, length};
+ghost use Rattle.std.specs.Prelude.{◌≡◌, ◌<◌, IfSome, [], ◌∷◌, length};
 ghost use Rattle.shapers_indic_initial.specs.InitialBase.{joiner_comes_first, opens_with_ra_h_zwj};
 ghost use Rattle.shapers_indic_initial.specs.InitialPositions.{halant_after, halant_from, is_passed_by_halant, last_after_halant, moved_places};
 ghost use Rattle.shapers_indic.specs.Glyphs.{is_one_of};
-ghost use Rattle.shapers_indic.specs.Plan.{is_script};
 
 use shapers_base::buffer::{Script, hb_glyph_info_t};
 use shapers_base::plan::ot_category_t::{OT_H, OT_Ra, OT_ZWJ};

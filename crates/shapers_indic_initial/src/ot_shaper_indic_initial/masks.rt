@@ -254,12 +254,15 @@ fn keeps_losing(glyph: &hb_glyph_info_t, loses: bool) -> bool
     ensures { result ≡
         (not (is_consonant glyph.now) && (is_one_of (OT_ZWNJ ∷ []) glyph.now || loses)) }
 {
-    !is_consonant(glyph) && (is_non_joiner(glyph) || loses)
+    if loses {
+        return !is_consonant(glyph);
+    }
+    is_non_joiner(glyph)
 }
 
 // Whether a glyph is a ZWNJ, and no lookup put it in for several.
 fn is_non_joiner(glyph: &hb_glyph_info_t) -> bool
     ensures { result ≡ is_one_of (OT_ZWNJ ∷ []) glyph.now }
 {
-    !glyph.marks.is_ligated() && glyph.category == OT_ZWNJ
+    glyph.category == OT_ZWNJ && !glyph.marks.is_ligated()
 }

@@ -1,8 +1,9 @@
 //! The positions of a syllable's glyphs, by which it is ordered. (OpenType, development of Indic
 //! scripts: "Reorder characters".)
-ghost use Rattle.std.specs.Prelude.{◌≡◌, ◌&&◌, None, Some, if◌then◌else◌, nat_le, not, unwrap_or};
-ghost use Rattle.shapers_indic.specs.Glyphs.{has_category, has_position};
-ghost use Rattle.shapers_indic_initial.specs.InitialPositions.{bounds, by_base, carries, draws_sign, is_attached, position_by_base, with_attached, with_halants, with_marks_attached, with_owners, with_owners_after, with_signs};
+ghost use Rattle.std.specs.Prelude.{◌≡◌, ◌+◌, ◌<◌, None, Some, drop, get_or, if◌then◌else◌, length, nat_le, unwrap_or};
+ghost use Rattle.shapers_buffer.specs.Glyph.{default_glyph};
+ghost use Rattle.shapers_indic_initial.specs.InitialPositions.{bounds, by_base, draws_sign, is_attached, position_by_base, with_marks_attached, with_owners, with_owners_after};
+ghost use Rattle.shapers_indic_initial.specs.MarkWalk.{drawn_position, next_behind, next_carrier, parted_position};
 ghost use Rattle.shapers_syllabic.specs.Consonants.{is_consonant};
 
 use super::base::Base;
@@ -20,8 +21,13 @@ use shapers_syllabic::ot_shaper_syllabic::is_consonant;
 pub(super) fn set_positions_by_base(base: Base, glyphs: &mut [hb_glyph_info_t])
     ensures { glyphs.new ≡ by_base base.place base.has_reph glyphs.old }
 {
-    for (i, glyph) in glyphs.iter_mut().enumerate() {
-        glyph.auxiliary = position_by_base(base, i, glyph.auxiliary);
+    let end = if base.place < glyphs.len() {
+        base.place + 1
+    } else {
+        glyphs.len()
+    };
+    for i in 0..end {
+        glyphs[i].auxiliary = position_by_base(base, i, glyphs[i].auxiliary);
     }
 }
 
@@ -44,37 +50,39 @@ fn position_by_base(base: Base, i: usize, position: u8) -> u8
 pub(super) fn attach_marks(glyphs: &mut [hb_glyph_info_t])
     ensures { glyphs.new ≡ with_marks_attached glyphs.old }
 {
-    attach(glyphs);
-    draw_signs(glyphs);
-    part_halants(glyphs);
-}
-
-// Gives each attached glyph the position of the nearest glyph before it that carries it.
-fn attach(glyphs: &mut [hb_glyph_info_t])
-    ensures { glyphs.new ≡ with_attached glyphs.old }
-{
     let mut carrier = 0;
-    for glyph in glyphs.iter_mut() {
-        let (position, next) = attach_to(glyph, carrier);
+    let mut behind = POS_PRE_M;
+    for i in 0..glyphs.len() {
+        let (position, next) = drawn_position(glyphs, i, carrier);
+        glyphs[i].auxiliary = parted_position(&glyphs[i], position, behind);
         carrier = next;
-        glyph.auxiliary = position;
+        behind = next_behind(position, behind);
     }
 }
 
-// The position of a glyph behind a carrier of this position, and that of the nearest carrier before
-// what follows the glyph.
-fn attach_to(glyph: &hb_glyph_info_t, carrier: u8) -> (u8, u8)
-    ensures position { result.0 ≡ (if is_attached glyph.now then carrier else glyph.now.auxiliary) }
-    ensures next { result.1 ≡ (if carries glyph.now then glyph.now.auxiliary else carrier) }
+// The position of the glyph at place `i` behind a carrier of this position: that of its carrier, if
+// it is attached, and that of the matra directly behind it, if it is a sign that goes with it. And
+// the position of the nearest carrier before what follows the glyph.
+fn drawn_position(glyphs: &[hb_glyph_info_t], i: usize, carrier: u8) -> (u8, u8)
+    requires { i < length glyphs.now }
+    ensures position { let g = get_or glyphs.now i default_glyph in
+        result.0 ≡ drawn_position carrier g (drop (i + 1) glyphs.now) }
+    ensures carrier { result.1 ≡ next_carrier carrier (get_or glyphs.now i default_glyph) }
 {
-    let position = glyph.auxiliary;
+    let glyph = &glyphs[i];
     if is_attached(glyph) {
         return (carrier, carrier);
     }
-    if position == POS_SMVD {
-        return (position, carrier);
+    let position = glyph.auxiliary;
+    let carrier = if position == POS_SMVD {
+        carrier
+    } else {
+        position
+    };
+    if i + 1 < glyphs.len() && draws_sign(glyph, &glyphs[i + 1]) {
+        return (glyphs[i + 1].auxiliary, carrier);
     }
-    (position, position)
+    (position, carrier)
 }
 
 // Whether a glyph goes with what stands before it.
@@ -87,71 +95,34 @@ fn is_attached(glyph: &hb_glyph_info_t) -> bool
     )
 }
 
-// Gives a syllable modifier the position of the postfixed matra directly behind it.
-fn draw_signs(glyphs: &mut [hb_glyph_info_t])
-    ensures { glyphs.new ≡ with_signs glyphs.old }
-{
-    for i in 1..glyphs.len() {
-        glyphs[i - 1].auxiliary = sign_position(&glyphs[i - 1], &glyphs[i]);
-    }
-}
-
-// The position of a glyph directly before another one.
-fn sign_position(glyph: &hb_glyph_info_t, next: &hb_glyph_info_t) -> u8
-    ensures { let g = glyph.now in
-        result ≡ (if draws_sign g next.now then next.now.auxiliary else g.auxiliary) }
-{
-    if draws_sign(glyph, next) {
-        next.auxiliary
-    } else {
-        glyph.auxiliary
-    }
-}
-
 // Whether a glyph is a syllable modifier that goes with the one directly behind it.
 fn draws_sign(glyph: &hb_glyph_info_t, next: &hb_glyph_info_t) -> bool
     ensures { result ≡ draws_sign glyph.now next.now }
 {
-    next.category == OT_MPst && glyph.category == OT_SM && next.auxiliary != POS_SMVD
+    glyph.category == OT_SM && next.category == OT_MPst && next.auxiliary != POS_SMVD
 }
 
-// Gives a halant that would go with a left matra the position of the nearest glyph before it that
-// doesn't.
-fn part_halants(glyphs: &mut [hb_glyph_info_t])
-    ensures { glyphs.new ≡ with_halants glyphs.old }
+// The position of a glyph that has this one so far: a halant doesn't go with a left matra, but with
+// what stands behind it.
+fn parted_position(glyph: &hb_glyph_info_t, position: u8, behind: u8) -> u8
+    ensures { result ≡ parted_position behind position glyph.now }
 {
-    let mut behind = POS_PRE_M;
-    for glyph in glyphs.iter_mut() {
-        let position = halant_position(glyph, behind);
-        behind = next_behind(glyph, behind);
-        glyph.auxiliary = position;
+    if glyph.category == OT_H && position == POS_PRE_M {
+        behind
+    } else {
+        position
     }
 }
 
-// The position of a glyph where the nearest glyph before it that doesn't go with a left matra has
-// this one.
-fn halant_position(glyph: &hb_glyph_info_t, behind: u8) -> u8
-    ensures { let g = glyph.now in
-        let parts = has_category OT_H g && has_position POS_PRE_M g in
-        result ≡ (if parts then behind else g.auxiliary) }
+// The position of the nearest glyph that doesn't go with a left matra before what follows a glyph
+// of this position.
+fn next_behind(position: u8, behind: u8) -> u8
+    ensures { result ≡ next_behind behind position }
 {
-    if glyph.category == OT_H && glyph.auxiliary == POS_PRE_M {
+    if position == POS_PRE_M {
         behind
     } else {
-        glyph.auxiliary
-    }
-}
-
-// The position of the nearest glyph that doesn't go with a left matra before what follows a glyph,
-// where it is this one before the glyph.
-fn next_behind(glyph: &hb_glyph_info_t, behind: u8) -> u8
-    ensures { let g = glyph.now in
-        result ≡ (if not (has_position POS_PRE_M g) then g.auxiliary else behind) }
-{
-    if glyph.auxiliary == POS_PRE_M {
-        behind
-    } else {
-        glyph.auxiliary
+        position
     }
 }
 

@@ -2,7 +2,7 @@
 //! of Indic scripts.)
 ghost use Rattle.std.specs.Prelude.{◌≡◌, ◌≤◌, length};
 ghost use Rattle.std.specs.List.{prefix_len};
-ghost use Rattle.shapers_indic_initial.specs.InitialBase.{font_decides_reph, limit_behind, opens_with_repha, reph_is_formed, reph_len, third_lets_reph};
+ghost use Rattle.shapers_indic_initial.specs.InitialBase.{limit_behind, opens_with_repha, reph_is_formed, reph_len, third_lets_reph};
 ghost use Rattle.shapers_indic.specs.Glyphs.{is_joiner};
 ghost use Rattle.shapers_indic_initial.specs.InitialRules.{rules_of};
 

@@ -1,12 +1,12 @@
 //! The first pass over a text whose marks stretch: whether all its numbers fit, and how many cells
 //! it gains. A run takes a turn for each of its tiles, and none for a copy.
-ghost use Rattle.std.specs.Prelude.{◌≡◌, ◌≤◌, ◌<◌, ◌+◌, ◌^◌, ◌*◌, ◌≤ℤ◌, ◌*ℤ◌, ◌-ℤ◌, ◌&&◌, [], ◌∷◌, true, pos, negsuc, MatchOption, length, replicate, take};
+ghost use Rattle.std.specs.Prelude.{◌≡◌, ◌≤◌, ◌<◌, ◌+◌, ◌^◌, ◌*◌, ◌≤ℤ◌, ◌*ℤ◌, ◌-ℤ◌, ◌&&◌, [], ◌∷◌, true, pos, negsuc, MatchOption, length, replicate};
 ghost use Rattle.std.specs.List.{AllByRecursion, zip};
 ghost use Rattle.shapers_stretch.specs.CountingWalk.{CountsAdded, IsCounted, IsLay, IsNumber, WalksPen, moves_of, offsets_fit, last_at, pen_behind, run_added, run_moves, stands_at};
 ghost use Rattle.shapers_stretch.specs.Measure.{fits_i32};
 ghost use Rattle.shapers_stretch.specs.Stretch.{Laying, measured, overflows};
 
-use super::measuring::{Lay, Run, advance_of, fits_i32, lay_of, measure};
+use super::measuring::{Lay, advance_of, fits_i32, lay_of, measure};
 use super::parts::{last_part, repeats};
 use shapers_base::buffer::{GlyphPosition, hb_glyph_info_t};
 use shapers_base::font::hb_font_t;

@@ -1,6 +1,6 @@
 //! The second pass over a text whose marks stretch: from behind, in place, each run is laid over
 //! its word. The writer never overtakes the reader.
-ghost use Rattle.std.specs.Prelude.{◌≡◌, ◌≤◌, ◌<◌, ◌^◌, ◌+◌, ◌-◌, ◌<ℤ◌, ◌≤ℤ◌, ◌++◌, [], ◌∷◌, pos, negsuc, true, length, replicate, reverse, take, drop};
+ghost use Rattle.std.specs.Prelude.{◌≡◌, ◌≤◌, ◌<◌, ◌^◌, ◌+◌, ◌-◌, ◌≤ℤ◌, ◌++◌, [], ◌∷◌, pos, negsuc, true, length, replicate, reverse, take, drop};
 ghost use Rattle.std.specs.List.{AllByRecursion, zip};
 ghost use Rattle.shapers_buffer.specs.Clusters.{stretch_of};
 ghost use Rattle.shapers_stretch.specs.Cells.{Cell, glyphs_of, positions_of};

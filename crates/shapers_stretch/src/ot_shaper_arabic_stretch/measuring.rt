@@ -1,6 +1,6 @@
 //! The numbers of a run: what its word and tiles measure, how often the tiles repeat, and how they
 //! are laid.
-ghost use Rattle.std.specs.Prelude.{◌≡◌, ◌≤◌, ◌<◌, ◌^◌, ◌*◌, ◌<ℤ◌, ◌≤ℤ◌, ◌-ℤ◌, ◌-◌, nat_abs, [], ◌∷◌, if◌then◌else◌, neg_ℤ, pos, negsuc, ◌*ℤ◌, false, int_div, FitsSigned, IsTrue, length, map};
+ghost use Rattle.std.specs.Prelude.{◌≡◌, ◌≤◌, ◌<◌, ◌^◌, ◌*◌, ◌<ℤ◌, ◌≤ℤ◌, ◌-ℤ◌, ◌-◌, nat_abs, [], ◌∷◌, if◌then◌else◌, neg_ℤ, pos, negsuc, ◌*ℤ◌, false, int_div, FitsSigned, IsTrue, map};
 ghost use Rattle.std.specs.List.{list_all};
 ghost use mir.Syntax.{w32, w64};
 ghost use Rattle.shapers_stretch.specs.Cells.{repeats};

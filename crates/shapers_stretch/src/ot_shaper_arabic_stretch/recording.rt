@@ -1,5 +1,5 @@
 //! The pause behind `stch`: glyphs that it multiplied are the tiles of a mark.
-ghost use Rattle.std.specs.Prelude.{◌≡◌, ◌||◌, map};
+ghost use Rattle.std.specs.Prelude.{◌≡◌, map};
 ghost use Rattle.std.specs.List.{list_any};
 ghost use Rattle.shapers_buffer.specs.Marks.{is_multiplied};
 ghost use Rattle.shapers_arabic.specs.PlanData.{IsArabic};

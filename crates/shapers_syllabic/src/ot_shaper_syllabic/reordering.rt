@@ -12,7 +12,7 @@ use shapers_base::buffer::{ShaperError, hb_buffer_t};
 /// How one syllable is reordered. What a syllable becomes, and the merges and moves that lead
 /// there, are functions of that syllable and the buffer's script alone.
 pub trait Reorder {
-    ghost use Rattle.std.specs.Prelude.{ℕ, ◌≡◌, List, Option, length};
+    ghost use Rattle.std.specs.Prelude.{◌≡◌, List, Option, length};
     ghost use Rattle.shapers_buffer.specs.declared.buffer.glyph.hb_glyph_info_t.{hb_glyph_info_t};
     ghost use Rattle.shapers_buffer.specs.declared.buffer.tag.Script.{Script};
     ghost use Rattle.shapers_clusters.specs.Steps.{Step};

@@ -1,6 +1,5 @@
 //! Cutting a text into syllables.
-ghost use Rattle.std.specs.Prelude.{◌≡◌, ◌==◌, ◌≤◌, All, IfErr, IsTrue, OnErr, OnOk, is_ok, length, map};
-ghost use Rattle.std.specs.List.{list_any};
+ghost use Rattle.std.specs.Prelude.{◌≡◌, ◌≤◌, All, IsTrue, OnErr, OnOk, length, map};
 ghost use Rattle.shapers_buffer.specs.Clusters.{with_stretch};
 ghost use Rattle.shapers_buffer.specs.Glyph.{clusters};
 ghost use Rattle.shapers_buffer.specs.GlyphFlags.{with_bits_off};

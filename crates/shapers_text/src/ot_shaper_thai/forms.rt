@@ -1,6 +1,6 @@
 //! The private use forms of Thai, for fonts whose GSUB table doesn't know the script: marks that
 //! would touch are shifted, and a descender that is in the way is left out. (The Thai note.)
-ghost use Rattle.std.specs.Prelude.{◌≡◌, ℕ, ◌+◌, ◌-◌, ◌^◌, ◌<◌, ◌≤◌, ◌==◌, [], ◌∷◌, length, find, is_some, slice_index_or, slice_set};
+ghost use Rattle.std.specs.Prelude.{◌≡◌, ◌+◌, ◌-◌, ◌^◌, ◌<◌, ◌≤◌, ◌==◌, [], length, find};
 ghost use Rattle.shapers_base.specs.Font.{has_nominal};
 ghost use Rattle.shapers_buffer.specs.GlyphFlags.{unsafe_inside};
 ghost use Rattle.shapers_text.specs.ThaiForms.{action_of, mappings_of, shaped_by, pua_shaped};

@@ -1,6 +1,6 @@
 //! The forms of syllables by their places in runs.
 ghost use Rattle.std.specs.Prelude.{◌≡◌, ◌<◌, ◌≤◌, length, map, drop, false};
-ghost use Rattle.shapers_buffer.specs.Clusters.{with_stretch, stretch_of};
+ghost use Rattle.shapers_buffer.specs.Clusters.{with_stretch};
 ghost use Rattle.shapers_buffer.specs.Syllables.{syllables};
 ghost use Rattle.shapers_universal.specs.UniversalSyllables.{all_forms, form_mask, form_masks, formed, in_forms, joins_runs, mask_between, with_forms, with_instead};
 

@@ -1,12 +1,12 @@
 //! The masks of joining and the categories of the universal shaper.
-ghost use Rattle.std.specs.Prelude.{◌≡◌, map, true};
+ghost use Rattle.std.specs.Prelude.{◌≡◌, true};
 ghost use Rattle.shapers_universal.specs.PlanData.{arabic_of, is_universal};
 ghost use Rattle.shapers_universal.specs.UniversalMasks.{CanJoin, MasksAreSet, categorized, with_categories};
 
 use shapers_arabic::ot_shaper_arabic::setup_masks_inner;
-use shapers_base::buffer::{GlyphChange, Script, hb_buffer_t, hb_glyph_info_t};
+use shapers_base::buffer::{GlyphChange, hb_buffer_t, hb_glyph_info_t};
 use shapers_base::font::Tables;
-use shapers_base::plan::{PlanData, arabic_shape_plan_t, hb_ot_shape_plan_t};
+use shapers_base::plan::{PlanData, hb_ot_shape_plan_t};
 
 /// Gives each letter its form, the form's mask and the glyph flags of joining, where the plan has a
 /// plan of Arabic, and each glyph the category of its character in the universal shaper. It can't

@@ -1,15 +1,16 @@
 //! The order of a syllable: the places of its glyphs are listed in their new order, what moves merges
 //! with what it passes, and then the syllable is written once.
-ghost use Rattle.std.specs.Prelude.{◌≡◌, ◌==◌, ◌&&◌, ◌||◌, ◌+◌, ◌-◌, ◌<◌, ◌≤◌, ◌^◌, true, length, filter, reverse};
+ghost use Rattle.std.specs.Prelude.{◌≡◌, ◌==◌, IfSome, false, ◌&&◌, ◌||◌, ◌+◌, ◌-◌, ◌<◌, ◌≤◌, ◌^◌, true, length, filter, reverse};
 ghost use Rattle.std.specs.List.{list_any, prefix_len, range_with_len};
-ghost use Rattle.shapers_buffer.specs.Clusters.{merge_all, stretch_of};
+ghost use Rattle.shapers_buffer.specs.Clusters.{merge, merge_all, stretch_of, with_stretch};
 ghost use Rattle.shapers_buffer.specs.ListingWalk.{with_listed};
+ghost use Rattle.shapers_buffer.specs.Places.{pick};
 ghost use Rattle.shapers_syllabic.specs.Reordering.{SyllableReordered};
 ghost use Rattle.shapers_universal.specs.Universal.{first_last, goes_front, goes_front_at, is_halant, is_passed, is_reordered, post_base, reph_run, universal_order, universal_steps};
-ghost use Rattle.shapers_universal.specs.UniversalWalk.{first_piece_len, fronts_from, has_reph, piece_places, places_in_order, stays_at};
+ghost use Rattle.shapers_universal.specs.UniversalWalk.{MergesFirst, first_piece_len, fronts_from, has_reph, last_first, piece_places, places_in_order, start_from, stays_at};
 
 use super::category;
-use shapers_base::buffer::{ShaperError, hb_buffer_t, hb_glyph_info_t};
+use shapers_base::buffer::{ClusterRun, ShaperError, hb_buffer_t, hb_glyph_info_t};
 use shapers_syllabic::ot_shaper_syllabic::Reorder;
 use shapers_syllabic::ot_shaper_syllabic::use_syllable::{
     BROKEN_CLUSTER, SAKOT_TERMINATED_CLUSTER, STANDARD_CLUSTER, VIRAMA_TERMINATED_CLUSTER,
@@ -61,20 +62,89 @@ impl Reorder for UniversalOrder {
         start: usize,
         end: usize,
     ) -> Result<(), ShaperError> {
-        if something_moves(&buffer.glyphs()[start..end]) {
-            reorder_syllable(buffer, start, end);
+        if is_reordered(&buffer.glyphs()[start..end]) {
+            if has_reph(&buffer.glyphs()[start..end]) {
+                reorder_syllable(buffer, start, end);
+            } else {
+                reorder_fronts(buffer, start, end);
+            }
         }
         Ok(())
     }
 }
 
-// Whether something moves in a syllable: it is of a kind that is reordered, and a reph stands in
-// front or a glyph goes to the front.
-fn something_moves(syllable: &[hb_glyph_info_t]) -> bool
-    ensures { let some = has_reph syllable.now || list_any goes_front syllable.now in
-        result ≡ (is_reordered syllable.now && some) }
+// Reorders the syllable from `s` to `e`, in which no reph stands in front.
+fn reorder_fronts(buffer: &mut hb_buffer_t, s: usize, e: usize)
+    requires in_order { s ≤ e }
+    requires in_range { e ≤ length buffer.old.glyphs }
+    requires kind { is_reordered (stretch_of s e buffer.old.glyphs) ≡ true }
+    requires no_reph { has_reph (stretch_of s e buffer.old.glyphs) ≡ false }
+    ensures { SyllableReordered universal_order universal_steps s e buffer.old buffer.new }
 {
-    is_reordered(syllable) && (has_reph(syllable) || some_go_front(syllable))
+    if let Some((start, behind)) = first_front(buffer.glyphs(), s, e) {
+        if some_go_front(&buffer.glyphs()[behind..e]) {
+            reorder_syllable(buffer, s, e);
+        } else {
+            move_to_front(buffer, start, behind);
+        }
+    }
+}
+
+// The first glyph from `s` to `e` that goes to the front: where its piece starts, and the place
+// behind it.
+fn first_front(glyphs: &[hb_glyph_info_t], s: usize, e: usize) -> Option<(usize, usize)>
+    requires in_order { s ≤ e }
+    requires in_range { e ≤ length glyphs.now }
+    ensures first { MergesFirst s e glyphs.now result }
+    ensures inside { IfSome result (λ p. p.0 < p.1 × p.1 ≤ e) }
+{
+    for i in s..e {
+        if goes_front(&glyphs[i]) {
+            return Some((piece_start(glyphs, s, i), i + 1));
+        }
+    }
+    None
+}
+
+// Where the piece starts in which place `i` of a syllable from `s` on stands.
+fn piece_start(glyphs: &[hb_glyph_info_t], s: usize, i: usize) -> usize
+    requires in_order { s ≤ i }
+    requires in_range { i ≤ length glyphs.now }
+    ensures start { result ≡ start_from s s (stretch_of s i glyphs.now) }
+    ensures before { result ≤ i }
+{
+    for end in (s + 1..i + 1).rev() {
+        if is_halant(&glyphs[end - 1]) {
+            return end;
+        }
+    }
+    s
+}
+
+// Merges the glyphs from `start` to `end` and moves the last of them to their front.
+fn move_to_front(buffer: &mut hb_buffer_t, start: usize, end: usize)
+    requires some { start < end }
+    requires in_range { end ≤ length buffer.old.glyphs }
+    ensures { let merged = merge buffer.old.level start end buffer.old.glyphs in
+        let moved = with_stretch start end (λ _. pick (last_first start end) merged) merged in
+        buffer.new ≡ record buffer.old { glyphs = moved; places = buffer.new.places } }
+{
+    buffer.merge_clusters(start, end);
+    list_last_first(buffer, start, end);
+    buffer.apply(start, end);
+}
+
+// Lists the places from `s` to `e`, the last of them first.
+fn list_last_first(buffer: &mut hb_buffer_t, s: usize, e: usize)
+    requires some { s < e }
+    requires in_range { e ≤ length buffer.old.glyphs }
+    ensures { let order = last_first s e in
+        buffer.new ≡ record buffer.old { places = with_listed s order buffer.old.places } }
+{
+    buffer.set_place(s, e - 1);
+    for i in s + 1..e {
+        buffer.set_place(i, i - 1);
+    }
 }
 
 // Whether some glyph goes to the front of its piece.
@@ -119,18 +189,17 @@ fn merge_fronts(buffer: &mut hb_buffer_t, s: usize, behind: usize, e: usize)
           glyphs = merge_all buffer.old.level fronts buffer.old.glyphs;
         } }
 {
-    // where the piece starts, and the place up to which it has merged
+    // where the piece starts, and what has merged but isn't written
     let mut start = s;
-    let mut last = s;
+    let mut run = ClusterRun::NONE;
     for i in behind..e {
         if goes_front(&buffer.glyphs()[i]) {
-            buffer.merge_further(start, last + 1, i + 1);
-            last = i;
+            run = buffer.merge_run(run, start, i + 1);
         } else if is_halant(&buffer.glyphs()[i]) {
             start = i + 1;
-            last = i + 1;
         }
     }
+    buffer.write_run(run);
 }
 
 // Lists the order of the syllable from `s` to `e`, of which the reph and what it passes end at

@@ -5,7 +5,7 @@ ghost use Rattle.shapers_buffer.specs.Glyph.{clusters};
 ghost use Rattle.shapers_buffer.specs.GlyphFlags.{with_bits};
 ghost use Rattle.shapers_buffer.specs.Refusals.{RefusesInput};
 ghost use Rattle.shapers_buffer.specs.Syllables.{spans_refusal, syllables};
-ghost use Rattle.shapers_universal.specs.PlanData.{is_universal, rphf_of};
+ghost use Rattle.shapers_universal.specs.PlanData.{is_universal};
 ghost use Rattle.shapers_universal.specs.UniversalCuts.{UniversalSetUpCutsAtSpans};
 ghost use Rattle.shapers_universal.specs.UniversalSyllables.{reph_len, syllables_set_up, with_rphf, with_syllable_masks};
 

@@ -1,7 +1,9 @@
 -- One more item, no room for one, and the end.
 use Rattle.std.proofs.Common.{◌≡◌, ◌+◌, ◌++◌, sym, ap, subst, length, arith}
 use Rattle.shapers_hangul.specs.Hangul.{characters, glyph_copies, item_len, items_at, outputs}
-use Rattle.shapers_hangul.proofs.Walks.{length_next, recording_next}
+use Rattle.shapers_hangul.specs.RewritingWalk.{changes}
+use Rattle.shapers_hangul.proofs.Changes.{recording_next}
+use Rattle.shapers_hangul.proofs.Walks.{length_next}
 use Rattle.shapers_hangul.proofs.ot_shaper_hangul.rewriting.measure.Goals as goal
 
 pub returns-then-room-output_len-clause-length : goal.returns-then-room-output_len-clause-length
@@ -22,6 +24,6 @@ loop-place-preserved g c =
       within = omega (arith, c.item_at-item.ensures.within, c.len-place.ensures);
       room_left = omega (arith, step, ap (λ p. length (outputs glyph_copies (items_at font circles (characters gs) p) gs)) on, l.invariant.room_left, c.if-room-output_len.false, c.output_len.ensures, c.output_len-room.ensures);
       recorded = λ whole.
-          subst (λ p. c.add.new.self.items.items ++ items_at font circles (characters gs) p ≡ items_at font circles (characters gs) c.args.kept) on
+          subst (λ p. c.add.new.self.items.items ++ changes (items_at font circles (characters gs) p) ≡ changes (items_at font circles (characters gs) c.args.kept)) on
           (recording_next font circles gs l.cut.items.items c.add.new.self.items.items _ l.place item c.loop-place-test.true c.item_at-item.ensures.item (l.invariant.recorded (c.add.ensures.whole whole)) (c.add.ensures.added whole));
     }

@@ -1,6 +1,7 @@
 -- The room that is left, and the items so far.
 use Rattle.std.proofs.Common.{◌≡◌, ◌+◌, ◌≤◌, ◌-◌, ◌++◌, length, true}
 use Rattle.shapers_hangul.specs.Hangul.{characters, glyph_copies, items_at, outputs}
+use Rattle.shapers_hangul.specs.RewritingWalk.{changes}
 use Rattle.shapers_hangul.proofs.ot_shaper_hangul.rewriting.measure.Given as goal
 
 abbrev pub invariant-loop-place : goal.invariant-loop-place
@@ -9,7 +10,7 @@ invariant-loop-place g l =
     record {
       within : l.place ≤ length l.glyphs;
       room_left : l.kept + length (outputs glyph_copies (cut l.kept) l.glyphs) + l.room ≡ length (outputs glyph_copies (cut l.place) l.glyphs) + l.limit;
-      recorded : l.cut.is_whole ≡ true → l.cut.items.items ++ cut l.place ≡ cut l.kept;
+      recorded : l.cut.is_whole ≡ true → l.cut.items.items ++ changes (cut l.place) ≡ changes (cut l.kept);
     }
 
 abbrev pub decreases-loop-place : goal.decreases-loop-place

@@ -1,0 +1,9 @@
+//! Does what `hbhook` does, and says more of a line that doesn't read and of a refusal.
+#![tactic(auto)]
+
+use hbhook_lines::explain_lines;
+use std::process::ExitCode;
+
+fn main(rt: HostRuntime) -> ExitCode {
+    ExitCode::from(explain_lines(rt.alloc(), rt.stdin(), rt.stdout(), rt.stderr()))
+}

@@ -1,0 +1,2 @@
+mod DataRows
+mod NumberRows

@@ -1,0 +1,5 @@
+mod AnswerRows
+mod NumberRows
+mod PlanRows
+mod TextRows
+mod Listing

@@ -1,0 +1,7 @@
+pub mod Answers
+pub mod Glyphs
+pub mod Listed
+pub mod Numbers
+pub mod Outcome
+pub mod Plan
+pub mod Text

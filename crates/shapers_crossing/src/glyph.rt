@@ -1,0 +1,240 @@
+//! Glyphs, positions and spans, read and written.
+ghost use Rattle.std.specs.Prelude.{◌≡◌, ◌<◌, length, map, slice_get, Some, IfOk, unwrap_or};
+ghost use Rattle.std.specs.List.{list_all};
+ghost use Rattle.shapers_crossing.specs.Glyphs.{glyph_in, is_glyph, position_in, span_in};
+ghost use Rattle.shapers_crossing.specs.Numbers.{categories};
+
+use shapers_base::buffer::{
+    GlyphMarks, GlyphPosition, Span, hb_glyph_info_t, hb_unicode_general_category_t,
+};
+use std::alloc::{AllocError, Global};
+
+/// `sengadlit_glyph`.
+#[repr(C)]
+#[derive(Clone, Copy)]
+pub struct Glyph {
+    pub glyph_id: u32,
+    pub cluster: u32,
+    pub mask: u32,
+    pub var: u32,
+    pub syllable: u8,
+    pub category: u8,
+    pub auxiliary: u8,
+    pub general_category: u8,
+    pub modified_combining_class: u8,
+    pub lig_comp: u8,
+    pub marks: u8,
+}
+
+/// `sengadlit_position`.
+#[repr(C)]
+#[derive(Clone, Copy)]
+pub struct Position {
+    pub x_advance: i32,
+    pub y_advance: i32,
+    pub x_offset: i32,
+    pub y_offset: i32,
+}
+
+/// `sengadlit_span`.
+#[repr(C)]
+#[derive(Clone, Copy)]
+pub struct SyllableSpan {
+    pub length: usize,
+    pub kind: u8,
+}
+
+const CATEGORIES: [hb_unicode_general_category_t; 30] = [
+    hb_unicode_general_category_t::Cc,
+    hb_unicode_general_category_t::Cf,
+    hb_unicode_general_category_t::Cn,
+    hb_unicode_general_category_t::Co,
+    hb_unicode_general_category_t::Cs,
+    hb_unicode_general_category_t::Ll,
+    hb_unicode_general_category_t::Lm,
+    hb_unicode_general_category_t::Lo,
+    hb_unicode_general_category_t::Lt,
+    hb_unicode_general_category_t::Lu,
+    hb_unicode_general_category_t::Mc,
+    hb_unicode_general_category_t::Me,
+    hb_unicode_general_category_t::Mn,
+    hb_unicode_general_category_t::Nd,
+    hb_unicode_general_category_t::Nl,
+    hb_unicode_general_category_t::No,
+    hb_unicode_general_category_t::Pc,
+    hb_unicode_general_category_t::Pd,
+    hb_unicode_general_category_t::Pe,
+    hb_unicode_general_category_t::Pf,
+    hb_unicode_general_category_t::Pi,
+    hb_unicode_general_category_t::Po,
+    hb_unicode_general_category_t::Ps,
+    hb_unicode_general_category_t::Sc,
+    hb_unicode_general_category_t::Sk,
+    hb_unicode_general_category_t::Sm,
+    hb_unicode_general_category_t::So,
+    hb_unicode_general_category_t::Zl,
+    hb_unicode_general_category_t::Zp,
+    hb_unicode_general_category_t::Zs,
+];
+
+/// The general category of this number.
+pub fn category_at(n: u8) -> Option<hb_unicode_general_category_t>
+    ensures { result ≡ slice_get categories n }
+{
+    match CATEGORIES.as_slice().get(n as usize) {
+        Some(category) => Some(*category),
+        None => None,
+    }
+}
+
+/// Whether each glyph's general category is one.
+pub fn are_glyphs(glyphs: &[Glyph]) -> bool
+    ensures { result ≡ list_all is_glyph glyphs.now }
+{
+    glyphs.iter().all(|glyph| glyph.general_category < 30)
+}
+
+fn read_glyph(g: Glyph) -> hb_glyph_info_t
+    ensures { result ≡ glyph_in g }
+{
+    hb_glyph_info_t {
+        glyph_id: g.glyph_id,
+        cluster: g.cluster,
+        mask: g.mask,
+        var: g.var,
+        syllable: g.syllable,
+        category: g.category,
+        auxiliary: g.auxiliary,
+        general_category: category_at(g.general_category).unwrap_or(
+            hb_unicode_general_category_t::Cc,
+        ),
+        modified_combining_class: g.modified_combining_class,
+        lig_comp: g.lig_comp,
+        marks: GlyphMarks(g.marks),
+    }
+}
+
+// The numbers of a glyph.
+fn glyph_numbers(glyph: hb_glyph_info_t) -> Glyph
+    ensures { glyph_in result ≡ glyph }
+{
+    Glyph {
+        glyph_id: glyph.glyph_id,
+        cluster: glyph.cluster,
+        mask: glyph.mask,
+        var: glyph.var,
+        syllable: glyph.syllable,
+        category: glyph.category,
+        auxiliary: glyph.auxiliary,
+        general_category: category_number(glyph.general_category),
+        modified_combining_class: glyph.modified_combining_class,
+        lig_comp: glyph.lig_comp,
+        marks: glyph.marks.0,
+    }
+}
+
+/// The number of a general category.
+pub fn category_number(category: hb_unicode_general_category_t) -> u8
+    ensures { slice_get categories result ≡ Some category }
+{
+    category as u8
+}
+
+/// Writes the numbers of these glyphs over the array.
+pub fn write_glyphs(glyphs: &[hb_glyph_info_t], to: &mut [Glyph])
+    requires { length to.old ≡ length glyphs.now }
+    ensures { map glyph_in to.new ≡ glyphs.now }
+{
+    let mut rest = glyphs;
+    for number in to.iter_mut() {
+        if let Some((glyph, others)) = rest.split_first() {
+            *number = glyph_numbers(*glyph);
+            rest = others;
+        }
+    }
+}
+
+// The position of these numbers.
+fn read_position(position: Position) -> GlyphPosition
+    ensures { result ≡ position_in position }
+{
+    GlyphPosition {
+        x_advance: position.x_advance,
+        y_advance: position.y_advance,
+        x_offset: position.x_offset,
+        y_offset: position.y_offset,
+    }
+}
+
+// The numbers of a position.
+fn position_numbers(position: GlyphPosition) -> Position
+    ensures { position_in result ≡ position }
+{
+    Position {
+        x_advance: position.x_advance,
+        y_advance: position.y_advance,
+        x_offset: position.x_offset,
+        y_offset: position.y_offset,
+    }
+}
+
+/// The positions of an array.
+pub fn read_positions(
+    alloc: Global,
+    positions: &[Position],
+) -> Result<Vec<GlyphPosition>, AllocError>
+    ensures { IfOk result (λ read. read.items ≡ map position_in positions.now) }
+{
+    positions
+        .iter()
+        .map(|position| read_position(*position))
+        .collect(alloc)
+}
+
+/// Writes the numbers of these positions over the array.
+pub fn write_positions(positions: &[GlyphPosition], to: &mut [Position])
+    requires { length to.old ≡ length positions.now }
+    ensures { map position_in to.new ≡ positions.now }
+{
+    let mut rest = positions;
+    for number in to.iter_mut() {
+        if let Some((position, others)) = rest.split_first() {
+            *number = position_numbers(*position);
+            rest = others;
+        }
+    }
+}
+
+/// The spans of an array.
+pub fn read_spans(alloc: Global, spans: &[SyllableSpan]) -> Result<Vec<Span>, AllocError>
+    ensures { IfOk result (λ read. read.items ≡ map span_in spans.now) }
+{
+    let read = |span: &SyllableSpan| Span {
+        len: span.length,
+        kind: span.kind,
+    };
+    spans.iter().map(read).collect(alloc)
+}
+
+// Reads the numbers of these glyphs into the list.
+fn fill(read: &mut [hb_glyph_info_t], glyphs: &[Glyph])
+    requires { length read.old ≡ length glyphs.now }
+    ensures { read.new ≡ map glyph_in glyphs.now }
+{
+    let mut rest = glyphs;
+    for glyph in read.iter_mut() {
+        if let Some((number, others)) = rest.split_first() {
+            *glyph = read_glyph(*number);
+            rest = others;
+        }
+    }
+}
+
+/// The glyphs of an array.
+pub fn read_glyphs(alloc: Global, glyphs: &[Glyph]) -> Result<Vec<hb_glyph_info_t>, AllocError>
+    ensures { IfOk result (λ read. read.items ≡ map glyph_in glyphs.now) }
+{
+    let mut read = Vec::from_elem(alloc, hb_glyph_info_t::DEFAULT, glyphs.len())?;
+    fill(read.as_mut_slice(), glyphs);
+    Ok(read)
+}

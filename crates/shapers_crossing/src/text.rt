@@ -1,0 +1,129 @@
+//! A text and its settings, read into a buffer and written back.
+ghost use Rattle.std.specs.Prelude.{◌≡◌, ◌<◌, length, nat_le, if◌then◌else◌, take, IfOk, IfSome, IsOkUnless, IsTrue, IsFalse, is_some};
+ghost use Rattle.std.specs.List.{list_all};
+ghost use Rattle.shapers_buffer.specs.declared.buffer.refusal.ShaperError.TheVariants.{Memory};
+ghost use Rattle.shapers_crossing.specs.Glyphs.{FrontReads, glyph_in};
+ghost use Rattle.shapers_crossing.specs.Text.{RefusesArgument, buffer_of, is_context, is_scalar, is_text, written};
+
+use crate::glyph::{Glyph, are_glyphs, read_glyphs, write_glyphs};
+use crate::numbers::{direction_at, level_at, script_at};
+use crate::outcome::Stop;
+use arrayvec::ArrayVec;
+use shapers_base::buffer::{
+    BufferClusterLevel, BufferFlags, CONTEXT_LENGTH, Direction, ShaperError, hb_buffer_t,
+};
+use std::alloc::Global;
+
+/// `sengadlit_text`.
+#[repr(C)]
+#[derive(Clone, Copy)]
+pub struct Text {
+    pub length: usize,
+    pub max_length: usize,
+    pub script: u32,
+    pub flags: u32,
+    pub before: [u32; 5],
+    pub after: [u32; 5],
+    pub before_length: u8,
+    pub after_length: u8,
+    pub level: u8,
+    pub direction: u8,
+    pub has_broken_syllable: u8,
+    pub has_stch: u8,
+}
+
+// So many characters of a context, or none where there are not so many characters.
+fn read_context(numbers: &[u32; 5], length: u8) -> Option<ArrayVec<char, CONTEXT_LENGTH>>
+    ensures characters { IfSome result (λ context. context.items ≡ take length numbers.now) }
+    ensures there { is_some result ≡ is_context length numbers.now }
+{
+    let mut context = ArrayVec::new();
+    for number in numbers.as_slice().get(..length as usize)? {
+        let character = char::from_u32(*number)?;
+        context.try_push(character).ok()?;
+    }
+    Some(context)
+}
+
+// Whether the settings and the array are a text.
+fn text_fits(text: &Text, glyphs: &[Glyph]) -> bool
+    ensures { result ≡ is_text text.now glyphs.now }
+{
+    text.length <= glyphs.len()
+        && text.length <= text.max_length
+        && text.level < 3
+        && text.direction < 5
+        && context_fits(&text.before, text.before_length)
+        && context_fits(&text.after, text.after_length)
+        && are_glyphs(&glyphs[..text.length])
+}
+
+// Whether a context has so many characters.
+fn context_fits(numbers: &[u32; 5], length: u8) -> bool
+    ensures { result ≡ is_context length numbers.now }
+{
+    length <= 5 && are_scalars(&numbers[..length as usize])
+}
+
+// Whether each number is a character.
+fn are_scalars(numbers: &[u32]) -> bool
+    ensures { result ≡ list_all is_scalar numbers.now }
+{
+    numbers
+        .iter()
+        .all(|number| char::from_u32(*number).is_some())
+}
+
+// The buffer of a text that fits.
+fn read_fitting(alloc: Global, text: &Text, glyphs: &[Glyph]) -> Result<hb_buffer_t, ShaperError>
+    requires { IsTrue (is_text text.now glyphs.now) }
+    ensures buffer { IfOk result (λ buffer. buffer ≡ buffer_of text.now glyphs.now) }
+    ensures refusal { IsOkUnless result Memory }
+{
+    let glyphs = read_glyphs(alloc, &glyphs[..text.length])?;
+    let mut buffer = hb_buffer_t::new(alloc, text.max_length);
+    buffer.set_cluster_level(level_at(text.level).unwrap_or(BufferClusterLevel::MonotoneGraphemes));
+    buffer.set_direction(direction_at(text.direction).unwrap_or(Direction::LeftToRight));
+    buffer.set_script(script_at(text.script));
+    buffer.set_flags(BufferFlags(text.flags));
+    if let Some(before) = read_context(&text.before, text.before_length) {
+        buffer.set_pre_context(before.as_slice());
+    }
+    if let Some(after) = read_context(&text.after, text.after_length) {
+        buffer.set_post_context(after.as_slice());
+    }
+    buffer.set_has_broken_syllable(text.has_broken_syllable != 0);
+    buffer.set_has_stch(text.has_stch != 0);
+    buffer.replace_glyphs(glyphs)?;
+    Ok(buffer)
+}
+
+/// The buffer of a text without positions. It stops with `Argument` where a setting or a glyph is none.
+pub fn read_text(alloc: Global, text: &Text, glyphs: &[Glyph]) -> Result<hb_buffer_t, Stop>
+    ensures buffer { IfOk result (λ buffer. buffer ≡ buffer_of text.now glyphs.now) }
+    ensures argument { RefusesArgument (is_text text.now glyphs.now) result }
+{
+    if !text_fits(text, glyphs) {
+        return Err(Stop::Argument);
+    }
+    Ok(read_fitting(alloc, text, glyphs)?)
+}
+
+/// Writes a buffer's glyphs and marks back, and answers whether there was room for them.
+pub fn write_text(buffer: &hb_buffer_t, text: &mut Text, glyphs: &mut [Glyph]) -> bool
+    ensures room { result ≡ nat_le (length buffer.now.glyphs) (length glyphs.old) }
+    ensures text { text.new ≡ (if result then written buffer.now text.old else text.old) }
+    ensures glyphs { IsTrue result → FrontReads glyph_in buffer.now.glyphs glyphs.old glyphs.new }
+    ensures unchanged { IsFalse result → glyphs.new ≡ glyphs.old }
+{
+    let length = buffer.len();
+    if length > glyphs.len() {
+        return false;
+    }
+    let (front, _) = glyphs.split_at_mut(length);
+    write_glyphs(buffer.glyphs(), front);
+    text.length = length;
+    text.has_broken_syllable = u8::from(buffer.has_broken_syllable());
+    text.has_stch = u8::from(buffer.has_stch());
+    true
+}

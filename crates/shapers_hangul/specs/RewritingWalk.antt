@@ -1,0 +1,26 @@
+-- Words of the code's walk over a Hangul text: only the items that change it are listed.
+use Rattle.std.specs.Prelude.{ℕ, ◌+◌, ◌-◌, ◌≤◌, List, [], ◌∷◌, ◌++◌, take, drop, if◌then◌else◌}
+use Rattle.shapers_buffer.specs.declared.buffer.glyph.hb_glyph_info_t.{hb_glyph_info_t}
+use Rattle.shapers_hangul.specs.declared.ot_shaper_hangul.item.Item.{Item}
+use Rattle.shapers_hangul.specs.Hangul.{is_kept, item_len, item_output, glyph_copies}
+
+-- the items that aren't one character that stays as it is
+abbrev pub changes : List (ℕ × Item) → List (ℕ × Item)
+changes [] = []
+changes (p ∷ cut) = if is_kept p.1 then changes cut else p ∷ changes cut
+
+-- items that stand one behind the other, from a place on, within n characters
+abbrev pub InTurn : ℕ → ℕ → List (ℕ × Item) → Type 0
+InTurn n place [] = place ≤ n
+InTurn n place (p ∷ cut) = (place ≤ p.0) × InTurn n (p.0 + item_len p.1) cut
+
+-- the text from a place on up to an item, and what the item becomes
+abbrev pub change_output : ℕ → ℕ × Item → List hb_glyph_info_t → List hb_glyph_info_t
+change_output place p gs =
+    take (p.0 - place) (drop place gs) ++ item_output glyph_copies p.1 (drop p.0 gs)
+
+-- the text from a place on, in which these items become what they become, and the rest stays
+abbrev pub changed_from : ℕ → List (ℕ × Item) → List hb_glyph_info_t → List hb_glyph_info_t
+changed_from place [] gs = drop place gs
+changed_from place (p ∷ cut) gs =
+    change_output place p gs ++ changed_from (p.0 + item_len p.1) cut gs

@@ -1,0 +1,9 @@
+-- One glyph more, and all.
+use Rattle.std.proofs.Common.{arith}
+use Rattle.shapers_indic_initial.proofs.MarksAttached.{marks_done}
+use Rattle.shapers_indic_initial.proofs.ot_shaper_indic_initial.positions.attach_marks.Goals as goal
+
+pub returns : goal.returns
+returns c =
+    let l = c.loop-i in
+    marks_done l.i l.carrier l.behind l.glyphs c.args.glyphs.now (omega (arith, l.auto.glyphs, c.loop-i-test.false)) l.invariant

@@ -1,0 +1,307 @@
+-- A syllable in which one glyph alone goes to the front: its places in order.
+use Rattle.std.proofs.Common.{◌≡◌, ℕ, zero, suc, ◌+◌, ◌-◌, ◌<◌, ◌≤◌, inl, inr, Bool, true, false, not, if◌then◌else◌, List, [], ◌∷◌, ◌++◌, map, filter, reverse, length, take, drop, get_or, subst, refl, ap, sym, ◌∙◌, arith, append_assoc, Some}
+use Rattle.std.specs.List.{flat_map, list_any, onto_first, range_with_len}
+use Rattle.std.specs.List.Sorted.{IsPermutation}
+use Rattle.std.proofs.lemmas.Bool.{cases_Bool, or_parts}
+use Rattle.std.proofs.lemmas.Bool.Decides.{nat_tests}
+use Rattle.std.proofs.lemmas.List.{append-nil, drop-drop, drop-take, map-append, take-append-drop, take-take}
+use Rattle.std.proofs.lemmas.List.Folds.{list_any-append}
+use Rattle.std.proofs.lemmas.List.FromFn.{length-range_with_len}
+use Rattle.std.proofs.lemmas.List.Sorted.{IsPermutation-middle}
+use Rattle.shapers_buffer.specs.declared.buffer.glyph.hb_glyph_info_t.{hb_glyph_info_t}
+use Rattle.shapers_buffer.specs.Buffer.{Buffer, but_places}
+use Rattle.shapers_buffer.specs.Clusters.{merge, merge_all, stretch_of, with_stretch}
+use Rattle.shapers_buffer.specs.Lists.{cut_after}
+use Rattle.shapers_buffer.specs.ListingWalk.{with_listed}
+use Rattle.shapers_buffer.specs.Places.{ListsEachOnce, listed, pick, placed}
+use Rattle.shapers_buffer.proofs.ClusterLemmas.{length-stretch}
+use Rattle.shapers_buffer.proofs.Listing.{lists}
+use Rattle.shapers_clusters.proofs.Merging.{length-merge}
+use Rattle.shapers_clusters.proofs.Picks.{pick-append, pick-range}
+use Rattle.shapers_clusters.proofs.Widened.{range-append}
+use Rattle.shapers_syllabic.specs.Reordering.{SyllableReordered}
+use Rattle.shapers_universal.specs.Universal.{goes_front, goes_front_at, is_halant, is_reordered, reph_run, reversed_first, universal_order, universal_steps}
+use Rattle.shapers_universal.specs.UniversalWalk.{MergesFirst, fronts_from, has_reph, is_halant_at, last_first, places_in_order, start_from}
+use Rattle.shapers_universal.proofs.Reordered.{merge_nothing, no_reph, still_pieces, syllable_ran, syllable_reordered}
+use Rattle.shapers_universal.proofs.UniversalFronts.{fronts_next}
+use Rattle.shapers_universal.proofs.UniversalListing.{range_back}
+use Rattle.shapers_universal.proofs.UniversalLists.{cut_after-concat, filter-none, filter_not-none, reversed_first-no, reversed_first-yes}
+use Rattle.shapers_universal.proofs.UniversalPlaces.{at, front_at, halant_at, labels_any, nothing_behind, stretch_at}
+
+-- a piece with no place to cut but its end
+cut_none : {X : Type 0} (cut : X → Bool) (xs : List X) (x : X) → list_any cut xs ≡ false → cut x ≡ false → cut_after cut (xs ++ x ∷ []) ≡ (xs ++ x ∷ []) ∷ []
+cut_none cut [] x none h = rw h refl
+cut_none cut (y ∷ ys) x none h =
+    let parts : (cut y ≡ false) × (list_any cut ys ≡ false) = or_parts (cut y) (list_any cut ys) none in
+    rw parts.0 (ap (onto_first y) (cut_none cut ys x parts.1 h))
+
+cut_there : {X : Type 0} (cut : X → Bool) (xs ys : List X) (y : X) → list_any cut xs ≡ false → cut y ≡ true → cut_after cut (xs ++ y ∷ ys) ≡ (xs ++ y ∷ []) ∷ cut_after cut ys
+cut_there cut [] ys y none h = rw h refl
+cut_there cut (x ∷ xs) ys y none h =
+    let parts : (cut x ≡ false) × (list_any cut xs ≡ false) = or_parts (cut x) (list_any cut xs) none in
+    rw parts.0 (ap (onto_first x) (cut_there cut xs ys y parts.1 h))
+
+-- the order of what is cut
+abbrev in_order : {X : Type 0} → (X → Bool) → (X → Bool) → List X → List X
+in_order cut t xs = flat_map (reversed_first t) (cut_after cut xs)
+
+in_order-still : {X : Type 0} (cut t : X → Bool) (xs : List X) → list_any t xs ≡ false → in_order cut t xs ≡ xs
+in_order-still cut t xs none = still_pieces t (cut_after cut xs) (ap (list_any t) (cut_after-concat cut xs) ∙ none) ∙ cut_after-concat cut xs
+
+none_first : {X : Type 0} (t : X → Bool) (xs : List X) → list_any t xs ≡ false → reversed_first t xs ≡ xs
+none_first t xs none = ap (λ ys. reverse ys ++ filter (λ x. not (t x)) xs) (filter-none t xs none) ∙ filter_not-none t xs none
+
+-- behind a piece whose last may go to the front nothing does
+in_order-last : {X : Type 0} (cut t : X → Bool) (xs : List X) (x : X) (ys : List X) → list_any cut xs ≡ false → cut x ≡ false → list_any t ys ≡ false → in_order cut t ((xs ++ x ∷ []) ++ ys) ≡ reversed_first t (xs ++ x ∷ []) ++ ys
+in_order-last cut t xs x [] none h still =
+    ap (in_order cut t) (append-nil (xs ++ x ∷ [])) ∙ ap (flat_map (reversed_first t)) (cut_none cut xs x none h)
+in_order-last cut t xs x (y ∷ ys) none h still =
+    let parts : (t y ≡ false) × (list_any t ys ≡ false) = or_parts (t y) (list_any t ys) still in
+    let calm : list_any cut (xs ++ x ∷ []) ≡ false = list_any-append cut xs (x ∷ []) ∙ rw (none, h) refl in
+    let r = reversed_first t (xs ++ x ∷ []) in
+    elim (cases_Bool (cut y)) [
+      | inl holds ↦
+          ap (flat_map (reversed_first t)) (cut_there cut (xs ++ x ∷ []) ys y calm holds)
+          ∙ ap (λ zs. zs ++ in_order cut t ys) (reversed_first-no t (xs ++ x ∷ []) y parts.0)
+          ∙ ap (λ zs. (r ++ y ∷ []) ++ zs) (in_order-still cut t ys parts.1)
+          ∙ append_assoc r (y ∷ []) ys
+      | inr fails ↦
+          ap (in_order cut t) (sym (append_assoc (xs ++ x ∷ []) (y ∷ []) ys))
+          ∙ in_order-last cut t (xs ++ x ∷ []) y ys calm fails parts.1
+          ∙ ap (λ zs. zs ++ ys) (reversed_first-no t (xs ++ x ∷ []) y parts.0)
+          ∙ append_assoc r (y ∷ []) ys
+    ]
+
+in_order-cut : {X : Type 0} (cut t : X → Bool) (xs ys : List X) (y : X) → list_any cut xs ≡ false → list_any t xs ≡ false → cut y ≡ true → t y ≡ false → in_order cut t (xs ++ y ∷ ys) ≡ (xs ++ y ∷ []) ++ in_order cut t ys
+in_order-cut cut t xs ys y none still h i =
+    ap (flat_map (reversed_first t)) (cut_there cut xs ys y none h)
+    ∙ ap (λ zs. zs ++ in_order cut t ys) (none_first t (xs ++ y ∷ []) (list_any-append t xs (y ∷ []) ∙ rw (still, i) refl))
+
+-- nothing merges where nothing goes to the front
+pub none_from : (a i : ℕ) (gs : List hb_glyph_info_t) → fronts_from a i gs ≡ [] → list_any goes_front gs ≡ false
+none_from a i [] h = refl
+none_from a i (g ∷ gs) h = elim (cases_Bool (goes_front g)) [
+  | inl holds ↦
+      let some : (let k : ℕ = length ((a, suc i) ∷ fronts_from a (suc i) gs) in k) ≡ 0 = ap (λ b. length (if b then (a, suc i) ∷ fronts_from a (suc i) gs else fronts_from (if is_halant g then suc i else a) (suc i) gs)) (sym holds) ∙ ap length h in
+      absurd (omega arith)
+  | inr fails ↦
+      let on : fronts_from (if is_halant g then suc i else a) (suc i) gs ≡ [] = ap (λ b. if b then (a, suc i) ∷ fronts_from a (suc i) gs else fronts_from (if is_halant g then suc i else a) (suc i) gs) (sym fails) ∙ h in
+      rw fails (none_from (if is_halant g then suc i else a) (suc i) gs on)
+]
+
+-- What one merge alone says: from `st` to `e` one glyph goes to the front, that before z, of the piece that starts at a.
+pub record OneFront (gs : List hb_glyph_info_t) (st e a z : ℕ) : Type 0 where
+  pub order : in_order (is_halant_at gs) (goes_front_at gs) (range_with_len st (e - st)) ≡ range_with_len st (a - st) ++ (((z - 1) ∷ range_with_len a (z - 1 - a)) ++ range_with_len z (e - z))
+  pub from : st ≤ a
+  pub some : a < z
+  pub within : z ≤ e
+
+range_on : (st i : ℕ) → st ≤ i → range_with_len st (i + 1 - st) ≡ range_with_len st (i - st) ++ i ∷ []
+range_on st i h =
+    let n : i + 1 - st ≡ (i - st) + 1 = omega arith in
+    let m : st + (i - st) ≡ i = omega arith in
+    ap (range_with_len st) n ∙ range-append st (i - st) 1 ∙ ap (λ k. range_with_len st (i - st) ++ k ∷ []) m
+
+range_joined : (a b c : ℕ) → a ≤ b → b ≤ c → range_with_len a (c - a) ≡ range_with_len a (b - a) ++ range_with_len b (c - b)
+range_joined a b c h l =
+    let n : c - a ≡ (b - a) + (c - b) = omega arith in
+    let m : a + (b - a) ≡ b = omega arith in
+    ap (range_with_len a) n ∙ range-append a (b - a) (c - b) ∙ ap (λ k. range_with_len a (b - a) ++ range_with_len k (c - b)) m
+
+halt : (g : hb_glyph_info_t) → goes_front g ≡ true → is_halant g ≡ false
+halt g h = grind (arith, nat_tests, h)
+
+halts : (g : hb_glyph_info_t) → is_halant g ≡ true → goes_front g ≡ false
+halts g h = grind (arith, nat_tests, h)
+
+pub one_front : (gs : List hb_glyph_info_t) (n i st e a z : ℕ) → st ≤ i → i + n ≡ e → list_any (is_halant_at gs) (range_with_len st (i - st)) ≡ false → list_any (goes_front_at gs) (range_with_len st (i - st)) ≡ false → fronts_from st i (map (at gs) (range_with_len i n)) ≡ (a, z) ∷ [] → OneFront gs st e a z
+one_front gs zero i st e a z h up calm still is = let none : zero ≡ suc zero = ap (λ (ps : List (ℕ × ℕ)). length ps) is in absurd (omega arith)
+one_front gs (suc n) i st e a z h up calm still is =
+    let H = is_halant_at gs in
+    let T = goes_front_at gs in
+    let pre = range_with_len st (i - st) in
+    let ys = range_with_len (i + 1) n in
+    let zs = map (at gs) ys in
+    let next : suc i ≡ i + 1 = omega arith in
+    let on : i + 1 - st ≡ i + 1 - st = refl in
+    let whole : range_with_len st (e - st) ≡ pre ++ i ∷ ys = range_joined st i e h (omega arith) ∙ (let m : e - i ≡ suc n = omega arith in ap (λ k. pre ++ range_with_len i k) m) in
+    elim (cases_Bool (goes_front (at gs i))) [
+      | inl front ↦
+          let here : (st, suc i) ∷ fronts_from st (suc i) zs ≡ (a, z) ∷ [] = ap (λ b. if b then (st, suc i) ∷ fronts_from st (suc i) zs else fronts_from (if is_halant (at gs i) then suc i else st) (suc i) zs) (sym front) ∙ is in
+          let start : st ≡ a = ap (λ (ps : List (ℕ × ℕ)). (get_or ps 0 (0, 0)).0) here in
+          let place : suc i ≡ z = ap (λ (ps : List (ℕ × ℕ)). (get_or ps 0 (0, 0)).1) here in
+          let rest : fronts_from st (suc i) zs ≡ [] = ap (drop 1) here in
+          let behind : list_any T ys ≡ false = labels_any goes_front T gs (front_at gs) ys ∙ none_from st (suc i) zs rest in
+          let m : a - st ≡ 0 = omega arith in
+          let last : z - 1 ≡ i = omega arith in
+          let long : z - 1 - a ≡ i - st = omega arith in
+          let more : e - z ≡ n = omega arith in
+          let from : z ≡ i + 1 = omega arith in
+          record {
+            order = ap (in_order H T) (whole ∙ sym (append_assoc pre (i ∷ []) ys))
+                ∙ in_order-last H T pre i ys calm (halant_at gs i ∙ halt (at gs i) front) behind
+                ∙ ap (λ xs. xs ++ ys) (reversed_first-yes T pre i (front_at gs i ∙ front) ∙ ap (λ xs. i ∷ xs) (none_first T pre still))
+                ∙ sym (ap (λ k. range_with_len st k ++ (((z - 1) ∷ range_with_len a (z - 1 - a)) ++ range_with_len z (e - z))) m
+                ∙ ap (λ k. (k ∷ range_with_len a (z - 1 - a)) ++ range_with_len z (e - z)) last
+                ∙ ap (λ k. (i ∷ range_with_len a k) ++ range_with_len z (e - z)) long
+                ∙ ap (λ k. (i ∷ range_with_len k (i - st)) ++ range_with_len z (e - z)) (sym start)
+                ∙ ap (λ k. (i ∷ pre) ++ range_with_len z k) more
+                ∙ ap (λ k. (i ∷ pre) ++ range_with_len k n) from);
+            from = omega (arith, start);
+            some = omega (arith, start, place, h);
+            within = omega (arith, place, up);
+          }
+      | inr other ↦
+          let here : fronts_from (if is_halant (at gs i) then suc i else st) (suc i) zs ≡ (a, z) ∷ [] = ap (λ b. if b then (st, suc i) ∷ fronts_from st (suc i) zs else fronts_from (if is_halant (at gs i) then suc i else st) (suc i) zs) (sym other) ∙ is in
+          let stays : T i ≡ false = front_at gs i ∙ other in
+          elim (cases_Bool (is_halant (at gs i))) [
+            | inl ends ↦
+                let there : fronts_from (i + 1) (i + 1) zs ≡ (a, z) ∷ [] = ap (λ k. fronts_from k k zs) (sym next) ∙ ap (λ b. fronts_from (if b then suc i else st) (suc i) zs) (sym ends) ∙ here in
+                let none : i + 1 - (i + 1) ≡ 0 = omega arith in
+                let one = one_front gs n (i + 1) (i + 1) e a z (omega arith) (omega (arith, up)) (ap (λ k. list_any H (range_with_len (i + 1) k)) none) (ap (λ k. list_any T (range_with_len (i + 1) k)) none) there in
+                let left : e - (i + 1) ≡ n = omega (arith, up) in
+                let tail = ((z - 1) ∷ range_with_len a (z - 1 - a)) ++ range_with_len z (e - z) in
+                record {
+                  order = ap (in_order H T) whole
+                      ∙ in_order-cut H T pre ys i calm still (halant_at gs i ∙ ends) stays
+                      ∙ ap (λ k. (pre ++ i ∷ []) ++ in_order H T (range_with_len (i + 1) k)) (sym left)
+                      ∙ ap (λ xs. (pre ++ i ∷ []) ++ xs) one.order
+                      ∙ ap (λ xs. xs ++ (range_with_len (i + 1) (a - (i + 1)) ++ tail)) (sym (range_on st i h))
+                      ∙ sym (append_assoc (range_with_len st (i + 1 - st)) (range_with_len (i + 1) (a - (i + 1))) tail)
+                      ∙ ap (λ xs. xs ++ tail) (sym (range_joined st (i + 1) a (omega (arith, h)) one.from));
+                  from = omega (arith, h, one.from);
+                  some = one.some;
+                  within = one.within;
+                }
+            | inr goes ↦
+                let there : fronts_from st (i + 1) zs ≡ (a, z) ∷ [] = ap (λ k. fronts_from st k zs) (sym next) ∙ ap (λ b. fronts_from (if b then suc i else st) (suc i) zs) (sym goes) ∙ here in
+                one_front gs n (i + 1) st e a z (omega (arith, h)) (omega (arith, up))
+                (ap (list_any H) (range_on st i h) ∙ list_any-append H pre (i ∷ []) ∙ rw (calm, halant_at gs i, goes) refl)
+                (ap (list_any T) (range_on st i h) ∙ list_any-append T pre (i ∷ []) ∙ rw (still, stays) refl)
+                there
+          ]
+    ]
+
+-- a move inside the syllable is all that is written
+take_on : {X : Type 0} (s a : ℕ) (xs : List X) → s ≤ a → take s xs ++ stretch_of s a xs ≡ take a xs
+take_on s a xs h =
+    let n : s + (a - s) ≡ a = omega arith in
+    ap (λ ys. ys ++ stretch_of s a xs) (sym (take-take s a xs h))
+    ∙ ap (λ ys. take s (take a xs) ++ ys) (sym (drop-take s (a - s) xs) ∙ ap (λ k. drop s (take k xs)) n)
+    ∙ take-append-drop s (take a xs)
+
+drop_on : {X : Type 0} (z e : ℕ) (xs : List X) → z ≤ e → stretch_of z e xs ++ drop e xs ≡ drop z xs
+drop_on z e xs h =
+    let n : z + (e - z) ≡ e = omega arith in
+    ap (λ ys. stretch_of z e xs ++ ys) (ap (λ k. drop k xs) (sym n) ∙ sym (drop-drop (e - z) z xs))
+    ∙ take-append-drop (e - z) (drop z xs)
+
+one_written : (s e a z : ℕ) (gs ms : List hb_glyph_info_t) → e ≤ length ms → OneFront gs s e a z → with_stretch s e (λ _. pick (places_in_order s s e gs) ms) ms ≡ with_stretch a z (λ _. pick (last_first a z) ms) ms
+one_written s e a z gs ms l one =
+    let from = one.from in
+    let some = one.some in
+    let within = one.within in
+    let moved = last_first a z in
+    let first = range_with_len s (a - s) in
+    let last = range_with_len z (e - z) in
+    let order : places_in_order s s e gs ≡ first ++ (moved ++ last) = ap (in_order (is_halant_at gs) (goes_front_at gs)) (nothing_behind s e) ∙ one.order in
+    let picked : pick (places_in_order s s e gs) ms ≡ stretch_of s a ms ++ (pick moved ms ++ stretch_of z e ms) =
+    ap (λ ps. pick ps ms) order
+    ∙ pick-append first (moved ++ last) ms
+    ∙ ap (λ xs. pick first ms ++ xs) (pick-append moved last ms)
+    ∙ ap (λ xs. xs ++ (pick moved ms ++ pick last ms)) (pick-range s (a - s) ms (omega (arith, l, from, some, within)))
+    ∙ ap (λ xs. stretch_of s a ms ++ (pick moved ms ++ xs)) (pick-range z (e - z) ms (omega (arith, l, within))) in
+    ap (λ ys. take s ms ++ (ys ++ drop e ms)) picked
+    ∙ ap (λ ys. take s ms ++ ys) (append_assoc (stretch_of s a ms) (pick moved ms ++ stretch_of z e ms) (drop e ms))
+    ∙ sym (append_assoc (take s ms) (stretch_of s a ms) ((pick moved ms ++ stretch_of z e ms) ++ drop e ms))
+    ∙ ap (λ ys. ys ++ ((pick moved ms ++ stretch_of z e ms) ++ drop e ms)) (take_on s a ms from)
+    ∙ ap (λ ys. take a ms ++ ys) (append_assoc (pick moved ms) (stretch_of z e ms) (drop e ms) ∙ ap (λ ys. pick moved ms ++ ys) (drop_on z e ms within))
+
+-- a syllable that is written so is reordered
+pub one_reordered : (s e a z : ℕ) (b0 b1 : Buffer) → s ≤ e → e ≤ length b0.glyphs → is_reordered (stretch_of s e b0.glyphs) ≡ true → has_reph (stretch_of s e b0.glyphs) ≡ false → fronts_from s s (stretch_of s e b0.glyphs) ≡ (a, z) ∷ [] → b1 ≡ record b0 { glyphs = (let ms = merge b0.level a z b0.glyphs in with_stretch a z (λ _. pick (last_first a z) ms) ms); places = b1.places } → SyllableReordered universal_order universal_steps s e b0 b1
+one_reordered s e a z b0 b1 h l kind reph is done =
+    let gs = b0.glyphs in
+    let zs = stretch_of s e gs in
+    let ms = merge b0.level a z gs in
+    let all = merge_all b0.level (fronts_from s s zs) (merge b0.level s s gs) in
+    let behind : s ≡ s + reph_run zs = omega (arith, no_reph zs reph) in
+    let none : s - s ≡ 0 = omega arith in
+    let one = one_front gs (e - s) s s e a z (omega arith) (omega (arith, h)) (ap (λ k. list_any (is_halant_at gs) (range_with_len s k)) none) (ap (λ k. list_any (goes_front_at gs) (range_with_len s k)) none) (ap (fronts_from s s) (sym (stretch_at s e gs l)) ∙ is) in
+    let merges : all ≡ ms = ap (λ sts. merge_all b0.level sts (merge b0.level s s gs)) is ∙ ap (merge b0.level a z) (merge_nothing b0.level s gs) in
+    let long : length ms ≡ length gs = length-merge b0.level a z gs (omega (arith, l, one.within)) in
+    let glyphs : b1.glyphs ≡ with_stretch a z (λ _. pick (last_first a z) ms) ms = ap (λ (x : Buffer). x.glyphs) done in
+    syllable_reordered s e b0 b1 h l
+    (ap but_places done ∙ ap (λ xs. let y : Buffer = record (but_places b0) { glyphs = xs } in y) (sym glyphs))
+    (glyphs
+    ∙ sym (one_written s e a z gs ms (omega (arith, l, long)) one)
+    ∙ ap (λ xs. with_stretch s e (λ _. pick (places_in_order s s e gs) xs) xs) (sym merges)
+    ∙ sym (syllable_ran b0.level s e s gs h l kind behind))
+
+-- the places listed
+pub last_first-permutes : (s e : ℕ) → s < e → IsPermutation (range_with_len s (e - s)) (last_first s e)
+last_first-permutes s e h = subst (λ xs. IsPermutation xs (last_first s e)) (sym (range_back s e h)) (subst (λ ys. IsPermutation (range_with_len s (e - 1 - s) ++ (e - 1) ∷ []) ((e - 1) ∷ ys)) (append-nil (range_with_len s (e - 1 - s))) (IsPermutation-middle (range_with_len s (e - 1 - s)) (e - 1) []))
+
+-- where pieces start, one glyph on
+start_push : (st i : ℕ) (gs : List hb_glyph_info_t) (g : hb_glyph_info_t) → start_from st i (gs ++ g ∷ []) ≡ (if is_halant g then suc (i + length gs) else start_from st i gs)
+start_push st i [] g = let none : suc i ≡ suc (i + 0) = omega arith in ap (λ k. if is_halant g then k else st) none
+start_push st i (x ∷ xs) g =
+    let up : suc (suc i + length xs) ≡ suc (i + suc (length xs)) = omega arith in
+    let st1 = if is_halant x then suc i else st in
+    start_push st1 (suc i) xs g ∙ ap (λ k. if is_halant g then k else start_from st1 (suc i) xs) up
+
+pub start_on : (s i : ℕ) (gs : List hb_glyph_info_t) → s ≤ i → i < length gs → start_from s s (stretch_of s (i + 1) gs) ≡ (if is_halant (at gs i) then i + 1 else start_from s s (stretch_of s i gs))
+start_on s i gs h l =
+    let long : suc (s + length (stretch_of s i gs)) ≡ i + 1 = omega (arith, length-stretch s i gs (omega (arith, l)), h) in
+    ap (start_from s s) (stretch_at s (i + 1) gs (omega (arith, l)) ∙ ap (map (at gs)) (range_on s i h) ∙ map-append (at gs) (range_with_len s (i - s)) (i ∷ []) ∙ ap (λ xs. xs ++ at gs i ∷ []) (sym (stretch_at s i gs (omega (arith, l)))))
+    ∙ start_push s s (stretch_of s i gs) (at gs i)
+    ∙ ap (λ k. if is_halant (at gs i) then k else start_from s s (stretch_of s i gs)) long
+
+-- the look for the first
+pub seen_on : (s i e : ℕ) (gs : List hb_glyph_info_t) → s ≤ i → i < e → e ≤ length gs → goes_front (at gs i) ≡ false → fronts_from s s (stretch_of s e gs) ≡ fronts_from (start_from s s (stretch_of s i gs)) i (stretch_of i e gs) → fronts_from s s (stretch_of s e gs) ≡ fronts_from (start_from s s (stretch_of s (i + 1) gs)) (i + 1) (stretch_of (i + 1) e gs)
+seen_on s i e gs h m l stays so =
+    let st = start_from s s (stretch_of s i gs) in
+    let next : suc i ≡ i + 1 = omega arith in
+    so
+    ∙ fronts_next st i e gs m l
+    ∙ ap (λ b. if b then (st, suc i) ∷ fronts_from st (suc i) (stretch_of (suc i) e gs) else fronts_from (if is_halant (at gs i) then suc i else st) (suc i) (stretch_of (suc i) e gs)) stays
+    ∙ ap (λ k. fronts_from (if is_halant (at gs i) then k else st) k (stretch_of k e gs)) next
+    ∙ ap (λ k. fronts_from k (i + 1) (stretch_of (i + 1) e gs)) (sym (start_on s i gs h (omega (arith, m, l))))
+
+pub seen_first : (s i e a : ℕ) (gs : List hb_glyph_info_t) → i < e → e ≤ length gs → goes_front (at gs i) ≡ true → a ≡ start_from s s (stretch_of s i gs) → fronts_from s s (stretch_of s e gs) ≡ fronts_from (start_from s s (stretch_of s i gs)) i (stretch_of i e gs) → MergesFirst s e gs (Some (a, i + 1))
+seen_first s i e a gs m l goes is so =
+    let st = start_from s s (stretch_of s i gs) in
+    let next : suc i ≡ i + 1 = omega arith in
+    so
+    ∙ fronts_next st i e gs m l
+    ∙ ap (λ b. if b then (st, suc i) ∷ fronts_from st (suc i) (stretch_of (suc i) e gs) else fronts_from (if is_halant (at gs i) then suc i else st) (suc i) (stretch_of (suc i) e gs)) goes
+    ∙ ap (λ k. (st, k) ∷ fronts_from st k (stretch_of k e gs)) next
+    ∙ ap (λ k. (k, i + 1) ∷ fronts_from k (i + 1) (stretch_of (i + 1) e gs)) (sym is)
+
+-- the merge, the listing and the move
+long_moved : (s e : ℕ) → s < e → length (last_first s e) ≡ e - s
+long_moved s e h = omega (arith, length-range_with_len s (e - 1 - s), h)
+
+pub front_permutes : (s e : ℕ) (b1 b2 : Buffer) → s < e → b2 ≡ record b1 { places = with_listed s (last_first s e) b1.places } → ListsEachOnce s e b2.places
+front_permutes s e b1 b2 h is =
+    let reads : listed s e b2.places ≡ last_first s e = ap (λ (x : Buffer). listed s e x.places) is ∙ lists s e (last_first s e) b1.places (long_moved s e h) in
+    subst (IsPermutation (range_with_len s (e - s))) (sym reads) (last_first-permutes s e h)
+
+pub front_moved : (s e : ℕ) (b0 b1 b2 b3 : Buffer) → s < e → b1 ≡ record b0 { glyphs = merge b0.level s e b0.glyphs } → b2 ≡ record b1 { places = with_listed s (last_first s e) b1.places } → b3 ≡ record b2 { glyphs = placed s e b2.places b2.glyphs } → b3 ≡ record b0 { glyphs = (let ms = merge b0.level s e b0.glyphs in with_stretch s e (λ _. pick (last_first s e) ms) ms); places = b3.places }
+front_moved s e b0 b1 b2 b3 h joined list done =
+    let ms = merge b0.level s e b0.glyphs in
+    let ps = with_listed s (last_first s e) b1.places in
+    let moved = with_stretch s e (λ _. pick (last_first s e) ms) ms in
+    let two : b2 ≡ record b0 { glyphs = ms; places = ps } = list ∙ ap (λ (x : Buffer). let y : Buffer = record x { places = ps } in y) joined in
+    let is : placed s e b2.places b2.glyphs ≡ moved = ap (λ (x : Buffer). placed s e x.places x.glyphs) two ∙ ap (λ qs. with_stretch s e (λ _. pick qs ms) ms) (lists s e (last_first s e) b1.places (long_moved s e h)) in
+    let four : b3 ≡ record b0 { glyphs = moved; places = ps } =
+    done
+    ∙ ap (λ (x : Buffer). let y : Buffer = record x { glyphs = placed s e b2.places b2.glyphs } in y) two
+    ∙ ap (λ xs. let y : Buffer = record b0 { glyphs = xs; places = ps } in y) is in
+    four ∙ ap (λ qs. let y : Buffer = record b0 { glyphs = moved; places = qs } in y) (sym (ap (λ (x : Buffer). x.places) four))
+
+pub start_back : (s k : ℕ) (gs : List hb_glyph_info_t) → s + 1 < k → k ≤ length gs + 1 → start_from s s (stretch_of s (k - 1) gs) ≡ (if is_halant (at gs (k - 1 - 1)) then k - 1 else start_from s s (stretch_of s (k - 1 - 1) gs))
+start_back s k gs h l =
+    let back : k - 1 ≡ k - 1 - 1 + 1 = omega (arith, h) in
+    ap (λ j. start_from s s (stretch_of s j gs)) back
+    ∙ start_on s (k - 1 - 1) gs (omega (arith, h)) (omega (arith, h, l))
+    ∙ ap (λ j. if is_halant (at gs (k - 1 - 1)) then j else start_from s s (stretch_of s (k - 1 - 1) gs)) (sym back)
