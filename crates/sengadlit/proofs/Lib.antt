@@ -1,2 +1,3 @@
 mod DataRows
 mod NumberRows
+mod Stopping

@@ -1,7 +1,9 @@
 -- The plan of a plan in numbers, with what its shaper keeps.
-use Rattle.std.specs.Prelude.{ℕ, ◌≡◌, ◌==◌, not, List, [], ◌∷◌, get_or, Option, None, Some, if◌then◌else◌}
+use Rattle.std.specs.Prelude.{ℕ, ◌≡◌, ◌==◌, ◌&&◌, not, IsTrue, List, [], ◌∷◌, get_or, Option, None, Some, if◌then◌else◌}
 use Rattle.rustybuzz_shapers.specs.Hooks.{data_created, with_created}
+use Rattle.rustybuzz_shapers.specs.Standing.{standing}
 use Rattle.rustybuzz_shapers.specs.declared.shaper.hb_ot_shaper_t.TheVariants as shaper
+use Rattle.shapers_base.specs.Map.{can_be_map}
 use Rattle.shapers_base.specs.declared.plan.PlanData.{PlanData}
 use Rattle.shapers_base.specs.declared.plan.PlanData.TheVariants as data_of
 use Rattle.shapers_base.specs.declared.plan.arabic.arabic_shape_plan_t.{arabic_shape_plan_t}
@@ -10,8 +12,10 @@ use Rattle.shapers_crossing.specs.Numbers.{script_of}
 use Rattle.shapers_crossing.specs.Plan.{map_of, start_in}
 use Rattle.shapers_crossing.specs.Text.{number_of}
 use Rattle.shapers_crossing.specs.declared.plan.Data.{Data}
+use Rattle.shapers_crossing.specs.declared.outcome.Stop.{Stop}
 use Rattle.shapers_crossing.specs.declared.plan.Plan.{Plan}
-use Rattle.sengadlit.specs.Shapers.{shaper_of}
+use Rattle.sengadlit.specs.Shapers.{is_shaper, shaper_of}
+use Rattle.sengadlit.specs.Stops.{Never, StopsFor}
 
 -- the plan without what its shaper keeps
 abbrev pub bare_plan : Plan → hb_ot_shape_plan_t
@@ -82,10 +86,20 @@ NumbersOf (data_of.Khmer k) d = (d.kind ≡ 5) × (d.masks ≡ k.mask_array)
 NumbersOf (data_of.Universal u) d =
     (d.kind ≡ 9) × (d.rphf_mask ≡ u.rphf_mask) × ArabicIn u.arabic_plan d
 
+-- what creating data asks for: a shaper and a plan
+abbrev pub CreateTakes : ℕ → Plan → Type 0
+CreateTakes n plan = IsTrue (is_shaper n && can_be_map (map_of plan))
+
+-- why it stops
+abbrev pub CreateStops : ℕ → Plan → Stop → Type 0
+CreateStops n plan =
+    StopsFor (CreateTakes n plan) (standing (shaper_of n)).create_data Never Never
+
 -- the new plan is the old one with what create_data gives
 abbrev pub CreatesData : ℕ → Plan → Plan → Type 0
 CreatesData n old new =
-    plan_of new ≡ with_created (data_created (shaper_of n) (bare_plan old)) (bare_plan old)
+    CreateTakes n old × IsTrue (standing (shaper_of n)).create_data
+    × (plan_of new ≡ with_created (data_created (shaper_of n) (bare_plan old)) (bare_plan old))
 
 -- the plan with these numbers of what its shaper keeps
 abbrev pub with_numbers : Data → Plan → Plan

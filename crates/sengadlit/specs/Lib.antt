@@ -4,3 +4,4 @@ pub mod Data
 pub mod Hooks
 pub mod Requests
 pub mod Shapers
+pub mod Stops

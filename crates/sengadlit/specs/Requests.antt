@@ -1,9 +1,9 @@
 -- What a shaper asks of the map, in numbers.
-use Rattle.std.specs.Prelude.{ℕ, ◌≡◌, List, [], map, length, take, drop, Option, None, Some, Result, Ok, Err}
+use Rattle.std.specs.Prelude.{ℕ, ◌≡◌, nat_le, List, [], map, length, take, drop, Option, None, Some, Result, Ok, Err, IsTrue, IsFalse}
 use Rattle.std.specs.Int.{w32, from_be_bytes}
 use Rattle.rustybuzz_shapers.specs.Records.{collected, overridden}
+use Rattle.rustybuzz_shapers.specs.Standing.{standing}
 use Rattle.rustybuzz_shapers.specs.arabic.Requests.{rclt}
-use Rattle.shapers_base.specs.Planner.{Planner}
 use Rattle.shapers_base.specs.declared.plan.pause.Pause as pause
 use Rattle.shapers_base.specs.declared.plan.pause.Pause.TheVariants.{SetupSyllablesIndic, SetupSyllablesKhmer, SetupSyllablesMyanmar, SetupSyllablesUse, InitialReordering, ReorderKhmer, ReorderMyanmar, ReorderUse, FinalReordering, RecordStch, RecordRphf, RecordPref, SyllabicClearVar, ClearSubstitutionFlags, ArabicFallbackShape}
 use Rattle.shapers_base.specs.declared.plan.planner.Request.{Request}
@@ -11,8 +11,11 @@ use Rattle.shapers_base.specs.declared.plan.planner.Request.TheVariants.{Feature
 use Rattle.shapers_crossing.specs.Answers.{font_of}
 use Rattle.shapers_crossing.specs.Numbers.{script_of}
 use Rattle.shapers_crossing.specs.declared.answers.font.FontAnswers.{FontAnswers}
+use Rattle.shapers_crossing.specs.Outcome.{done_with, outcome_of}
+use Rattle.shapers_crossing.specs.declared.outcome.Outcome.{Outcome}
 use Rattle.shapers_crossing.specs.declared.outcome.Stop.{Stop}
-use Rattle.sengadlit.specs.Shapers.{shaper_of}
+use Rattle.sengadlit.specs.Shapers.{is_shaper, shaper_of}
+use Rattle.sengadlit.specs.Stops.{Never, StopsFor}
 use Rattle.sengadlit.specs.declared.requests.RequestNumbers.{RequestNumbers}
 
 -- the number of a pause
@@ -61,16 +64,37 @@ AreWritten requests count old new =
     (count ≡ length requests) × (take count new ≡ map numbers_of requests)
     × (drop count new ≡ drop count old)
 
--- a planner's requests are written, unless its call stopped
-abbrev pub WritesRequests :
-    Result Planner Stop → ℕ → List RequestNumbers → List RequestNumbers → Type 0
-WritesRequests (Ok planner) count old new = AreWritten planner.requests count old new
-WritesRequests (Err _) count old new = ⊥
+-- how a call ends that wrote so many requests, or stopped
+abbrev pub ends_with_requests : Result ℕ Stop → Outcome
+ends_with_requests (Ok count) = done_with 0 count
+ends_with_requests (Err stop) = outcome_of stop
+
+-- so many requests are more than there is room for
+abbrev pub WantsLonger : List Request → List RequestNumbers → ℕ → Type 0
+WantsLonger requests room count =
+    (count ≡ length requests) × IsFalse (nat_le count (length room))
 
 -- what a shaper asks for is written
 abbrev pub Collects :
     ℕ → ℕ → FontAnswers → ℕ → List RequestNumbers → List RequestNumbers → Type 0
-Collects n script font count old new = AreWritten (collected_for n script font) count old new
+Collects n script font count old new =
+    IsTrue (is_shaper n) × IsTrue (standing (shaper_of n)).collect_features
+    × AreWritten (collected_for n script font) count old new
 
+-- and why the call stops
+abbrev pub CollectStops : ℕ → ℕ → FontAnswers → List RequestNumbers → Stop → Type 0
+CollectStops n script font room =
+    StopsFor (IsTrue (is_shaper n)) (standing (shaper_of n)).collect_features Never
+    (WantsLonger (collected_for n script font) room)
+
+-- what a shaper asks for behind every script's features is written
 abbrev pub Overrides : ℕ → ℕ → List RequestNumbers → List RequestNumbers → Type 0
-Overrides n count old new = AreWritten (overridden_for n) count old new
+Overrides n count old new =
+    IsTrue (is_shaper n) × IsTrue (standing (shaper_of n)).override_features
+    × AreWritten (overridden_for n) count old new
+
+-- and why the call stops
+abbrev pub OverrideStops : ℕ → List RequestNumbers → Stop → Type 0
+OverrideStops n room =
+    StopsFor (IsTrue (is_shaper n)) (standing (shaper_of n)).override_features Never
+    (WantsLonger (overridden_for n) room)

@@ -1,5 +1,5 @@
 -- Shapers by their numbers.
-use Rattle.std.specs.Prelude.{ℕ, List, [], ◌∷◌, slice_get, unwrap_or}
+use Rattle.std.specs.Prelude.{ℕ, Bool, List, [], ◌∷◌, slice_get, is_some, unwrap_or}
 use Rattle.rustybuzz_shapers.specs.declared.shaper.hb_ot_shaper_t.{hb_ot_shaper_t}
 use Rattle.rustybuzz_shapers.specs.declared.shaper.hb_ot_shaper_t.TheVariants.{Arabic, Hangul, Hebrew, Indic, Khmer, Myanmar, MyanmarZawgyi, Thai, Universal}
 
@@ -11,3 +11,7 @@ shapers =
 -- the shaper of a number (a call is done only where there is one)
 abbrev pub shaper_of : ℕ → hb_ot_shaper_t
 shaper_of n = unwrap_or (slice_get shapers n) Thai
+
+-- whether there is a shaper of this number
+abbrev pub is_shaper : ℕ → Bool
+is_shaper n = is_some (slice_get shapers n)

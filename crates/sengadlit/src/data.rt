@@ -1,11 +1,13 @@
 //! What a shaper keeps in the plan, read and written.
-ghost use Rattle.std.specs.Prelude.{◌≡◌, ◌↔◌, IfOk, IsTrue, IsFalse};
+ghost use Rattle.std.specs.Prelude.{◌≡◌, ◌↔◌, IfErr, IfOk, IsTrue, IsFalse};
+ghost use Rattle.shapers_crossing.specs.Outcome.{done_with};
 ghost use Rattle.rustybuzz_shapers.specs.Hooks.{PlanFits};
 ghost use Rattle.shapers_base.specs.Map.{can_be_map};
 ghost use Rattle.shapers_crossing.specs.Plan.{map_of};
 ghost use Rattle.shapers_crossing.specs.Text.{RefusesArgument, number_of};
 ghost use Rattle.sengadlit.specs.Crossing.{is_done};
-ghost use Rattle.sengadlit.specs.Data.{ArabicIn, CreatesData, NumbersOf, arabic_if, arabic_in, bare_plan, eight, four, kept_in, plan_of, with_numbers};
+ghost use Rattle.sengadlit.specs.Stops.{Stopped};
+ghost use Rattle.sengadlit.specs.Data.{ArabicIn, CreateStops, CreatesData, NumbersOf, arabic_if, arabic_in, bare_plan, eight, four, kept_in, plan_of, with_numbers};
 
 use crate::shapers::shaper_at;
 use rustybuzz_shapers::plan::{
@@ -199,7 +201,8 @@ fn data_numbers(kept: &PlanData) -> Data
 
 // What the shaper keeps, as numbers.
 fn create(alloc: Global, shaper: u32, plan: &Plan<'_>) -> Result<Data, Stop>
-    ensures { IfOk result (λ kept. CreatesData shaper plan.now (with_numbers kept plan.now)) }
+    ensures done { IfOk result (λ kept. CreatesData shaper plan.now (with_numbers kept plan.now)) }
+    ensures stop { IfErr result (CreateStops shaper plan.now) }
 {
     let shaper = shaper_at(shaper).ok_or(Stop::Argument)?;
     let bare = read_bare(alloc, plan)?;
@@ -213,6 +216,8 @@ fn create(alloc: Global, shaper: u32, plan: &Plan<'_>) -> Result<Data, Stop>
 #[unsafe(no_mangle)]
 pub extern "C" fn sengadlit_create_data(alloc: Global, shaper: u32, plan: &mut Plan<'_>) -> Outcome
     ensures done { IsTrue (is_done result) → CreatesData shaper plan.old plan.new }
+    ensures answer { IsTrue (is_done result) → result ≡ done_with 0 0 }
+    ensures stops { Stopped (CreateStops shaper plan.old) result }
     ensures rest { plan.new ≡ with_numbers plan.new.kept plan.old }
     ensures unchanged { IsFalse (is_done result) → plan.new ≡ plan.old }
 {

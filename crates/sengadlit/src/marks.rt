@@ -1,21 +1,25 @@
 //! The hook that reorders marks.
-ghost use Rattle.std.specs.Prelude.{◌≡◌, IfOk, IsTrue, IsFalse};
+ghost use Rattle.std.specs.Prelude.{◌≡◌, IfErr, IfOk, IsTrue, IsFalse, OnErr, OnOk, is_some};
+ghost use Rattle.shapers_buffer.specs.Buffer.{new_buffer};
 ghost use Rattle.shapers_crossing.specs.Outcome.{done_with};
 ghost use Rattle.sengadlit.specs.Crossing.{is_done};
-ghost use Rattle.sengadlit.specs.Hooks.{ReordersMarks, ReordersMarksTo};
+ghost use Rattle.sengadlit.specs.Hooks.{MarksStop, ReordersMarks, ReordersMarksTo};
+ghost use Rattle.sengadlit.specs.Stops.{Stopped};
 
-use crate::crossing::{Left, finish};
+use crate::crossing::{finish, write_back};
 use crate::shapers::shaper_at;
+use rustybuzz_shapers::buffer::hb_buffer_t;
 use rustybuzz_shapers::map::hb_ot_map_t;
 use rustybuzz_shapers::plan::{PlanData, StretchStart, hb_ot_shape_plan_t};
-use shapers_crossing::answers::OpenQuestions;
 use shapers_crossing::glyph::Glyph;
 use shapers_crossing::outcome::{Outcome, Stop};
 use shapers_crossing::text::{Text, read_text};
 use std::alloc::Global;
 
 // A plan without anything, which takes no memory: these hooks read none.
-fn empty_plan(alloc: Global) -> Option<hb_ot_shape_plan_t> {
+fn empty_plan(alloc: Global) -> Option<hb_ot_shape_plan_t>
+    ensures { IsTrue (is_some result) }
+{
     let (features, stages, lookups) = (Vec::new(alloc), Vec::new(alloc), Vec::new(alloc));
     Some(hb_ot_shape_plan_t {
         script: None,
@@ -26,32 +30,58 @@ fn empty_plan(alloc: Global) -> Option<hb_ot_shape_plan_t> {
     })
 }
 
-// Runs the hook on a copy of the text.
-fn reorder(
+// Reads the text into an empty buffer, and runs the hook on it.
+fn reorder_buffer(
     alloc: Global,
     shaper: u32,
     text: &Text,
     glyphs: &[Glyph],
     start: usize,
     end: usize,
-) -> Result<Left, Stop>
-    ensures done { IfOk result (λ left.
-        ReordersMarksTo left.buffer shaper text.now glyphs.now start end) }
-    ensures answer { IfOk result (λ left. left.answer ≡ 0) }
+    buffer: &mut hb_buffer_t,
+) -> Result<u32, Stop>
+    requires empty { buffer.old ≡ new_buffer text.now.max_length }
+    ensures done { OnOk result
+        (ReordersMarksTo buffer.new shaper text.now glyphs.now start end) }
+    ensures answer { IfOk result (λ answer. answer ≡ 0) }
+    ensures stop { IfErr result (MarksStop shaper text.now glyphs.now start end) }
 {
     let shaper = shaper_at(shaper).ok_or(Stop::Argument)?;
     let plan = empty_plan(alloc).ok_or(Stop::Argument)?;
-    let mut buffer = read_text(alloc, text, glyphs)?;
-    if start > end || end > buffer.len() || !shaper.marks_fit(start, end) {
+    read_text(alloc, text, glyphs, buffer)?;
+    if start > end || end > text.length || !shaper.marks_fit(start, end) {
         return Err(Stop::Argument);
     }
-    match shaper.reorder_marks(&plan, &mut buffer, start, end) {
-        Some(()) => Ok(Left { buffer, answer: 0 }),
+    match shaper.reorder_marks(&plan, buffer, start, end) {
+        Some(()) => Ok(0),
         None => Err(Stop::Absent),
     }
 }
 
+// Runs the hook on a copy of the text.
+fn reorder(
+    alloc: Global,
+    shaper: u32,
+    text: &mut Text,
+    glyphs: &mut [Glyph],
+    start: usize,
+    end: usize,
+) -> Result<u32, Stop>
+    ensures done { OnOk result
+        (ReordersMarks shaper start end text.old glyphs.old text.new glyphs.new) }
+    ensures answer { IfOk result (λ answer. answer ≡ 0) }
+    ensures stop { IfErr result (MarksStop shaper text.old glyphs.old start end) }
+    ensures text { OnErr result (text.new ≡ text.old) }
+    ensures glyphs { OnErr result (glyphs.new ≡ glyphs.old) }
+{
+    let mut buffer = hb_buffer_t::new(alloc, text.max_length);
+    let answer = reorder_buffer(alloc, shaper, text, glyphs, start, end, &mut buffer)?;
+    write_back(&buffer, text, glyphs)?;
+    Ok(answer)
+}
+
 /// `sengadlit_reorder_marks`: reorders the marks from place `start` to before `end`.
+#[tactic(auto, using(crate::proofs::Stopping::stopped_by))]
 #[unsafe(no_mangle)]
 pub extern "C" fn sengadlit_reorder_marks(
     alloc: Global,
@@ -64,10 +94,9 @@ pub extern "C" fn sengadlit_reorder_marks(
     ensures done { IsTrue (is_done result)
         → ReordersMarks shaper start end text.old glyphs.old text.new glyphs.new }
     ensures answer { IsTrue (is_done result) → result ≡ done_with 0 0 }
+    ensures stops { Stopped (MarksStop shaper text.old glyphs.old start end) result }
     ensures text { IsFalse (is_done result) → text.new ≡ text.old }
     ensures glyphs { IsFalse (is_done result) → glyphs.new ≡ glyphs.old }
 {
-    let open = OpenQuestions::new(alloc, 0);
-    let left = reorder(alloc, shaper, text, glyphs, start, end);
-    finish(left, &open, &mut [], text, glyphs)
+    finish(reorder(alloc, shaper, text, glyphs, start, end))
 }

@@ -1,13 +1,14 @@
 //! What characters compose and decompose to.
-ghost use Rattle.std.specs.Prelude.{IfOk, IsTrue};
+ghost use Rattle.std.specs.Prelude.{◌≡◌, IfErr, IfOk, IsTrue};
+ghost use Rattle.shapers_crossing.specs.Outcome.{done_with};
 ghost use Rattle.sengadlit.specs.Crossing.{is_done};
-ghost use Rattle.sengadlit.specs.Hooks.{Composes, Decomposes};
+ghost use Rattle.sengadlit.specs.Hooks.{ComposeStops, Composes, DecomposeStops, Decomposes};
+ghost use Rattle.sengadlit.specs.Stops.{Stopped};
 
-use crate::crossing::end;
 use crate::data::read_plan;
 use crate::shapers::shaper_at;
 use shapers_crossing::answers::{AskedTables, NONE, OpenQuestions, Question, TableAnswers};
-use shapers_crossing::outcome::{Outcome, Stop, done};
+use shapers_crossing::outcome::{Outcome, Stop, asked, done, stopped};
 use shapers_crossing::plan::Plan;
 use std::alloc::Global;
 
@@ -17,21 +18,26 @@ fn compose(
     shaper: u32,
     plan: &Plan<'_>,
     answers: &TableAnswers<'_>,
-    open: &OpenQuestions,
     first: u32,
     second: u32,
+    questions: &mut [Question],
 ) -> Result<u32, Stop>
-    ensures { IfOk result (λ answer.
+    ensures done { IfOk result (λ answer.
         Composes shaper plan.now answers.now first second answer) }
+    ensures stop { IfErr result (ComposeStops shaper plan.now first second) }
 {
     let shaper = shaper_at(shaper).ok_or(Stop::Argument)?;
     let plan = read_plan(alloc, plan)?;
     let first = char::from_u32(first).ok_or(Stop::Argument)?;
     let second = char::from_u32(second).ok_or(Stop::Argument)?;
-    let tables = AskedTables { answers, open };
+    let open = OpenQuestions::new(alloc, questions.len());
+    let tables = AskedTables {
+        answers,
+        open: &open,
+    };
     let composed = shaper.compose(&plan, &tables, first, second);
     if open.is_open() {
-        return Err(Stop::Asked(0));
+        return Err(asked(open.write(questions)));
     }
     match composed {
         Some(Some(composed)) => Ok(u32::from(composed)),
@@ -51,13 +57,14 @@ pub extern "C" fn sengadlit_compose(
     second: u32,
     questions: &mut [Question],
 ) -> Outcome
-    ensures { IsTrue (is_done result)
+    ensures done { IsTrue (is_done result)
         → Composes shaper plan.now tables.now first second result.answer }
+    ensures answer { IsTrue (is_done result) → result ≡ done_with result.answer 0 }
+    ensures stops { Stopped (ComposeStops shaper plan.now first second) result }
 {
-    let open = OpenQuestions::new(alloc, questions.len());
-    match compose(alloc, shaper, plan, tables, &open, first, second) {
+    match compose(alloc, shaper, plan, tables, first, second, questions) {
         Ok(answer) => done(answer, 0),
-        Err(stop) => end(stop, &open, questions),
+        Err(stop) => stopped(stop),
     }
 }
 
@@ -67,19 +74,24 @@ fn decompose(
     shaper: u32,
     plan: &Plan<'_>,
     answers: &TableAnswers<'_>,
-    open: &OpenQuestions,
     composed: u32,
+    questions: &mut [Question],
 ) -> Result<(u32, u32), Stop>
-    ensures { IfOk result (λ pair.
+    ensures done { IfOk result (λ pair.
         Decomposes shaper plan.now answers.now composed pair.0 pair.1) }
+    ensures stop { IfErr result (DecomposeStops shaper plan.now composed) }
 {
     let shaper = shaper_at(shaper).ok_or(Stop::Argument)?;
     let plan = read_plan(alloc, plan)?;
     let composed = char::from_u32(composed).ok_or(Stop::Argument)?;
-    let tables = AskedTables { answers, open };
+    let open = OpenQuestions::new(alloc, questions.len());
+    let tables = AskedTables {
+        answers,
+        open: &open,
+    };
     let pair = shaper.decompose(&plan, &tables, composed);
     if open.is_open() {
-        return Err(Stop::Asked(0));
+        return Err(asked(open.write(questions)));
     }
     match pair {
         Some(Some((first, second))) => Ok((u32::from(first), u32::from(second))),
@@ -98,12 +110,13 @@ pub extern "C" fn sengadlit_decompose(
     composed: u32,
     questions: &mut [Question],
 ) -> Outcome
-    ensures { IsTrue (is_done result)
+    ensures done { IsTrue (is_done result)
         → Decomposes shaper plan.now tables.now composed result.answer result.count }
+    ensures answer { IsTrue (is_done result) → result ≡ done_with result.answer result.count }
+    ensures stops { Stopped (DecomposeStops shaper plan.now composed) result }
 {
-    let open = OpenQuestions::new(alloc, questions.len());
-    match decompose(alloc, shaper, plan, tables, &open, composed) {
+    match decompose(alloc, shaper, plan, tables, composed, questions) {
         Ok((first, second)) => done(first, second as usize),
-        Err(stop) => end(stop, &open, questions),
+        Err(stop) => stopped(stop),
     }
 }

@@ -1,15 +1,17 @@
 //! What a shaper asks of the map.
-ghost use Rattle.std.specs.Prelude.{◌≡◌, length, map, IfOk, IsTrue, IsFalse};
+ghost use Rattle.std.specs.Prelude.{◌≡◌, length, map, nat_le, IfErr, IfOk, IsTrue, IsFalse, OnErr};
+ghost use Rattle.shapers_crossing.specs.Outcome.{done_with};
+ghost use Rattle.shapers_crossing.specs.declared.outcome.Stop.TheVariants.{Needs};
 ghost use Rattle.sengadlit.specs.Crossing.{is_done};
-ghost use Rattle.sengadlit.specs.Requests.{Collects, Overrides, WritesRequests, collected_for, numbers_of, overridden_for, pause_number};
+ghost use Rattle.sengadlit.specs.Requests.{AreWritten, CollectStops, Collects, OverrideStops, Overrides, ends_with_requests, numbers_of, pause_number};
+ghost use Rattle.sengadlit.specs.Stops.{Stopped};
 
-use crate::crossing::end;
 use crate::shapers::shaper_at;
 use rustybuzz_shapers::plan::{Request, hb_ot_shape_planner_t};
 use rustybuzz_shapers::shaper::Pause;
 use shapers_crossing::answers::{AskedFont, FontAnswers, NONE, OpenQuestions, Question};
 use shapers_crossing::numbers::script_at;
-use shapers_crossing::outcome::{Outcome, Stop, done, stopped};
+use shapers_crossing::outcome::{Outcome, Stop, asked, done, stopped};
 use std::alloc::Global;
 
 /// `sengadlit_request`.
@@ -71,53 +73,61 @@ fn write_requests(requests: &[Request], to: &mut [RequestNumbers])
     }
 }
 
-// Ends a call: the requests go into the caller's array, where there is room for them.
-fn finish(
-    planner: Result<hb_ot_shape_planner_t, Stop>,
-    open: &OpenQuestions,
-    questions: &mut [Question],
-    requests: &mut [RequestNumbers],
-) -> Outcome
-    ensures done { IsTrue (is_done result)
-        → WritesRequests planner result.count requests.old requests.new }
-    ensures unchanged { IsFalse (is_done result) → requests.new ≡ requests.old }
+// Writes the requests into the caller's array, if there is room for them, and answers how many.
+fn write_back(requests: &[Request], to: &mut [RequestNumbers]) -> Result<usize, Stop>
+    ensures done { IfOk result (λ count. AreWritten requests.now count to.old to.new) }
+    ensures stop { IfErr result (λ stop. stop ≡ Needs (length requests.now)) }
+    ensures room { OnErr result (IsFalse (nat_le (length requests.now) (length to.old))) }
+    ensures unchanged { OnErr result (to.new ≡ to.old) }
 {
-    match planner {
-        Ok(planner) => {
-            let count = planner.requests().len();
-            if count > requests.len() {
-                return stopped(Stop::Needs(count));
-            }
-            let (front, _) = requests.split_at_mut(count);
-            write_requests(planner.requests(), front);
-            done(0, count)
-        }
-        Err(stop) => end(stop, open, questions),
+    let count = requests.len();
+    if count > to.len() {
+        return Err(Stop::Needs(count));
+    }
+    let (front, _) = to.split_at_mut(count);
+    write_requests(requests, front);
+    Ok(count)
+}
+
+// How a call ends that wrote so many requests, or stopped.
+fn finish(count: Result<usize, Stop>) -> Outcome
+    ensures { result ≡ ends_with_requests count }
+{
+    match count {
+        Ok(count) => done(0, count),
+        Err(stop) => stopped(stop),
     }
 }
 
-// What the shaper asks for before every script's features.
+// Writes what the shaper asks for before every script's features.
 fn collect(
     alloc: Global,
     shaper: u32,
     script: u32,
     answers: &FontAnswers<'_>,
-    open: &OpenQuestions,
-) -> Result<hb_ot_shape_planner_t, Stop>
-    ensures { IfOk result (λ planner.
-        planner.requests ≡ collected_for shaper script answers.now) }
+    requests: &mut [RequestNumbers],
+    questions: &mut [Question],
+) -> Result<usize, Stop>
+    ensures done { IfOk result (λ count.
+        Collects shaper script answers.now count requests.old requests.new) }
+    ensures stop { IfErr result (CollectStops shaper script answers.now requests.old) }
+    ensures unchanged { OnErr result (requests.new ≡ requests.old) }
 {
     let shaper = shaper_at(shaper).ok_or(Stop::Argument)?;
-    let font = AskedFont { answers, open };
+    let open = OpenQuestions::new(alloc, questions.len());
+    let font = AskedFont {
+        answers,
+        open: &open,
+    };
     let mut planner = hb_ot_shape_planner_t::new(alloc, script_at(script));
     let answer = shaper.collect_features(&font, &mut planner);
     if open.is_open() {
-        return Err(Stop::Asked(0));
+        return Err(asked(open.write(questions)));
     }
-    match answer? {
-        Some(()) => Ok(planner),
-        None => Err(Stop::Absent),
+    if answer?.is_none() {
+        return Err(Stop::Absent);
     }
+    write_back(planner.requests(), requests)
 }
 
 /// `sengadlit_collect_features`: what the shaper asks for before every script's features.
@@ -132,23 +142,25 @@ pub extern "C" fn sengadlit_collect_features(
 ) -> Outcome
     ensures done { IsTrue (is_done result)
         → Collects shaper script font.now result.count requests.old requests.new }
+    ensures answer { IsTrue (is_done result) → result ≡ done_with 0 result.count }
+    ensures stops { Stopped (CollectStops shaper script font.now requests.old) result }
     ensures unchanged { IsFalse (is_done result) → requests.new ≡ requests.old }
 {
-    let open = OpenQuestions::new(alloc, questions.len());
-    let planner = collect(alloc, shaper, script, font, &open);
-    finish(planner, &open, questions, requests)
+    finish(collect(alloc, shaper, script, font, requests, questions))
 }
 
-// What the shaper asks for behind every script's features.
-fn override_all(alloc: Global, shaper: u32) -> Result<hb_ot_shape_planner_t, Stop>
-    ensures { IfOk result (λ planner. planner.requests ≡ overridden_for shaper) }
+// Writes what the shaper asks for behind every script's features.
+fn override_all(alloc: Global, shaper: u32, requests: &mut [RequestNumbers]) -> Result<usize, Stop>
+    ensures done { IfOk result (λ count. Overrides shaper count requests.old requests.new) }
+    ensures stop { IfErr result (OverrideStops shaper requests.old) }
+    ensures unchanged { OnErr result (requests.new ≡ requests.old) }
 {
     let shaper = shaper_at(shaper).ok_or(Stop::Argument)?;
     let mut planner = hb_ot_shape_planner_t::new(alloc, None);
-    match shaper.override_features(&mut planner)? {
-        Some(()) => Ok(planner),
-        None => Err(Stop::Absent),
+    if shaper.override_features(&mut planner)?.is_none() {
+        return Err(Stop::Absent);
     }
+    write_back(planner.requests(), requests)
 }
 
 /// `sengadlit_override_features`: what the shaper asks for behind every script's features.
@@ -160,9 +172,9 @@ pub extern "C" fn sengadlit_override_features(
 ) -> Outcome
     ensures done { IsTrue (is_done result)
         → Overrides shaper result.count requests.old requests.new }
+    ensures answer { IsTrue (is_done result) → result ≡ done_with 0 result.count }
+    ensures stops { Stopped (OverrideStops shaper requests.old) result }
     ensures unchanged { IsFalse (is_done result) → requests.new ≡ requests.old }
 {
-    let open = OpenQuestions::new(alloc, 0);
-    let planner = override_all(alloc, shaper);
-    finish(planner, &open, &mut [], requests)
+    finish(override_all(alloc, shaper, requests))
 }

@@ -1,5 +1,5 @@
 -- How a call ends, in numbers.
-use Rattle.std.specs.Prelude.{ℕ}
+use Rattle.std.specs.Prelude.{ℕ, ◌==◌, if◌then◌else◌}
 use Rattle.shapers_buffer.specs.declared.buffer.refusal.ShaperError.TheVariants.{Memory, TooLong, UnknownSyllable, SpansDontCover, StretchOverflow}
 use Rattle.shapers_crossing.specs.declared.outcome.Outcome.{Outcome}
 use Rattle.shapers_crossing.specs.declared.outcome.Stop.{Stop}
@@ -24,3 +24,7 @@ outcome_of (Refused TooLong) = stopped_with 6 0
 outcome_of (Refused (UnknownSyllable place)) = stopped_with 7 place
 outcome_of (Refused SpansDontCover) = stopped_with 8 0
 outcome_of (Refused StretchOverflow) = stopped_with 9 0
+
+-- why a call ends that has written so many questions; with no room for one it lacks memory
+abbrev pub asked_for : ℕ → Stop
+asked_for count = if count == 0 then Refused Memory else Asked count

@@ -31,10 +31,10 @@ is_text text glyphs =
     && is_context text.after_length text.after
     && list_all is_glyph (take text.length glyphs)
 
--- the buffer of a text
-abbrev pub buffer_of : Text → List Glyph → Buffer
-buffer_of text glyphs = record {
-  glyphs = map glyph_in (take text.length glyphs);
+-- the settings of a text, and no glyph
+abbrev pub settings_of : Text → Buffer
+settings_of text = record {
+  glyphs = [];
   positions = [];
   direction = unwrap_or (slice_get directions text.direction) LeftToRight;
   script = script_of text.script;
@@ -47,6 +47,11 @@ buffer_of text glyphs = record {
   max_len = text.max_length;
   places = [];
 }
+
+-- the buffer of a text
+abbrev pub buffer_of : Text → List Glyph → Buffer
+buffer_of text glyphs =
+    record (settings_of text) { glyphs = map glyph_in (take text.length glyphs) }
 
 -- a mark as a number
 abbrev pub number_of : Bool → ℕ

@@ -1,6 +1,6 @@
 //! How a call ends.
 ghost use Rattle.std.specs.Prelude.{◌≡◌};
-ghost use Rattle.shapers_crossing.specs.Outcome.{done_with, outcome_of};
+ghost use Rattle.shapers_crossing.specs.Outcome.{asked_for, done_with, outcome_of};
 
 use shapers_base::buffer::ShaperError;
 
@@ -56,6 +56,17 @@ impl From<ShaperError> for Stop {
 
     fn from(error: ShaperError) -> Self {
         Stop::Refused(error)
+    }
+}
+
+/// Why a call ends that has written so many questions: with no room for one it lacks memory.
+pub fn asked(count: usize) -> Stop
+    ensures { result ≡ asked_for count }
+{
+    if count == 0 {
+        Stop::Refused(ShaperError::Memory)
+    } else {
+        Stop::Asked(count)
     }
 }
 

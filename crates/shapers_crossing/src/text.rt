@@ -1,9 +1,9 @@
 //! A text and its settings, read into a buffer and written back.
-ghost use Rattle.std.specs.Prelude.{◌≡◌, ◌<◌, length, nat_le, if◌then◌else◌, take, IfOk, IfSome, IsOkUnless, IsTrue, IsFalse, is_some};
+ghost use Rattle.std.specs.Prelude.{◌≡◌, ◌<◌, length, nat_le, if◌then◌else◌, take, IfSome, OnOk, IsTrue, IsFalse, is_some};
 ghost use Rattle.std.specs.List.{list_all};
-ghost use Rattle.shapers_buffer.specs.declared.buffer.refusal.ShaperError.TheVariants.{Memory};
+ghost use Rattle.shapers_buffer.specs.Buffer.{new_buffer};
 ghost use Rattle.shapers_crossing.specs.Glyphs.{FrontReads, glyph_in};
-ghost use Rattle.shapers_crossing.specs.Text.{RefusesArgument, buffer_of, is_context, is_scalar, is_text, written};
+ghost use Rattle.shapers_crossing.specs.Text.{RefusesArgument, buffer_of, is_context, is_scalar, is_text, settings_of, written};
 
 use crate::glyph::{Glyph, are_glyphs, read_glyphs, write_glyphs};
 use crate::numbers::{direction_at, level_at, script_at};
@@ -74,14 +74,13 @@ fn are_scalars(numbers: &[u32]) -> bool
         .all(|number| char::from_u32(*number).is_some())
 }
 
-// The buffer of a text that fits.
-fn read_fitting(alloc: Global, text: &Text, glyphs: &[Glyph]) -> Result<hb_buffer_t, ShaperError>
-    requires { IsTrue (is_text text.now glyphs.now) }
-    ensures buffer { IfOk result (λ buffer. buffer ≡ buffer_of text.now glyphs.now) }
-    ensures refusal { IsOkUnless result Memory }
+// Reads the settings of a text into an empty buffer.
+fn read_settings(text: &Text, buffer: &mut hb_buffer_t)
+    requires empty { buffer.old ≡ new_buffer text.now.max_length }
+    requires before { IsTrue (is_context text.now.before_length text.now.before) }
+    requires after { IsTrue (is_context text.now.after_length text.now.after) }
+    ensures { buffer.new ≡ settings_of text.now }
 {
-    let glyphs = read_glyphs(alloc, &glyphs[..text.length])?;
-    let mut buffer = hb_buffer_t::new(alloc, text.max_length);
     buffer.set_cluster_level(level_at(text.level).unwrap_or(BufferClusterLevel::MonotoneGraphemes));
     buffer.set_direction(direction_at(text.direction).unwrap_or(Direction::LeftToRight));
     buffer.set_script(script_at(text.script));
@@ -94,19 +93,27 @@ fn read_fitting(alloc: Global, text: &Text, glyphs: &[Glyph]) -> Result<hb_buffe
     }
     buffer.set_has_broken_syllable(text.has_broken_syllable != 0);
     buffer.set_has_stch(text.has_stch != 0);
-    buffer.replace_glyphs(glyphs)?;
-    Ok(buffer)
 }
 
-/// The buffer of a text without positions. It stops with `Argument` where a setting or a glyph is none.
-pub fn read_text(alloc: Global, text: &Text, glyphs: &[Glyph]) -> Result<hb_buffer_t, Stop>
-    ensures buffer { IfOk result (λ buffer. buffer ≡ buffer_of text.now glyphs.now) }
+/// Reads a text without positions into an empty buffer. It stops with `Argument` where a setting or
+/// a glyph is none.
+pub fn read_text(
+    alloc: Global,
+    text: &Text,
+    glyphs: &[Glyph],
+    buffer: &mut hb_buffer_t,
+) -> Result<(), Stop>
+    requires empty { buffer.old ≡ new_buffer text.now.max_length }
+    ensures buffer { OnOk result (buffer.new ≡ buffer_of text.now glyphs.now) }
     ensures argument { RefusesArgument (is_text text.now glyphs.now) result }
 {
     if !text_fits(text, glyphs) {
         return Err(Stop::Argument);
     }
-    Ok(read_fitting(alloc, text, glyphs)?)
+    let glyphs = read_glyphs(alloc, &glyphs[..text.length]).map_err(|_| ShaperError::Memory)?;
+    read_settings(text, buffer);
+    buffer.replace_glyphs(glyphs)?;
+    Ok(())
 }
 
 /// Writes a buffer's glyphs and marks back, and answers whether there was room for them.
