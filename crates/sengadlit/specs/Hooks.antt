@@ -1,7 +1,6 @@
--- What each export takes and does, and why it stops: the clauses of the hooks, over what the caller's
--- numbers stand for.
+-- What each export takes and does, and why it stops: the clauses of the hooks, over what the
+-- caller's numbers stand for.
 use Rattle.std.specs.Prelude.{ℕ, Bool, true, ◌≡◌, ◌&&◌, ◌≤◌, nat_le, All, List, length, map, take, nat_lt, slice_get, unwrap_or, is_some, Option, None, Some, Err, IsTrue, IsFalse, if◌then◌else◌}
-use Rattle.std.specs.List.{list_all}
 use Rattle.rustybuzz_shapers.specs.Hooks.{Composed, Decomposed, GlyphsFit, MarksFit, MarksKeep, MarksReordered, MasksSet, PlanFits, PostprocessFits, Postprocessed, Preprocessed, PreprocessKeeps, RefusesPostprocess, RefusesPreprocess, preprocess_answer}
 use Rattle.rustybuzz_shapers.specs.Pauses.{PauseFits, PauseKeeps, Paused, RefusesPause, circles_of}
 use Rattle.rustybuzz_shapers.specs.Standing.{standing}
@@ -181,7 +180,8 @@ PostprocessTakes n plan text glyphs positions =
 abbrev pub PostprocessesTo :
     Buffer → ℕ → Plan → FontAnswers → Text → List Glyph → List Position → Type 0
 PostprocessesTo new n plan font text glyphs positions =
-    PostprocessTakes n plan text glyphs positions × IsTrue (standing (shaper_of n)).postprocess_glyphs
+    PostprocessTakes n plan text glyphs positions
+    × IsTrue (standing (shaper_of n)).postprocess_glyphs
     × Postprocessed (shaper_of n) (plan_of plan) (font_of font)
     (positioned text glyphs positions) new
 

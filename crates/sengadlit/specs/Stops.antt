@@ -1,5 +1,5 @@
--- Why a call stops. In each definition: the arguments fit, the shaper has the hook, and what is said
--- of a refusal and of the room that a result needs.
+-- Why a call stops, of what it takes, whether there is such a hook, when the hook refuses, and what
+-- room its result wants.
 use Rattle.std.specs.Prelude.{ℕ, Bool, ◌==◌, ◌≡◌, List, length, nat_le, IsFalse}
 use Rattle.shapers_buffer.specs.Buffer.{Buffer}
 use Rattle.shapers_buffer.specs.declared.buffer.refusal.ShaperError.{ShaperError}
@@ -11,15 +11,15 @@ use Rattle.shapers_crossing.specs.declared.outcome.Stop.{Stop}
 use Rattle.shapers_crossing.specs.declared.outcome.Stop.TheVariants.{Absent, Argument, Asked, Needs, Refused}
 use Rattle.sengadlit.specs.Crossing.{is_done}
 
--- a call stops for an argument that doesn't fit, and for that alone before all else but memory; or
--- since its shaper lacks the hook; for questions, at least one; for room; or as the hook refuses
+-- a call stops for an argument that it doesn't take; else since its shaper lacks the hook, for
+-- questions, at least one, for room, or as the hook refuses; and for memory whatever it is given
 abbrev pub StopsFor : Type 0 → Bool → (ShaperError → Type 0) → (ℕ → Type 0) → Stop → Type 0
-StopsFor Fits is_there Refuses Wants Argument = Fits → ⊥
-StopsFor Fits is_there Refuses Wants Absent = Fits × IsFalse is_there
-StopsFor Fits is_there Refuses Wants (Asked count) = Fits × IsFalse (count == 0)
-StopsFor Fits is_there Refuses Wants (Needs count) = Fits × Wants count
-StopsFor Fits is_there Refuses Wants (Refused Memory) = Unit {0}
-StopsFor Fits is_there Refuses Wants (Refused error) = Fits × Refuses error
+StopsFor Takes is_there Refuses Wants Argument = Takes → ⊥
+StopsFor Takes is_there Refuses Wants Absent = Takes × IsFalse is_there
+StopsFor Takes is_there Refuses Wants (Asked count) = Takes × IsFalse (count == 0)
+StopsFor Takes is_there Refuses Wants (Needs count) = Takes × Wants count
+StopsFor Takes is_there Refuses Wants (Refused Memory) = Unit {0}
+StopsFor Takes is_there Refuses Wants (Refused error) = Takes × Refuses error
 
 -- a call that isn't done stopped for one of these reasons, and its outcome tells which
 abbrev pub Stopped : (Stop → Type 0) → Outcome → Type 0
