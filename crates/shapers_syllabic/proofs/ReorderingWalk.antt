@@ -1,9 +1,8 @@
 -- The walk that reorders syllable by syllable: what it still has to do.
 use Rattle.std.proofs.Common.{ℕ, suc, ◌+◌, ◌-◌, ◌<◌, ◌≤◌, ◌≡◌, ◌==◌, cond, List, [], ◌∷◌, ◌++◌, map, length, take, drop, refl, sym, ◌∙◌, ap, subst, arith, append_assoc, length-append, length-take-le, length-drop}
-use Rattle.std.specs.Prelude.{All, Option}
+use Rattle.std.specs.Prelude.{Option}
 use Rattle.std.specs.List.{AllByRecursion, flat_map, prefix_len}
 use Rattle.std.proofs.lemmas.List.{drop-map, length-map, take_at, drop_at, drop-drop}
-use Rattle.std.proofs.lemmas.List.Elements.{All-head, All-tail}
 use Rattle.std.proofs.lemmas.List.Sums.{fold-append, prefix_len-le-length}
 use Rattle.shapers_buffer.specs.declared.buffer.glyph.hb_glyph_info_t.{hb_glyph_info_t}
 use Rattle.shapers_buffer.specs.declared.buffer.tag.Script.{Script}
@@ -58,20 +57,19 @@ first_len-within (g ∷ gs) = omega (arith, prefix_len-le-length (has_byte g.syl
 
 -- What a walk at place start has still to do on the buffer as it is now, if the text was old at first: the syllables from
 -- start on; and where these become what they mean, the whole becomes what the whole means, and its steps lead on.
-pub record ToReorder (meaning : List hb_glyph_info_t → List hb_glyph_info_t) (steps : List hb_glyph_info_t → List Step) (can : List hb_glyph_info_t → Type 0) (old now : Buffer) (start : ℕ) : Type 0 where
+pub record ToReorder (meaning : List hb_glyph_info_t → List hb_glyph_info_t) (steps : List hb_glyph_info_t → List Step) (old now : Buffer) (start : ℕ) : Type 0 where
   pub others : but_places now ≡ record (but_places old) { glyphs = now.glyphs }
   pub inside : start ≤ length now.glyphs
-  pub can_rest : All can (syllables (drop start (order_view now.glyphs)))
   pub order : take start (order_view now.glyphs) ++ text_order meaning (drop start (order_view now.glyphs)) ≡ text_order meaning (order_view old.glyphs)
   pub moved : map carried (run_steps old.level (steps_along (length now.glyphs) start (pieces_of steps (syllables (drop start (order_view now.glyphs))))) now.glyphs) ≡ map carried (run_steps old.level (text_steps steps (order_view old.glyphs)) old.glyphs)
 
 -- one syllable more
-pub record ReorderedNext (meaning : List hb_glyph_info_t → List hb_glyph_info_t) (steps : List hb_glyph_info_t → List Step) (can : List hb_glyph_info_t → Type 0) (old now new : Buffer) (end : ℕ) : Type 0 where
+pub record ReorderedNext (meaning : List hb_glyph_info_t → List hb_glyph_info_t) (steps : List hb_glyph_info_t → List Step) (old now new : Buffer) (end : ℕ) : Type 0 where
   pub same_length : length new.glyphs ≡ length now.glyphs
-  pub to : ToReorder meaning steps can old new end
+  pub to : ToReorder meaning steps old new end
 
-pub reordered_next : (meaning : List hb_glyph_info_t → List hb_glyph_info_t) (steps : List hb_glyph_info_t → List Step) (can : List hb_glyph_info_t → Type 0) (old now new : Buffer) (start end : ℕ) → ReorderLaws meaning steps → ToReorder meaning steps can old now start → start < length now.glyphs → end ≡ start + first_syllable_len (drop start now.glyphs) → SyllableReordered meaning steps start end now new → ReorderedNext meaning steps can old now new end
-reordered_next meaning steps can old now new start end laws to some end_is done =
+pub reordered_next : (meaning : List hb_glyph_info_t → List hb_glyph_info_t) (steps : List hb_glyph_info_t → List Step) (old now new : Buffer) (start end : ℕ) → ReorderLaws meaning steps → ToReorder meaning steps old now start → start < length now.glyphs → end ≡ start + first_syllable_len (drop start now.glyphs) → SyllableReordered meaning steps start end now new → ReorderedNext meaning steps old now new end
+reordered_next meaning steps old now new start end laws to some end_is done =
     let gs = now.glyphs in
     let n = length gs in
     let xs = order_view gs in
@@ -110,7 +108,6 @@ reordered_next meaning steps can old now new start end laws to some end_is done 
       to = record {
         others = done.others ∙ ap (λ (b : Buffer). record b { glyphs = new.glyphs }) to.others;
         inside = omega arith;
-        can_rest = subst (λ ys. All can (syllables ys)) (sym after) (All-tail can syl (syllables (drop k rest)) (subst (All can) cut to.can_rest));
         order =
             ap (λ ys. ys ++ text_order meaning (drop end (order_view new.glyphs))) before
             ∙ ap (λ ys. (front ++ made) ++ text_order meaning ys) after
@@ -128,22 +125,10 @@ reordered_next meaning steps can old now new start end laws to some end_is done 
       };
     }
 
--- what the next syllable asks
-pub can_next : (can : List hb_glyph_info_t → Type 0) (gs : List hb_glyph_info_t) (start end : ℕ) → start < length gs → end ≡ start + first_syllable_len (drop start gs) → All can (syllables (drop start (order_view gs))) → can (stretch_of start end (order_view gs))
-can_next can gs start end some end_is h =
-    let xs = order_view gs in
-    let rest = drop start xs in
-    let k = first_syllable_len rest in
-    let xn : length xs ≡ length gs = length-map gs plain in
-    let first : k ≡ first_syllable_len (drop start gs) = ap first_syllable_len (drop-map plain start gs) ∙ first_len-view (drop start gs) in
-    let size : k ≡ end - start = omega arith in
-    let cut : syllables rest ≡ take k rest ∷ syllables (drop k rest) = opens rest (omega (arith, length-drop start xs)) in
-    subst (λ j. can (take j rest)) size (All-head can (take k rest) (syllables (drop k rest)) (subst (All can) cut h))
-
 -- the same where both hang on the buffer's script, which stays
-pub reordered_next_in : (meaning : Option Script → List hb_glyph_info_t → List hb_glyph_info_t) (steps : Option Script → List hb_glyph_info_t → List Step) (can : List hb_glyph_info_t → Type 0) (old now new : Buffer) (start end : ℕ) → ReorderLaws (meaning old.script) (steps old.script) → ToReorder (meaning old.script) (steps old.script) can old now start → start < length now.glyphs → end ≡ start + first_syllable_len (drop start now.glyphs) → SyllableReordered (meaning now.script) (steps now.script) start end now new → ReorderedNext (meaning old.script) (steps old.script) can old now new end
-reordered_next_in meaning steps can old now new start end laws to some end_is done =
-    reordered_next (meaning old.script) (steps old.script) can old now new start end laws to some end_is
+pub reordered_next_in : (meaning : Option Script → List hb_glyph_info_t → List hb_glyph_info_t) (steps : Option Script → List hb_glyph_info_t → List Step) (old now new : Buffer) (start end : ℕ) → ReorderLaws (meaning old.script) (steps old.script) → ToReorder (meaning old.script) (steps old.script) old now start → start < length now.glyphs → end ≡ start + first_syllable_len (drop start now.glyphs) → SyllableReordered (meaning now.script) (steps now.script) start end now new → ReorderedNext (meaning old.script) (steps old.script) old now new end
+reordered_next_in meaning steps old now new start end laws to some end_is done =
+    reordered_next (meaning old.script) (steps old.script) old now new start end laws to some end_is
     (subst (λ script. SyllableReordered (meaning script) (steps script) start end now new) (ap (λ (b : Buffer). b.script) to.others) done)
 
 -- a buffer with its circles, and then reordered

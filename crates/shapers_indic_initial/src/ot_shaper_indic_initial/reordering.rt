@@ -41,10 +41,6 @@ impl<'a, F: hb_font_t> Reorder for InitialOrder<'a, F> {
         let positioned = all_by_virama (F.font r.face.now) r.map.now r.plan.now r.virama gs in
         initial_steps (rules_of (F.font r.face.now) r.map.now r.plan.now) script positioned };
 
-    ghost can_reorder = { λ _ _. Unit {0} };
-
-    ghost may_refuse = { λ _. ⊥ };
-
     fn reorder(
         &self,
         buffer: &mut hb_buffer_t,

@@ -1,8 +1,6 @@
 //! A reordering pause: dotted circles, and then the order of each syllable.
-ghost use Rattle.std.specs.Prelude.{◌≡◌, [], All, IfOk, IsOk, OnErr, OnOk, is_some, length, None};
-ghost use Rattle.shapers_buffer.specs.Glyph.{order_view};
+ghost use Rattle.std.specs.Prelude.{◌≡◌, [], IfOk, IsOk, OnErr, OnOk, is_some, length, None};
 ghost use Rattle.shapers_buffer.specs.Refusals.{Refuses};
-ghost use Rattle.shapers_buffer.specs.Syllables.{syllables};
 ghost use Rattle.shapers_syllabic.specs.CircleLaws.{NoNewCluster};
 ghost use Rattle.shapers_syllabic.specs.Circles.{circled};
 ghost use Rattle.shapers_syllabic.specs.Reordering.{PauseReordered, circles_of_sort, first_unknown, kind_refusal};
@@ -36,11 +34,8 @@ pub fn reorder_pause<F: hb_font_t, R: Reorder>(
     buffer: &mut hb_buffer_t,
 ) -> Result<bool, ShaperError>
     requires without_positions { buffer.old.positions ≡ [] }
-    requires never { R.may_refuse order.now → ⊥ }
     requires laws { ReorderLaws
         (R.meaning order.now buffer.old.script) (R.steps order.now buffer.old.script) }
-    requires can { let circles = circles_of_sort sort.now (F.font face.now) buffer.old in
-        All (R.can_reorder order.now) (syllables (order_view (circled circles buffer.old.glyphs))) }
     ensures answer { let circles = circles_of_sort sort.now (F.font face.now) buffer.old in
         IfOk result (λ answer. answer ≡ is_some circles) }
     ensures ok { let circles = circles_of_sort sort.now (F.font face.now) buffer.old in

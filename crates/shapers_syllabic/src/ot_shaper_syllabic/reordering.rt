@@ -1,9 +1,5 @@
 //! Reordering a text syllable by syllable.
-ghost use Rattle.std.specs.Prelude.{◌≡◌, ◌≤◌, [], All, length, OnOk};
-ghost use Rattle.shapers_buffer.specs.Clusters.{stretch_of};
-ghost use Rattle.shapers_buffer.specs.Glyph.{order_view};
-ghost use Rattle.shapers_buffer.specs.Refusals.{RefusesMemoryIf};
-ghost use Rattle.shapers_buffer.specs.Syllables.{syllables};
+ghost use Rattle.std.specs.Prelude.{◌≡◌, ◌≤◌, [], IsOk, length};
 ghost use Rattle.shapers_syllabic.specs.Reordering.{SyllableReordered, SyllablesReordered};
 ghost use Rattle.shapers_syllabic.specs.ReorderingLaws.{ReorderLaws, ReorderingCutsAtBorders, ReorderingLosesNothing, SerialsDontCount, TextReorderedLaw};
 
@@ -21,34 +17,27 @@ pub trait Reorder {
 
     ghost steps: { Self → Option Script → List hb_glyph_info_t → List Step };
 
-    ghost can_reorder: { Self → List hb_glyph_info_t → Type 0 };
-
-    ghost may_refuse: { Self → Type 0 };
-
-    /// Reorders the syllable from `start` to `end`. The only refusal is `Memory`.
+    /// Reorders the syllable from `start` to `end`. It never refuses.
     fn reorder(&self, buffer: &mut hb_buffer_t, start: usize, end: usize) -> Result<(), ShaperError>
         requires in_order { start ≤ end }
         requires in_range { end ≤ length buffer.old.glyphs }
         requires without_positions { buffer.old.positions ≡ [] }
-        requires can { can_reorder self.now (stretch_of start end (order_view buffer.old.glyphs)) }
-        ensures ok { OnOk result (SyllableReordered
+        ensures reordered { SyllableReordered
             (meaning self.now buffer.old.script) (steps self.now buffer.old.script)
-            start end buffer.old buffer.new) }
-        ensures refusal { RefusesMemoryIf (may_refuse self.now) result };
+            start end buffer.old buffer.new }
+        ensures ok { IsOk result };
 }
 
 /// Reorders each syllable of the text, from left to right. It asks for the laws of the order: its
-/// steps fit a syllable, lose nothing and lead to what the syllable becomes. The only refusal is
-/// `Memory`.
+/// steps fit a syllable, lose nothing and lead to what the syllable becomes. It never refuses.
 pub fn reorder_syllables<R: Reorder>(order: &R, buffer: &mut hb_buffer_t) -> Result<(), ShaperError>
     requires without_positions { buffer.old.positions ≡ [] }
-    requires can { All (R.can_reorder order.now) (syllables (order_view buffer.old.glyphs)) }
     requires laws { ReorderLaws
         (R.meaning order.now buffer.old.script) (R.steps order.now buffer.old.script) }
-    ensures ok { OnOk result (SyllablesReordered
+    ensures reordered { SyllablesReordered
         (R.meaning order.now buffer.old.script) (R.steps order.now buffer.old.script)
-        buffer.old buffer.new) }
-    ensures refusal { RefusesMemoryIf (R.may_refuse order.now) result }
+        buffer.old buffer.new }
+    ensures ok { IsOk result }
 {
     let mut start = 0;
     while start < buffer.len() {

@@ -45,16 +45,11 @@ const POST_BASE: [u8; 18] = [
 pub struct UniversalOrder;
 
 impl Reorder for UniversalOrder {
-    ghost use Rattle.std.specs.Prelude.{⊤};
     ghost use Rattle.shapers_universal.specs.Universal.{universal_order, universal_steps};
 
     ghost meaning = { λ _ _ gs. universal_order gs };
 
     ghost steps = { λ _ _ gs. universal_steps gs };
-
-    ghost can_reorder = { λ _ _. ⊤ };
-
-    ghost may_refuse = { λ _. ⊥ };
 
     fn reorder(
         &self,

@@ -9,8 +9,8 @@ use Rattle.shapers_indic_initial.proofs.InitialSyllable.{initial_syllable, other
 use Rattle.shapers_syllabic.specs.Reordering.{SyllableReordered}
 use Rattle.shapers_indic_initial.proofs.ot_shaper_indic_initial.reordering.InitialOrderReorder.reorder.Goals as goal
 
-pub returns-then-is_reordered-clause-ok : goal.returns-then-is_reordered-clause-ok
-returns-then-is_reordered-clause-ok g c =
+pub returns-then-is_reordered-clause-reordered : goal.returns-then-is_reordered-clause-reordered
+returns-then-is_reordered-clause-reordered g c =
     let instance = c.args.self.now in
     let font = g.F.hb_font_t.font instance.face.now in
     let m = instance.map.now in
@@ -35,8 +35,8 @@ returns-then-is_reordered-clause-ok g c =
     order
     (subst (λ script. SyllableReordered (masked_in_order r script) (λ _. []) s e b3 b4) (script3 ∙ script2 ∙ script1) c.mask_syllable.ensures)
 
-pub returns-else-is_reordered-clause-ok : goal.returns-else-is_reordered-clause-ok
-returns-else-is_reordered-clause-ok g c =
+pub returns-else-is_reordered-clause-reordered : goal.returns-else-is_reordered-clause-reordered
+returns-else-is_reordered-clause-reordered g c =
     let instance = c.args.self.now in
     let font = g.F.hb_font_t.font instance.face.now in
     let m = instance.map.now in

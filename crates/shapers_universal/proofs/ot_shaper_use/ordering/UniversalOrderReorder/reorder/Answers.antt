@@ -7,8 +7,8 @@ use Rattle.shapers_universal.specs.UniversalWalk.{has_reph}
 use Rattle.shapers_universal.proofs.Reordered.{still_reordered}
 use Rattle.shapers_universal.proofs.ot_shaper_use.ordering.UniversalOrderReorder.reorder.Goals as goal
 
-pub returns-else-is_reordered-clause-ok : goal.returns-else-is_reordered-clause-ok
-returns-else-is_reordered-clause-ok c =
+pub returns-else-is_reordered-clause-reordered : goal.returns-else-is_reordered-clause-reordered
+returns-else-is_reordered-clause-reordered c =
     let s = c.args.start in
     let e = c.args.end in
     let zs = stretch_of s e c.args.buffer.now.glyphs in
