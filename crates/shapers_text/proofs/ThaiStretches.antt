@@ -14,7 +14,9 @@ use Rattle.shapers_buffer.specs.Clusters.{merge_all}
 use Rattle.shapers_buffer.specs.Lists.{each_after}
 use Rattle.shapers_buffer.proofs.MappedLists.{all-flat_map, all-each_after, each_after-push, list_any-map}
 use Rattle.shapers_buffer.proofs.ListLaws.{none_from_count}
-use Rattle.shapers_clusters.proofs.Merging.{length-merge_all, merge_all-append, map-merge_all}
+use Rattle.shapers_buffer.specs.declared.buffer.cluster_runs.ClusterRun.{ClusterRun}
+use Rattle.shapers_buffer.specs.ClusterRuns.{RunFits, with_run}
+use Rattle.shapers_clusters.proofs.Merging.{length-merge_all, merge_all-append, map-merge_all, map-with_run}
 use Rattle.shapers_clusters.proofs.Appended.{merge_all-appended}
 use Rattle.shapers_text.specs.Thai.{characters, is_sara_am, is_above_base, glyph_rule, glyphs_in_two, stretch_of_sara_am, stretches_at, stretches_of_each, sara_am_stretches, joins_before}
 use Rattle.shapers_text.specs.ThaiWalk.{above_marks_before, merged_front, HasRoom}
@@ -71,9 +73,6 @@ pub record Merging (level : BufferClusterLevel) (start now : List hb_glyph_info_
   pub same_characters : characters now ≡ characters start
   pub merged : now ≡ merge_all level (sara_am_stretches level (take i (take len (characters start)))) start
 
-pub merging_length : (level : BufferClusterLevel) (start now : List hb_glyph_info_t) (len i : ℕ) → Merging level start now len i → length now ≡ length start
-merging_length level start now len i m = sym (length-map now (λ x. x.glyph_id)) ∙ ap length m.same_characters ∙ length-map start (λ x. x.glyph_id)
-
 pub merging_next : (level : BufferClusterLevel) (start now : List hb_glyph_info_t) (len i c : ℕ) (after : List hb_glyph_info_t) → len ≤ length start → i < len → Merging level start now len i → c ≡ get_or (characters now) i 0 → after ≡ merge_all level (stretches_at level i c (above_marks_before now i)) now → Merging level start after len (i + 1)
 merging_next level start now len i c after within inside m at changed =
     let us = characters start in
@@ -101,6 +100,22 @@ merging_next level start now len i c after within inside m at changed =
           ∙ ap (λ sts. merge_all level sts start) (sym (stretches_push level xs u))
           ∙ ap (λ vs. merge_all level (sara_am_stretches level vs) start) (sym (take_more all i 0 some));
     }
+
+-- the same where a run isn't written yet
+characters-run : (run : ClusterRun) (gs : List hb_glyph_info_t) → RunFits run gs → characters (with_run run gs) ≡ characters gs
+characters-run run gs fits = map-with_run (λ g. g.glyph_id) (λ g. refl) run gs fits.in_order
+
+pub merging_turn : (level : BufferClusterLevel) (start now after : List hb_glyph_info_t) (run : ClusterRun) (len i c : ℕ) → len ≤ length start → i < len → RunFits run now → Merging level start (with_run run now) len i → c ≡ get_or (characters now) i 0 → after ≡ merge_all level (stretches_at level i c (above_marks_before now i)) (with_run run now) → Merging level start after len (i + 1)
+merging_turn level start now after run len i c within inside fits m at changed =
+    let whole = with_run run now in
+    let same = characters-run run now fits in
+    let marks : above_marks_before now i ≡ above_marks_before (with_run run now) i =
+    above_marks_before-characters now i ∙ ap (λ us. suffix_len is_above_base (take i us)) (sym same) ∙ sym (above_marks_before-characters whole i) in
+    merging_next level start whole len i c after within inside m (at ∙ ap (λ us. get_or us i 0) (sym same)) (changed ∙ ap (λ w. merge_all level (stretches_at level i c w) whole) marks)
+
+pub merging_length : (level : BufferClusterLevel) (start now : List hb_glyph_info_t) (run : ClusterRun) (len i : ℕ) → RunFits run now → Merging level start (with_run run now) len i → length now ≡ length start
+merging_length level start now run len i fits m =
+    sym (length-map now (λ x. x.glyph_id)) ∙ ap length (sym (characters-run run now fits) ∙ m.same_characters) ∙ length-map start (λ x. x.glyph_id)
 
 -- the grown text, merged, is the merged text, grown
 pub merged_grown : (level : BufferClusterLevel) (gs : List hb_glyph_info_t) (n : ℕ) → merge_all level (sara_am_stretches level (take (length gs) (characters (gs ++ replicate n default_glyph)))) (gs ++ replicate n default_glyph) ≡ merge_all level (sara_am_stretches level (characters gs)) gs ++ replicate n default_glyph

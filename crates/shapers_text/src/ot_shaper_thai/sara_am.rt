@@ -2,13 +2,14 @@
 ghost use Rattle.std.specs.Prelude.{◌≡◌, ◌+◌, ◌^◌, ◌<◌, ◌≤◌, [], true, false, length, take, count_by, None, Some, IsOk, OnOk, OnErr};
 ghost use Rattle.std.specs.List.{list_any};
 ghost use Rattle.shapers_buffer.specs.Clusters.{merge_all};
+ghost use Rattle.shapers_buffer.specs.ClusterRuns.{RunFits, with_run};
 ghost use Rattle.shapers_buffer.specs.Refusals.{RefusesLength};
-ghost use Rattle.shapers_text.specs.Thai.{is_sara_am, is_above_base, nikhahit, sara_aa, characters, glyphs_in_two, stretches_at, sara_am_stretches};
+ghost use Rattle.shapers_text.specs.Thai.{is_sara_am, is_above_base, nikhahit, sara_aa, characters, glyphs_in_two, stretch_of_sara_am, sara_am_stretches};
 ghost use Rattle.shapers_text.specs.ThaiWalk.{above_marks_before, merged_front, HasRoom, Written, IsUnwritten, whole_of};
 
 use shapers_base::buffer::{
-    BufferClusterLevel, GlyphWalk, ShaperError, hb_buffer_t, hb_glyph_info_t,
-    hb_unicode_general_category_t, merge_clusters_in,
+    BufferClusterLevel, ClusterRun, GlyphWalk, ShaperError, hb_buffer_t, hb_glyph_info_t,
+    hb_unicode_general_category_t, merge_run_in, write_run_in,
 };
 
 // SARA AM, of Thai and of Lao.
@@ -75,29 +76,33 @@ fn count_marks_before(glyphs: &[hb_glyph_info_t], place: usize) -> usize
         .count()
 }
 
-// Merges what a character at `place` merges: a SARA AM with its marks or, without any, with the
-// glyph before it.
-fn merge_at(level: BufferClusterLevel, glyphs: &mut [hb_glyph_info_t], place: usize, u: u32)
+// Merges what a SARA AM at `place` merges, its marks or, without any, the glyph before it, in the
+// glyphs with a run in its cluster. Answers the run that is to be written then.
+fn merge_sara_am(
+    level: BufferClusterLevel,
+    glyphs: &mut [hb_glyph_info_t],
+    run: ClusterRun,
+    place: usize,
+) -> ClusterRun
     requires in_range { place < length glyphs.old }
-    requires fits { place + 1 < 2 ^ 64 }
-    ensures { let stretches = stretches_at level place u (above_marks_before glyphs.old place) in
-        glyphs.new ≡ merge_all level stretches glyphs.old }
+    requires room { place + 1 < 2 ^ 64 }
+    requires fits { RunFits run glyphs.old }
+    ensures merged { let stretches =
+        stretch_of_sara_am level place (above_marks_before glyphs.old place) in
+        with_run result glyphs.new ≡ merge_all level stretches (with_run run glyphs.old) }
+    ensures fits { RunFits result glyphs.new }
 {
-    if !is_sara_am(u) {
-        return;
-    }
     let above = count_marks_before(glyphs, place);
     if above > 0 {
-        merge_clusters_in(level, glyphs, place - above, place + 1);
-        return;
+        return merge_run_in(level, glyphs, run, place - above, place + 1);
     }
     match level {
-        BufferClusterLevel::MonotoneGraphemes => {
-            if place > 0 {
-                merge_clusters_in(level, glyphs, place - 1, place + 1);
-            }
+        BufferClusterLevel::MonotoneGraphemes if place > 0 => {
+            merge_run_in(level, glyphs, run, place - 1, place + 1)
         }
-        BufferClusterLevel::MonotoneCharacters | BufferClusterLevel::Characters => {}
+        BufferClusterLevel::MonotoneGraphemes
+        | BufferClusterLevel::MonotoneCharacters
+        | BufferClusterLevel::Characters => run,
     }
 }
 
@@ -106,10 +111,13 @@ fn merge_all_sara_am(level: BufferClusterLevel, glyphs: &mut [hb_glyph_info_t], 
     requires { len ≤ length glyphs.old }
     ensures { glyphs.new ≡ merged_front level len glyphs.old }
 {
+    let mut run = ClusterRun::NONE;
     for i in 0..len {
-        let u = glyphs[i].glyph_id;
-        merge_at(level, glyphs, i, u);
+        if is_sara_am(glyphs[i].glyph_id) {
+            run = merge_sara_am(level, glyphs, run, i);
+        }
     }
+    write_run_in(glyphs, run);
 }
 
 // What is still to be written: what the text before `end` becomes, over the places before `place`.
