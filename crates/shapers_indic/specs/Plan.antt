@@ -5,6 +5,8 @@ use Rattle.std.specs.Option.{option_eq}
 use Rattle.std.specs.Cmp.Lexicographic.{pointwise}
 use Rattle.shapers_buffer.specs.declared.buffer.tag.hb_tag_t.{hb_tag_t}
 use Rattle.shapers_buffer.specs.declared.buffer.tag.Script.{Script}
+use Rattle.shapers_buffer.specs.Glyph.{without_flags}
+use Rattle.shapers_base.specs.declared.font.GlyphId.{GlyphId}
 use Rattle.shapers_base.specs.declared.map.TheConstants.{F_GLOBAL}
 use Rattle.shapers_base.specs.declared.plan.PlanData.{PlanData}
 use Rattle.shapers_base.specs.declared.plan.hb_ot_shape_plan_t.{hb_ot_shape_plan_t}
@@ -20,6 +22,7 @@ use Rattle.shapers_base.specs.declared.plan.indic.IndicWouldSubstituteFeature.{I
 use Rattle.shapers_base.specs.declared.plan.indic.indic_shape_plan_t.{indic_shape_plan_t}
 use Rattle.shapers_base.specs.declared.plan.planner.Request.{Request}
 use Rattle.shapers_base.specs.declared.plan.planner.Request.TheVariants.{Feature, Pause}
+use Rattle.shapers_base.specs.Font.{Font}
 use Rattle.shapers_base.specs.Map.{Map, mask_of}
 use Rattle.shapers_base.specs.Questions.{question_for}
 use Rattle.shapers_indic.specs.Requests.{basic_features, other_features}
@@ -128,3 +131,11 @@ indic_data otherwise _ = otherwise
 
 abbrev pub indic_in : hb_ot_shape_plan_t → indic_shape_plan_t
 indic_in plan = indic_data (indic_plan plan.script plan.ot_map) plan.plan_data
+
+-- the bits that a feature gives: its mask, but for the glyph flags
+abbrev pub bits_at : List ℕ → ℕ → ℕ
+bits_at masks feature = without_flags (slice_index masks feature)
+
+-- the glyph of the script's virama, where it has one and the font has a glyph for it
+abbrev pub virama_glyph : Font → indic_shape_plan_t → Option GlyphId
+virama_glyph font p = if p.config.virama == 0 then None else font.nominal p.config.virama

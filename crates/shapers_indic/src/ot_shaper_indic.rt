@@ -17,7 +17,7 @@ mod data;
 pub mod glyphs;
 pub mod indic_feature;
 
-pub use data::{create_data, indic_in};
+pub use data::{create_data, indic_in, virama_glyph};
 
 // A feature within syllables that sees both joiners: on where a mask says so, or in the whole text.
 const MASKED: u32 = F_MANUAL_JOINERS | F_PER_SYLLABLE;

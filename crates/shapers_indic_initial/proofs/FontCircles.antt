@@ -14,7 +14,8 @@ use Rattle.shapers_base.specs.Font.{Font}
 use Rattle.shapers_base.specs.Map.{Map}
 use Rattle.shapers_clusters.specs.Steps.{Step, run_steps, steps_along}
 use Rattle.shapers_indic.specs.Glyphs.{at_position, has_position, number}
-use Rattle.shapers_indic_initial.specs.InitialFont.{all_by_virama, by_virama, consonant_position, positions_by_font, virama_glyph}
+use Rattle.shapers_indic.specs.Plan.{virama_glyph}
+use Rattle.shapers_indic_initial.specs.InitialFont.{all_by_virama, by_virama, consonant_position, positions_by_font}
 use Rattle.shapers_indic_initial.specs.InitialPause.{InitiallyReordered, initial_circles, order_by_font, steps_by_font, with_positions_and_circles}
 use Rattle.shapers_indic_initial.specs.InitialLaws.{InitialCutsBetweenSpans, InitiallyAsPause}
 use Rattle.shapers_indic_initial.specs.InitialReordering.{initial_order, initial_steps}

@@ -12,7 +12,8 @@ use Rattle.shapers_base.specs.declared.plan.ot_position_t.TheConstants.{POS_BASE
 use Rattle.shapers_base.specs.Font.{Font}
 use Rattle.shapers_base.specs.Map.{Map}
 use Rattle.shapers_indic.specs.Glyphs.{at_position, has_position, number}
-use Rattle.shapers_indic_initial.specs.InitialFont.{all_by_virama, by_virama, consonant_position, virama_glyph}
+use Rattle.shapers_indic.specs.Plan.{virama_glyph}
+use Rattle.shapers_indic_initial.specs.InitialFont.{all_by_virama, by_virama, consonant_position}
 use Rattle.shapers_buffer.specs.declared.buffer.tag.Script.{Script}
 use Rattle.shapers_clusters.specs.Flags.{seen}
 use Rattle.shapers_clusters.proofs.Picks.{pick-all}

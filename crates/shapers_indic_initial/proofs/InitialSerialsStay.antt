@@ -27,7 +27,8 @@ use Rattle.shapers_base.specs.declared.font.GlyphId.{GlyphId}
 use Rattle.shapers_base.specs.declared.plan.indic.indic_shape_plan_t.{indic_shape_plan_t}
 use Rattle.shapers_base.specs.Font.{Font}
 use Rattle.shapers_base.specs.Map.{Map}
-use Rattle.shapers_indic_initial.specs.InitialFont.{all_by_virama, by_virama, consonant_position, positions_by_font, virama_glyph}
+use Rattle.shapers_indic.specs.Plan.{virama_glyph}
+use Rattle.shapers_indic_initial.specs.InitialFont.{all_by_virama, by_virama, consonant_position, positions_by_font}
 use Rattle.shapers_indic_initial.specs.InitialRules.{Rules, mask_at, rules_of}
 use Rattle.shapers_indic_initial.specs.InitialLaws.{OrderByFontReadsNoSerials}
 use Rattle.shapers_indic_initial.proofs.InitialLaws.{all_three, halant_order, halant_step_of, masked_order}

@@ -1,6 +1,6 @@
 -- Positions by the font: a consonant for which the font has a below-base or a post-base form isn't
 -- of position BASE_C.
-use Rattle.std.specs.Prelude.{ℕ, ◌==◌, Bool, ◌||◌, List, [], ◌∷◌, map, Option, None, Some, if◌then◌else◌}
+use Rattle.std.specs.Prelude.{ℕ, Bool, ◌||◌, List, [], ◌∷◌, map, Option, None, Some, if◌then◌else◌}
 use Rattle.shapers_buffer.specs.declared.buffer.glyph.hb_glyph_info_t.{hb_glyph_info_t}
 use Rattle.shapers_base.specs.declared.font.GlyphId.{GlyphId}
 use Rattle.shapers_base.specs.declared.plan.indic.IndicWouldSubstituteFeature.{IndicWouldSubstituteFeature}
@@ -10,6 +10,7 @@ use Rattle.shapers_base.specs.Font.{Font}
 use Rattle.shapers_base.specs.Map.{Map}
 use Rattle.shapers_base.specs.Questions.{would_by}
 use Rattle.shapers_indic.specs.Glyphs.{at_position, has_position, number}
+use Rattle.shapers_indic.specs.Plan.{virama_glyph}
 
 -- whether a feature would substitute the virama's glyph v and c, in either order
 abbrev pub joins_virama : Font → Map → IndicWouldSubstituteFeature → GlyphId → GlyphId → Bool
@@ -36,11 +37,7 @@ by_virama font m p v g =
     if has_position POS_BASE_C g then at_position (consonant_position font m p v (number g)) g
     else g
 
--- the glyph of the script's virama, where it has one and the font has a glyph for it
-abbrev pub virama_glyph : Font → indic_shape_plan_t → Option GlyphId
-virama_glyph font p = if p.config.virama == 0 then None else font.nominal p.config.virama
-
--- the text with the positions by the font, which asks by that glyph
+-- the text with the positions by the font, which asks by the virama's glyph
 abbrev pub all_by_virama : Font → Map → indic_shape_plan_t → Option GlyphId → List hb_glyph_info_t →
     List hb_glyph_info_t
 all_by_virama font m p None gs = gs

@@ -5,7 +5,6 @@ use Rattle.std.specs.List.{enumerate_from, list_any, prefix_len}
 use Rattle.shapers_buffer.specs.declared.buffer.glyph.hb_glyph_info_t.{hb_glyph_info_t}
 use Rattle.shapers_buffer.specs.declared.buffer.tag.Script.{Script}
 use Rattle.shapers_buffer.specs.Clusters.{stretch_of, with_stretch}
-use Rattle.shapers_buffer.specs.Glyph.{without_flags}
 use Rattle.shapers_buffer.specs.GlyphFlags.{with_bits}
 use Rattle.shapers_base.specs.declared.plan.indic.BlwfMode.{BlwfMode}
 use Rattle.shapers_base.specs.declared.plan.indic.BlwfMode.TheVariants.{PreAndPost, PostOnly}
@@ -14,12 +13,12 @@ use Rattle.shapers_base.specs.declared.plan.ot_position_t.TheConstants.{POS_RA_T
 use Rattle.shapers_indic.specs.declared.ot_shaper_indic.indic_feature.TheConstants.{ABVF, BLWF, HALF, PREF, PSTF, RPHF}
 use Rattle.shapers_indic.specs.Glyphs.{has_category, has_position, is_one_of, least_place, numbers, passes}
 use Rattle.shapers_indic_initial.specs.InitialRules.{Rules, mask_at}
-use Rattle.shapers_indic.specs.Plan.{is_script}
+use Rattle.shapers_indic.specs.Plan.{bits_at, is_script}
 use Rattle.shapers_syllabic.specs.Consonants.{is_consonant}
 
--- the bits that a feature gives: its mask, but for the glyph flags
+-- the bits that a feature gives
 abbrev pub bits_of : Rules → ℕ → ℕ
-bits_of r feature = without_flags (mask_at r feature)
+bits_of r feature = bits_at r.masks feature
 
 -- the reph in front gets the mask of rphf
 abbrev pub with_reph_mask : Rules → List hb_glyph_info_t → List hb_glyph_info_t

@@ -2,12 +2,13 @@
 ghost use Rattle.std.specs.Prelude.{◌≡◌, ◌%◌, find, true};
 ghost use Rattle.std.specs.List.{AllByRecursion};
 ghost use Rattle.shapers_base.specs.declared.plan.PlanData.TheVariants.{Indic};
-ghost use Rattle.shapers_indic.specs.Plan.{config_of, feature_masks, has_old_spec, indic_in, indic_plan, is_indic_data, is_old_script, is_script, masks_in, scripts, zero_context};
+ghost use Rattle.shapers_indic.specs.Plan.{config_of, feature_masks, has_old_spec, indic_in, indic_plan, is_indic_data, is_old_script, is_script, masks_in, scripts, virama_glyph, zero_context};
 
 use BlwfMode::{PostOnly, PreAndPost};
 use RephMode::{Explicit, Implicit, LogRepha};
 use RephPosition::{AfterMain, AfterPost, AfterSub, BeforePost, BeforeSub};
 use shapers_base::buffer::{Script, hb_tag_t};
+use shapers_base::font::{GlyphId, hb_font_t};
 use shapers_base::map::{TableIndex, hb_ot_map_t};
 use shapers_base::plan::{
     BlwfMode, IndicConfig, IndicWouldSubstituteFeature, PlanData, RephMode, RephPosition,
@@ -202,4 +203,14 @@ pub fn indic_in(plan: &hb_ot_shape_plan_t) -> &indic_shape_plan_t
         PlanData::Indic(kept) => kept,
         _ => unreachable!(),
     }
+}
+
+/// The font's glyph for the script's virama.
+pub fn virama_glyph<F: hb_font_t>(plan: &indic_shape_plan_t, face: &F) -> Option<GlyphId>
+    ensures { result ≡ virama_glyph (F.font face.now) plan.now }
+{
+    if plan.config.virama == 0 {
+        return None;
+    }
+    face.get_nominal_glyph(plan.config.virama)
 }

@@ -1,11 +1,12 @@
 //! What the final reordering reads of the plan and the font.
 ghost use Rattle.std.specs.Prelude.{◌≡◌};
-ghost use Rattle.shapers_indic_final.specs.FinalRules.{has_no_half_forms, is_malayalam, rules_of, virama_glyph};
+ghost use Rattle.shapers_indic_final.specs.FinalRules.{has_no_half_forms, is_malayalam, rules_of};
 
 use shapers_base::buffer::Script;
 use shapers_base::font::{GlyphId, hb_font_t};
 use shapers_base::plan::{RephPosition, indic_shape_plan_t};
 use shapers_indic::ot_shaper_indic::indic_feature::{INIT, PREF};
+use shapers_indic::ot_shaper_indic::virama_glyph;
 
 const MALAYALAM: Script = Script(*b"Mlym");
 
@@ -33,16 +34,6 @@ impl Rules {
             init: plan.mask_array[INIT] & !7,
         }
     }
-}
-
-// The font's glyph for the script's virama.
-fn virama_glyph<F: hb_font_t>(plan: &indic_shape_plan_t, face: &F) -> Option<GlyphId>
-    ensures { result ≡ virama_glyph (F.font face.now) plan.now }
-{
-    if plan.config.virama == 0 {
-        return None;
-    }
-    face.get_nominal_glyph(plan.config.virama)
 }
 
 // Whether a script is Malayalam.

@@ -1,7 +1,7 @@
 //! Positions by the font: consonants that it has below-base or post-base forms of.
 ghost use Rattle.std.specs.Prelude.{◌≡◌, ◌≤◌, length};
 ghost use Rattle.shapers_buffer.specs.Clusters.{with_stretch};
-ghost use Rattle.shapers_indic_initial.specs.InitialFont.{all_by_virama, consonant_position, joins_virama, virama_glyph};
+ghost use Rattle.shapers_indic_initial.specs.InitialFont.{all_by_virama, consonant_position, joins_virama};
 
 use shapers_base::buffer::{GlyphChange, hb_buffer_t, hb_glyph_info_t};
 use shapers_base::font::{GlyphId, hb_font_t};
@@ -39,16 +39,6 @@ pub(super) fn update_consonant_positions<F: hb_font_t>(
             buffer.change_each(start, end, &change);
         }
     }
-}
-
-/// The font's glyph for the script's virama.
-pub(super) fn virama_glyph<F: hb_font_t>(plan: &indic_shape_plan_t, face: &F) -> Option<GlyphId>
-    ensures { result ≡ virama_glyph (F.font face.now) plan.now }
-{
-    if plan.config.virama == 0 {
-        return None;
-    }
-    face.get_nominal_glyph(plan.config.virama)
 }
 
 // Positions by the forms that consonants have with a virama.

@@ -9,14 +9,13 @@ ghost use Rattle.shapers_syllabic.specs.Circles.{circled};
 ghost use Rattle.shapers_syllabic.specs.Reordering.{PauseReordered};
 ghost use Rattle.shapers_syllabic.specs.ReorderingLaws.{PauseCutsAtBorders, TextReordered};
 
-use super::font_positions::virama_glyph;
 use super::reordering::InitialOrder;
 use shapers_base::buffer::{ShaperError, hb_buffer_t};
 use shapers_base::font::hb_font_t;
 use shapers_base::plan::hb_ot_shape_plan_t;
 use shapers_base::plan::ot_category_t::{OT_DOTTEDCIRCLE, OT_Repha};
 use shapers_base::plan::ot_position_t::POS_END;
-use shapers_indic::ot_shaper_indic::indic_in;
+use shapers_indic::ot_shaper_indic::{indic_in, virama_glyph};
 use shapers_syllabic::ot_shaper_syllabic::indic_syllable::{BROKEN_CLUSTER, NON_INDIC_CLUSTER};
 use shapers_syllabic::ot_shaper_syllabic::{CircleSort, reorder_pause};
 
