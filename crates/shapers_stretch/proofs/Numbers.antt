@@ -1,12 +1,12 @@
 -- What the code computes of the numbers of a run.
-use Rattle.std.proofs.Common.{◌≡◌, ◌^◌, ℕ, suc, ◌-◌, ◌/◌, ◌<◌, ℤ, pos, negsuc, ◌-ℤ◌, ◌≤ℤ◌, ◌<ℤ◌, nat_abs, unsigned_abs, int_lt, int_div, Bool, true, false, cond, ◌&&◌, IsTrue, nat_lt, FitsSigned, [], ◌∷◌, Option, None, Some, refl, sym, subst, ◌∙◌, ap, arith, mul-pos, div-le_self}
+use Rattle.std.proofs.Common.{◌≡◌, ◌^◌, ℕ, suc, ◌-◌, ◌/◌, ◌<◌, ◌≤◌, ◌+◌, ℤ, pos, negsuc, ◌-ℤ◌, ◌≤ℤ◌, ◌<ℤ◌, nat_abs, unsigned_abs, int_lt, int_div, Bool, true, false, cond, ◌&&◌, IsTrue, nat_lt, FitsSigned, [], ◌∷◌, Option, None, Some, refl, sym, subst, ◌∙◌, ap, arith, mul-pos, div-le_self}
 use Rattle.std.specs.List.{list_all}
-use Rattle.std.proofs.lemmas.Int.{ints, by_lt_z}
+use Rattle.std.proofs.lemmas.Int.{ints, by_lt_z, fits_signed_mul}
 use borrow.Author.Tests.{ltb-true, clash}
 use Rattle.std.proofs.lemmas.Option.{none-some}
 use Rattle.std.proofs.lemmas.Bool.Decides.{nat_tests}
 use Rattle.std.proofs.lemmas.Bool.{and_right, and_parts}
-use mir.Syntax.{w32}
+use mir.Syntax.{w32, w64, w128}
 use Rattle.shapers_stretch.specs.declared.ot_shaper_arabic_stretch.measuring.Run.{Run}
 use Rattle.shapers_base.specs.declared.plan.arabic.StretchStart.{StretchStart}
 use Rattle.shapers_base.specs.declared.plan.arabic.StretchStart.TheVariants.{AsCode, Centred}
@@ -18,6 +18,23 @@ use Rattle.shapers_stretch.specs.Measure.{added, copies_added, excess, falls_sho
 pub fits_from : (x : ℤ) → fits_i32 x ≡ true → FitsSigned w32 x
 fits_from (pos n) e = record { sfits = ltb-true n (2 ^ 31) e }
 fits_from (negsuc n) e = record { sfits = ltb-true n (2 ^ 31) e }
+
+-- what a number that fits 32 bits measures, and how many bits hold the reach of at most 2 ^ 31 rounds
+abs_within : (x : ℤ) → FitsSigned w32 x → unsigned_abs x ≤ 2 ^ 31
+abs_within (pos n) f = omega (arith, f.sfits)
+abs_within (negsuc n) f = omega (arith, f.sfits)
+
+pub reach_fits : (z : Run) (n : ℕ) → RunFits z → n ≤ 2 ^ 31 → FitsSigned w64 (reach z n)
+reach_fits z n fits few = fits_signed_mul w64 (pos (suc n)) z.repeating (2 ^ 31 + 1) (2 ^ 31) (omega arith) (abs_within z.repeating fits.repeating) (omega arith)
+
+-- what fits 32 or 64 bits fits 128
+pub wide : (x : ℤ) → FitsSigned w32 x → FitsSigned w128 x
+wide (pos n) f = record { sfits = omega (arith, f.sfits) }
+wide (negsuc n) f = record { sfits = omega (arith, f.sfits) }
+
+pub wider : (x : ℤ) → FitsSigned w64 x → FitsSigned w128 x
+wider (pos n) f = record { sfits = omega (arith, f.sfits) }
+wider (negsuc n) f = record { sfits = omega (arith, f.sfits) }
 
 -- what IsTrue says
 pub is_true_from : (b : Bool) → IsTrue b → b ≡ true
@@ -174,3 +191,40 @@ lay_found AsCode right_to_left z s e f h = as_code_found right_to_left z _ s (fo
 lay_found Centred right_to_left z s e f h =
     let rest = list_all fits_i32 (laid_width z ∷ (z.word -ℤ laid_width z) ∷ []) in
     ap (λ b. cond b (Some (lay_of Centred right_to_left z)) None) (four_and_two z rest e f) ∙ centred_found right_to_left z rest s h
+
+-- where a number doesn't fit, there is no way to lay it
+four_false : (a b c d rest : Bool) → (a && (b && (c && (d && true)))) ≡ false → (a && (b && (c && (d && rest)))) ≡ false
+four_false true true true true rest e = absurd (clash (sym e))
+four_false true true true false rest e = refl
+four_false true true false d rest e = refl
+four_false true false c d rest e = refl
+four_false false b c d rest e = refl
+
+two_false : (a b rest : Bool) → (a && (b && true)) ≡ false → (a && (b && rest)) ≡ false
+two_false true true rest e = absurd (clash (sym e))
+two_false true false rest e = refl
+two_false false b rest e = refl
+
+run_apart : (z : Run) (rest : Bool) → list_all fits_i32 (z.word ∷ z.fixed ∷ z.repeating ∷ left z ∷ []) ≡ false → (fits_i32 z.word && (fits_i32 z.fixed && (fits_i32 z.repeating && (fits_i32 (left z) && rest)))) ≡ false
+run_apart z rest e = four_false (fits_i32 z.word) (fits_i32 z.fixed) (fits_i32 z.repeating) (fits_i32 (left z)) rest e
+
+added_apart : (z : Run) (rest : Bool) → list_all fits_i32 (z.word ∷ z.fixed ∷ z.repeating ∷ left z ∷ []) ≡ true → list_all fits_i32 (reach z (added z) ∷ pos (copies_added z) ∷ []) ≡ false → (fits_i32 z.word && (fits_i32 z.fixed && (fits_i32 z.repeating && (fits_i32 (left z) && (fits_i32 (reach z (added z)) && (fits_i32 (pos (copies_added z)) && rest)))))) ≡ false
+added_apart z rest e f = four_true (fits_i32 z.word) (fits_i32 z.fixed) (fits_i32 z.repeating) (fits_i32 (left z)) _ e ∙ two_false (fits_i32 (reach z (added z))) (fits_i32 (pos (copies_added z))) rest f
+
+pub no_lay_run : (choice : StretchStart) (right_to_left : Bool) (z : Run) → list_all fits_i32 (z.word ∷ z.fixed ∷ z.repeating ∷ left z ∷ []) ≡ false → None ≡ lay_if_fits choice right_to_left z
+no_lay_run AsCode right_to_left z e = sym (ap (λ b. cond b (Some (lay_of AsCode right_to_left z)) None) (run_apart z _ e))
+no_lay_run Centred right_to_left z e = sym (ap (λ b. cond b (Some (lay_of Centred right_to_left z)) None) (run_apart z _ e))
+
+pub no_lay_added : (choice : StretchStart) (right_to_left : Bool) (z : Run) → list_all fits_i32 (z.word ∷ z.fixed ∷ z.repeating ∷ left z ∷ []) ≡ true → list_all fits_i32 (reach z (added z) ∷ pos (copies_added z) ∷ []) ≡ false → None ≡ lay_if_fits choice right_to_left z
+no_lay_added AsCode right_to_left z e f = sym (ap (λ b. cond b (Some (lay_of AsCode right_to_left z)) None) (added_apart z _ e f))
+no_lay_added Centred right_to_left z e f = sym (ap (λ b. cond b (Some (lay_of Centred right_to_left z)) None) (added_apart z _ e f))
+
+no_start : (right_to_left : Bool) (z : Run) (b : Bool) → cond b (Some (start Centred right_to_left z)) None ≡ None → cond b (Some (lay_of Centred right_to_left z)) None ≡ None
+no_start right_to_left z true e = absurd (none-some _ (sym e))
+no_start right_to_left z false e = refl
+
+pub no_lay_start : (choice : StretchStart) (right_to_left : Bool) (z : Run) → list_all fits_i32 (z.word ∷ z.fixed ∷ z.repeating ∷ left z ∷ []) ≡ true → list_all fits_i32 (reach z (added z) ∷ pos (copies_added z) ∷ []) ≡ true → start_if_fits choice right_to_left z ≡ None → None ≡ lay_if_fits choice right_to_left z
+no_lay_start AsCode right_to_left z e f h = absurd (none-some _ (sym h))
+no_lay_start Centred right_to_left z e f h =
+    let rest = list_all fits_i32 (laid_width z ∷ (z.word -ℤ laid_width z) ∷ []) in
+    sym (ap (λ b. cond b (Some (lay_of Centred right_to_left z)) None) (four_and_two z rest e f) ∙ no_start right_to_left z rest h)
