@@ -897,6 +897,8 @@ list_requests (unsigned shaper, hb_script_t script, bool override, hb_ot_map_bui
   }
 }
 
+static hb_ot_map_t::pause_func_t pause_function (unsigned number);
+
 /* Makes the requests of the map. */
 static void
 make_requests (unsigned shaper, bool override, hb_ot_shape_planner_t *planner)
@@ -911,7 +913,7 @@ make_requests (unsigned shaper, bool override, hb_ot_shape_planner_t *planner)
     if (request.tag)
       map->add_feature (request.tag, (hb_ot_map_feature_flags_t) request.flags, request.value);
     else
-      map->add_gsub_pause (request.pause < ARRAY_LENGTH (pauses) ? pauses[request.pause].proved : nullptr);
+      map->add_gsub_pause (pause_function (request.pause));
   }
 }
 
@@ -1221,9 +1223,18 @@ struct proved_hooks_t
 #ifdef SENGADLIT_SHADOW
 #include "shadow.hh"
 #define HOOKS shadow_hooks_t
+#define PAUSE(number) shadow_pauses[number]
 #else
 #define HOOKS proved_hooks_t
+#define PAUSE(number) pauses[number].proved
 #endif
+
+/* The function for a pause of a list; null for one that does nothing. */
+static hb_ot_map_t::pause_func_t
+pause_function (unsigned number)
+{
+  return number < ARRAY_LENGTH (pauses) ? PAUSE (number) : nullptr;
+}
 
 static hb_ot_shape_normalization_mode_t
 normalization_of (const sengadlit_constants &constants)
