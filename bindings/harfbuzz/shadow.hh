@@ -20,13 +20,15 @@ enum reason_t
   SYMBOL_CLUSTERS, /* 6.0.0 reorders the universal shaper's kind 5 */
   CIRCLES,         /* 6.0.0 opens no circle for a broken syllable behind another one of the same byte */
   SERIAL,          /* universal: 6.0.0 counts no serial for ignorables that lead the text */
+  MEDIAL,          /* Indic: 6.0.0 looks for the base among medial consonants too */
   UNKNOWN,
   REASONS
 };
 
 static const char *const reason_names[REASONS] =
 {
-  "same", "another-list", "level-characters", "joining-flags", "stretch-start", "symbol-clusters", "dotted-circles", "serial", "UNKNOWN",
+  "same", "another-list", "level-characters", "joining-flags", "stretch-start", "symbol-clusters", "dotted-circles", "serial", "medial",
+  "UNKNOWN",
 };
 
 /* ---- Counts ---- */
@@ -102,6 +104,7 @@ struct snapshot_t
   void put_back (hb_buffer_t *buffer) const
   {
     buffer->successful = state.successful;
+    buffer->serial = state.serial;
     buffer->len = state.len;
     buffer->allocated_var_bits = state.allocated_var_bits;
     buffer->scratch_flags = state.scratch_flags;
@@ -113,9 +116,10 @@ struct snapshot_t
   struct state_t
   {
     explicit state_t (const hb_buffer_t &buffer)
-      : successful (buffer.successful), have_positions (buffer.have_positions), len (buffer.len),
+      : successful (buffer.successful), have_positions (buffer.have_positions), serial (buffer.serial), len (buffer.len),
 	allocated_var_bits (buffer.allocated_var_bits), scratch_flags (buffer.scratch_flags) {}
     bool successful, have_positions;
+    uint8_t serial;
     unsigned len;
     uint8_t allocated_var_bits;
     hb_buffer_scratch_flags_t scratch_flags;
@@ -213,6 +217,14 @@ has_kind (const snapshot_t &text, unsigned kind)
   return false;
 }
 
+static bool
+has_category (const snapshot_t &text, unsigned category)
+{
+  for (const hb_glyph_info_t &info : text.infos)
+    if (info.ot_shaper_var_u8_category () == category) return true;
+  return false;
+}
+
 /* ---- A call ---- */
 
 struct shadow_t
@@ -253,6 +265,7 @@ struct shadow_t
       return CIRCLES;
     if (hook == SENGADLIT_SETUP_SYLLABLES_USE && differ == SYLLABLE && !stock.infos[0].syllable () && same_syllables (stock, proved))
       return SERIAL;
+    if (hook == SENGADLIT_INITIAL_REORDERING && has_category (before, I_Cat (CM))) return MEDIAL;
     return UNKNOWN;
   }
 
