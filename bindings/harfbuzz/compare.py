@@ -192,7 +192,6 @@ SCRIPTS = {
     "Phags-pa": (["NotoSansPhagsPa-Regular.ttf"], [], [], [(0xA840, 0xA877)]),
     "Javanese": (["NotoSansJavanese-Regular.ttf"], [], [], [(0xA980, 0xA9DF)]),
     "Balinese": (["NotoSansBalinese-Regular.ttf"], [], [], [(0x1B00, 0x1B7C)]),
-    "Tai Tham": (["NotoSansTaiTham-Regular.ttf"], [], [], [(0x1A20, 0x1AAD)]),
     "Chakma": (["NotoSansChakma-Regular.ttf"], [], [], [(0x11100, 0x11147)]),
     "Adlam": (["NotoSansAdlam-Regular.ttf"], [], [], [(0x1E900, 0x1E95F)]),
 }

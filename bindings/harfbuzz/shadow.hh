@@ -16,7 +16,7 @@ enum reason_t
   ANOTHER_LIST,    /* Arabic: 6.0.0 asks for rclt too, and has a pause that frees a byte */
   LEVEL,           /* level Characters: 6.0.0's merges flag what they would merge */
   JOINING_FLAGS,   /* 6.0.0 flags fewer places as unsafe to concatenate */
-  STRETCH_START,   /* 6.0.0 begins a stretch at 0 */
+  STRETCH,         /* 6.0.0 begins a stretch at 0, and leaves tiles their advance */
   SYMBOL_CLUSTERS, /* 6.0.0 reorders the universal shaper's kind 5 */
   CIRCLES,         /* 6.0.0 opens no circle for a broken syllable behind another one of the same byte */
   SERIAL,          /* universal: 6.0.0 counts no serial for ignorables that lead the text */
@@ -27,7 +27,7 @@ enum reason_t
 
 static const char *const reason_names[REASONS] =
 {
-  "same", "another-list", "level-characters", "joining-flags", "stretch-start", "symbol-clusters", "dotted-circles", "serial", "medial",
+  "same", "another-list", "level-characters", "joining-flags", "stretch", "symbol-clusters", "dotted-circles", "serial", "medial",
   "UNKNOWN",
 };
 
@@ -132,8 +132,8 @@ struct snapshot_t
 
 enum fields_that_differ_t
 {
-  LENGTH = 1, CODEPOINT = 2, CLUSTER = 4, MASK = 8, FLAGS = 16, CONCAT_FLAG = 32, SYLLABLE = 64, BYTES = 128, X_OFFSET = 256,
-  POSITION = 512, STATE = 1024, ANSWER = 2048
+  LENGTH = 1, CODEPOINT = 2, CLUSTER = 4, MASK = 8, FLAGS = 16, CONCAT_FLAG = 32, SYLLABLE = 64, BYTES = 128, X_POSITION = 256,
+  Y_POSITION = 512, STATE = 1024, ANSWER = 2048, FLAGGED = 4096
 };
 
 static unsigned
@@ -158,8 +158,8 @@ compare_infos (const hb_glyph_info_t &a, const hb_glyph_info_t &b, uint8_t var_b
 static unsigned
 compare_positions (const hb_glyph_position_t &a, const hb_glyph_position_t &b)
 {
-  return (a.x_offset != b.x_offset ? X_OFFSET : 0) |
-	 (a.x_advance != b.x_advance || a.y_advance != b.y_advance || a.y_offset != b.y_offset ? POSITION : 0);
+  return (a.x_offset != b.x_offset || a.x_advance != b.x_advance ? X_POSITION : 0) |
+	 (a.y_offset != b.y_offset || a.y_advance != b.y_advance ? Y_POSITION : 0);
 }
 
 static hb_mask_t
@@ -174,9 +174,11 @@ static unsigned
 compare_states (const snapshot_t &a, const snapshot_t &b)
 {
   unsigned flags = a.state.scratch_flags ^ b.state.scratch_flags;
-  /* HarfBuzz notes that glyphs may have flags, we that one has. */
-  if (!((masks_of (a) | masks_of (b)) & HB_GLYPH_FLAG_DEFINED)) flags &= ~HB_BUFFER_SCRATCH_FLAG_HAS_GLYPH_FLAGS;
-  return flags || a.state.successful != b.state.successful || a.state.allocated_var_bits != b.state.allocated_var_bits ? STATE : 0;
+  unsigned differ = flags & ~HB_BUFFER_SCRATCH_FLAG_HAS_GLYPH_FLAGS || a.state.successful != b.state.successful ||
+		    a.state.allocated_var_bits != b.state.allocated_var_bits ? STATE : 0;
+  /* HarfBuzz notes that a glyph may have a flag, we that one has. */
+  bool any_has = (masks_of (a) | masks_of (b)) & HB_GLYPH_FLAG_DEFINED;
+  return differ | (any_has && flags & HB_BUFFER_SCRATCH_FLAG_HAS_GLYPH_FLAGS ? FLAGGED : 0);
 }
 
 /* The fields in which two results differ. `first` is the first place that does. */
@@ -256,10 +258,11 @@ struct shadow_t
   private:
   reason_t reason_of (unsigned differ, const snapshot_t &proved) const
   {
-    bool flags_alone = !(differ & ~(FLAGS | CONCAT_FLAG | STATE));
-    if (buffer->cluster_level == HB_BUFFER_CLUSTER_LEVEL_CHARACTERS && flags_alone) return LEVEL;
-    if (hook == SETUP_MASKS && differ == CONCAT_FLAG) return JOINING_FLAGS;
-    if (hook == POSTPROCESS_GLYPHS && differ == X_OFFSET) return STRETCH_START;
+    bool is_of_flags = !(differ & ~(FLAGS | CONCAT_FLAG | FLAGGED));
+    if (buffer->cluster_level == HB_BUFFER_CLUSTER_LEVEL_CHARACTERS && is_of_flags) return LEVEL;
+    if (hook == SETUP_MASKS && buffer->flags & HB_BUFFER_FLAG_PRODUCE_UNSAFE_TO_CONCAT && !(differ & ~(CONCAT_FLAG | FLAGGED)))
+      return JOINING_FLAGS;
+    if (hook == POSTPROCESS_GLYPHS && differ == X_POSITION) return STRETCH;
     if (hook == SENGADLIT_REORDER_USE && has_kind (before, 5)) return SYMBOL_CLUSTERS;
     if (differ & LENGTH && proved.infos.length > stock.infos.length && before.state.scratch_flags & HB_BUFFER_SCRATCH_FLAG_HAS_BROKEN_SYLLABLE)
       return CIRCLES;
@@ -470,12 +473,31 @@ struct shadow_hooks_t
   }
 };
 
+/* Myanmar's kinds have other numbers here: `kinds` has the new number of each. */
+static void
+renumber_kinds (hb_buffer_t *buffer, const uint8_t (&kinds)[4])
+{
+  for (unsigned i = 0; i < buffer->len; i++)
+    buffer->info[i].syllable () = (buffer->info[i].syllable () & 0xF0) | kinds[buffer->info[i].syllable () & 0x03];
+}
+
+/* HarfBuzz's own function of a pause, with our kinds before and behind it. */
+static bool
+stock_pause (unsigned number, const hb_ot_shape_plan_t *plan, hb_font_t *font, hb_buffer_t *buffer)
+{
+  static const uint8_t theirs[4] = {0, 0, 1, 2}, ours[4] = {0, 2, 3, 0};
+  if (number == SENGADLIT_REORDER_MYANMAR) renumber_kinds (buffer, theirs);
+  bool ret = pauses[number].stock (proved_plan (plan)->stock_plan (), font, buffer);
+  if (number == SENGADLIT_REORDER_MYANMAR || number == SENGADLIT_SETUP_SYLLABLES_MYANMAR) renumber_kinds (buffer, ours);
+  return ret;
+}
+
 template <unsigned number>
 static bool
 shadow_pause (const hb_ot_shape_plan_t *plan, hb_font_t *font, hb_buffer_t *buffer)
 {
   shadow_t shadow (proved_plan (plan)->shaper, number, buffer);
-  shadow.turn (pauses[number].stock (proved_plan (plan)->stock_plan (), font, buffer));
+  shadow.turn (stock_pause (number, plan, font, buffer));
   bool ret = pauses[number].proved (plan, font, buffer);
   shadow.close (ret);
   return ret;
