@@ -252,10 +252,21 @@ struct taken_t
 
 /* ---- Plan ---- */
 
+/* What a hook reads of a plan. The library copies what it is given, so that less is faster. */
+enum reads_t
+{
+  READS_SCRIPT, /* and what else is a number */
+  READS_DATA,   /* what the shaper keeps in the plan */
+  READS_MAP,    /* features and lookups too */
+  READS_LENGTH
+};
+
 /* What our shapers keep in a plan of HarfBuzz's. */
 struct proved_plan_t
 {
-  sengadlit_plan plan;
+  const sengadlit_plan *plan (reads_t reads) const { return &plans[reads]; }
+
+  sengadlit_plan plans[READS_LENGTH];
   hb_vector_t<sengadlit_feature> features;
   hb_vector_t<sengadlit_stage> stages;
   hb_vector_t<uint16_t> lookups;
@@ -283,6 +294,7 @@ struct pause_t
   const char *name;                   /* of the script, in messages */
   hb_ot_map_t::pause_func_t stock;
   hb_ot_map_t::pause_func_t proved;
+  reads_t reads;
   void (*find_syllables) (hb_buffer_t *buffer);
   uint8_t kinds[16];
 };
@@ -753,11 +765,35 @@ run_pause (unsigned number, const hb_ot_shape_plan_t *plan, hb_font_t *font, hb_
   run (call, 0, buffer->len, FIELDS_CODEPOINT | FIELDS_LOOKUPS, &answered, [&] (sengadlit_text *text)
   {
     sengadlit_font f = call.sengadlit ();
-    return sengadlit_run_pause (number, &call.proved->plan, &f, spans && spans->length ? spans->arrayZ : &no_span,
+    return sengadlit_run_pause (number, call.proved->plan (pauses[number].reads), &f, spans && spans->length ? spans->arrayZ : &no_span,
 				spans ? spans->length : 0, text, call.work->glyphs.arrayZ, call.work->glyphs.length,
 				call.work->questions.arrayZ, call.work->questions.length);
   });
   return answered;
+}
+
+static bool
+any_is_substituted (const hb_buffer_t *buffer)
+{
+  for (unsigned i = 0; i < buffer->len; i++)
+    if (_hb_glyph_info_substituted (&buffer->info[i])) return true;
+  return false;
+}
+
+/* Whether a pause changes nothing, as its contract says: then there is no call to make. */
+static bool
+changes_nothing (unsigned number, const hb_ot_shape_plan_t *plan, const hb_buffer_t *buffer)
+{
+  const sengadlit_data &data = proved_plan (plan)->plan (READS_DATA)->data;
+  switch (number)
+  {
+    case SENGADLIT_RECORD_STCH: return !data.has_stch;
+    case SENGADLIT_RECORD_RPHF: return !data.rphf_mask || !any_is_substituted (buffer);
+    case SENGADLIT_RECORD_PREF: return !any_is_substituted (buffer);
+    case SENGADLIT_CLEAR_SUBSTITUTION_FLAGS: return !any_is_substituted (buffer);
+    case SENGADLIT_ARABIC_FALLBACK_SHAPE: return true;
+    default: return false;
+  }
 }
 
 static bool
@@ -819,7 +855,9 @@ static bool
 proved_pause (const hb_ot_shape_plan_t *plan, hb_font_t *font, hb_buffer_t *buffer)
 {
   bool ret;
-  if (number <= SENGADLIT_SETUP_SYLLABLES_USE)
+  if (changes_nothing (number, plan, buffer))
+    ret = false;
+  else if (number <= SENGADLIT_SETUP_SYLLABLES_USE)
     ret = set_up_syllables (number, plan, font, buffer);
   else if (number <= SENGADLIT_FINAL_REORDERING)
     ret = reorder (number, plan, font, buffer);
@@ -848,21 +886,21 @@ free_joining_byte (const hb_ot_shape_plan_t *plan HB_UNUSED, hb_font_t *font HB_
 /* HarfBuzz's own functions of a pause may be inline or in a header: they have names in this unit all the same. */
 const pause_t pauses[15] =
 {
-  {"", setup_syllables_indic, proved_pause<SENGADLIT_SETUP_SYLLABLES_INDIC>, find_syllables_indic, {0, 1, 2, 3, 4, 5}},
-  {"", setup_syllables_khmer, proved_pause<SENGADLIT_SETUP_SYLLABLES_KHMER>, find_syllables_khmer, {0, 1, 2}},
-  {"", setup_syllables_myanmar, proved_pause<SENGADLIT_SETUP_SYLLABLES_MYANMAR>, find_syllables_myanmar, {0, 2, 3}},
-  {"", setup_syllables_use, proved_pause<SENGADLIT_SETUP_SYLLABLES_USE>, find_syllables_use, {0, 1, 2, 3, 4, 5, 6, 7, 8}},
-  {"indic initial", initial_reordering_indic, proved_pause<SENGADLIT_INITIAL_REORDERING>, nullptr, {}},
-  {"khmer", reorder_khmer, proved_pause<SENGADLIT_REORDER_KHMER>, nullptr, {}},
-  {"myanmar", reorder_myanmar, proved_pause<SENGADLIT_REORDER_MYANMAR>, nullptr, {}},
-  {"USE", reorder_use, proved_pause<SENGADLIT_REORDER_USE>, nullptr, {}},
-  {"indic final", final_reordering_indic, proved_pause<SENGADLIT_FINAL_REORDERING>, nullptr, {}},
-  {"", record_stch, proved_pause<SENGADLIT_RECORD_STCH>, nullptr, {}},
-  {"", record_rphf_use, proved_pause<SENGADLIT_RECORD_RPHF>, nullptr, {}},
-  {"", record_pref_use, proved_pause<SENGADLIT_RECORD_PREF>, nullptr, {}},
-  {"", hb_syllabic_clear_var, proved_pause<SENGADLIT_SYLLABIC_CLEAR_VAR>, nullptr, {}},
-  {"", _hb_clear_substitution_flags, proved_pause<SENGADLIT_CLEAR_SUBSTITUTION_FLAGS>, nullptr, {}},
-  {"", arabic_fallback_shape, fallback_shape, nullptr, {}},
+  {"", setup_syllables_indic, proved_pause<SENGADLIT_SETUP_SYLLABLES_INDIC>, READS_SCRIPT, find_syllables_indic, {0, 1, 2, 3, 4, 5}},
+  {"", setup_syllables_khmer, proved_pause<SENGADLIT_SETUP_SYLLABLES_KHMER>, READS_SCRIPT, find_syllables_khmer, {0, 1, 2}},
+  {"", setup_syllables_myanmar, proved_pause<SENGADLIT_SETUP_SYLLABLES_MYANMAR>, READS_SCRIPT, find_syllables_myanmar, {0, 2, 3}},
+  {"", setup_syllables_use, proved_pause<SENGADLIT_SETUP_SYLLABLES_USE>, READS_MAP, find_syllables_use, {0, 1, 2, 3, 4, 5, 6, 7, 8}},
+  {"indic initial", initial_reordering_indic, proved_pause<SENGADLIT_INITIAL_REORDERING>, READS_MAP, nullptr, {}},
+  {"khmer", reorder_khmer, proved_pause<SENGADLIT_REORDER_KHMER>, READS_DATA, nullptr, {}},
+  {"myanmar", reorder_myanmar, proved_pause<SENGADLIT_REORDER_MYANMAR>, READS_SCRIPT, nullptr, {}},
+  {"USE", reorder_use, proved_pause<SENGADLIT_REORDER_USE>, READS_SCRIPT, nullptr, {}},
+  {"indic final", final_reordering_indic, proved_pause<SENGADLIT_FINAL_REORDERING>, READS_MAP, nullptr, {}},
+  {"", record_stch, proved_pause<SENGADLIT_RECORD_STCH>, READS_DATA, nullptr, {}},
+  {"", record_rphf_use, proved_pause<SENGADLIT_RECORD_RPHF>, READS_DATA, nullptr, {}},
+  {"", record_pref_use, proved_pause<SENGADLIT_RECORD_PREF>, READS_SCRIPT, nullptr, {}},
+  {"", hb_syllabic_clear_var, proved_pause<SENGADLIT_SYLLABIC_CLEAR_VAR>, READS_SCRIPT, nullptr, {}},
+  {"", _hb_clear_substitution_flags, proved_pause<SENGADLIT_CLEAR_SUBSTITUTION_FLAGS>, READS_SCRIPT, nullptr, {}},
+  {"", arabic_fallback_shape, fallback_shape, READS_SCRIPT, nullptr, {}},
 };
 
 /* ---- Lists of features ---- */
@@ -968,11 +1006,26 @@ asks_lookups (const hb_ot_shape_plan_t *plan, unsigned shaper, bool *zero_contex
   return true;
 }
 
-/* Points the plan at its arrays. */
-static void
-set_arrays (proved_plan_t *proved)
+/* A plan without features and data. */
+static sengadlit_plan
+bare_plan (const hb_ot_shape_plan_t *plan, const proved_plan_t *proved)
 {
-  sengadlit_plan &p = proved->plan;
+  sengadlit_plan p = {};
+  p.script = plan->props.script;
+  p.global_mask = plan->map.get_global_mask ();
+  p.chosen_script = plan->map.chosen_script[0];
+  p.found_script = plan->map.found_script[0];
+  p.has_gpos_mark = plan->has_gpos_mark;
+  p.features = array_of (proved->features);
+  p.stages = array_of (proved->stages);
+  p.lookups = array_of (proved->lookups);
+  return p;
+}
+
+/* Points a plan at its arrays. */
+static void
+set_arrays (const proved_plan_t *proved, sengadlit_plan &p)
+{
   p.features = array_of (proved->features);
   p.features_length = proved->features.length;
   p.stages = array_of (proved->stages);
@@ -1014,6 +1067,47 @@ destroy_proved_plan (void *data)
   hb_free (proved);
 }
 
+/* Whether a hook asks the map of this feature: what data are made of, and nothing else, is with these by then. */
+static bool
+is_asked_later (unsigned shaper, hb_tag_t tag)
+{
+  static const hb_tag_t indic[] = {
+    HB_TAG ('r','p','h','f'), HB_TAG ('p','r','e','f'), HB_TAG ('b','l','w','f'), HB_TAG ('a','b','v','f'),
+    HB_TAG ('h','a','l','f'), HB_TAG ('p','s','t','f'), HB_TAG ('v','a','t','u'), HB_TAG ('i','n','i','t'),
+  };
+  static const hb_tag_t universal[] = {
+    HB_TAG ('i','s','o','l'), HB_TAG ('i','n','i','t'), HB_TAG ('m','e','d','i'), HB_TAG ('f','i','n','a'),
+  };
+  if (shaper == SENGADLIT_INDIC) return hb_array (indic).lfind (tag);
+  return shaper == SENGADLIT_UNIVERSAL && hb_array (universal).lfind (tag);
+}
+
+/* Keeps those features alone that hooks ask of. */
+static void
+keep_features (proved_plan_t *proved)
+{
+  unsigned count = 0;
+  for (unsigned i = 0; i < proved->features.length; i++)
+    if (is_asked_later (proved->shaper, proved->features[i].tag))
+      proved->features[count++] = proved->features[i];
+  (void) proved->features.resize (count);
+}
+
+/* Makes the plans that hooks read, with the data that the shaper keeps. */
+static bool
+set_plans (const hb_ot_shape_plan_t *plan, proved_plan_t *proved)
+{
+  sengadlit_plan *plans = proved->plans;
+  plans[READS_SCRIPT] = plans[READS_DATA] = plans[READS_MAP] = bare_plan (plan, proved);
+  set_arrays (proved, plans[READS_MAP]);
+  sengadlit_outcome outcome = sengadlit_create_data (proved->shaper, &plans[READS_MAP]);
+  if (unlikely (outcome.status != SENGADLIT_DONE && outcome.status != SENGADLIT_ABSENT)) return false;
+  plans[READS_DATA].data = plans[READS_MAP].data;
+  keep_features (proved);
+  set_arrays (proved, plans[READS_MAP]);
+  return true;
+}
+
 static void *
 create_proved_plan (unsigned shaper, const hb_ot_shape_plan_t *plan)
 {
@@ -1021,19 +1115,12 @@ create_proved_plan (unsigned shaper, const hb_ot_shape_plan_t *plan)
   if (unlikely (!room)) return nullptr;
   proved_plan_t *proved = new (room) proved_plan_t ();
   proved->shaper = shaper;
-  proved->plan.script = plan->props.script;
-  proved->plan.global_mask = plan->map.get_global_mask ();
-  proved->plan.chosen_script = plan->map.chosen_script[0];
-  proved->plan.found_script = plan->map.found_script[0];
-  proved->plan.has_gpos_mark = plan->has_gpos_mark;
   add_features (plan, false, proved);
   add_features (plan, true, proved);
   if (asks_lookups (plan, shaper, &proved->zero_context))
     add_stages (plan->map, proved);
-  set_arrays (proved);
   set_stock_plan (plan, proved);
-  sengadlit_outcome outcome = sengadlit_create_data (shaper, &proved->plan);
-  if (likely (outcome.status == SENGADLIT_DONE || outcome.status == SENGADLIT_ABSENT)) return proved;
+  if (likely (set_plans (plan, proved))) return proved;
   destroy_proved_plan (proved);
   return nullptr;
 }
@@ -1046,9 +1133,16 @@ allocate_bytes (unsigned shaper, const proved_plan_t *proved, hb_buffer_t *buffe
 {
   bool category = shaper == SENGADLIT_INDIC || shaper == SENGADLIT_KHMER || shaper == SENGADLIT_MYANMAR || shaper == SENGADLIT_UNIVERSAL;
   bool auxiliary = shaper == SENGADLIT_ARABIC || shaper == SENGADLIT_INDIC || shaper == SENGADLIT_MYANMAR ||
-		   proved->plan.data.has_arabic_plan;
+		   proved->plan (READS_DATA)->data.has_arabic_plan;
   if (category) HB_BUFFER_ALLOCATE_VAR (buffer, ot_shaper_var_u8_category);
   if (auxiliary) HB_BUFFER_ALLOCATE_VAR (buffer, ot_shaper_var_u8_auxiliary);
+}
+
+/* Joining forms and those of jamo are the plan's; other shapers set categories. */
+static reads_t
+masks_read (unsigned shaper)
+{
+  return shaper == SENGADLIT_ARABIC || shaper == SENGADLIT_HANGUL || shaper == SENGADLIT_UNIVERSAL ? READS_DATA : READS_SCRIPT;
 }
 
 /* The place in a table of what was remembered of a question. */
@@ -1105,15 +1199,19 @@ struct proved_hooks_t
   static void override_features (hb_ot_shape_planner_t *planner) { make_requests (shaper, true, planner); }
   static void *data_create (const hb_ot_shape_plan_t *plan) { return create_proved_plan (shaper, plan); }
 
+  /* Indic and the universal shaper answer alone, whatever the text. */
+  static bool rewrites_text () { return shaper == SENGADLIT_THAI || shaper == SENGADLIT_HANGUL; }
+
   static bool rewrite_text (const hb_ot_shape_plan_t *plan, hb_buffer_t *buffer, hb_font_t *font)
   {
     taken_call_t taken (plan, font, buffer, true);
     call_t &call = taken.call;
     uint32_t caller_runs_vowel_constraints = 0;
-    run (call, 0, buffer->len, FIELDS_CODEPOINT | FIELDS_PROPERTIES, &caller_runs_vowel_constraints, [&] (sengadlit_text *text)
+    unsigned length = rewrites_text () ? buffer->len : 0;
+    run (call, 0, length, FIELDS_CODEPOINT | FIELDS_PROPERTIES, &caller_runs_vowel_constraints, [&] (sengadlit_text *text)
     {
       sengadlit_font f = call.sengadlit ();
-      return sengadlit_preprocess_text (shaper, &call.proved->plan, &f, text, call.work->glyphs.arrayZ, call.work->glyphs.length,
+      return sengadlit_preprocess_text (shaper, call.proved->plan (READS_SCRIPT), &f, text, call.work->glyphs.arrayZ, call.work->glyphs.length,
 					call.work->questions.arrayZ, call.work->questions.length);
     });
     return caller_runs_vowel_constraints;
@@ -1129,6 +1227,7 @@ struct proved_hooks_t
 
   static void postprocess_glyphs (const hb_ot_shape_plan_t *plan, hb_buffer_t *buffer, hb_font_t *font)
   {
+    if (!(buffer->scratch_flags & HB_BUFFER_SCRATCH_FLAG_ARABIC_HAS_STCH)) return; /* no change, by contract */
     taken_call_t taken (plan, font, buffer, true);
     call_t &call = taken.call;
     bool is_read = false;
@@ -1137,7 +1236,7 @@ struct proved_hooks_t
       if (!is_read && unlikely (!read_positions (call))) return sengadlit_outcome {SENGADLIT_MEMORY, 0, 0};
       is_read = true;
       sengadlit_font f = call.sengadlit ();
-      return sengadlit_postprocess_glyphs (shaper, &call.proved->plan, &f, text, call.work->glyphs.arrayZ, call.work->glyphs.length,
+      return sengadlit_postprocess_glyphs (shaper, call.proved->plan (READS_DATA), &f, text, call.work->glyphs.arrayZ, call.work->glyphs.length,
 					   call.work->positions.arrayZ, call.work->positions.length,
 					   call.work->questions.arrayZ, call.work->questions.length);
     });
@@ -1155,7 +1254,7 @@ struct proved_hooks_t
       sengadlit_outcome outcome = settle (call, [&]
       {
 	sengadlit_tables tables = call.tables ();
-	return sengadlit_decompose (shaper, &call.proved->plan, &tables, ab, call.work->questions.arrayZ, call.work->questions.length);
+	return sengadlit_decompose (shaper, call.proved->plan (READS_SCRIPT), &tables, ab, call.work->questions.arrayZ, call.work->questions.length);
       });
       bool is_done = outcome.status == SENGADLIT_DONE && outcome.answer != SENGADLIT_NONE;
       *r = {{ab, 0}, {is_done ? outcome.answer : SENGADLIT_NONE, is_done ? (hb_codepoint_t) outcome.count : 0}, true};
@@ -1177,7 +1276,7 @@ struct proved_hooks_t
       sengadlit_outcome outcome = settle (call, [&]
       {
 	sengadlit_tables tables = call.tables ();
-	return sengadlit_compose (shaper, &call.proved->plan, &tables, a, b, call.work->questions.arrayZ, call.work->questions.length);
+	return sengadlit_compose (shaper, call.proved->plan (READS_SCRIPT), &tables, a, b, call.work->questions.arrayZ, call.work->questions.length);
       });
       *r = {{a, b}, {outcome.status == SENGADLIT_DONE ? outcome.answer : SENGADLIT_NONE, 0}, true};
     }
@@ -1195,7 +1294,7 @@ struct proved_hooks_t
       sengadlit_tables tables = call.tables ();
       for (unsigned i = 0; i < text->length; i++)
 	call.work->glyphs.arrayZ[i].glyph_id = scalar_of (call.work->glyphs.arrayZ[i].glyph_id);
-      return sengadlit_setup_masks (shaper, &call.proved->plan, &tables, text, call.work->glyphs.arrayZ, call.work->glyphs.length,
+      return sengadlit_setup_masks (shaper, call.proved->plan (masks_read (shaper)), &tables, text, call.work->glyphs.arrayZ, call.work->glyphs.length,
 				    call.work->questions.arrayZ, call.work->questions.length);
     });
     if (shaper == SENGADLIT_HANGUL)

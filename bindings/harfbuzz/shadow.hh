@@ -414,7 +414,7 @@ struct shadow_hooks_t
   {
     proved_plan_t *made = (proved_plan_t *) proved::data_create (plan);
     if (made && made->stock_data)
-      tally.counts[shaper][CREATE_DATA][same_data (shaper, made->plan.data, made->stock_data) ? SAME : UNKNOWN]++;
+      tally.counts[shaper][CREATE_DATA][same_data (shaper, made->plan (READS_DATA)->data, made->stock_data) ? SAME : UNKNOWN]++;
     return made;
   }
 
