@@ -3,6 +3,7 @@
 
     compare.py OUT cases SOURCE    HarfBuzz's own shaping cases, one process each
     compare.py OUT words ROOT      words of Debian's packages, unpacked in ROOT
+    compare.py OUT speed ROOT      the time of both builds over lines of such words
 
 OUT is the folder that `build` made. A table goes to standard output, by shaper. A case or a word whose output differs
 has a reason that the shadow saw, or it fails, as does a call whose fields differ without a known reason. The last line
@@ -261,7 +262,8 @@ def random_words(blocks, number):
     marks = [letter for letter in letters if unicodedata.category(letter).startswith("M")] or letters
     joiners = ["\u200c", "\u200d", "\u034f", "\u25cc"]
     for _ in range(number):
-        yield "".join(chosen.choice(chosen.choice([letters, letters, marks, marks + joiners])) for _ in range(chosen.randint(1, 8)))
+        length = chosen.randint(1, 8) if chosen.random() < 0.95 else 60
+        yield "".join(chosen.choice(chosen.choice([letters, letters, marks, marks + joiners])) for _ in range(length))
 
 
 def compare_lines(out, arguments, words, stock, proved):
@@ -332,11 +334,57 @@ def compare_words(out, root):
     return not failed and passed > 0
 
 
+# ---- Speed ----
+
+SPEED_SCRIPTS = ["Arabic", "Hebrew", "Thai", "Hangul", "Devanagari", "Tamil", "Khmer", "Myanmar", "Sinhala", "Tibetan"]
+ROUNDS = 7
+
+
+def seconds(out, which, font, path, iterations):
+    """The user time of shaping each line so many times."""
+    before = os.times().children_user
+    run(out, which, [font, "--num-iterations", str(iterations), "--text-file", path])
+    return os.times().children_user - before
+
+
+def time_of(out, which, font, path, iterations):
+    return seconds(out, which, font, path, iterations + 1) - seconds(out, which, font, path, 1)
+
+
+def lines_of(words, number):
+    """Lines of ten words."""
+    return [" ".join(words[place : place + 10]) for place in range(0, len(words), 10)][:number]
+
+
+def compare_speed(out, root):
+    print("| script | font | a text is | characters | as it is, ns a character | proved, ns a character | ratio |")
+    print("|---|---|---|---|---|---|---|")
+    for script in SPEED_SCRIPTS:
+        fonts, lists, languages, blocks = SCRIPTS[script]
+        words = words_of(root, lists, languages, blocks)
+        font = fonts[0]
+        path_of_font = f"{root}/{FONTS}/{font}" if "/" in font else f"{root}/{NOTO}/{font}"
+        for kind, texts in (("a word", words[:2000]), ("ten words", lines_of(words, 200))):
+            with tempfile.NamedTemporaryFile("w", encoding="utf-8") as file:
+                file.writelines(text + "\n" for text in texts)
+                file.flush()
+                characters = sum(map(len, texts))
+                iterations = max(10, 2000000 // characters)
+                times = {"stock": [], "proved": []}
+                for _ in range(ROUNDS):
+                    for which, taken in times.items():
+                        taken.append(time_of(out, which, path_of_font, file.name, iterations))
+            stock, proved = (min(times[which]) / iterations / characters * 1e9 for which in ("stock", "proved"))
+            print(f"| {script} | {os.path.basename(font)} | {kind} | {characters} | {stock:.0f} | {proved:.0f} | {proved / stock:.2f} |",
+                  flush=True)
+    return True
+
+
 def main():
-    if len(sys.argv) != 4 or sys.argv[2] not in ("cases", "words"):
+    compare = {"cases": compare_cases, "words": compare_words, "speed": compare_speed}
+    if len(sys.argv) != 4 or sys.argv[2] not in compare:
         raise SystemExit(__doc__)
-    compare = compare_cases if sys.argv[2] == "cases" else compare_words
-    sys.exit(0 if compare(sys.argv[1], sys.argv[3]) else 1)
+    sys.exit(0 if compare[sys.argv[2]](sys.argv[1], sys.argv[3]) else 1)
 
 
 if __name__ == "__main__":

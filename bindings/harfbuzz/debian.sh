@@ -1,4 +1,4 @@
-# shellcheck shell=sh disable=SC2154
+# shellcheck shell=sh disable=SC2154,SC2034
 # What the scripts of this folder fetch from Debian: sourced by them, with `out` set. Lists of packages, downloads and
 # unpacked packages are all in $out: nothing is installed, and apt's own settings aren't read or written.
 

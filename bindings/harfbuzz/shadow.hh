@@ -211,20 +211,93 @@ same_syllables (const snapshot_t &a, const snapshot_t &b)
   return true;
 }
 
-static bool
-has_kind (const snapshot_t &text, unsigned kind)
+/* The end of the syllable that begins at `start`. */
+static unsigned
+syllable_end (const snapshot_t &text, unsigned start)
 {
-  for (const hb_glyph_info_t &info : text.infos)
-    if ((info.syllable () & 0x0F) == kind) return true;
-  return false;
+  unsigned end = start + 1;
+  while (end < text.infos.length && text.infos[end].syllable () == text.infos[start].syllable ()) end++;
+  return end;
 }
 
 static bool
-has_category (const snapshot_t &text, unsigned category)
+is_symbol_cluster (const snapshot_t &text, unsigned start, unsigned end HB_UNUSED)
 {
-  for (const hb_glyph_info_t &info : text.infos)
-    if (info.ot_shaper_var_u8_category () == category) return true;
+  return (text.infos[start].syllable () & 0x0F) == use_symbol_cluster;
+}
+
+static bool
+has_medial (const snapshot_t &text, unsigned start, unsigned end)
+{
+  for (unsigned i = start; i < end; i++)
+    if (text.infos[i].ot_shaper_var_u8_category () == I_Cat (CM)) return true;
   return false;
+}
+
+/* Marks the glyphs of the syllables that `excepts` names with 2, and with 1 those that a merge of theirs may reach:
+   neighbours of the same cluster. */
+static void
+mark_excepted (const snapshot_t &text, bool (*excepts) (const snapshot_t &text, unsigned start, unsigned end), hb_vector_t<uint8_t> &marks)
+{
+  unsigned length = text.infos.length;
+  marks.resize (length);
+  for (unsigned start = 0, end; start < length; start = end)
+  {
+    end = syllable_end (text, start);
+    for (unsigned i = start; i < end; i++)
+      marks[i] = excepts (text, start, end) ? 2 : 0;
+  }
+  for (unsigned i = 1; i < length; i++)
+    if (marks[i - 1] && !marks[i] && text.infos[i].cluster == text.infos[i - 1].cluster) marks[i] = 1;
+  for (unsigned i = length; i > 1; i--)
+    if (marks[i - 1] && !marks[i - 2] && text.infos[i - 2].cluster == text.infos[i - 1].cluster) marks[i - 2] = 1;
+}
+
+/* Whether two results of one length differ in no syllable but those that `excepts` names, and what these merge with. */
+static bool
+differ_only_in (const snapshot_t &stock, const snapshot_t &proved, uint8_t var_bits,
+		bool (*excepts) (const snapshot_t &text, unsigned start, unsigned end))
+{
+  hb_vector_t<uint8_t> marks;
+  if (stock.infos.length != proved.infos.length) return false;
+  mark_excepted (proved, excepts, marks);
+  for (unsigned i = 0; i < proved.infos.length; i++)
+  {
+    unsigned differ = compare_infos (stock.infos[i], proved.infos[i], var_bits);
+    if (marks[i] == 2) continue;
+    if (marks[i] == 1) differ &= ~(CLUSTER | FLAGS | CONCAT_FLAG);
+    if (differ) return false;
+  }
+  return true;
+}
+
+/* How many broken syllables 6.0.0 passes over: their byte is that of the last broken one, or 0 for the first. */
+static unsigned
+circles_left_out (const snapshot_t &text, unsigned broken_kind)
+{
+  unsigned count = 0, last = 0;
+  for (unsigned start = 0; start < text.infos.length; start = syllable_end (text, start))
+  {
+    unsigned byte = text.infos[start].syllable ();
+    if ((byte & 0x0F) != broken_kind) continue;
+    if (byte == last) count++;
+    last = byte;
+  }
+  return count;
+}
+
+/* The kind of broken syllables in a reordering, as ours have it; none in other hooks. */
+static unsigned
+broken_kind (unsigned hook)
+{
+  switch (hook)
+  {
+    case SENGADLIT_INITIAL_REORDERING: return indic_broken_cluster;
+    case SENGADLIT_REORDER_KHMER: return khmer_broken_cluster;
+    case SENGADLIT_REORDER_MYANMAR: return 2;
+    case SENGADLIT_REORDER_USE: return use_broken_cluster;
+    default: return SENGADLIT_NONE;
+  }
 }
 
 /* ---- A call ---- */
@@ -250,25 +323,24 @@ struct shadow_t
     uint8_t var_bits = stock.state.allocated_var_bits;
     if (hook != SENGADLIT_SYLLABIC_CLEAR_VAR) var_bits |= before.state.allocated_var_bits;
     unsigned differ = compare_texts (stock, proved, var_bits, &first) | (answer != stock_answer ? ANSWER : 0);
-    reason_t reason = differ ? reason_of (differ, proved) : SAME;
+    reason_t reason = differ ? reason_of (differ, proved, var_bits) : SAME;
     tally.counts[shaper][hook][reason]++;
     if (reason == UNKNOWN) describe (differ, first, proved);
   }
 
   private:
-  reason_t reason_of (unsigned differ, const snapshot_t &proved) const
+  reason_t reason_of (unsigned differ, const snapshot_t &proved, uint8_t var_bits) const
   {
     bool is_of_flags = !(differ & ~(FLAGS | CONCAT_FLAG | FLAGGED));
     if (buffer->cluster_level == HB_BUFFER_CLUSTER_LEVEL_CHARACTERS && is_of_flags) return LEVEL;
     if (hook == SETUP_MASKS && buffer->flags & HB_BUFFER_FLAG_PRODUCE_UNSAFE_TO_CONCAT && !(differ & ~(CONCAT_FLAG | FLAGGED)))
       return JOINING_FLAGS;
     if (hook == POSTPROCESS_GLYPHS && differ == X_POSITION) return STRETCH;
-    if (hook == SENGADLIT_REORDER_USE && has_kind (before, 5)) return SYMBOL_CLUSTERS;
-    if (differ & LENGTH && proved.infos.length > stock.infos.length && before.state.scratch_flags & HB_BUFFER_SCRATCH_FLAG_HAS_BROKEN_SYLLABLE)
-      return CIRCLES;
+    if (hook == SENGADLIT_REORDER_USE && differ_only_in (stock, proved, var_bits, is_symbol_cluster)) return SYMBOL_CLUSTERS;
+    if (hook == SENGADLIT_INITIAL_REORDERING && differ_only_in (stock, proved, var_bits, has_medial)) return MEDIAL;
+    if (differ & LENGTH && proved.infos.length == stock.infos.length + circles_left_out (before, broken_kind (hook))) return CIRCLES;
     if (hook == SENGADLIT_SETUP_SYLLABLES_USE && differ == SYLLABLE && !stock.infos[0].syllable () && same_syllables (stock, proved))
       return SERIAL;
-    if (hook == SENGADLIT_INITIAL_REORDERING && has_category (before, I_Cat (CM))) return MEDIAL;
     return UNKNOWN;
   }
 
