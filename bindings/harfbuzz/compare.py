@@ -337,7 +337,7 @@ def compare_words(out, root):
 # ---- Speed ----
 
 SPEED_SCRIPTS = ["Arabic", "Hebrew", "Thai", "Hangul", "Devanagari", "Tamil", "Khmer", "Myanmar", "Sinhala", "Tibetan"]
-ROUNDS = 7
+ROUNDS = 5
 
 
 def seconds(out, which, font, path, iterations):
@@ -369,7 +369,7 @@ def compare_speed(out, root):
                 file.writelines(text + "\n" for text in texts)
                 file.flush()
                 characters = sum(map(len, texts))
-                iterations = max(10, 2000000 // characters)
+                iterations = max(10, 500000 // characters)
                 times = {"stock": [], "proved": []}
                 for _ in range(ROUNDS):
                     for which, taken in times.items():
