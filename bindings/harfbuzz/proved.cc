@@ -377,16 +377,25 @@ sign_of (const hb_font_t *font)
   return font->x_scale < 0 ? -1 : +1;
 }
 
-static sengadlit_applies
-applies_of (hb_face_t *face, bool zero_context, const sengadlit_question &question)
+/* Whether a lookup of a stage would apply. The library has one lookup a stage, of the stage's number: it asks no more. */
+static bool
+stage_would_substitute (const proved_plan_t *proved, hb_face_t *face, const sengadlit_question &question)
 {
   hb_codepoint_t glyphs[3] = {question.glyphs[0], question.glyphs[1], question.glyphs[2]};
+  for (const auto &lookup : proved->stock_plan ()->map.get_stage_lookups (0, question.first))
+    if (hb_ot_layout_lookup_would_substitute (face, lookup.index, glyphs, question.length, proved->zero_context)) return true;
+  return false;
+}
+
+static sengadlit_applies
+applies_of (const proved_plan_t *proved, hb_face_t *face, const sengadlit_question &question)
+{
   sengadlit_applies applies = {};
   applies.lookup = question.first;
   applies.length = question.length;
   memcpy (applies.glyphs, question.glyphs, sizeof (applies.glyphs));
   applies.zero_context = question.zero_context;
-  applies.applies = hb_ot_layout_lookup_would_substitute (face, question.first, glyphs, question.length, zero_context);
+  applies.applies = stage_would_substitute (proved, face, question);
   return applies;
 }
 
@@ -432,7 +441,7 @@ answer (call_t &call, const sengadlit_question &question)
       return call.font_answers && call.font_answers->advances.add
 	({question.first, sign_of (call.font) * call.font->get_glyph_h_advance (question.first)});
     case SENGADLIT_ASKS_APPLIES:
-      return work->applies.add (applies_of (call.face, call.proved->zero_context, question));
+      return work->applies.add (applies_of (call.proved, call.face, question));
     case SENGADLIT_ASKS_CHARACTER:
       return work->characters.add (character_of (work->unicode, question.first));
     case SENGADLIT_ASKS_COMPOSITION:
@@ -977,7 +986,7 @@ add_features (const hb_ot_shape_plan_t *plan, bool override, proved_plan_t *prov
     if (request.tag) add_feature (plan->map, request.tag, proved);
 }
 
-/* The stages of the features that Indic asks about, and their lookups; other stages are empty here. */
+/* The stages of the features that Indic asks about, each with its number for a lookup; other stages are empty here. */
 static void
 add_stages (const hb_ot_map_t &map, proved_plan_t *proved)
 {
@@ -991,8 +1000,8 @@ add_stages (const hb_ot_map_t &map, proved_plan_t *proved)
     if (stage >= proved->stages.length && unlikely (!proved->stages.resize (stage + 1))) return;
     if (proved->stages[stage].end) continue;
     proved->stages[stage].start = proved->lookups.length;
-    for (const auto &lookup : map.get_stage_lookups (0, stage))
-      proved->lookups.push (lookup.index);
+    if (map.get_stage_lookups (0, stage).length)
+      proved->lookups.push (stage);
     proved->stages[stage].end = proved->lookups.length;
   }
 }
