@@ -16,6 +16,7 @@ import gettext
 import glob
 import os
 import random
+import re
 import shlex
 import subprocess
 import sys
@@ -170,7 +171,7 @@ SCRIPTS = {
                [(0x620, 0x6FF), (0x8A0, 0x8FF)]),
     "Syriac": (["NotoSansSyriac-Regular.ttf"], [], [], [(0x700, 0x74F)]),
     "Hebrew": (["truetype/culmus/FrankRuehlCLM-Medium.ttf", "truetype/dejavu/DejaVuSans.ttf"], ["he_IL"], ["he"], [(0x5B0, 0x5F2)]),
-    "Thai": (["truetype/tlwg/Garuda.ttf", "NotoSansThai-Regular.ttf"], ["th_TH"], ["th"], [(0xE01, 0xE5B)]),
+    "Thai": (["truetype/tlwg/Garuda.ttf", "NotoSansThai-Regular.ttf", "truetype/dejavu/DejaVuSans.ttf"], ["th_TH"], ["th"], [(0xE01, 0xE5B)]),
     "Lao": (["truetype/lao/Phetsarath_OT.ttf", "NotoSansLao-Regular.ttf"], ["lo_LA"], ["lo"], [(0xE81, 0xEDF)]),
     "Hangul": (["truetype/nanum/NanumGothic.ttf", "truetype/nanum/NanumBarunGothic.ttf"], ["ko"], ["ko"],
                [(0x1100, 0x11FF), (0xAC00, 0xAC40), (0x302E, 0x302F)]),
@@ -266,20 +267,25 @@ def random_words(blocks, number):
         yield "".join(chosen.choice(chosen.choice([letters, letters, marks, marks + joiners])) for _ in range(length))
 
 
+def without_flags(line):
+    return re.sub(rb"#[0-9]+", b"", line)
+
+
 def compare_lines(out, arguments, words, stock, proved):
-    """The words whose output differs, each with its reasons."""
+    """The words whose output differs: each with its place, its reasons, and whether it is flags alone that differ."""
     stock, proved = stock.splitlines(), proved.splitlines()
     if len(stock) != len(words) or len(proved) != len(words):
-        return {"": collections.Counter({"lines": 1})}
-    differ = {}
-    for word, one, other in zip(words, stock, proved):
+        return [(0, collections.Counter(), False)]
+    differ = []
+    for place, (one, other) in enumerate(zip(stock, proved)):
         if one != other:
-            _, tally = shadowed(out, [*arguments, "--unicodes", ",".join(f"{ord(c):04X}" for c in word)])
-            differ[word] = tally.reasons()
+            unicodes = ",".join(f"{ord(character):04X}" for character in words[place])
+            _, tally = shadowed(out, [*arguments, "--unicodes", unicodes])
+            differ.append((place, tally.reasons(), without_flags(one) == without_flags(other)))
     return differ
 
 
-def run_words(out, root, script, fonts, real, others):
+def run_words(out, root, fonts, real, others):
     """Shapes words with each font and setting; answers the tally, and the words whose output differs."""
     tally, differ, shaped = Tally(), [], 0
     words = real + others
@@ -295,28 +301,35 @@ def run_words(out, root, script, fonts, real, others):
                     arguments += [f"--text-before={real[0] if real else others[0]}", f"--text-after={words[-1]}"]
                 _, counted = shadowed(out, [*arguments, "--text-file", path])
                 stock, proved = (run(out, which, [*arguments, "--text-file", path]) for which in ("stock", "proved"))
-                for word, reasons in compare_lines(out, arguments, words, stock, proved).items():
-                    differ.append((script, os.path.basename(font), word, reasons))
+                for number, reasons, is_of_flags in compare_lines(out, arguments, words, stock, proved):
+                    differ.append((os.path.basename(font), words[number], reasons, is_of_flags, number < len(real)))
                 tally.add(counted)
                 shaped += len(words)
     return tally, differ, shaped
 
 
+def of_real(differ, is_of_flags):
+    """How many outputs differ so, and how many of them are of real words."""
+    real = [is_real for _, _, _, of_flags, is_real in differ if of_flags == is_of_flags]
+    return f"{len(real)}, of real words {sum(real)}" if real else "0"
+
+
 def compare_words(out, root):
-    print("| script | real words | torn and random | shaped | through | calls | calls that differ | other output |")
-    print("|---|---|---|---|---|---|---|---|")
+    print("| script | real words | torn and random | shaped | through | calls | calls that differ | other flags | other glyphs |")
+    print("|---|---|---|---|---|---|---|---|---|")
     total, failed, passed = Tally(), [], 0
     for script, (fonts, lists, languages, blocks) in SCRIPTS.items():
         real = words_of(root, lists, languages, blocks)
         others = list(torn(real)) + list(random_words(blocks, RANDOM_WORDS))
-        tally, differ, shaped = run_words(out, root, script, fonts, real, others)
-        unexplained = [place for place in differ if not place[3] or place[3]["UNKNOWN"]]
+        tally, differ, shaped = run_words(out, root, fonts, real, others)
+        unexplained = [place for place in differ if not place[2] or place[2]["UNKNOWN"]]
         if tally.reasons()["UNKNOWN"] or unexplained:
             failed.append((script, tally, unexplained))
         passed += shaped - len(unexplained)
         shapers = ", ".join(sorted(tally.shapers(), key=lambda shaper: -tally.number(shaper)))
         calls = sum(tally.calls.values())
-        print(f"| {script} | {len(real)} | {len(others)} | {shaped} | {shapers} | {calls} | {told(tally.reasons())} | {len(differ)} |",
+        flags, glyphs = of_real(differ, True), of_real(differ, False)
+        print(f"| {script} | {len(real)} | {len(others)} | {shaped} | {shapers} | {calls} | {told(tally.reasons())} | {flags} | {glyphs} |",
               flush=True)
         total.add(tally)
     print()
@@ -326,7 +339,7 @@ def compare_words(out, root):
             print(f"- {shaper}: {total.number(shaper)} calls of {len(hooks)} hooks and pauses; differ: {told(total.reasons(shaper))}")
     for script, tally, unexplained in failed:
         print(f"FAILED: {script}: {told(tally.reasons())}; outputs without a reason: {len(unexplained)}")
-        for _, font, word, _ in unexplained[:3]:
+        for font, word, *_ in unexplained[:3]:
             print(f"    {font} {' '.join(f'{ord(c):04X}' for c in word)}")
         for note in tally.notes[:8]:
             print("    " + note[:600])
