@@ -18,6 +18,7 @@ import os
 import random
 import re
 import shlex
+import shutil
 import subprocess
 import sys
 import tempfile
@@ -208,6 +209,10 @@ MOST_WORDS = 6000
 RANDOM_WORDS = 2000
 
 
+def path_of_font(root, font):
+    return f"{root}/{FONTS}/{font}" if "/" in font else f"{root}/{NOTO}/{font}"
+
+
 def encoding_of(path):
     with open(path[:-4] + ".aff", encoding="latin-1") as file:
         for line in file:
@@ -294,7 +299,7 @@ def run_words(out, root, fonts, real, others):
         with open(path, "w", encoding="utf-8") as file:
             file.writelines(word + "\n" for word in words)
         for font in fonts:
-            font = f"{root}/{FONTS}/{font}" if "/" in font else f"{root}/{NOTO}/{font}"
+            font = path_of_font(root, font)
             for place, settings in enumerate(SETTINGS):
                 arguments = [font, "--show-flags", *settings]
                 if place == 1:
@@ -364,32 +369,47 @@ def time_of(out, which, font, path, iterations):
     return seconds(out, which, font, path, iterations + 1) - seconds(out, which, font, path, 1)
 
 
+def counted(out, which, font, path, iterations):
+    """The instructions of shaping each line so many times, as valgrind counts them."""
+    arguments = ["valgrind", "--tool=callgrind", "--callgrind-out-file=/dev/null", f"{out}/{which}/hb-shape", font,
+                 "--num-iterations", str(iterations), "--text-file", path]
+    told = subprocess.run(arguments, stdout=subprocess.DEVNULL, stderr=subprocess.PIPE, check=True).stderr
+    return int(re.search(rb"Collected : ([0-9]+)", told).group(1))
+
+
+def instructions_of(out, which, font, path):
+    return (counted(out, which, font, path, 3) - counted(out, which, font, path, 1)) / 2
+
+
 def lines_of(words, number):
     """Lines of ten words."""
     return [" ".join(words[place : place + 10]) for place in range(0, len(words), 10)][:number]
 
 
 def compare_speed(out, root):
-    print("| script | font | a text is | characters | as it is, ns a character | proved, ns a character | ratio |")
-    print("|---|---|---|---|---|---|---|")
+    has_valgrind = shutil.which("valgrind") is not None
+    print("| script | font | a text is | characters | as it is, ns a character | proved | ratio | ratio of instructions |")
+    print("|---|---|---|---|---|---|---|---|")
     for script in SPEED_SCRIPTS:
         fonts, lists, languages, blocks = SCRIPTS[script]
         words = words_of(root, lists, languages, blocks)
-        font = fonts[0]
-        path_of_font = f"{root}/{FONTS}/{font}" if "/" in font else f"{root}/{NOTO}/{font}"
-        for kind, texts in (("a word", words[:2000]), ("ten words", lines_of(words, 200))):
+        font = path_of_font(root, fonts[0])
+        for kind, texts in (("a word", words[:1000]), ("ten words", lines_of(words, 100))):
             with tempfile.NamedTemporaryFile("w", encoding="utf-8") as file:
                 file.writelines(text + "\n" for text in texts)
                 file.flush()
                 characters = sum(map(len, texts))
-                iterations = max(10, 500000 // characters)
+                iterations = max(10, 400000 // characters)
                 times = {"stock": [], "proved": []}
                 for _ in range(ROUNDS):
                     for which, taken in times.items():
-                        taken.append(time_of(out, which, path_of_font, file.name, iterations))
-            stock, proved = (min(times[which]) / iterations / characters * 1e9 for which in ("stock", "proved"))
-            print(f"| {script} | {os.path.basename(font)} | {kind} | {characters} | {stock:.0f} | {proved:.0f} | {proved / stock:.2f} |",
-                  flush=True)
+                        taken.append(time_of(out, which, font, file.name, iterations))
+                stock, proved = (min(times[which]) / iterations / characters * 1e9 for which in ("stock", "proved"))
+                ratio = "not counted"
+                if has_valgrind:
+                    ratio = f"{instructions_of(out, 'proved', font, file.name) / instructions_of(out, 'stock', font, file.name):.2f}"
+            print(f"| {script} | {os.path.basename(font)} | {kind} | {characters} | {stock:.0f} | {proved:.0f} | "
+                  f"{proved / stock:.2f} | {ratio} |", flush=True)
     return True
 
 
