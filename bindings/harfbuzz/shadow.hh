@@ -71,7 +71,8 @@ struct tally_t
       for (unsigned hook = 0; hook < HOOKS_LENGTH; hook++)
 	for (unsigned reason = 0; reason < REASONS; reason++)
 	  if (counts[shaper][hook][reason])
-	    fprintf (file, "count %s %s %s %lu\n", shaper_names[shaper], hook_names[hook], reason_names[reason], counts[shaper][hook][reason]);
+	    fprintf (file, "count %s %s %s %lu\n", shaper_names[shaper], hook_names[hook], reason_names[reason],
+		     counts[shaper][hook][reason]);
     if (notes.length) fwrite (notes.arrayZ, 1, notes.length, file);
     fclose (file);
   }
@@ -206,7 +207,8 @@ same_syllables (const snapshot_t &a, const snapshot_t &b)
   for (unsigned i = 0; i < a.infos.length; i++)
   {
     if ((a.infos[i].syllable () ^ b.infos[i].syllable ()) & 0x0F) return false;
-    if (i && (a.infos[i].syllable () == a.infos[i - 1].syllable ()) != (b.infos[i].syllable () == b.infos[i - 1].syllable ())) return false;
+    if (i && (a.infos[i].syllable () == a.infos[i - 1].syllable ()) != (b.infos[i].syllable () == b.infos[i - 1].syllable ()))
+      return false;
   }
   return true;
 }
@@ -237,7 +239,8 @@ has_medial (const snapshot_t &text, unsigned start, unsigned end)
 /* Marks the glyphs of the syllables that `excepts` names with 2, and with 1 those that a merge of theirs may reach:
    neighbours of the same cluster. */
 static void
-mark_excepted (const snapshot_t &text, bool (*excepts) (const snapshot_t &text, unsigned start, unsigned end), hb_vector_t<uint8_t> &marks)
+mark_excepted (const snapshot_t &text, bool (*excepts) (const snapshot_t &text, unsigned start, unsigned end),
+	       hb_vector_t<uint8_t> &marks)
 {
   unsigned length = text.infos.length;
   marks.resize (length);
