@@ -1,0 +1,424 @@
+#!/usr/bin/env python3
+"""Shapes the same texts with HarfBuzz as it is, with the proved hooks, and with both hooks on each call.
+
+    compare.py OUT cases SOURCE    HarfBuzz's own shaping cases, one process each
+    compare.py OUT words ROOT      words of Debian's packages, unpacked in ROOT
+    compare.py OUT speed ROOT      the time of both builds over lines of such words
+
+OUT is the folder that `build` made. A table goes to standard output, by shaper. A case or a word whose output differs
+has a reason that the shadow saw, or it fails, as does a call whose fields differ without a known reason. The last line
+is 'N passed, M failed'.
+"""
+
+import collections
+import concurrent.futures
+import gettext
+import glob
+import os
+import random
+import re
+import shlex
+import shutil
+import subprocess
+import sys
+import tempfile
+import unicodedata
+
+SHAPERS = ["arabic", "hangul", "hebrew", "indic", "khmer", "myanmar", "zawgyi", "thai", "universal"]
+
+# A list that differs in what has no effect is no difference of a case or word.
+WITHOUT_EFFECT = {"same", "another-list"}
+
+
+def run(out, which, arguments, tally=None):
+    """Runs hb-shape of a build; answers what it printed."""
+    environment = dict(os.environ)
+    environment.pop("SENGADLIT_SHADOW", None)
+    if tally:
+        environment["SENGADLIT_SHADOW"] = tally
+    done = subprocess.run([f"{out}/{which}/hb-shape", *arguments], env=environment, stdout=subprocess.PIPE,
+                          stderr=subprocess.PIPE, check=False)
+    if done.returncode < 0:
+        return b"ended by a signal\n"
+    return done.stdout
+
+
+class Tally:
+    """What the shadow counted: calls by shaper, hook and reason, and its notes."""
+
+    def __init__(self):
+        self.calls = collections.Counter()
+        self.notes = []
+
+    def read(self, path):
+        if not os.path.exists(path):
+            return
+        with open(path, encoding="utf-8") as file:
+            for line in file:
+                if line.startswith("count "):
+                    _, shaper, hook, reason, number = line.split()
+                    self.calls[shaper, hook, reason] += int(number)
+                else:
+                    self.notes.append(line.rstrip("\n"))
+
+    def add(self, other):
+        self.calls.update(other.calls)
+        self.notes.extend(other.notes)
+
+    def shapers(self):
+        return {shaper for shaper, _, _ in self.calls}
+
+    def reasons(self, shaper=None):
+        """How many calls differ, by reason."""
+        found = collections.Counter()
+        for (of, _, reason), number in self.calls.items():
+            if reason not in WITHOUT_EFFECT and shaper in (None, of):
+                found[reason] += number
+        return found
+
+    def number(self, shaper):
+        return sum(number for (of, _, _), number in self.calls.items() if of == shaper)
+
+
+def shadowed(out, arguments):
+    """Runs the shadow; answers what it printed and what it counted."""
+    with tempfile.TemporaryDirectory() as folder:
+        path = f"{folder}/tally"
+        printed = run(out, "shadow", arguments, path)
+        tally = Tally()
+        tally.read(path)
+        return printed, tally
+
+
+def told(reasons):
+    return ", ".join(f"{reason} {number}" for reason, number in sorted(reasons.items())) or "none"
+
+
+# ---- HarfBuzz's own cases ----
+
+
+def cases(source):
+    """HarfBuzz's own shaping cases: the arguments of hb-shape, and what is expected."""
+    for path in sorted(glob.glob(f"{source}/test/shape/data/*/tests/*.tests")):
+        with open(path, encoding="utf-8") as file:
+            for line in file:
+                line = line.strip()
+                if not line or line.startswith("#"):
+                    continue
+                font, options, unicodes, expected = line.split(";")
+                if font.startswith(("/", '"')):
+                    continue  # a font of another system
+                font = os.path.normpath(os.path.join(os.path.dirname(path), font))
+                options = [option for option in shlex.split(options) if not option.startswith("--font-funcs=")]
+                if any(option.startswith("--shaper=") and option != "--shaper=ot" for option in options):
+                    continue
+                arguments = [font, "--font-funcs=ot", "--shaper=ot", "--unicodes", unicodes, *options]
+                if expected != "*":
+                    arguments += ["--verify", "--unsafe-to-concat"]
+                yield arguments, expected
+
+
+def run_case(out, case):
+    arguments, expected = case
+    printed, tally = shadowed(out, arguments)
+    stock, proved = (run(out, which, arguments).decode().strip() for which in ("stock", "proved"))
+    return {
+        "arguments": arguments,
+        "same": stock == proved == printed.decode().strip(),
+        "expected": {which: expected in ("*", made) for which, made in (("stock", stock), ("proved", proved))},
+        "tally": tally,
+    }
+
+
+def compare_cases(out, source):
+    with concurrent.futures.ThreadPoolExecutor(2) as pool:
+        results = list(pool.map(lambda case: run_case(out, case), cases(source)))
+    failed = []
+    rows = {shaper: {"cases": 0, "same": 0, "tally": Tally()} for shaper in SHAPERS}
+    through = 0
+    for result in results:
+        tally = result["tally"]
+        through += bool(tally.shapers())
+        if tally.reasons()["UNKNOWN"] or not (result["same"] or tally.reasons()):
+            failed.append(result["arguments"])
+        for shaper in tally.shapers():
+            row = rows[shaper]
+            row["cases"] += 1
+            row["same"] += result["same"]
+            row["tally"].add(tally)
+    print("| shaper | cases through its hooks | same output | calls of its hooks | calls that differ |")
+    print("|---|---|---|---|---|")
+    for shaper, row in rows.items():
+        tally = row["tally"]
+        print(f"| {shaper} | {row['cases']} | {row['same']} | {tally.number(shaper)} | {told(tally.reasons(shaper))} |")
+    wanted = {which: sum(result["expected"][which] for result in results) for which in ("stock", "proved")}
+    print()
+    print(f"{len(results)} cases, {through} of them through at least one hook; the output is the expected one in "
+          f"{wanted['stock']} as it is, in {wanted['proved']} with the proved hooks")
+    for arguments in failed:
+        print("FAILED: hb-shape " + shlex.join(arguments))
+    passed = len(results) - len(failed)
+    print(f"{passed} passed, {len(failed)} failed")
+    return not failed and passed > 0
+
+
+# ---- Words ----
+
+# By script: fonts, word lists of hunspell, languages of iso-codes, and the characters of random words.
+FONTS = "usr/share/fonts"
+NOTO = f"{FONTS}/truetype/noto"
+SCRIPTS = {
+    "Arabic": (["opentype/fonts-hosny-amiri/Amiri-Regular.ttf", "truetype/dejavu/DejaVuSans.ttf"], ["ar", "fa"], ["ug", "ur"],
+               [(0x620, 0x6FF), (0x8A0, 0x8FF)]),
+    "Syriac": (["NotoSansSyriac-Regular.ttf"], [], [], [(0x700, 0x74F)]),
+    "Hebrew": (["truetype/culmus/FrankRuehlCLM-Medium.ttf", "truetype/dejavu/DejaVuSans.ttf"], ["he_IL"], ["he"], [(0x5B0, 0x5F2)]),
+    "Thai": (["truetype/tlwg/Garuda.ttf", "NotoSansThai-Regular.ttf", "truetype/dejavu/DejaVuSans.ttf"], ["th_TH"], ["th"], [(0xE01, 0xE5B)]),
+    "Lao": (["truetype/lao/Phetsarath_OT.ttf", "NotoSansLao-Regular.ttf"], ["lo_LA"], ["lo"], [(0xE81, 0xEDF)]),
+    "Hangul": (["truetype/nanum/NanumGothic.ttf", "truetype/nanum/NanumBarunGothic.ttf"], ["ko"], ["ko"],
+               [(0x1100, 0x11FF), (0xAC00, 0xAC40), (0x302E, 0x302F)]),
+    "Devanagari": (["truetype/lohit-devanagari/Lohit-Devanagari.ttf", "NotoSansDevanagari-Regular.ttf",
+                    "truetype/freefont/FreeSerif.ttf"], ["hi_IN", "ne_NP"], ["mr"], [(0x900, 0x97F)]),
+    "Bengali": (["NotoSansBengali-Regular.ttf", "truetype/freefont/FreeSerif.ttf"], ["bn_BD"], ["bn", "as"], [(0x980, 0x9FE)]),
+    "Gujarati": (["NotoSansGujarati-Regular.ttf", "truetype/freefont/FreeSerif.ttf"], ["gu_IN"], [], [(0xA81, 0xAFF)]),
+    "Gurmukhi": (["NotoSansGurmukhi-Regular.ttf", "truetype/freefont/FreeSerif.ttf"], [], ["pa"], [(0xA01, 0xA76)]),
+    "Oriya": (["NotoSansOriya-Regular.ttf", "truetype/freefont/FreeSerif.ttf"], [], ["or"], [(0xB01, 0xB77)]),
+    "Tamil": (["NotoSansTamil-Regular.ttf", "truetype/freefont/FreeSerif.ttf"], [], ["ta"], [(0xB82, 0xBFA)]),
+    "Telugu": (["NotoSansTelugu-Regular.ttf", "truetype/freefont/FreeSerif.ttf"], ["te_IN"], ["te"], [(0xC00, 0xC7F)]),
+    "Kannada": (["NotoSansKannada-Regular.ttf", "truetype/freefont/FreeSerif.ttf"], [], ["kn"], [(0xC80, 0xCF2)]),
+    "Malayalam": (["NotoSansMalayalam-Regular.ttf", "truetype/freefont/FreeSerif.ttf"], ["ml_IN"], [], [(0xD00, 0xD7F)]),
+    "Khmer": (["truetype/khmeros/KhmerOS.ttf", "NotoSansKhmer-Regular.ttf"], [], ["km"], [(0x1780, 0x17DD)]),
+    "Myanmar": (["truetype/padauk/Padauk-Regular.ttf", "NotoSansMyanmar-Regular.ttf"], [], ["my"], [(0x1000, 0x109F)]),
+    "Sinhala": (["NotoSansSinhala-Regular.ttf"], ["si_LK"], ["si"], [(0xD81, 0xDF4)]),
+    "Tibetan": (["NotoSerifTibetan-Regular.ttf"], ["bo", "dz"], ["dz"], [(0xF00, 0xFBC)]),
+    "Mongolian": (["NotoSansMongolian-Regular.ttf"], [], [], [(0x1800, 0x1878)]),
+    "N'Ko": (["NotoSansNKo-Regular.ttf"], [], [], [(0x7C0, 0x7FA)]),
+    "Phags-pa": (["NotoSansPhagsPa-Regular.ttf"], [], [], [(0xA840, 0xA877)]),
+    "Javanese": (["NotoSansJavanese-Regular.ttf"], [], [], [(0xA980, 0xA9DF)]),
+    "Balinese": (["NotoSansBalinese-Regular.ttf"], [], [], [(0x1B00, 0x1B7C)]),
+    "Chakma": (["NotoSansChakma-Regular.ttf"], [], [], [(0x11100, 0x11147)]),
+    "Adlam": (["NotoSansAdlam-Regular.ttf"], [], [], [(0x1E900, 0x1E95F)]),
+}
+
+# Cluster levels, with the flags and contexts that are tried with each.
+SETTINGS = [
+    ["--cluster-level=0", "--unsafe-to-concat"],
+    ["--cluster-level=1", "--safe-to-insert-tatweel", "--unsafe-to-concat"],
+    ["--cluster-level=2"],
+]
+MOST_WORDS = 6000
+RANDOM_WORDS = 2000
+
+
+def path_of_font(root, font):
+    return f"{root}/{FONTS}/{font}" if "/" in font else f"{root}/{NOTO}/{font}"
+
+
+def encoding_of(path):
+    with open(path[:-4] + ".aff", encoding="latin-1") as file:
+        for line in file:
+            if line.startswith("SET "):
+                return line.split()[1]
+    return "latin-1"
+
+
+def hunspell(root, name):
+    for folder in ("hunspell", "myspell/dicts"):
+        path = f"{root}/usr/share/{folder}/{name}.dic"
+        if os.path.exists(path):
+            with open(path, encoding=encoding_of(path), errors="replace") as file:
+                return [line.split("/")[0].split("\t")[0].strip() for line in file][1:]
+    raise SystemExit(f"compare.py: there is no word list {name}")
+
+
+def translations(root, language):
+    found = []
+    for path in sorted(glob.glob(f"{root}/usr/share/locale/{language}/LC_MESSAGES/iso_*.mo")):
+        with open(path, "rb") as file:
+            catalog = gettext.GNUTranslations(file)._catalog
+        for text in catalog.values():
+            found += text.split() if isinstance(text, str) else []
+    return found
+
+
+def is_in(word, blocks):
+    return any(first <= ord(character) <= last for character in word for first, last in blocks)
+
+
+def words_of(root, lists, languages, blocks):
+    """Real words with a character of the script, at most so many, spread over the lists."""
+    found = [word for name in lists for word in hunspell(root, name)]
+    found += [word for language in languages for word in translations(root, language)]
+    found = sorted({word for word in found if is_in(word, blocks) and "\n" not in word})
+    return found[:: max(1, len(found) // MOST_WORDS)][:MOST_WORDS]
+
+
+def torn(words):
+    """The words from their first mark on."""
+    for word in words:
+        for place, character in enumerate(word):
+            if unicodedata.category(character).startswith("M"):
+                if place:
+                    yield word[place:]
+                break
+
+
+def random_words(blocks, number):
+    chosen = random.Random(36)
+    letters = [chr(code) for first, last in blocks for code in range(first, last + 1) if unicodedata.category(chr(code)) != "Cn"]
+    marks = [letter for letter in letters if unicodedata.category(letter).startswith("M")] or letters
+    joiners = ["\u200c", "\u200d", "\u034f", "\u25cc"]
+    for _ in range(number):
+        length = chosen.randint(1, 8) if chosen.random() < 0.95 else 60
+        yield "".join(chosen.choice(chosen.choice([letters, letters, marks, marks + joiners])) for _ in range(length))
+
+
+def without_flags(line):
+    return re.sub(rb"#[0-9]+", b"", line)
+
+
+def compare_lines(out, arguments, words, stock, proved):
+    """The words whose output differs: each with its place, its reasons, and whether it is flags alone that differ."""
+    stock, proved = stock.splitlines(), proved.splitlines()
+    if len(stock) != len(words) or len(proved) != len(words):
+        return [(0, collections.Counter(), False)]
+    differ = []
+    for place, (one, other) in enumerate(zip(stock, proved)):
+        if one != other:
+            unicodes = ",".join(f"{ord(character):04X}" for character in words[place])
+            _, tally = shadowed(out, [*arguments, "--unicodes", unicodes])
+            differ.append((place, tally.reasons(), without_flags(one) == without_flags(other)))
+    return differ
+
+
+def run_words(out, root, fonts, real, others):
+    """Shapes words with each font and setting; answers the tally, and the words whose output differs."""
+    tally, differ, shaped = Tally(), [], 0
+    words = real + others
+    with tempfile.TemporaryDirectory() as folder:
+        path = f"{folder}/words"
+        with open(path, "w", encoding="utf-8") as file:
+            file.writelines(word + "\n" for word in words)
+        for font in fonts:
+            font = path_of_font(root, font)
+            for place, settings in enumerate(SETTINGS):
+                arguments = [font, "--show-flags", *settings]
+                if place == 1:
+                    arguments += [f"--text-before={real[0] if real else others[0]}", f"--text-after={words[-1]}"]
+                _, counted = shadowed(out, [*arguments, "--text-file", path])
+                stock, proved = (run(out, which, [*arguments, "--text-file", path]) for which in ("stock", "proved"))
+                for number, reasons, is_of_flags in compare_lines(out, arguments, words, stock, proved):
+                    differ.append((os.path.basename(font), words[number], reasons, is_of_flags, number < len(real)))
+                tally.add(counted)
+                shaped += len(words)
+    return tally, differ, shaped
+
+
+def of_real(differ, is_of_flags):
+    """How many outputs differ so, and how many of them are of real words."""
+    real = [is_real for _, _, _, of_flags, is_real in differ if of_flags == is_of_flags]
+    return f"{len(real)}, of real words {sum(real)}" if real else "0"
+
+
+def compare_words(out, root):
+    print("| script | real words | torn and random | shaped | through | calls | calls that differ | other flags | other glyphs |")
+    print("|---|---|---|---|---|---|---|---|---|")
+    total, failed, passed = Tally(), [], 0
+    for script, (fonts, lists, languages, blocks) in SCRIPTS.items():
+        real = words_of(root, lists, languages, blocks)
+        others = list(torn(real)) + list(random_words(blocks, RANDOM_WORDS))
+        tally, differ, shaped = run_words(out, root, fonts, real, others)
+        unexplained = [place for place in differ if not place[2] or place[2]["UNKNOWN"]]
+        if tally.reasons()["UNKNOWN"] or unexplained:
+            failed.append((script, tally, unexplained))
+        passed += shaped - len(unexplained)
+        shapers = ", ".join(sorted(tally.shapers(), key=lambda shaper: -tally.number(shaper)))
+        calls = sum(tally.calls.values())
+        flags, glyphs = of_real(differ, True), of_real(differ, False)
+        print(f"| {script} | {len(real)} | {len(others)} | {shaped} | {shapers} | {calls} | {told(tally.reasons())} | {flags} | {glyphs} |",
+              flush=True)
+        total.add(tally)
+    print()
+    for shaper in SHAPERS:
+        hooks = {hook for of, hook, _ in total.calls if of == shaper}
+        if hooks:
+            print(f"- {shaper}: {total.number(shaper)} calls of {len(hooks)} hooks and pauses; differ: {told(total.reasons(shaper))}")
+    for script, tally, unexplained in failed:
+        print(f"FAILED: {script}: {told(tally.reasons())}; outputs without a reason: {len(unexplained)}")
+        for font, word, *_ in unexplained[:3]:
+            print(f"    {font} {' '.join(f'{ord(c):04X}' for c in word)}")
+        for note in tally.notes[:8]:
+            print("    " + note[:600])
+    print(f"{passed} passed, {sum(len(u) + t.reasons()['UNKNOWN'] for _, t, u in failed)} failed")
+    return not failed and passed > 0
+
+
+# ---- Speed ----
+
+SPEED_SCRIPTS = ["Arabic", "Hebrew", "Thai", "Hangul", "Devanagari", "Tamil", "Khmer", "Myanmar", "Sinhala", "Tibetan"]
+ROUNDS = 5
+
+
+def seconds(out, which, font, path, iterations):
+    """The user time of shaping each line so many times."""
+    before = os.times().children_user
+    run(out, which, [font, "--num-iterations", str(iterations), "--text-file", path])
+    return os.times().children_user - before
+
+
+def time_of(out, which, font, path, iterations):
+    return seconds(out, which, font, path, iterations + 1) - seconds(out, which, font, path, 1)
+
+
+def counted(out, which, font, path, iterations):
+    """The instructions of shaping each line so many times, as valgrind counts them."""
+    arguments = ["valgrind", "--tool=callgrind", "--callgrind-out-file=/dev/null", f"{out}/{which}/hb-shape", font,
+                 "--num-iterations", str(iterations), "--text-file", path]
+    told = subprocess.run(arguments, stdout=subprocess.DEVNULL, stderr=subprocess.PIPE, check=True).stderr
+    return int(re.search(rb"Collected : ([0-9]+)", told).group(1))
+
+
+def instructions_of(out, which, font, path):
+    return (counted(out, which, font, path, 3) - counted(out, which, font, path, 1)) / 2
+
+
+def lines_of(words, number):
+    """Lines of ten words."""
+    return [" ".join(words[place : place + 10]) for place in range(0, len(words), 10)][:number]
+
+
+def compare_speed(out, root):
+    has_valgrind = shutil.which("valgrind") is not None
+    print("| script | font | a text is | characters | as it is, ns a character | proved | ratio | ratio of instructions |")
+    print("|---|---|---|---|---|---|---|---|")
+    for script in SPEED_SCRIPTS:
+        fonts, lists, languages, blocks = SCRIPTS[script]
+        words = words_of(root, lists, languages, blocks)
+        font = path_of_font(root, fonts[0])
+        for kind, texts in (("a word", words[:1000]), ("ten words", lines_of(words, 100))):
+            with tempfile.NamedTemporaryFile("w", encoding="utf-8") as file:
+                file.writelines(text + "\n" for text in texts)
+                file.flush()
+                characters = sum(map(len, texts))
+                iterations = max(10, 400000 // characters)
+                times = {"stock": [], "proved": []}
+                for _ in range(ROUNDS):
+                    for which, taken in times.items():
+                        taken.append(time_of(out, which, font, file.name, iterations))
+                stock, proved = (min(times[which]) / iterations / characters * 1e9 for which in ("stock", "proved"))
+                ratio = "not counted"
+                if has_valgrind:
+                    ratio = f"{instructions_of(out, 'proved', font, file.name) / instructions_of(out, 'stock', font, file.name):.2f}"
+            print(f"| {script} | {os.path.basename(font)} | {kind} | {characters} | {stock:.0f} | {proved:.0f} | "
+                  f"{proved / stock:.2f} | {ratio} |", flush=True)
+    return True
+
+
+def main():
+    compare = {"cases": compare_cases, "words": compare_words, "speed": compare_speed}
+    if len(sys.argv) != 4 or sys.argv[2] not in compare:
+        raise SystemExit(__doc__)
+    sys.exit(0 if compare[sys.argv[2]](sys.argv[1], sys.argv[3]) else 1)
+
+
+if __name__ == "__main__":
+    main()
