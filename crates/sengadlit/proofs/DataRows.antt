@@ -1,8 +1,12 @@
 -- The plan of numbers, for each kind of data that a shaper keeps.
-use Rattle.std.specs.Prelude.{◌≡◌, ℕ, true, [], ◌∷◌, map, codes, None, Some, refl}
+use Rattle.std.specs.Prelude.{◌≡◌, ℕ, true, false, [], ◌∷◌, map, codes, None, Some, refl}
 use Rattle.shapers_base.specs.declared.plan.PlanData.TheVariants as data_of
 use Rattle.shapers_base.specs.declared.plan.arabic.StretchStart.TheVariants.{Centred}
 use Rattle.shapers_base.specs.declared.plan.arabic.arabic_shape_plan_t.{arabic_shape_plan_t}
+use Rattle.shapers_base.specs.declared.plan.indic.BlwfMode.TheVariants.{PreAndPost}
+use Rattle.shapers_base.specs.declared.plan.indic.RephMode.TheVariants.{Implicit}
+use Rattle.shapers_base.specs.declared.plan.indic.RephPosition.TheVariants.{BeforePost}
+use Rattle.shapers_base.specs.declared.plan.indic.IndicWouldSubstituteFeature.{IndicWouldSubstituteFeature}
 use Rattle.shapers_crossing.specs.Plan.{map_of}
 use Rattle.shapers_crossing.specs.declared.plan.Plan.{Plan}
 use Rattle.sengadlit.specs.Data.{kept_in, plan_of}
@@ -23,6 +27,14 @@ arabic_data = refl
 
 hangul_data : kept_in (of_kind 2 0) ≡ data_of.Hangul (record { mask_array = 11 ∷ 12 ∷ 13 ∷ 14 ∷ [] })
 hangul_data = refl
+
+-- the question of a feature that the map hasn't
+abbrev nothing : IndicWouldSubstituteFeature
+nothing = record { lookups = record { start = 0; end = 0 }; zero_context = false }
+
+-- Indic's are those of the script and the map, whatever the numbers: here of a script that it doesn't know, and no feature
+indic_data : kept_in (of_kind 4 0) ≡ data_of.Indic (record { config = record { script = None; has_old_spec = false; virama = 0; reph_pos = BeforePost; reph_mode = Implicit; blwf_mode = PreAndPost }; is_old_spec = false; rphf = nothing; pref = nothing; blwf = nothing; pstf = nothing; vatu = nothing; mask_array = 0 ∷ 0 ∷ 0 ∷ 0 ∷ 0 ∷ 0 ∷ 0 ∷ 0 ∷ 0 ∷ 0 ∷ 0 ∷ 0 ∷ 0 ∷ 0 ∷ 0 ∷ 0 ∷ 0 ∷ [] })
+indic_data = refl
 
 khmer_data : kept_in (of_kind 5 0) ≡ data_of.Khmer (record { mask_array = 11 ∷ 12 ∷ 13 ∷ 14 ∷ 15 ∷ 16 ∷ 17 ∷ 18 ∷ 19 ∷ [] })
 khmer_data = refl
