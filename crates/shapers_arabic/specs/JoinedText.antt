@@ -4,7 +4,7 @@ use Rattle.std.specs.List.{prefix_len, zip}
 use Rattle.std.specs.Char.{IsScalar}
 use Rattle.std.specs.List.{AllByRecursion}
 use Rattle.std.specs.Cmp.Lexicographic.{pointwise}
-use Rattle.shapers_buffer.specs.Buffer.{Buffer, has_flag}
+use Rattle.shapers_buffer.specs.Buffer.{Buffer, flags_concat, flags_tatweel, has_flag}
 use Rattle.shapers_buffer.specs.GlyphFlags.{flags_called}
 use Rattle.shapers_buffer.specs.declared.buffer.flags.BufferFlags.{BufferFlags}
 use Rattle.shapers_buffer.specs.declared.buffer.category.hb_unicode_general_category_t.{hb_unicode_general_category_t}
@@ -70,7 +70,7 @@ abbrev pub joined_glyphs :
 joined_glyphs masks flags script text gs =
     let calls = joining_flags text.before text.types text.after in
     let formed = with_forms masks (forms_of script text) gs in
-    flags_called (has_flag 0x40 flags) (has_flag 0x80 flags) calls formed
+    flags_called (has_flag flags_concat flags) (has_flag flags_tatweel flags) calls formed
 
 -- the buffer after joining: nothing but its glyphs changes
 abbrev pub joined : List ℕ → Option Script → (ℕ → hb_arabic_joining_type_t) →

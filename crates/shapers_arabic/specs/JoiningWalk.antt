@@ -2,7 +2,7 @@
 -- table's cells and states, and what holds after some places.
 use Rattle.std.specs.Prelude.{◌≡◌, ℕ, ◌+◌, ◌<◌, ◌==◌, nat_le, map, bit_or, Bool, false, ◌&&◌, ◌||◌, List, [], ◌∷◌, ◌++◌, length, take, reverse, slice_set, slice_index, slice_index_or, Option, None, Some, if◌then◌else◌}
 use Rattle.std.specs.List.{AllByRecursion}
-use Rattle.shapers_buffer.specs.Buffer.{has_flag}
+use Rattle.shapers_buffer.specs.Buffer.{flags_concat, flags_tatweel, has_flag}
 use Rattle.shapers_buffer.specs.GlyphFlags.{FlagCall, UnsafeToConcat, SafeToInsertTatweel, flags_called}
 use Rattle.shapers_buffer.specs.declared.buffer.flags.BufferFlags.{BufferFlags}
 use Rattle.shapers_buffer.specs.declared.buffer.glyph.hb_glyph_info_t.{hb_glyph_info_t}
@@ -125,7 +125,8 @@ abbrev pub FlaggedBy :
     BufferFlags → List FlagCall → List hb_glyph_info_t → List hb_glyph_info_t → Type 0
 FlaggedBy flags calls gs hs =
     map unformed hs
-    ≡ flags_called (has_flag 0x40 flags) (has_flag 0x80 flags) calls (map unformed gs)
+    ≡ flags_called (has_flag flags_concat flags) (has_flag flags_tatweel flags) calls
+    (map unformed gs)
 
 -- what joining never changes of a glyph: all but its form and its mask
 abbrev pub unjoined : hb_glyph_info_t → hb_glyph_info_t

@@ -15,6 +15,10 @@ pub record Font : Type 0 where
   pub applies : ℕ → List GlyphId → Bool → Bool
   pub offers : hb_tag_t → Bool
 
+-- the character of the dotted circle
+abbrev pub dotted_circle : ℕ
+dotted_circle = 0x25CC
+
 -- whether the font has a glyph for a character
 abbrev pub has_nominal : Font → ℕ → Bool
 has_nominal font c = is_some (font.nominal c)

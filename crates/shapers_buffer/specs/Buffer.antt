@@ -61,6 +61,17 @@ abbrev pub copied_to : ℕ → ℕ → Buffer → Buffer
 copied_to from to b =
     record b { glyphs = with_copy from to b.glyphs; positions = with_copy from to b.positions }
 
+-- the flags of a buffer by their bits: no dotted circles, unsafe to concatenate, safe to insert a
+-- tatweel
+abbrev pub no_dotted_circle : ℕ
+no_dotted_circle = 0x20
+
+abbrev pub flags_concat : ℕ
+flags_concat = 0x40
+
+abbrev pub flags_tatweel : ℕ
+flags_tatweel = 0x80
+
 -- whether a flag is among these
 abbrev pub has_flag : ℕ → BufferFlags → Bool
 has_flag flag flags = bit_and flags.0 flag == flag

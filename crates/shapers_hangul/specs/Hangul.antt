@@ -6,10 +6,10 @@ use Rattle.std.specs.List.{AllByRecursion}
 use Rattle.shapers_buffer.specs.declared.buffer.glyph.hb_glyph_info_t.{hb_glyph_info_t}
 use Rattle.shapers_buffer.specs.declared.buffer.level.BufferClusterLevel.{BufferClusterLevel}
 use Rattle.shapers_buffer.specs.declared.buffer.level.BufferClusterLevel.TheVariants.{MonotoneGraphemes, MonotoneCharacters, Characters}
-use Rattle.shapers_buffer.specs.Buffer.{Buffer, asks}
+use Rattle.shapers_buffer.specs.Buffer.{Buffer, asks, no_dotted_circle}
 use Rattle.shapers_buffer.specs.Clusters.{merge_all}
 use Rattle.shapers_buffer.specs.GlyphFlags.{unsafe_all}
-use Rattle.shapers_base.specs.Font.{Font, has_nominal}
+use Rattle.shapers_base.specs.Font.{Font, dotted_circle, has_nominal}
 use Rattle.shapers_hangul.specs.declared.ot_shaper_hangul.item.Item.{Item}
 use Rattle.shapers_hangul.specs.declared.ot_shaper_hangul.item.JoinedTone.{JoinedTone}
 use Rattle.shapers_hangul.specs.declared.ot_shaper_hangul.item.JoinedTone.TheVariants.{Absent, Before, Behind}
@@ -107,7 +107,8 @@ syllable_unit font s v =
 -- a tone without a syllable before it: with a circle, where circles are wanted and the font has it
 abbrev pub lone_tone : Font → Bool → ℕ → Unit
 lone_tone font circles u =
-    if circles && has_nominal font 0x25CC then (if is_narrow font u then CircleTone else ToneCircle)
+    if circles && has_nominal font dotted_circle then
+    (if is_narrow font u then CircleTone else ToneCircle)
     else Other
 
 abbrev pub jamo_unit : Font → ℕ → ℕ → ℕ → Unit
@@ -271,8 +272,8 @@ unit_output c (PartsThree l v t) xs =
 unit_output c (PartsBeforeT l v) xs =
     marked_from c 1 (flat_map (copies_as c (l ∷ v ∷ [])) (take 1 xs) ++ take 1 (drop 1 xs))
 unit_output c Syllable xs = take 1 xs
-unit_output c ToneCircle xs = take 1 xs ++ map (c.as_character 0x25CC) (take 1 xs)
-unit_output c CircleTone xs = map (c.as_character 0x25CC) (take 1 xs) ++ take 1 xs
+unit_output c ToneCircle xs = take 1 xs ++ map (c.as_character dotted_circle) (take 1 xs)
+unit_output c CircleTone xs = map (c.as_character dotted_circle) (take 1 xs) ++ take 1 xs
 unit_output c Other xs = take 1 xs
 
 -- with its tone
@@ -355,7 +356,7 @@ preprocessed font circles level gs =
 
 -- whether the caller lets circles be inserted
 abbrev pub wants_circles : Buffer → Bool
-wants_circles b = not (asks 0x20 b)
+wants_circles b = not (asks no_dotted_circle b)
 
 -- the buffer with its text rewritten
 abbrev pub rewritten : Font → Buffer → Buffer

@@ -5,7 +5,7 @@ use Rattle.shapers_buffer.specs.declared.buffer.glyph.hb_glyph_info_t.{hb_glyph_
 use Rattle.shapers_buffer.specs.declared.buffer.level.BufferClusterLevel.{BufferClusterLevel}
 use Rattle.shapers_buffer.specs.Buffer.{Buffer}
 use Rattle.shapers_buffer.specs.Clusters.{merges}
-use Rattle.shapers_base.specs.Font.{Font}
+use Rattle.shapers_base.specs.Font.{Font, dotted_circle}
 use Rattle.shapers_buffer.specs.Glyph.{clusters}
 use Rattle.shapers_clusters.specs.Cuts.{ShareCluster}
 use Rattle.shapers_buffer.specs.Places.{pick}
@@ -71,7 +71,7 @@ abbrev pub full : List ℕ → List ℕ
 full us = flat_map (λ u. if is_s u then jamo_of u else u ∷ []) us
 
 abbrev pub spelled : List ℕ → List ℕ
-spelled us = filter (λ u. not (is_tone u || u == 0x25CC)) (full us)
+spelled us = filter (λ u. not (is_tone u || u == dotted_circle)) (full us)
 
 -- A unit that is no tone spells what it takes; the result spells the text, tones and circles apart.
 pub record Spells (font : Font) (circles : Bool) (us : List ℕ) : Type 0 where

@@ -4,7 +4,7 @@ use Rattle.std.specs.List.{flat_map, list_any, prefix_len}
 use Rattle.shapers_buffer.specs.declared.buffer.glyph.hb_glyph_info_t.{hb_glyph_info_t}
 use Rattle.shapers_base.specs.declared.font.GlyphId.{GlyphId}
 use Rattle.shapers_syllabic.specs.declared.ot_shaper_syllabic.circles.DottedCircles.{DottedCircles}
-use Rattle.shapers_buffer.specs.Buffer.{Buffer, asks}
+use Rattle.shapers_buffer.specs.Buffer.{Buffer, asks, no_dotted_circle}
 use Rattle.shapers_buffer.specs.Glyph.{default_glyph}
 use Rattle.shapers_buffer.specs.Syllables.{syllables, kind_of}
 
@@ -49,7 +49,7 @@ count_of_kind k gs = count_by (is_of_kind k) (syllables gs)
 
 -- whether broken syllables may get circles: there is one, and the caller doesn't forbid it
 abbrev pub wants_circles : Buffer → Bool
-wants_circles b = b.broken && not (asks 0x20 b)
+wants_circles b = b.broken && not (asks no_dotted_circle b)
 
 -- the circles that a buffer gets, where the font has this glyph for them: of a kind of broken
 -- syllables, with a category and an auxiliary byte, behind rephas of a category

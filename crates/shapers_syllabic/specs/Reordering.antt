@@ -8,7 +8,7 @@ use Rattle.shapers_buffer.specs.Clusters.{stretch_of, with_stretch}
 use Rattle.shapers_buffer.specs.Glyph.{order_view}
 use Rattle.shapers_buffer.specs.Marks.{no_marks}
 use Rattle.shapers_buffer.specs.Syllables.{syllables, unknown_syllable}
-use Rattle.shapers_base.specs.Font.{Font}
+use Rattle.shapers_base.specs.Font.{Font, dotted_circle}
 use Rattle.shapers_buffer.specs.declared.buffer.refusal.ShaperError.{ShaperError}
 use Rattle.shapers_buffer.specs.declared.buffer.refusal.ShaperError.TheVariants.{UnknownSyllable}
 use Rattle.shapers_syllabic.specs.declared.ot_shaper_syllabic.pause.CircleSort.{CircleSort}
@@ -61,7 +61,8 @@ pub record SyllablesReordered (meaning : List hb_glyph_info_t →
 -- circles
 abbrev pub circles_of_sort : CircleSort → Font → Buffer → Option DottedCircles
 circles_of_sort sort font b =
-    circles_for (font.nominal 0x25CC) sort.broken_kind sort.category sort.repha sort.position b
+    let glyph = font.nominal dotted_circle in
+    circles_for glyph sort.broken_kind sort.category sort.repha sort.position b
 
 -- the first place of the first syllable of unknown kind, where there is a last known kind, and the
 -- refusal that it gives

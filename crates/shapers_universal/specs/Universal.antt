@@ -13,7 +13,7 @@ use Rattle.shapers_universal.specs.declared.ot_shaper_use.category.TheConstants.
 
 -- a category among some
 abbrev pub is_one_of : List ℕ → hb_glyph_info_t → Bool
-is_one_of sorts g = list_any (λ sort. sort == g.category) sorts
+is_one_of cs g = list_any (λ c. c == g.category) cs
 
 -- a halant: H, HVM or IS that is no ligature
 abbrev pub is_halant : hb_glyph_info_t → Bool

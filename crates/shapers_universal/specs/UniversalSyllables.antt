@@ -102,13 +102,13 @@ syllables_set_up kept m spans b =
 
 -- the glyph of another category
 abbrev pub in_category : ℕ → hb_glyph_info_t → hb_glyph_info_t
-in_category sort g = record g { category = sort }
+in_category c g = record g { category = c }
 
 -- the glyphs with their first one that a lookup put in of another category
 abbrev pub first_recorded : ℕ → List hb_glyph_info_t → List hb_glyph_info_t
-first_recorded sort [] = []
-first_recorded sort (g ∷ gs) =
-    if is_substituted g.marks then in_category sort g ∷ gs else g ∷ first_recorded sort gs
+first_recorded c [] = []
+first_recorded c (g ∷ gs) =
+    if is_substituted g.marks then in_category c g ∷ gs else g ∷ first_recorded c gs
 
 -- whether a glyph has bits of a mask
 abbrev pub has_bits : ℕ → hb_glyph_info_t → Bool

@@ -1,7 +1,7 @@
 //! The glyph flags: the low three bits of a mask, which tell line breakers and the like what a
 //! change of the text at a glyph would do.
 ghost use Rattle.std.specs.Prelude.{◌≡◌, ◌≤◌, length, map};
-ghost use Rattle.shapers_buffer.specs.Buffer.{asks, has_flag};
+ghost use Rattle.shapers_buffer.specs.Buffer.{asks, flags_concat, flags_tatweel, has_flag};
 ghost use Rattle.shapers_buffer.specs.GlyphFlags.{flagged, with_bits, unsafe_inside, unsafe_to_concat_in, tatweel_inside};
 
 use super::glyph::hb_glyph_info_t;
@@ -37,7 +37,7 @@ impl hb_buffer_t {
     pub fn unsafe_to_concat(&mut self, s: usize, e: usize)
         requires in_order { s ≤ e }
         requires in_range { e ≤ length self.old.glyphs }
-        ensures { let flagged = unsafe_to_concat_in (asks 0x40 self.old) s e self.old.glyphs in
+        ensures { let flagged = unsafe_to_concat_in (asks flags_concat self.old) s e self.old.glyphs in
             self.new ≡ record self.old { glyphs = flagged } }
     {
         unsafe_to_concat_in(self.flags, &mut self.info, s, e);
@@ -48,7 +48,7 @@ impl hb_buffer_t {
     pub fn safe_to_insert_tatweel(&mut self, s: usize, e: usize)
         requires in_order { s ≤ e }
         requires in_range { e ≤ length self.old.glyphs }
-        ensures { let flagged = tatweel_inside (asks 0x80 self.old) s e self.old.glyphs in
+        ensures { let flagged = tatweel_inside (asks flags_tatweel self.old) s e self.old.glyphs in
             self.new ≡ record self.old { glyphs = flagged } }
     {
         safe_to_insert_tatweel_in(self.flags, &mut self.info, s, e);
@@ -69,7 +69,7 @@ pub fn unsafe_to_break_in(glyphs: &mut [hb_glyph_info_t], s: usize, e: usize)
 pub fn unsafe_to_concat_in(flags: BufferFlags, glyphs: &mut [hb_glyph_info_t], s: usize, e: usize)
     requires in_order { s ≤ e }
     requires in_range { e ≤ length glyphs.old }
-    ensures { glyphs.new ≡ unsafe_to_concat_in (has_flag 0x40 flags) s e glyphs.old }
+    ensures { glyphs.new ≡ unsafe_to_concat_in (has_flag flags_concat flags) s e glyphs.old }
 {
     if flags.contains(BufferFlags::PRODUCE_UNSAFE_TO_CONCAT) {
         flag_all(&mut glyphs[s..e], UNSAFE_TO_CONCAT);
@@ -85,7 +85,7 @@ pub fn safe_to_insert_tatweel_in(
 )
     requires in_order { s ≤ e }
     requires in_range { e ≤ length glyphs.old }
-    ensures { glyphs.new ≡ tatweel_inside (has_flag 0x80 flags) s e glyphs.old }
+    ensures { glyphs.new ≡ tatweel_inside (has_flag flags_tatweel flags) s e glyphs.old }
 {
     let bits = if flags.contains(BufferFlags::PRODUCE_SAFE_TO_INSERT_TATWEEL) {
         SAFE_TO_INSERT_TATWEEL

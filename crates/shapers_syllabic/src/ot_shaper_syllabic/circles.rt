@@ -2,6 +2,7 @@
 ghost use Rattle.std.specs.Prelude.{◌≡◌, ◌==◌, ◌<◌, ◌≤◌, ◌+◌, ◌-◌, [], ◌++◌, IfOk, IsOk, MatchOption, OnErr, OnOk, is_some, length, take, drop};
 ghost use Rattle.std.specs.List.{prefix_len, suffix_len};
 ghost use Rattle.shapers_buffer.specs.Clusters.{stretch_of};
+ghost use Rattle.shapers_base.specs.Font.{dotted_circle};
 ghost use Rattle.shapers_syllabic.specs.CircleLaws.{CirclesCanBeErased, CirclesKeepClusters};
 ghost use Rattle.shapers_syllabic.specs.Circles.{circle_in, circled, circles_for, count_of_kind, rephas_len, with_circle, with_circles};
 ghost use Rattle.shapers_syllabic.specs.FirstBroken.{IsFirstBroken, IsLastBroken, IsOpened, is_of_other_kind};
@@ -48,21 +49,21 @@ pub fn insert_dotted_circles<F: hb_font_t>(
     dottedcircle_position: Option<u8>,
 ) -> Result<bool, ShaperError>
     requires { buffer.old.positions ≡ [] }
-    ensures answer { let circles = circles_for ((F.font face.now).nominal 0x25CC)
+    ensures answer { let circles = circles_for ((F.font face.now).nominal dotted_circle)
         broken_syllable_type dottedcircle_category
         repha_category dottedcircle_position buffer.old in
         IfOk result (λ answer. answer ≡ is_some circles) }
-    ensures ok { let circles = circles_for ((F.font face.now).nominal 0x25CC)
+    ensures ok { let circles = circles_for ((F.font face.now).nominal dotted_circle)
         broken_syllable_type dottedcircle_category
         repha_category dottedcircle_position buffer.old in
         OnOk result (buffer.new ≡
         record buffer.old { glyphs = circled circles buffer.old.glyphs }) }
-    ensures length { let circles = circles_for ((F.font face.now).nominal 0x25CC)
+    ensures length { let circles = circles_for ((F.font face.now).nominal dotted_circle)
         broken_syllable_type dottedcircle_category
         repha_category dottedcircle_position buffer.old in
         RefusesLength buffer.old.max_len (length (circled circles buffer.old.glyphs)) result }
     ensures err { OnErr result (buffer.new ≡ buffer.old) }
-    ensures without_memory { let circles = circles_for ((F.font face.now).nominal 0x25CC)
+    ensures without_memory { let circles = circles_for ((F.font face.now).nominal dotted_circle)
         broken_syllable_type dottedcircle_category
         repha_category dottedcircle_position buffer.old in
         circled circles buffer.old.glyphs ≡ buffer.old.glyphs → IsOk result }
@@ -106,7 +107,7 @@ fn circles_for<F: hb_font_t>(
     repha: Option<u8>,
     auxiliary: Option<u8>,
 ) -> Option<DottedCircles>
-    ensures { let glyph = (F.font face.now).nominal 0x25CC in
+    ensures { let glyph = (F.font face.now).nominal dotted_circle in
         result ≡ circles_for glyph broken_kind category repha auxiliary buffer.now }
 {
     let forbidden = buffer

@@ -348,9 +348,9 @@ fn is_passed(glyph: &hb_glyph_info_t) -> bool
 
 // Whether glyphs of this category stand after the base.
 fn is_post_base(category: u8) -> bool
-    ensures { result ≡ list_any (λ sort. sort == category) post_base }
+    ensures { result ≡ list_any (λ c. c == category) post_base }
 {
-    POST_BASE.iter().any(|sort| *sort == category)
+    POST_BASE.iter().any(|c| *c == category)
 }
 
 // Whether a glyph is a halant, and no ligature.
