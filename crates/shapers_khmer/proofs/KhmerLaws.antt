@@ -19,9 +19,9 @@ use Rattle.shapers_clusters.proofs.Swaps.{still_moves_merged}
 use Rattle.shapers_clusters.proofs.Views.{seen-same}
 use Rattle.shapers_khmer.specs.declared.ot_shaper_khmer.reordering.KhmerOrder.{KhmerOrder}
 use Rattle.shapers_khmer.specs.Khmer.{Move, Pair, Vowel, is_reordered, khmer_masked, khmer_moves, khmer_order, khmer_places, khmer_step, khmer_steps, masked, masked_all, masked_for, merged_for, moved, moved_all, sorts_of, with_mask}
-use Rattle.shapers_khmer.proofs.KhmerCases.{khmer_walk}
+use Rattle.shapers_khmer.proofs.KhmerCases.{cases_end}
 use Rattle.shapers_khmer.proofs.KhmerMasks.{carried-masked, carried-with_mask, hidden-masked, length-masked, length-sorts}
-use Rattle.shapers_khmer.proofs.KhmerMoves.{inside_merged, length-moved_all, moves_end, permuted-moved_all}
+use Rattle.shapers_khmer.proofs.KhmerMoves.{inside_merged, length-moved_all, permuted-moved_all}
 use Rattle.shapers_syllabic.specs.Reordering.{carried}
 use Rattle.shapers_syllabic.specs.ReorderingLaws.{ReorderLaws}
 use Rattle.shapers_syllabic.proofs.ReorderingLemmas.{agrees_by_places}
@@ -39,8 +39,8 @@ length-order moves n = length-moved_all moves (range_with_len 0 n) ∙ length-ra
 -- the moves of a syllable end within it
 pub khmer_ends : (gs : List hb_glyph_info_t) → EndWithin (length gs) (map merged_for (khmer_moves gs))
 khmer_ends [] = tt
-khmer_ends (g ∷ gs) =
-    subst (λ ms. EndWithin (length (g ∷ gs)) (map merged_for ms)) (sym (khmer_walk (g ∷ gs))) (moves_end (length (g ∷ gs) - 1) 1 0 (sorts_of (g ∷ gs)) (length (g ∷ gs)) (length-sorts (g ∷ gs)) (omega arith))
+khmer_ends (g ∷ []) = tt
+khmer_ends (g ∷ (h ∷ gs)) = cases_end (g.category ∷ []) h.category (sorts_of gs) 0 (length (g ∷ (h ∷ gs))) (omega arith) (omega (arith, length-sorts gs))
 
 -- moves go only inside what merges first
 pub merged_moves : (moves : List Move) (n : ℕ) → EndWithin n (map merged_for moves) → MovesMerged n (record { merged_first = map merged_for moves; places = moved_all moves (range_with_len 0 n); merged_then = [] })

@@ -14,26 +14,15 @@ use Rattle.std.proofs.lemmas.List.FromFn.{get_or-enumerate_from, length-enumerat
 use Rattle.std.proofs.lemmas.Bool.{and_parts}
 use Rattle.shapers_buffer.specs.Glyph.{default_glyph}
 use Rattle.shapers_buffer.specs.Lists.{each_after}
-use Rattle.shapers_buffer.proofs.MaskBits.{or_swap, or_twice}
 use Rattle.shapers_khmer.specs.Khmer.{Pair, brought, is_coeng, is_left_vowel, is_ro, khmer_masked, khmer_moves, masked, masked_all, masked_for, merged_for, moves_by_cases, sorts_of, with_mask}
 use Rattle.shapers_khmer.proofs.KhmerCases.{brought_parts}
+use Rattle.shapers_khmer.proofs.KhmerMaskPlaces.{join_if, masked_before, masked_behind, masked_there, swap_if}
 use Rattle.shapers_khmer.proofs.KhmerMasks.{length-masked, length-sorts}
 use Rattle.shapers_khmer.specs.KhmerWalk.{paired}
 use Rattle.shapers_khmer.proofs.KhmerLaws.{hidden-masked_all, khmer_ends}
 use Rattle.shapers_clusters.specs.Cuts.{EndWithin}
 use Rattle.shapers_khmer.specs.KhmerMovers.{Alone, Coeng, KhmerMoversMasksLaw, Part, behind_coengs, coeng_place, is_coeng_or_left_vowel, is_mover, masked_at, moving_coengs, parts_from, with_mask_if}
 use Rattle.shapers_khmer.proofs.KhmerMovers.{count_alone, count_coeng, counted, counted_on, first_looked, first_part, inner_behind, inner_tail, is_inner, longer, looked, looked_coeng, looked_other, looked_pair, looked_vowel, moves_by_count, neither, range_behind}
-
--- MASKS COMMUTE, and one added twice is added once
-swap_if : (a b : Bool) (m k : ℕ) (g : hb_glyph_info_t) → with_mask_if a m (with_mask_if b k g) ≡ with_mask_if b k (with_mask_if a m g)
-swap_if true true m k g = ap (λ (x : ℕ). record g { mask = x }) (or_swap g.mask (without_flags m) (without_flags k))
-swap_if true false m k g = refl
-swap_if false b m k g = refl
-
-join_if : (a b : Bool) (m : ℕ) (g : hb_glyph_info_t) → with_mask_if b m (with_mask_if a m g) ≡ with_mask_if (a || b) m g
-join_if true true m g = ap (λ (x : ℕ). record g { mask = x }) (or_twice g.mask (without_flags m))
-join_if true false m g = refl
-join_if false b m g = refl
 
 -- the masks of one pair, and of pairs one after another, for a glyph at a place
 abbrev pub pair_at : KhmerOrder → ℕ → ℕ → hb_glyph_info_t → hb_glyph_info_t
@@ -55,40 +44,6 @@ pairs_once r (p ∷ ps) i g =
     ∙ join_if c cs r.cfar (with_mask_if fs r.pref (with_mask_if f r.pref g))
     ∙ ap (with_mask_if (c || cs) r.cfar) (join_if f fs r.pref g)
 
--- WHERE MASKS STAND. A glyph inside what is masked, and one outside
-masked_inside : (m s e : ℕ) (gs : List hb_glyph_info_t) (i : ℕ) (d : hb_glyph_info_t) → e ≤ length gs → s ≤ i → i < e → get_or (masked m s e gs) i d ≡ with_mask m (get_or gs i d)
-masked_inside m s e gs i d l from to =
-    let a = take s gs in
-    let b = map (with_mask m) (stretch_of s e gs) in
-    let c = drop e gs in
-    let an : length a ≡ s = omega (arith, length-take s gs) in
-    let sn : length (stretch_of s e gs) ≡ e - s = omega (arith, length-take (e - s) (drop s gs), length-drop s gs) in
-    let bn : length b ≡ e - s = length-map (stretch_of s e gs) (with_mask m) ∙ sn in
-    let at : s + (i - s) ≡ i = omega arith in
-    get_or-append_right a (b ++ c) s i d an from
-    ∙ get_or_append_left b c d (i - s) (omega arith)
-    ∙ get_or-map (with_mask m) (stretch_of s e gs) (i - s) d d (omega arith)
-    ∙ ap (with_mask m) (get_or-take (e - s) (drop s gs) (i - s) d (omega arith) ∙ get_or-drop s gs (i - s) d ∙ ap (λ k. get_or gs k d) at)
-
-masked_before : (m s e : ℕ) (gs : List hb_glyph_info_t) (i : ℕ) (d : hb_glyph_info_t) → e ≤ length gs → s ≤ e → i < s → get_or (masked m s e gs) i d ≡ get_or gs i d
-masked_before m s e gs i d l h before =
-    let an : length (take s gs) ≡ s = omega (arith, length-take s gs) in
-    get_or_append_left (take s gs) (map (with_mask m) (stretch_of s e gs) ++ drop e gs) d i (omega arith) ∙ get_or-take s gs i d before
-
-masked_behind : (m s e : ℕ) (gs : List hb_glyph_info_t) (i : ℕ) (d : hb_glyph_info_t) → e ≤ length gs → s ≤ e → e ≤ i → get_or (masked m s e gs) i d ≡ get_or gs i d
-masked_behind m s e gs i d l h behind =
-    let a = take s gs in
-    let b = map (with_mask m) (stretch_of s e gs) in
-    let c = drop e gs in
-    let an : length a ≡ s = omega (arith, length-take s gs) in
-    let sn : length (stretch_of s e gs) ≡ e - s = omega (arith, length-take (e - s) (drop s gs), length-drop s gs) in
-    let bn : length b ≡ e - s = length-map (stretch_of s e gs) (with_mask m) ∙ sn in
-    let at : e + ((i - s) - (e - s)) ≡ i = omega arith in
-    get_or-append_right a (b ++ c) s i d an (omega arith)
-    ∙ get_or-append_right b c (e - s) (i - s) d bn (omega arith)
-    ∙ get_or-drop e gs ((i - s) - (e - s)) d
-    ∙ ap (λ k. get_or gs k d) at
-
 -- the masks of a pair, for each glyph
 pair_masked : (r : KhmerOrder) (p : ℕ) (gs : List hb_glyph_info_t) (i : ℕ) (d : hb_glyph_info_t) → p + 2 ≤ length gs → i < length gs → get_or (paired r p (p + 1) (p + 2) (length gs) gs) i d ≡ pair_at r p i (get_or gs i d)
 pair_masked r p gs i d l h =
@@ -104,7 +59,7 @@ pair_masked r p gs i d l h =
           let t2 : (i == p) ≡ false = ne_eqb i p (λ e. absurd (omega arith)) in
           let t3 : (i == p + 1) ≡ false = ne_eqb i (p + 1) (λ e. absurd (omega arith)) in
           let right : pair_at r p i g ≡ with_mask r.cfar g = rw (t1, t2, t3) refl in
-          masked_inside r.cfar (p + 2) n second i d (omega arith) (omega arith) h
+          masked_there r.cfar (p + 2) n second i d (omega arith) (omega arith) h
           ∙ ap (with_mask r.cfar) (masked_behind r.pref (p + 1) (p + 1 + 1) first i d (omega arith) (omega arith) (omega arith) ∙ masked_behind r.pref p (p + 1) gs i d (omega arith) (omega arith) (omega arith))
           ∙ sym right
       | inr within ↦
@@ -115,7 +70,7 @@ pair_masked r p gs i d l h =
                 let t2 : (i == p) ≡ false = ne_eqb i p (λ e. absurd (omega arith)) in
                 let t3 : (i == p + 1) ≡ true = eq-eqb i (p + 1) (omega arith) in
                 let right : pair_at r p i g ≡ with_mask r.pref g = rw (t1, t2, t3) refl in
-                masked_inside r.pref (p + 1) (p + 1 + 1) first i d (omega arith) (omega arith) (omega arith)
+                masked_there r.pref (p + 1) (p + 1 + 1) first i d (omega arith) (omega arith) (omega arith)
                 ∙ ap (with_mask r.pref) (masked_behind r.pref p (p + 1) gs i d (omega arith) (omega arith) (omega arith))
                 ∙ sym right
             | inr not_ro ↦
@@ -129,7 +84,7 @@ pair_masked r p gs i d l h =
                   | inr coeng ↦
                       let t2 : (i == p) ≡ true = eq-eqb i p (omega arith) in
                       let right : pair_at r p i g ≡ with_mask r.pref g = rw (t1, t2) refl in
-                      masked_inside r.pref p (p + 1) gs i d (omega arith) coeng (omega arith) ∙ sym right
+                      masked_there r.pref p (p + 1) gs i d (omega arith) coeng (omega arith) ∙ sym right
                 ]
           ]
     ]
@@ -141,7 +96,7 @@ others_masked m gs i d h =
       | inl behind ↦
           let t : nat_lt 0 i ≡ true = lt-ltb 0 i behind in
           let right : with_mask_if (nat_lt 0 i) m g ≡ with_mask m g = rw t refl in
-          masked_inside m 1 (length gs) gs i d (omega arith) behind h ∙ sym right
+          masked_there m 1 (length gs) gs i d (omega arith) behind h ∙ sym right
       | inr first ↦
           let t : nat_lt 0 i ≡ false = le-ltb 0 i first in
           let right : with_mask_if (nat_lt 0 i) m g ≡ g = rw t refl in

@@ -11,7 +11,6 @@ use Rattle.shapers_buffer.specs.Clusters.{stretch_of}
 use Rattle.shapers_clusters.specs.Cuts.{EndWithin}
 use Rattle.shapers_clusters.specs.Steps.{HeldBetween, MovesInside}
 use Rattle.shapers_clusters.proofs.Moves.{held-front, held-rest, held_by}
-use Rattle.shapers_khmer.specs.KhmerWalk.{moves_from}
 use Rattle.shapers_khmer.specs.Khmer.{Move, Pair, Vowel, brought, moved, moved_all, merged_for, is_coeng, is_ro, is_left_vowel}
 
 -- the front, what moves and the rest are all
@@ -88,27 +87,6 @@ length-moved move xs = length_permutation xs (moved move xs) (permuted-moved mov
 
 pub length-moved_all : {X : Type 0} (moves : List Move) (xs : List X) → length (moved_all moves xs) ≡ length xs
 length-moved_all moves xs = length_permutation xs (moved_all moves xs) (permuted-moved_all moves xs)
-
--- the moves of a walk end within its list
-pub moves_end : (m p count : ℕ) (sorts : List ℕ) (n : ℕ) → length sorts ≡ n → p + m ≤ n → EndWithin n (map merged_for (moves_from m p sorts count))
-moves_end zero p count sorts n is h = tt
-moves_end (suc m) p count sorts n is h =
-    let further : (p + 1) + m ≤ n = omega arith in
-    let same_2 = length-brought p 2 sorts ∙ is in
-    let same_1 = length-brought p 1 sorts ∙ is in
-    let other = moves_end m (p + 1) count sorts n is further in
-    let vowel : EndWithin n (map merged_for (if is_left_vowel (slice_index sorts p) then Vowel p ∷ moves_from m (p + 1) (brought p 1 sorts) count else moves_from m (p + 1) sorts count)) =
-    elim (cases_Bool (is_left_vowel (slice_index sorts p))) [
-      | inl on ↦ rw on (let l : p + 1 ≤ n = omega arith in (l, moves_end m (p + 1) count (brought p 1 sorts) n same_1 further))
-      | inr off ↦ rw off other
-    ] in
-    elim (cases_Bool (is_coeng (slice_index sorts p) && nat_le count 2 && nat_lt (p + 1) (length sorts))) [
-      | inl on ↦ rw on (elim (cases_Bool (is_ro (slice_index sorts (p + 1)))) [
-        | inl here ↦ rw here (let l : p + 2 ≤ n = grind (arith, nat_tests) in (l, moves_end m (p + 1) 2 (brought p 2 sorts) n same_2 further))
-        | inr off ↦ rw off (moves_end m (p + 1) (count + 1) sorts n is further)
-      ])
-      | inr off ↦ rw off vowel
-    ]
 
 -- what a stretch holds between p and q, and between q and r, it holds between p and r
 held_over : (sts : List (ℕ × ℕ)) (p q r : ℕ) → HeldBetween sts p q → HeldBetween sts q r → HeldBetween sts p r

@@ -13,8 +13,7 @@ use Rattle.shapers_clusters.proofs.Picks.{pick-map}
 use Rattle.shapers_khmer.specs.declared.ot_shaper_khmer.reordering.KhmerOrder.{KhmerOrder}
 use Rattle.shapers_khmer.specs.Khmer.{Move, Pair, Vowel, is_reordered, khmer_masked, khmer_moves, khmer_order, khmer_places, khmer_step, masked, masked_all, masked_for, merged_for, moved, moved_all, sorts_of, with_mask}
 use Rattle.shapers_khmer.specs.KhmerLaws.{KhmerReadsNoSerials}
-use Rattle.shapers_khmer.specs.KhmerWalk.{moves_from}
-use Rattle.shapers_khmer.proofs.KhmerCases.{khmer_walk}
+use Rattle.shapers_khmer.proofs.KhmerCases.{moves_by_sorts, moves_of_sorts}
 use Rattle.shapers_syllabic.specs.Borders.{unnumbered}
 
 -- without serials, the kind, the categories and the length stay
@@ -31,9 +30,7 @@ length_stays gs = length-map gs unnumbered
 
 moves_stay : (gs : List hb_glyph_info_t) → khmer_moves (map unnumbered gs) ≡ khmer_moves gs
 moves_stay gs =
-    khmer_walk (map unnumbered gs)
-    ∙ ap (λ n. moves_from (n - 1) 1 (sorts_of (map unnumbered gs)) 0) (length_stays gs) ∙ ap (λ sorts. moves_from (length gs - 1) 1 sorts 0) (sorts_stay gs)
-    ∙ sym (khmer_walk gs)
+    moves_by_sorts (map unnumbered gs) ∙ ap moves_of_sorts (sorts_stay gs) ∙ sym (moves_by_sorts gs)
 
 places_stay : (gs : List hb_glyph_info_t) → khmer_places (map unnumbered gs) ≡ khmer_places gs
 places_stay gs =

@@ -2,7 +2,7 @@ mod ConstantRows
 pub mod KhmerByMovers
 pub mod KhmerCases
 pub mod KhmerLaws
-pub mod KhmerListing
+pub mod KhmerMaskPlaces
 pub mod KhmerMasks
 pub mod KhmerMerged
 pub mod KhmerMoverMasks
@@ -10,6 +10,7 @@ pub mod KhmerMoverMerges
 pub mod KhmerMovers
 mod KhmerMoversRows
 pub mod KhmerMoves
+pub mod KhmerRing
 mod KhmerRows
 pub mod KhmerSerials
 pub mod KhmerSteps
