@@ -15,7 +15,6 @@ mod KhmerRows
 pub mod KhmerSerials
 pub mod KhmerSteps
 pub mod KhmerSyllable
-pub mod KhmerVowels
 mod KhmerWalked
 mod PlanRows
 mod RequestRows
