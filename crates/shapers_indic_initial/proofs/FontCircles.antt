@@ -1,5 +1,5 @@
 -- Positions by the font and dotted circles: neither reads what the other gives.
-use Rattle.std.proofs.Common.{◌≡◌, ℕ, ◌+◌, ◌==◌, Bool, true, false, if◌then◌else◌, cond, List, [], ◌∷◌, ◌++◌, length, take, drop, map, flat_map, refl, sym, ap, ◌∙◌, Option, Some, None}
+use Rattle.std.proofs.Common.{◌≡◌, ℕ, ◌+◌, ◌==◌, Bool, true, false, subst, if◌then◌else◌, cond, List, [], ◌∷◌, ◌++◌, length, take, drop, map, flat_map, refl, sym, ap, ◌∙◌, Option, Some, None}
 use Rattle.std.proofs.lemmas.List.{map-append, map-id, take-map, drop-map}
 use Rattle.shapers_buffer.specs.declared.buffer.glyph.hb_glyph_info_t.{hb_glyph_info_t}
 use Rattle.shapers_buffer.specs.Buffer.{Buffer}
@@ -24,7 +24,7 @@ use Rattle.shapers_indic_initial.proofs.FontPositions.{by_virama-syllable, font_
 use Rattle.shapers_indic_initial.proofs.InitialSerialsStay.{order_by_font_reads_no_serials}
 use Rattle.shapers_syllabic.specs.declared.ot_shaper_syllabic.circles.DottedCircles.{DottedCircles}
 use Rattle.shapers_syllabic.specs.Circles.{circle_in, circled, circled_syllable, circles_for, is_of_kind, rephas_len, wants_circles, with_circle}
-use Rattle.shapers_syllabic.specs.Reordering.{PauseReordered, carried, text_order, text_steps}
+use Rattle.shapers_syllabic.specs.Reordering.{PauseReordered, SyllablesReordered, carried, text_order, text_steps}
 use Rattle.shapers_syllabic.proofs.Borders.{syllables-viewed}
 use Rattle.shapers_syllabic.proofs.HiddenCuts.{pauses_cut_between_spans}
 use Rattle.shapers_syllabic.specs.Borders.{spans_set_up}
@@ -149,6 +149,16 @@ initially_reordered font m p old new done = let same = same_pause font m p old i
 
 pub paused_by_font : (font : Font) (m : Map) (p : indic_shape_plan_t) (old new : Buffer) → InitiallyReordered font m p old new → PauseReordered (initial_circles font old) (order_by_font font m p old.script) (steps_by_font font m p old.script) old new
 paused_by_font font m p old new done = let same = same_pause font m p old in record { others = done.others; order = done.order ∙ same.order; moved = done.moved ∙ same.moved }
+
+-- the text gets its circles, positions by the font, and then its order
+pub reordered_behind_circles : (font : Font) (m : Map) (p q : indic_shape_plan_t) (b0 b1 b2 new : Buffer) → q ≡ p → b1 ≡ (let b : Buffer = record b0 { glyphs = circled (initial_circles font b0) b0.glyphs } in b) → b2 ≡ (let b : Buffer = record b1 { glyphs = positions_by_font font m p b1.glyphs } in b) → SyllablesReordered (initial_order (rules_of font m q) b2.script) (initial_steps (rules_of font m q) b2.script) b2 new → InitiallyReordered font m p b0 new
+reordered_behind_circles font m p q b0 b1 b2 new same opened placed done =
+    let Done : indic_shape_plan_t → Buffer → Type 0 = λ d b. SyllablesReordered (initial_order (rules_of font m d) b.script) (initial_steps (rules_of font m d) b.script) b new in
+    let behind : b2 ≡ with_positions_and_circles font m p b0 =
+    placed
+    ∙ ap (λ (x : Buffer). (let b : Buffer = record x { glyphs = positions_by_font font m p x.glyphs } in b)) opened
+    ∙ sym (ap (λ (xs : List hb_glyph_info_t). (let b : Buffer = record b0 { glyphs = xs } in b)) (circled_by_font font m p (virama_glyph font p) (initial_circles font b0) (circles_not_at_base (font.nominal 0x25CC) b0) b0.glyphs)) in
+    subst (Done p) behind (subst (λ d. Done d b2) same done)
 
 pub initially_as_pause : InitiallyAsPause
 initially_as_pause font m p old new = (paused_by_font font m p old new, initially_reordered font m p old new)

@@ -1,11 +1,9 @@
 -- Positions by the font: what shows of them, of a syllable and of a text.
-use Rattle.std.proofs.Common.{◌≡◌, ℕ, ◌≤◌, true, false, if◌then◌else◌, List, [], ◌∷◌, length, map, refl, sym, ap, ◌∙◌, Option, Some, None}
+use Rattle.std.proofs.Common.{◌≡◌, Bool, true, false, if◌then◌else◌, inl, inr, find, List, [], ◌∷◌, length, map, refl, sym, ap, ◌∙◌, Option, Some, None}
+use Rattle.std.proofs.lemmas.Bool.{cases_Bool}
 use Rattle.std.proofs.lemmas.List.{length-map}
 use Rattle.shapers_buffer.specs.declared.buffer.glyph.hb_glyph_info_t.{hb_glyph_info_t}
-use Rattle.shapers_buffer.specs.Buffer.{Buffer, but_places}
-use Rattle.shapers_buffer.specs.Clusters.{stretch_of, with_stretch}
 use Rattle.shapers_buffer.specs.Glyph.{order_view, plain}
-use Rattle.shapers_buffer.proofs.ClusterLemmas.{three_parts}
 use Rattle.shapers_base.specs.declared.font.GlyphId.{GlyphId}
 use Rattle.shapers_base.specs.declared.plan.indic.indic_shape_plan_t.{indic_shape_plan_t}
 use Rattle.shapers_base.specs.declared.plan.ot_position_t.TheConstants.{POS_BASE_C}
@@ -21,14 +19,23 @@ use Rattle.shapers_indic_initial.specs.InitialLaws.{OrderByFontLaws}
 use Rattle.shapers_indic_initial.specs.InitialReordering.{initial_order, initial_steps}
 use Rattle.shapers_indic_initial.specs.InitialRules.{rules_of}
 use Rattle.shapers_indic_initial.proofs.InitialLaws.{initial_laws}
-use Rattle.shapers_syllabic.specs.Reordering.{SyllableReordered, carried}
+use Rattle.shapers_syllabic.specs.Reordering.{carried}
 use Rattle.shapers_syllabic.specs.ReorderingLaws.{ReorderLaws}
 use Rattle.shapers_syllabic.proofs.LawsThen.{laws_then}
-use Rattle.shapers_syllabic.proofs.SyllableThen.{syllable_changed}
 
--- no virama, no change
-pub none_by_virama : (s e : ℕ) (font : Font) (m : Map) (p : indic_shape_plan_t) (gs : List hb_glyph_info_t) → s ≤ e → with_stretch s e (all_by_virama font m p None) gs ≡ gs
-none_by_virama s e font m p gs h = three_parts s e gs h
+-- no consonant of position BASE_C, no change
+none_here : (font : Font) (m : Map) (p : indic_shape_plan_t) (v : GlyphId) (g : hb_glyph_info_t) → has_position POS_BASE_C g ≡ false → by_virama font m p v g ≡ g
+none_here font m p v g none = ap (λ (b : Bool). if b then at_position (consonant_position font m p v (number g)) g else g) none
+
+pub none_at_base : (font : Font) (m : Map) (p : indic_shape_plan_t) (v : GlyphId) (gs : List hb_glyph_info_t) → find (has_position POS_BASE_C) gs ≡ None → map (by_virama font m p v) gs ≡ gs
+none_at_base font m p v [] none = refl
+none_at_base font m p v (g ∷ gs) none =
+    elim (cases_Bool (has_position POS_BASE_C g)) [
+      | inl here ↦ absurd (let found : (if true then Some g else find (has_position POS_BASE_C) gs) ≡ None = sym (ap (λ (b : Bool). if b then Some g else find (has_position POS_BASE_C) gs) here) ∙ none in cc)
+      | inr other ↦
+          ap (λ x. x ∷ map (by_virama font m p v) gs) (none_here font m p v g other)
+          ∙ ap (λ xs. g ∷ xs) (none_at_base font m p v gs (sym (ap (λ (b : Bool). if b then Some g else find (has_position POS_BASE_C) gs) other) ∙ none))
+    ]
 
 -- a glyph, in the order view, and what is carried along
 by_virama-plain : (font : Font) (m : Map) (p : indic_shape_plan_t) (v : GlyphId) (g : hb_glyph_info_t) → plain (by_virama font m p v g) ≡ by_virama font m p v (plain g)
@@ -60,16 +67,6 @@ font_positions-carried font m p (Some v) gs = map-same carried (by_virama font m
 pub length-font_positions : (font : Font) (m : Map) (p : indic_shape_plan_t) (v : Option GlyphId) (gs : List hb_glyph_info_t) → length (all_by_virama font m p v gs) ≡ length gs
 length-font_positions font m p None gs = refl
 length-font_positions font m p (Some v) gs = length-map gs (by_virama font m p v)
-
--- of a syllable of the buffer
-pub syllable_by_font : (font : Font) (m : Map) (p : indic_shape_plan_t) (v : Option GlyphId) (s e : ℕ) (old new : Buffer) → s ≤ e → new ≡ (let r : Buffer = record old { glyphs = with_stretch s e (all_by_virama font m p v) old.glyphs } in r) → SyllableReordered (all_by_virama font m p v) (λ _. []) s e old new
-syllable_by_font font m p v s e old new h is =
-    let glyphs : new.glyphs ≡ with_stretch s e (all_by_virama font m p v) old.glyphs = ap (λ b. b.glyphs) is in
-    syllable_changed (all_by_virama font m p v) (all_by_virama font m p v) s e old new h
-    (ap but_places is ∙ sym (ap (λ gs. (let r : Buffer = record (but_places old) { glyphs = gs } in r)) glyphs))
-    glyphs
-    (font_positions-carried font m p v (stretch_of s e old.glyphs))
-    (font_positions-viewed font m p v (stretch_of s e old.glyphs))
 
 -- the laws of an order behind positions by the font
 font_positions-seen : (font : Font) (m : Map) (p : indic_shape_plan_t) (v : Option GlyphId) (gs : List hb_glyph_info_t) → seen carried (all_by_virama font m p v gs) ≡ seen carried gs

@@ -6,7 +6,7 @@ use Rattle.shapers_buffer.specs.declared.buffer.tag.Script.{Script}
 use Rattle.shapers_buffer.specs.Buffer.{Buffer}
 use Rattle.shapers_buffer.specs.Clusters.{stretch_of}
 use Rattle.shapers_buffer.specs.Glyph.{order_view, plain}
-use Rattle.shapers_buffer.proofs.ClusterLemmas.{map-stretch}
+use Rattle.shapers_buffer.proofs.ClusterLemmas.{map-stretch, three_parts}
 use Rattle.shapers_clusters.specs.Steps.{Step}
 use Rattle.shapers_clusters.proofs.Picks.{length-pick}
 use Rattle.shapers_indic_initial.specs.InitialReordering.{in_order, initial_order, initial_steps, is_reordered, joiner_step, masked_in_order, opening_steps, order_step, positioned, steps_of_reordered, with_joiner_first}
@@ -69,28 +69,25 @@ ordered_and_masked r script s e b1 b2 b3 b4 h l p o m =
     syllable_then (positioned r script) (λ gs. masked_in_order r script (in_order gs)) (opening_steps r script) (λ gs. (order_step r gs ∷ []) ++ []) s e b1 b2 b4 h l n1 p
     (syllable_then in_order (masked_in_order r script) (λ gs. order_step r gs ∷ []) (λ _. []) s e b2 b3 b4 h l2 n2 o m)
 
--- a syllable that is reordered, behind a part without steps
-pub initial_syllable : (first : List hb_glyph_info_t → List hb_glyph_info_t) (r : Rules) (script : Option Script) (s e : ℕ) (b0 b1 b2 b3 b4 : Buffer) → s ≤ e → e ≤ length b0.glyphs → ((gs : List hb_glyph_info_t) → length (first gs) ≡ length gs) → SyllableReordered first (λ _. []) s e b0 b1 → is_reordered (stretch_of s e b1.glyphs) ≡ true → SyllableReordered (positioned r script) (opening_steps r script) s e b1 b2 → SyllableReordered in_order (λ gs. order_step r gs ∷ []) s e b2 b3 → SyllableReordered (masked_in_order r script) (λ _. []) s e b3 b4 → SyllableReordered (λ gs. initial_order r script (first gs)) (λ gs. initial_steps r script (first gs)) s e b0 b4
-initial_syllable first r script s e b0 b1 b2 b3 b4 h l long f kind p o m =
-    let x0 = stretch_of s e (order_view b0.glyphs) in
-    let n0 : length (first x0) ≡ e - s = long x0 ∙ seen_long s e b0.glyphs h l in
-    let a = after first (λ _. []) s e b0 b1 h l n0 f in
-    let l1 : e ≤ length b1.glyphs = omega (arith, a.long) in
-    let yes : is_reordered (first x0) ≡ true = sym (ap is_reordered a.syllable) ∙ kind-stretch s e b1.glyphs ∙ kind in
-    syllable_as (λ gs. masked_in_order r script (in_order (positioned r script (first gs)))) (λ gs. initial_order r script (first gs)) (λ gs. [] ++ (opening_steps r script (first gs) ++ ((order_step r (positioned r script (first gs)) ∷ []) ++ []))) (λ gs. initial_steps r script (first gs)) s e b0 b4
-    (sym (ap (λ (b : Bool). if b then masked_in_order r script (in_order (positioned r script (first x0))) else first x0) yes))
-    (sym (ap (λ (b : Bool). if b then steps_of_reordered r script (first x0) else []) yes))
-    (syllable_then first (λ gs. masked_in_order r script (in_order (positioned r script gs))) (λ _. []) (λ gs. opening_steps r script gs ++ ((order_step r (positioned r script gs) ∷ []) ++ [])) s e b0 b1 b4 h l n0 f
-    (ordered_and_masked r script s e b1 b2 b3 b4 h l1 p o m))
+-- a syllable that is reordered
+pub initial_syllable : (r : Rules) (script : Option Script) (s e : ℕ) (b1 b2 b3 b4 : Buffer) → s ≤ e → e ≤ length b1.glyphs → is_reordered (stretch_of s e b1.glyphs) ≡ true → SyllableReordered (positioned r script) (opening_steps r script) s e b1 b2 → SyllableReordered in_order (λ gs. order_step r gs ∷ []) s e b2 b3 → SyllableReordered (masked_in_order r script) (λ _. []) s e b3 b4 → SyllableReordered (initial_order r script) (initial_steps r script) s e b1 b4
+initial_syllable r script s e b1 b2 b3 b4 h l kind p o m =
+    let x1 = stretch_of s e (order_view b1.glyphs) in
+    let yes : is_reordered x1 ≡ true = kind-stretch s e b1.glyphs ∙ kind in
+    syllable_as (λ gs. masked_in_order r script (in_order (positioned r script gs))) (initial_order r script) (λ gs. opening_steps r script gs ++ ((order_step r (positioned r script gs) ∷ []) ++ [])) (initial_steps r script) s e b1 b4
+    (sym (ap (λ (b : Bool). if b then masked_in_order r script (in_order (positioned r script x1)) else x1) yes))
+    (sym (ap (λ (b : Bool). if b then steps_of_reordered r script x1 else []) yes))
+    (ordered_and_masked r script s e b1 b2 b3 b4 h l p o m)
 
--- another syllable
-pub other_syllable : (first : List hb_glyph_info_t → List hb_glyph_info_t) (r : Rules) (script : Option Script) (s e : ℕ) (b0 b1 : Buffer) → s ≤ e → e ≤ length b0.glyphs → ((gs : List hb_glyph_info_t) → length (first gs) ≡ length gs) → SyllableReordered first (λ _. []) s e b0 b1 → is_reordered (stretch_of s e b1.glyphs) ≡ false → SyllableReordered (λ gs. initial_order r script (first gs)) (λ gs. initial_steps r script (first gs)) s e b0 b1
-other_syllable first r script s e b0 b1 h l long f kind =
-    let x0 = stretch_of s e (order_view b0.glyphs) in
-    let n0 : length (first x0) ≡ e - s = long x0 ∙ seen_long s e b0.glyphs h l in
-    let a = after first (λ _. []) s e b0 b1 h l n0 f in
-    let no : is_reordered (first x0) ≡ false = sym (ap is_reordered a.syllable) ∙ kind-stretch s e b1.glyphs ∙ kind in
-    syllable_as first (λ gs. initial_order r script (first gs)) (λ _. []) (λ gs. initial_steps r script (first gs)) s e b0 b1
-    (sym (ap (λ (b : Bool). if b then masked_in_order r script (in_order (positioned r script (first x0))) else first x0) no))
-    (sym (ap (λ (b : Bool). if b then steps_of_reordered r script (first x0) else []) no))
-    f
+-- another syllable stays
+still : (s e : ℕ) (b : Buffer) → s ≤ e → SyllableReordered (λ gs. gs) (λ _. []) s e b b
+still s e b h = record { others = refl; order = sym (three_parts s e (order_view b.glyphs) h); moved = refl }
+
+pub other_syllable : (r : Rules) (script : Option Script) (s e : ℕ) (b : Buffer) → s ≤ e → is_reordered (stretch_of s e b.glyphs) ≡ false → SyllableReordered (initial_order r script) (initial_steps r script) s e b b
+other_syllable r script s e b h kind =
+    let x = stretch_of s e (order_view b.glyphs) in
+    let no : is_reordered x ≡ false = kind-stretch s e b.glyphs ∙ kind in
+    syllable_as (λ gs. gs) (initial_order r script) (λ _. []) (initial_steps r script) s e b b
+    (sym (ap (λ (b : Bool). if b then masked_in_order r script (in_order (positioned r script x)) else x) no))
+    (sym (ap (λ (b : Bool). if b then steps_of_reordered r script x else []) no))
+    (still s e b h)

@@ -46,6 +46,19 @@ seam_set gs rest k d y h =
     let front : length (take k gs) ≡ k = length-take-le k gs (omega arith) in
     ap (λ ys. set ys k y) (seam gs rest k d h) ∙ subst (λ n. set (take k gs ++ get_or gs k d ∷ rest) n y ≡ take k gs ++ y ∷ rest) front (set-append_seam (take k gs) (get_or gs k d) rest y)
 
+-- without a ZWNJ nothing loses half
+none_in_front : (p : hb_glyph_info_t → Bool) (n : ℕ) (gs : List hb_glyph_info_t) → list_any p gs ≡ false → list_any p (take n gs) ≡ false
+none_in_front p zero gs none = refl
+none_in_front p (suc n) [] none = refl
+none_in_front p (suc n) (g ∷ gs) none = grind (arith, nat_tests, none, none_in_front p n gs)
+
+pub no_half_taken : (bits : ℕ) (gs : List hb_glyph_info_t) → list_any (is_one_of (OT_ZWNJ ∷ [])) gs ≡ false → without_half bits gs ≡ gs
+no_half_taken bits [] none = refl
+no_half_taken bits (g ∷ gs) none =
+    let rest : list_any (is_one_of (OT_ZWNJ ∷ [])) gs ≡ false = grind (arith, nat_tests, none) in
+    ap (λ (b : Bool). (if b then without_bits bits g else g) ∷ without_half bits gs) (none_in_front (is_one_of (OT_ZWNJ ∷ [])) (prefix_len (λ x. not (is_consonant x)) gs) gs rest)
+    ∙ ap (λ xs. g ∷ xs) (no_half_taken bits gs rest)
+
 -- what becomes of a glyph in that walk
 abbrev pub half_taken : ℕ → Bool → hb_glyph_info_t → hb_glyph_info_t
 half_taken bits loses g = if loses then without_bits bits g else g

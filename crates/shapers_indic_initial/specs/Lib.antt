@@ -9,5 +9,6 @@ pub mod InitialPause
 pub mod InitialPositions
 pub mod InitialReordering
 pub mod InitialRules
+pub mod KnownWalk
 pub mod MarkWalk
 pub mod OrderWalk

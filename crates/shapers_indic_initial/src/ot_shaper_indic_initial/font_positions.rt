@@ -1,44 +1,52 @@
 //! Positions by the font: consonants that it has below-base or post-base forms of.
-ghost use Rattle.std.specs.Prelude.{◌≡◌, ◌≤◌, length};
-ghost use Rattle.shapers_buffer.specs.Clusters.{with_stretch};
-ghost use Rattle.shapers_indic_initial.specs.InitialFont.{all_by_virama, consonant_position, joins_virama};
+ghost use Rattle.std.specs.Prelude.{◌≡◌, find, map};
+ghost use Rattle.shapers_indic.specs.Glyphs.{has_position};
+ghost use Rattle.shapers_base.specs.declared.plan.ot_position_t.TheConstants.{POS_BASE_C};
+ghost use Rattle.shapers_indic_initial.specs.InitialFont.{all_by_virama, by_virama, consonant_position, joins_virama};
+ghost use Rattle.shapers_indic_initial.specs.KnownWalk.{AllKnown, IsKnown};
 
-use shapers_base::buffer::{GlyphChange, hb_buffer_t, hb_glyph_info_t};
+use shapers_base::buffer::{GlyphWalk, hb_buffer_t, hb_glyph_info_t};
 use shapers_base::font::{GlyphId, hb_font_t};
 use shapers_base::map::hb_ot_map_t;
 use shapers_base::plan::ot_position_t::{POS_BASE_C, POS_BELOW_C, POS_POST_C};
 use shapers_base::plan::{IndicWouldSubstituteFeature, Position, indic_shape_plan_t};
 use shapers_indic::ot_shaper_indic::glyphs::number;
 
-/// Gives consonants of position BASE_C between two places for which the font has a below-base or a
-/// post-base form, by its glyph for the script's virama, that form's position. It takes no memory.
+/// Gives consonants of position BASE_C for which the font has a below-base or a post-base form, by
+/// its glyph for the script's virama, that form's position. It takes no memory.
 pub(super) fn update_consonant_positions<F: hb_font_t>(
     plan: &indic_shape_plan_t,
     map: &hb_ot_map_t,
     face: &F,
     virama: Option<GlyphId>,
     buffer: &mut hb_buffer_t,
-    start: usize,
-    end: usize,
 )
-    requires in_order { start ≤ end }
-    requires in_range { end ≤ length buffer.old.glyphs }
-    ensures { let changed = with_stretch start end
-        (all_by_virama (F.font face.now) map.now plan.now virama) buffer.old.glyphs in
+    ensures { let changed =
+        all_by_virama (F.font face.now) map.now plan.now virama buffer.old.glyphs in
         buffer.new ≡ record buffer.old { glyphs = changed } }
 {
     match virama {
         None => {}
         Some(virama) => {
-            let change = ByVirama {
+            let mut by_virama = ByVirama {
                 plan,
                 map,
                 face,
                 virama,
             };
-            buffer.change_each(start, end, &change);
+            buffer.walk(&mut by_virama);
         }
     }
+}
+
+// How many consonants are known at once.
+const KNOWN: usize = 32;
+
+// A consonant and its position by the font. It is known so that the font isn't asked again.
+#[derive(Clone, Copy)]
+struct Known {
+    consonant: GlyphId,
+    position: Position,
 }
 
 // Positions by the forms that consonants have with a virama.
@@ -67,6 +75,78 @@ impl<'a, F: hb_font_t> ByVirama<'a, F> {
         POS_BASE_C
     }
 
+    // A consonant with its position.
+    fn asked(&self, consonant: GlyphId) -> Known
+        ensures consonant { result.consonant ≡ consonant }
+        ensures known { let font = F.font self.now.face.now in
+            IsKnown font self.now.map.now self.now.plan.now self.now.virama result }
+    {
+        Known {
+            consonant,
+            position: self.consonant_position_from_face(consonant),
+        }
+    }
+
+    // The position of a consonant, for which the font is asked only where it isn't known.
+    fn position_of(&self, known: &mut [Known; KNOWN], consonant: GlyphId) -> Position
+        requires { let font = F.font self.now.face.now in
+            AllKnown font self.now.map.now self.now.plan.now self.now.virama known.old }
+        ensures known { let font = F.font self.now.face.now in
+            AllKnown font self.now.map.now self.now.plan.now self.now.virama known.new }
+        ensures position { let font = F.font self.now.face.now in
+            result ≡
+            consonant_position font self.now.map.now self.now.plan.now self.now.virama consonant }
+    {
+        let slot = usize::from(consonant.0) % KNOWN;
+        let kept = known[slot];
+        if kept.consonant.0 == consonant.0 {
+            return kept.position;
+        }
+        let asked = self.asked(consonant);
+        known[slot] = asked;
+        asked.position
+    }
+
+    // Gives a glyph its position, if it is a consonant of position BASE_C.
+    fn position_one(&self, known: &mut [Known; KNOWN], glyph: &mut hb_glyph_info_t)
+        requires { let font = F.font self.now.face.now in
+            AllKnown font self.now.map.now self.now.plan.now self.now.virama known.old }
+        ensures known { let font = F.font self.now.face.now in
+            AllKnown font self.now.map.now self.now.plan.now self.now.virama known.new }
+        ensures glyph { let font = F.font self.now.face.now in
+            glyph.new ≡
+            by_virama font self.now.map.now self.now.plan.now self.now.virama glyph.old }
+    {
+        if glyph.auxiliary == POS_BASE_C {
+            glyph.auxiliary = self.position_of(known, number(glyph));
+        }
+    }
+
+    // Gives all consonants of position BASE_C their positions, where that of one is known.
+    fn position_each(&self, first: Known, glyphs: &mut [hb_glyph_info_t])
+        requires { let font = F.font self.now.face.now in
+            IsKnown font self.now.map.now self.now.plan.now self.now.virama first }
+        ensures { let font = F.font self.now.face.now in
+            glyphs.new ≡
+            map (by_virama font self.now.map.now self.now.plan.now self.now.virama) glyphs.old }
+    {
+        let mut known = [first; KNOWN];
+        for glyph in glyphs.iter_mut() {
+            self.position_one(&mut known, glyph);
+        }
+    }
+
+    // Gives all consonants of position BASE_C their positions.
+    fn position_all(&self, glyphs: &mut [hb_glyph_info_t])
+        ensures { let font = F.font self.now.face.now in
+            glyphs.new ≡
+            map (by_virama font self.now.map.now self.now.plan.now self.now.virama) glyphs.old }
+    {
+        if let Some(first) = first_consonant(glyphs) {
+            self.position_each(self.asked(number(&first)), glyphs);
+        }
+    }
+
     // Whether a feature would substitute the virama and a consonant, in either order.
     #[inline(always)]
     fn joins(&self, feature: &IndicWouldSubstituteFeature, consonant: GlyphId) -> bool
@@ -78,15 +158,26 @@ impl<'a, F: hb_font_t> ByVirama<'a, F> {
     }
 }
 
-impl<'a, F: hb_font_t> GlyphChange for ByVirama<'a, F> {
+impl<'a, F: hb_font_t> GlyphWalk for ByVirama<'a, F> {
+    ghost use Rattle.std.specs.Prelude.{◌≡◌, map};
     ghost use Rattle.shapers_indic_initial.specs.InitialFont.{by_virama};
 
-    ghost changed = { λ change glyph.
-        by_virama (F.font change.face.now) change.map.now change.plan.now change.virama glyph };
+    ghost can_walk = { λ _ _. Unit {0} };
 
-    fn change(&self, glyph: &mut hb_glyph_info_t) {
-        if glyph.auxiliary == POS_BASE_C {
-            glyph.auxiliary = self.consonant_position_from_face(number(glyph));
-        }
+    ghost walks = { λ v w gs hs.
+        hs ≡ map (by_virama (F.font v.face.now) v.map.now v.plan.now v.virama) gs };
+
+    fn walk(&mut self, glyphs: &mut [hb_glyph_info_t]) {
+        self.position_all(glyphs);
     }
+}
+
+// The first consonant of position BASE_C.
+fn first_consonant(glyphs: &[hb_glyph_info_t]) -> Option<hb_glyph_info_t>
+    ensures { result ≡ find (has_position POS_BASE_C) glyphs.now }
+{
+    glyphs
+        .iter()
+        .copied()
+        .find(|glyph| glyph.auxiliary == POS_BASE_C)
 }

@@ -1,7 +1,7 @@
 //! The masks of a syllable in its new order. (OpenType, development of Indic scripts: which
 //! features apply where.)
 ghost use Rattle.std.specs.Prelude.{◌≡◌, ◌+◌, ◌<◌, ◌≤◌, ◌^◌, ◌&&◌, ◌||◌, ◌∷◌, [], if◌then◌else◌, length, map, MatchOption, not, slice_index};
-ghost use Rattle.std.specs.List.{enumerate_from, prefix_len};
+ghost use Rattle.std.specs.List.{enumerate_from, list_any, prefix_len};
 ghost use Rattle.shapers_buffer.specs.Clusters.{with_stretch};
 ghost use Rattle.shapers_buffer.specs.Glyph.{without_flags};
 ghost use Rattle.shapers_buffer.specs.GlyphFlags.{with_bits};
@@ -235,8 +235,24 @@ fn pref_pair<F: hb_font_t>(
 }
 
 // A ZWNJ takes mask bits from the glyphs before it back to the nearest consonant, that one
-// included.
+// included. Most syllables have none.
 fn clear_half(bits: u32, glyphs: &mut [hb_glyph_info_t])
+    ensures { glyphs.new ≡ without_half bits glyphs.old }
+{
+    if has_non_joiner(glyphs) {
+        clear_half_each(bits, glyphs);
+    }
+}
+
+// Whether there is a ZWNJ.
+fn has_non_joiner(glyphs: &[hb_glyph_info_t]) -> bool
+    ensures { result ≡ list_any (is_one_of (OT_ZWNJ ∷ [])) glyphs.now }
+{
+    glyphs.iter().any(|glyph| is_non_joiner(glyph))
+}
+
+// The same, glyph by glyph, from the last one on.
+fn clear_half_each(bits: u32, glyphs: &mut [hb_glyph_info_t])
     ensures { glyphs.new ≡ without_half bits glyphs.old }
 {
     let mut loses = false;

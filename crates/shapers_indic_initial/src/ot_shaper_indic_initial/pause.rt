@@ -9,6 +9,7 @@ ghost use Rattle.shapers_syllabic.specs.Circles.{circled};
 ghost use Rattle.shapers_syllabic.specs.Reordering.{PauseReordered};
 ghost use Rattle.shapers_syllabic.specs.ReorderingLaws.{PauseCutsAtBorders, TextReordered};
 
+use super::font_positions::update_consonant_positions;
 use super::reordering::InitialOrder;
 use shapers_base::buffer::{ShaperError, hb_buffer_t};
 use shapers_base::font::hb_font_t;
@@ -17,15 +18,7 @@ use shapers_base::plan::ot_category_t::{OT_DOTTEDCIRCLE, OT_Repha};
 use shapers_base::plan::ot_position_t::POS_END;
 use shapers_indic::ot_shaper_indic::{indic_in, virama_glyph};
 use shapers_syllabic::ot_shaper_syllabic::indic_syllable::{BROKEN_CLUSTER, NON_INDIC_CLUSTER};
-use shapers_syllabic::ot_shaper_syllabic::{CircleSort, reorder_pause};
-
-// The dotted circles of Indic.
-const CIRCLES: CircleSort = CircleSort {
-    broken_kind: BROKEN_CLUSTER,
-    category: OT_DOTTEDCIRCLE,
-    repha: Some(OT_Repha),
-    position: Some(POS_END),
-};
+use shapers_syllabic::ot_shaper_syllabic::{insert_dotted_circles, reorder_syllables};
 
 /// Gives consonants positions by the font and broken syllables their dotted circles, and then
 /// reorders each syllable: its base, what goes with which glyph, the order by positions, the masks
@@ -70,12 +63,24 @@ pub fn initial_reordering<F: hb_font_t>(
         let opened = circled circles buffer.old.glyphs in
         initial_refusal buffer.old ≡ None → opened ≡ buffer.old.glyphs → IsOk result }
 {
-    let data = indic_in(plan);
+    if let Some(place) = buffer.unknown_syllable(NON_INDIC_CLUSTER) {
+        return Err(ShaperError::UnknownSyllable(place));
+    }
+    let circles = insert_dotted_circles(
+        face,
+        buffer,
+        BROKEN_CLUSTER,
+        OT_DOTTEDCIRCLE,
+        Some(OT_Repha),
+        Some(POS_END),
+    )?;
+    let (data, map) = (indic_in(plan), &plan.ot_map);
+    update_consonant_positions(data, map, face, virama_glyph(data, face), buffer);
     let order = InitialOrder {
         plan: data,
-        map: &plan.ot_map,
+        map,
         face,
-        virama: virama_glyph(data, face),
     };
-    reorder_pause(face, &order, &CIRCLES, Some(NON_INDIC_CLUSTER), buffer)
+    reorder_syllables(&order, buffer)?;
+    Ok(circles)
 }

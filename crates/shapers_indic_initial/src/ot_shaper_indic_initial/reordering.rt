@@ -4,13 +4,12 @@ ghost use Rattle.shapers_indic_initial.specs.InitialReordering.{is_reordered, ma
 ghost use Rattle.shapers_indic_initial.specs.InitialRules.{rules_of};
 ghost use Rattle.shapers_syllabic.specs.Reordering.{SyllableReordered};
 
-use super::font_positions::update_consonant_positions;
 use super::masks::set_masks;
 use super::opening::set_positions;
 use super::order::order_syllable;
 use super::ordered_base::ordered_base;
 use shapers_base::buffer::{GlyphWalk, Script, ShaperError, hb_buffer_t, hb_glyph_info_t};
-use shapers_base::font::{GlyphId, hb_font_t};
+use shapers_base::font::hb_font_t;
 use shapers_base::map::hb_ot_map_t;
 use shapers_base::plan::indic_shape_plan_t;
 use shapers_syllabic::ot_shaper_syllabic::Reorder;
@@ -18,28 +17,23 @@ use shapers_syllabic::ot_shaper_syllabic::indic_syllable::{
     BROKEN_CLUSTER, CONSONANT_SYLLABLE, STANDALONE_CLUSTER, VOWEL_SYLLABLE,
 };
 
-/// The initial reordering of a syllable: positions by the font, its order, and its masks.
+/// The initial reordering of a syllable that has positions by the font: its order, and its masks.
 #[derive(Drop)]
 pub(super) struct InitialOrder<'a, F: hb_font_t> {
     pub(super) plan: &'a indic_shape_plan_t,
     pub(super) map: &'a hb_ot_map_t,
     pub(super) face: &'a F,
-    /// The font's glyph for the script's virama.
-    pub(super) virama: Option<GlyphId>,
 }
 
 impl<'a, F: hb_font_t> Reorder for InitialOrder<'a, F> {
-    ghost use Rattle.shapers_indic_initial.specs.InitialFont.{all_by_virama};
     ghost use Rattle.shapers_indic_initial.specs.InitialReordering.{initial_order, initial_steps};
     ghost use Rattle.shapers_indic_initial.specs.InitialRules.{rules_of};
 
     ghost meaning = { λ r script gs.
-        let positioned = all_by_virama (F.font r.face.now) r.map.now r.plan.now r.virama gs in
-        initial_order (rules_of (F.font r.face.now) r.map.now r.plan.now) script positioned };
+        initial_order (rules_of (F.font r.face.now) r.map.now r.plan.now) script gs };
 
     ghost steps = { λ r script gs.
-        let positioned = all_by_virama (F.font r.face.now) r.map.now r.plan.now r.virama gs in
-        initial_steps (rules_of (F.font r.face.now) r.map.now r.plan.now) script positioned };
+        initial_steps (rules_of (F.font r.face.now) r.map.now r.plan.now) script gs };
 
     fn reorder(
         &self,
@@ -48,7 +42,6 @@ impl<'a, F: hb_font_t> Reorder for InitialOrder<'a, F> {
         end: usize,
     ) -> Result<(), ShaperError> {
         let (plan, map, face) = (self.plan, self.map, self.face);
-        update_consonant_positions(plan, map, face, self.virama, buffer, start, end);
         if is_reordered(&buffer.glyphs()[start..end]) {
             set_positions(plan, map, face, buffer, start, end);
             order_syllable(buffer, start, end, plan.is_old_spec);

@@ -1,69 +1,64 @@
 -- What the pause promises, by the plan's data.
-use Rattle.std.proofs.Common.{Option, OnOk, subst}
-use Rattle.std.proofs.lemmas.Result.{on_ok_weaker}
+use Rattle.std.proofs.Common.{◌≡◌, Option, ap, ◌∙◌}
 use Rattle.shapers_buffer.specs.Buffer.{Buffer}
 use Rattle.shapers_base.specs.declared.font.GlyphId.{GlyphId}
 use Rattle.shapers_base.specs.declared.plan.indic.indic_shape_plan_t.{indic_shape_plan_t}
+use Rattle.shapers_indic.specs.Plan.{indic_in, virama_glyph}
 use Rattle.shapers_indic_initial.specs.InitialFont.{all_by_virama}
-use Rattle.shapers_indic.specs.Plan.{indic_in}
 use Rattle.shapers_indic_initial.specs.InitialPause.{initial_circles, order_by_font, steps_by_font}
-use Rattle.shapers_indic_initial.specs.InitialReordering.{initial_order, initial_steps}
 use Rattle.shapers_indic_initial.specs.InitialRules.{rules_of}
-use Rattle.shapers_indic_initial.proofs.FontCircles.{initially_reordered}
+use Rattle.shapers_indic_initial.proofs.FontCircles.{paused_by_font, reordered_behind_circles}
 use Rattle.shapers_indic_initial.proofs.FontPositions.{laws_by_font}
+use Rattle.shapers_indic_initial.proofs.InitialLaws.{initial_laws}
 use Rattle.shapers_indic_initial.proofs.TextClusters.{initial_text_merges}
 use Rattle.shapers_syllabic.specs.Circles.{circled}
-use Rattle.shapers_syllabic.specs.Reordering.{PauseReordered}
-use Rattle.shapers_syllabic.specs.ReorderingLaws.{PauseCutsAtBorders, TextReordered}
+use Rattle.shapers_syllabic.proofs.CircleLaws.{no_new_cluster}
+use Rattle.shapers_syllabic.proofs.ReorderingCuts.{cuts_at_borders}
+use Rattle.shapers_syllabic.proofs.ReorderingLaws.{text_reordered}
 use Rattle.shapers_indic_initial.proofs.ot_shaper_indic_initial.pause.initial_reordering.Goals as goal
 
-pub reorder_pause-requires-clause-laws : goal.reorder_pause-requires-clause-laws
-reorder_pause-requires-clause-laws g c = laws_by_font (g.F.hb_font_t.font c.args.face.now) c.args.plan.now.ot_map c.indic_in-data.result.now c.virama_glyph.result c.args.buffer.now.script
-
-pub returns-clause-syllables : goal.returns-clause-syllables
-returns-clause-syllables g c =
-    let font = g.F.hb_font_t.font c.args.face.now in
-    let m = c.args.plan.now.ot_map in
-    let p = c.indic_in-data.result.now in
-    let b = c.args.buffer.now in
-    let new = c.reorder_pause.new.buffer in
-    let circles = initial_circles font b in
-    let r = rules_of font m p in
-    let by_plan = subst (λ (v : Option GlyphId). OnOk c.reorder_pause.result (PauseReordered circles (λ gs. initial_order r b.script (all_by_virama font m p v gs)) (λ gs. initial_steps r b.script (all_by_virama font m p v gs)) b new)) c.virama_glyph.ensures c.reorder_pause.ensures.ok in
-    subst (λ (q : indic_shape_plan_t). OnOk c.reorder_pause.result (PauseReordered circles (order_by_font font m q b.script) (steps_by_font font m q b.script) b new)) c.indic_in-data.ensures by_plan
+pub reorder_syllables-requires-clause-laws : goal.reorder_syllables-requires-clause-laws
+reorder_syllables-requires-clause-laws g c = initial_laws (rules_of (g.F.hb_font_t.font c.args.face.now) c.args.plan.now.ot_map c.indic_in-data.result.now) c.update_consonant_positions.new.buffer.script
 
 pub returns-clause-ok : goal.returns-clause-ok
 returns-clause-ok g c =
     let font = g.F.hb_font_t.font c.args.face.now in
     let m = c.args.plan.now.ot_map in
-    on_ok_weaker c.reorder_pause.result (initially_reordered font m (indic_in c.args.plan.now) c.args.buffer.now c.reorder_pause.new.buffer) (returns-clause-syllables g c)
+    let p = indic_in c.args.plan.now in
+    let b0 = c.args.buffer.now in
+    let b1 = c.insert_dotted_circles.new.buffer in
+    let b2 = c.update_consonant_positions.new.buffer in
+    let asked : b2 ≡ (let b : Buffer = record b1 { glyphs = all_by_virama font m p (virama_glyph font p) b1.glyphs } in b) =
+    c.update_consonant_positions.ensures
+    ∙ ap (λ (v : Option GlyphId). (let b : Buffer = record b1 { glyphs = all_by_virama font m c.indic_in-data.result.now v b1.glyphs } in b)) c.virama_glyph.ensures
+    ∙ ap (λ (q : indic_shape_plan_t). (let b : Buffer = record b1 { glyphs = all_by_virama font m q (virama_glyph font q) b1.glyphs } in b)) c.indic_in-data.ensures in
+    reordered_behind_circles font m p c.indic_in-data.result.now b0 b1 b2 c.reorder_syllables.new.buffer c.indic_in-data.ensures c.in_ok-circles.ensures.ok asked c.reorder_syllables.ensures.reordered
+
+pub returns-clause-syllables : goal.returns-clause-syllables
+returns-clause-syllables g c = paused_by_font (g.F.hb_font_t.font c.args.face.now) c.args.plan.now.ot_map (indic_in c.args.plan.now) c.args.buffer.now c.reorder_syllables.new.buffer (returns-clause-ok g c)
 
 pub returns-clause-cut : goal.returns-clause-cut
 returns-clause-cut g c =
     let font = g.F.hb_font_t.font c.args.face.now in
     let m = c.args.plan.now.ot_map in
-    let p = c.indic_in-data.result.now in
+    let p = indic_in c.args.plan.now in
     let b = c.args.buffer.now in
-    let new = c.reorder_pause.new.buffer in
-    let circles = initial_circles font b in
-    let r = rules_of font m p in
-    let by_plan = subst (λ (v : Option GlyphId). OnOk c.reorder_pause.result (PauseCutsAtBorders circles (λ gs. initial_order r b.script (all_by_virama font m p v gs)) (λ gs. initial_steps r b.script (all_by_virama font m p v gs)) b new)) c.virama_glyph.ensures c.reorder_pause.ensures.cut in
-    subst (λ (q : indic_shape_plan_t). OnOk c.reorder_pause.result (PauseCutsAtBorders circles (order_by_font font m q b.script) (steps_by_font font m q b.script) b new)) c.indic_in-data.ensures by_plan
+    cuts_at_borders (initial_circles font b) (order_by_font font m p b.script) (steps_by_font font m p b.script) b c.reorder_syllables.new.buffer (laws_by_font font m p (virama_glyph font p) b.script) (returns-clause-syllables g c)
 
 pub returns-clause-laws : goal.returns-clause-laws
 returns-clause-laws g c =
     let font = g.F.hb_font_t.font c.args.face.now in
     let m = c.args.plan.now.ot_map in
-    let p = c.indic_in-data.result.now in
+    let p = indic_in c.args.plan.now in
     let b = c.args.buffer.now in
-    let new = c.reorder_pause.new.buffer in
     let opened : Buffer = record b { glyphs = circled (initial_circles font b) b.glyphs } in
-    let r = rules_of font m p in
-    let by_plan = subst (λ (v : Option GlyphId). OnOk c.reorder_pause.result (TextReordered (λ gs. initial_steps r b.script (all_by_virama font m p v gs)) opened new)) c.virama_glyph.ensures c.reorder_pause.ensures.laws in
-    subst (λ (q : indic_shape_plan_t). OnOk c.reorder_pause.result (TextReordered (steps_by_font font m q b.script) opened new)) c.indic_in-data.ensures by_plan
+    text_reordered (order_by_font font m p b.script) (steps_by_font font m p b.script) opened c.reorder_syllables.new.buffer (laws_by_font font m p (virama_glyph font p) b.script) (returns-clause-syllables g c)
 
 pub returns-clause-merged : goal.returns-clause-merged
-returns-clause-merged g c =
-    let font = g.F.hb_font_t.font c.args.face.now in
-    let m = c.args.plan.now.ot_map in
-    on_ok_weaker c.reorder_pause.result (initial_text_merges font m (indic_in c.args.plan.now) c.args.buffer.now c.reorder_pause.new.buffer) (returns-clause-ok g c)
+returns-clause-merged g c = initial_text_merges (g.F.hb_font_t.font c.args.face.now) c.args.plan.now.ot_map (indic_in c.args.plan.now) c.args.buffer.now c.reorder_syllables.new.buffer (returns-clause-ok g c)
+
+pub returns-clause-clusters : goal.returns-clause-clusters
+returns-clause-clusters g c =
+    let b = c.args.buffer.now in
+    let law = returns-clause-laws g c in
+    no_new_cluster (initial_circles (g.F.hb_font_t.font c.args.face.now) b) b.glyphs c.reorder_syllables.new.buffer.glyphs law.glyphs.in_clusters.old_clusters

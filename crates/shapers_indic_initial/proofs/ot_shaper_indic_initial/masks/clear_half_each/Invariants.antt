@@ -1,7 +1,7 @@
 -- The glyphs from this place on are done.
 use Rattle.std.proofs.Common.{◌≡◌, ◌++◌, take, drop}
 use Rattle.shapers_indic_initial.specs.InitialMasks.{loses_half, without_half}
-use Rattle.shapers_indic_initial.proofs.ot_shaper_indic_initial.masks.clear_half.Given as goal
+use Rattle.shapers_indic_initial.proofs.ot_shaper_indic_initial.masks.clear_half_each.Given as goal
 
 abbrev pub invariant-loop-i : goal.invariant-loop-i
 invariant-loop-i l = record {
