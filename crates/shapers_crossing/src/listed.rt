@@ -33,7 +33,11 @@ impl Key {
     fn is_below(self, other: Key) -> bool
         ensures { result ≡ nat_lt (key_number self.front self.back) (key_number other.front other.back) }
     {
-        self.front < other.front || self.front == other.front && self.back < other.back
+        if self.front == other.front {
+            self.back < other.back
+        } else {
+            self.front < other.front
+        }
     }
 }
 
