@@ -1,5 +1,6 @@
 mod AnswerRows
+pub mod Halving
+mod Listing
 mod NumberRows
 mod PlanRows
 mod TextRows
-mod Listing

@@ -1,6 +1,10 @@
 -- Answers in ascending arrays.
 use Rattle.std.specs.List.{AllByRecursion}
-use Rattle.std.specs.Prelude.{ℕ, ◌≡◌, ◌<◌, ◌/◌, ◌^◌, ◌==◌, nat_lt, find, List, [], ◌∷◌, length, take, drop, Option, None, Some, if◌then◌else◌, suc, zero}
+use Rattle.std.specs.Prelude.{ℕ, ◌≡◌, ◌+◌, ◌*◌, ◌<◌, ◌/◌, ◌^◌, ◌==◌, nat_lt, find, List, [], ◌∷◌, length, take, drop, Option, None, Some, if◌then◌else◌, suc, zero}
+
+-- the number of a key whose low 24 bits stand apart
+abbrev pub key_number : ℕ → ℕ → ℕ
+key_number front back = front * 16777216 + back
 
 -- each entry's key is below those of all behind it
 abbrev pub Ascend : {T : Type 0} → (T → ℕ) → List T → Type 0

@@ -1,11 +1,13 @@
 //! Glyphs, positions and spans, read and written.
-ghost use Rattle.std.specs.Prelude.{◌≡◌, ◌<◌, length, map, slice_get, Some, IfOk, unwrap_or};
+ghost use Rattle.std.specs.Prelude.{◌≡◌, ◌<◌, length, map, slice_get, Some, IfOk, IsTrue, unwrap_or};
 ghost use Rattle.std.specs.List.{list_all};
 ghost use Rattle.shapers_crossing.specs.Glyphs.{glyph_in, is_glyph, position_in, span_in};
 ghost use Rattle.shapers_crossing.specs.Numbers.{categories};
+ghost use Rattle.shapers_crossing.specs.Text.{RefusesArgument};
 
+use crate::outcome::Stop;
 use shapers_base::buffer::{
-    GlyphMarks, GlyphPosition, Span, hb_glyph_info_t, hb_unicode_general_category_t,
+    GlyphMarks, GlyphPosition, ShaperError, Span, hb_glyph_info_t, hb_unicode_general_category_t,
 };
 use std::alloc::{AllocError, Global};
 
@@ -44,54 +46,45 @@ pub struct SyllableSpan {
     pub kind: u8,
 }
 
-const CATEGORIES: [hb_unicode_general_category_t; 30] = [
-    hb_unicode_general_category_t::Cc,
-    hb_unicode_general_category_t::Cf,
-    hb_unicode_general_category_t::Cn,
-    hb_unicode_general_category_t::Co,
-    hb_unicode_general_category_t::Cs,
-    hb_unicode_general_category_t::Ll,
-    hb_unicode_general_category_t::Lm,
-    hb_unicode_general_category_t::Lo,
-    hb_unicode_general_category_t::Lt,
-    hb_unicode_general_category_t::Lu,
-    hb_unicode_general_category_t::Mc,
-    hb_unicode_general_category_t::Me,
-    hb_unicode_general_category_t::Mn,
-    hb_unicode_general_category_t::Nd,
-    hb_unicode_general_category_t::Nl,
-    hb_unicode_general_category_t::No,
-    hb_unicode_general_category_t::Pc,
-    hb_unicode_general_category_t::Pd,
-    hb_unicode_general_category_t::Pe,
-    hb_unicode_general_category_t::Pf,
-    hb_unicode_general_category_t::Pi,
-    hb_unicode_general_category_t::Po,
-    hb_unicode_general_category_t::Ps,
-    hb_unicode_general_category_t::Sc,
-    hb_unicode_general_category_t::Sk,
-    hb_unicode_general_category_t::Sm,
-    hb_unicode_general_category_t::So,
-    hb_unicode_general_category_t::Zl,
-    hb_unicode_general_category_t::Zp,
-    hb_unicode_general_category_t::Zs,
-];
-
 /// The general category of this number.
 pub fn category_at(n: u8) -> Option<hb_unicode_general_category_t>
     ensures { result ≡ slice_get categories n }
 {
-    match CATEGORIES.as_slice().get(n as usize) {
-        Some(category) => Some(*category),
-        None => None,
+    if n >= 30 {
+        return None;
     }
-}
-
-/// Whether each glyph's general category is one.
-pub fn are_glyphs(glyphs: &[Glyph]) -> bool
-    ensures { result ≡ list_all is_glyph glyphs.now }
-{
-    glyphs.iter().all(|glyph| glyph.general_category < 30)
+    Some(match n {
+        0 => hb_unicode_general_category_t::Cc,
+        1 => hb_unicode_general_category_t::Cf,
+        2 => hb_unicode_general_category_t::Cn,
+        3 => hb_unicode_general_category_t::Co,
+        4 => hb_unicode_general_category_t::Cs,
+        5 => hb_unicode_general_category_t::Ll,
+        6 => hb_unicode_general_category_t::Lm,
+        7 => hb_unicode_general_category_t::Lo,
+        8 => hb_unicode_general_category_t::Lt,
+        9 => hb_unicode_general_category_t::Lu,
+        10 => hb_unicode_general_category_t::Mc,
+        11 => hb_unicode_general_category_t::Me,
+        12 => hb_unicode_general_category_t::Mn,
+        13 => hb_unicode_general_category_t::Nd,
+        14 => hb_unicode_general_category_t::Nl,
+        15 => hb_unicode_general_category_t::No,
+        16 => hb_unicode_general_category_t::Pc,
+        17 => hb_unicode_general_category_t::Pd,
+        18 => hb_unicode_general_category_t::Pe,
+        19 => hb_unicode_general_category_t::Pf,
+        20 => hb_unicode_general_category_t::Pi,
+        21 => hb_unicode_general_category_t::Po,
+        22 => hb_unicode_general_category_t::Ps,
+        23 => hb_unicode_general_category_t::Sc,
+        24 => hb_unicode_general_category_t::Sk,
+        25 => hb_unicode_general_category_t::Sm,
+        26 => hb_unicode_general_category_t::So,
+        27 => hb_unicode_general_category_t::Zl,
+        28 => hb_unicode_general_category_t::Zp,
+        _ => hb_unicode_general_category_t::Zs,
+    })
 }
 
 fn read_glyph(g: Glyph) -> hb_glyph_info_t
@@ -216,25 +209,18 @@ pub fn read_spans(alloc: Global, spans: &[SyllableSpan]) -> Result<Vec<Span>, Al
     spans.iter().map(read).collect(alloc)
 }
 
-// Reads the numbers of these glyphs into the list.
-fn fill(read: &mut [hb_glyph_info_t], glyphs: &[Glyph])
-    requires { length read.old ≡ length glyphs.now }
-    ensures { read.new ≡ map glyph_in glyphs.now }
+/// The glyphs of an array. It stops with `Argument` where a general category is none.
+pub fn read_glyphs(alloc: Global, glyphs: &[Glyph]) -> Result<Vec<hb_glyph_info_t>, Stop>
+    ensures read { IfOk result (λ read. read.items ≡ map glyph_in glyphs.now) }
+    ensures argument { RefusesArgument (list_all is_glyph glyphs.now) result }
 {
-    let mut rest = glyphs;
-    for glyph in read.iter_mut() {
-        if let Some((number, others)) = rest.split_first() {
-            *glyph = read_glyph(*number);
-            rest = others;
+    let mut read = Vec::with_capacity(alloc, glyphs.len()).map_err(|_| ShaperError::Memory)?;
+    for glyph in glyphs {
+        if glyph.general_category >= 30 {
+            return Err(Stop::Argument);
         }
+        read.push(read_glyph(*glyph))
+            .map_err(|_| ShaperError::Memory)?;
     }
-}
-
-/// The glyphs of an array.
-pub fn read_glyphs(alloc: Global, glyphs: &[Glyph]) -> Result<Vec<hb_glyph_info_t>, AllocError>
-    ensures { IfOk result (λ read. read.items ≡ map glyph_in glyphs.now) }
-{
-    let mut read = Vec::from_elem(alloc, hb_glyph_info_t::DEFAULT, glyphs.len())?;
-    fill(read.as_mut_slice(), glyphs);
     Ok(read)
 }

@@ -74,16 +74,21 @@ fn read_stage(stage: &Stage) -> Range<usize>
 fn read_features(alloc: Global, features: &[Feature]) -> Result<Vec<feature_map_t>, AllocError>
     ensures { IfOk result (λ read. read.items ≡ map feature_in features.now) }
 {
-    features
-        .iter()
-        .map(|feature| read_feature(feature))
-        .collect(alloc)
+    let mut read = Vec::with_capacity(alloc, features.len())?;
+    for feature in features {
+        read.push(read_feature(feature))?;
+    }
+    Ok(read)
 }
 
 fn read_stages(alloc: Global, stages: &[Stage]) -> Result<Vec<Range<usize>>, AllocError>
     ensures { IfOk result (λ read. read.items ≡ map stage_in stages.now) }
 {
-    stages.iter().map(|stage| read_stage(stage)).collect(alloc)
+    let mut read = Vec::with_capacity(alloc, stages.len())?;
+    for stage in stages {
+        read.push(read_stage(stage))?;
+    }
+    Ok(read)
 }
 
 // The map of these numbers, or None where they make none.

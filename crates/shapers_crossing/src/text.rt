@@ -1,16 +1,16 @@
 //! A text and its settings, read into a buffer and written back.
-ghost use Rattle.std.specs.Prelude.{◌≡◌, ◌<◌, length, nat_le, if◌then◌else◌, take, IfSome, OnOk, IsTrue, IsFalse, is_some};
+ghost use Rattle.std.specs.Prelude.{◌≡◌, ◌&&◌, ◌<◌, ◌≤◌, [], length, nat_le, if◌then◌else◌, take, IfSome, OnOk, IsTrue, IsFalse, is_some};
 ghost use Rattle.std.specs.List.{list_all};
 ghost use Rattle.shapers_buffer.specs.Buffer.{new_buffer};
-ghost use Rattle.shapers_crossing.specs.Glyphs.{FrontReads, glyph_in};
+ghost use Rattle.shapers_crossing.specs.Glyphs.{FrontReads, glyph_in, is_glyph};
 ghost use Rattle.shapers_crossing.specs.Text.{RefusesArgument, buffer_of, is_context, is_scalar, is_text, settings_of, written};
 
-use crate::glyph::{Glyph, are_glyphs, read_glyphs, write_glyphs};
+use crate::glyph::{Glyph, read_glyphs, write_glyphs};
 use crate::numbers::{direction_at, level_at, script_at};
 use crate::outcome::Stop;
 use arrayvec::ArrayVec;
 use shapers_base::buffer::{
-    BufferClusterLevel, BufferFlags, CONTEXT_LENGTH, Direction, ShaperError, hb_buffer_t,
+    BufferClusterLevel, BufferFlags, CONTEXT_LENGTH, Direction, hb_buffer_t,
 };
 use std::alloc::Global;
 
@@ -45,9 +45,14 @@ fn read_context(numbers: &[u32; 5], length: u8) -> Option<ArrayVec<char, CONTEXT
     Some(context)
 }
 
-// Whether the settings and the array are a text.
-fn text_fits(text: &Text, glyphs: &[Glyph]) -> bool
-    ensures { result ≡ is_text text.now glyphs.now }
+// Whether the settings and the array are a text, if its glyphs are such.
+fn settings_fit(text: &Text, glyphs: &[Glyph]) -> bool
+    ensures text { let are_glyphs = list_all is_glyph (take text.now.length glyphs.now) in
+        is_text text.now glyphs.now ≡ (result && are_glyphs) }
+    ensures room { IsTrue result → text.now.length ≤ length glyphs.now }
+    ensures length { IsTrue result → text.now.length ≤ text.now.max_length }
+    ensures before { IsTrue result → IsTrue (is_context text.now.before_length text.now.before) }
+    ensures after { IsTrue result → IsTrue (is_context text.now.after_length text.now.after) }
 {
     text.length <= glyphs.len()
         && text.length <= text.max_length
@@ -55,7 +60,6 @@ fn text_fits(text: &Text, glyphs: &[Glyph]) -> bool
         && text.direction < 5
         && context_fits(&text.before, text.before_length)
         && context_fits(&text.after, text.after_length)
-        && are_glyphs(&glyphs[..text.length])
 }
 
 // Whether a context has so many characters.
@@ -85,14 +89,32 @@ fn read_settings(text: &Text, buffer: &mut hb_buffer_t)
     buffer.set_direction(direction_at(text.direction).unwrap_or(Direction::LeftToRight));
     buffer.set_script(script_at(text.script));
     buffer.set_flags(BufferFlags(text.flags));
-    if let Some(before) = read_context(&text.before, text.before_length) {
-        buffer.set_pre_context(before.as_slice());
-    }
-    if let Some(after) = read_context(&text.after, text.after_length) {
-        buffer.set_post_context(after.as_slice());
-    }
+    read_contexts(text, buffer);
     buffer.set_has_broken_syllable(text.has_broken_syllable != 0);
     buffer.set_has_stch(text.has_stch != 0);
+}
+
+// Reads the contexts of a text into a buffer that has none.
+fn read_contexts(text: &Text, buffer: &mut hb_buffer_t)
+    requires no_before { buffer.old.before ≡ [] }
+    requires no_after { buffer.old.after ≡ [] }
+    requires before { IsTrue (is_context text.now.before_length text.now.before) }
+    requires after { IsTrue (is_context text.now.after_length text.now.after) }
+    ensures { buffer.new ≡ record buffer.old {
+      before = take text.now.before_length text.now.before;
+      after = take text.now.after_length text.now.after;
+    } }
+{
+    if text.before_length > 0 {
+        if let Some(before) = read_context(&text.before, text.before_length) {
+            buffer.set_pre_context(before.as_slice());
+        }
+    }
+    if text.after_length > 0 {
+        if let Some(after) = read_context(&text.after, text.after_length) {
+            buffer.set_post_context(after.as_slice());
+        }
+    }
 }
 
 /// Reads a text without positions into an empty buffer. It stops with `Argument` where a setting or
@@ -107,10 +129,10 @@ pub fn read_text(
     ensures buffer { OnOk result (buffer.new ≡ buffer_of text.now glyphs.now) }
     ensures argument { RefusesArgument (is_text text.now glyphs.now) result }
 {
-    if !text_fits(text, glyphs) {
+    if !settings_fit(text, glyphs) {
         return Err(Stop::Argument);
     }
-    let glyphs = read_glyphs(alloc, &glyphs[..text.length]).map_err(|_| ShaperError::Memory)?;
+    let glyphs = read_glyphs(alloc, &glyphs[..text.length])?;
     read_settings(text, buffer);
     buffer.replace_glyphs(glyphs)?;
     Ok(())

@@ -1,9 +1,10 @@
 //! The answers of a font.
 ghost use Rattle.std.specs.Prelude.{◌≡◌, ◌+◌, ◌*◌, ◌<◌, length, None, Some};
 ghost use Rattle.shapers_crossing.specs.Answers.{applies_key, entry_key, number_at};
+ghost use Rattle.shapers_crossing.specs.Listed.{key_number};
 
 use super::{OpenQuestions, Question};
-use crate::listed::{Keyed, look_up};
+use crate::listed::{Key, Keyed, look_up};
 use shapers_base::buffer::hb_tag_t;
 use shapers_base::font::{GlyphId, hb_font_t};
 
@@ -18,8 +19,8 @@ pub struct Nominal {
 impl Keyed for Nominal {
     ghost key_of = { λ entry. entry.character };
 
-    fn key(&self) -> u128 {
-        u128::from(self.character)
+    fn key(&self) -> Key {
+        Key::of(u64::from(self.character))
     }
 }
 
@@ -34,8 +35,8 @@ pub struct Advance {
 impl Keyed for Advance {
     ghost key_of = { λ entry. entry.glyph };
 
-    fn key(&self) -> u128 {
-        u128::from(self.glyph)
+    fn key(&self) -> Key {
+        Key::of(u64::from(self.glyph))
     }
 }
 
@@ -55,7 +56,7 @@ impl Keyed for Applies {
 
     ghost key_of = { entry_key };
 
-    fn key(&self) -> u128 {
+    fn key(&self) -> Key {
         key_of_numbers(self.lookup, self.length, &self.glyphs, self.zero_context)
     }
 }
@@ -71,8 +72,8 @@ pub struct Offered {
 impl Keyed for Offered {
     ghost key_of = { λ entry. entry.tag };
 
-    fn key(&self) -> u128 {
-        u128::from(self.tag)
+    fn key(&self) -> Key {
+        Key::of(u64::from(self.tag))
     }
 }
 
@@ -87,15 +88,17 @@ pub struct FontAnswers<'a> {
 }
 
 // The number that answers about lookups are sorted by.
-fn key_of_numbers(lookup: u16, length: u16, glyphs: &[u16; 3], zero_context: u8) -> u128
-    ensures { result ≡ applies_key lookup length glyphs.now zero_context }
+fn key_of_numbers(lookup: u16, length: u16, glyphs: &[u16; 3], zero_context: u8) -> Key
+    ensures { key_number result.front result.back ≡ applies_key lookup length glyphs.now zero_context }
 {
-    let mut key = u128::from(lookup);
-    key = key * 65536 + u128::from(length);
-    key = key * 65536 + u128::from(glyphs[0]);
-    key = key * 65536 + u128::from(glyphs[1]);
-    key = key * 65536 + u128::from(glyphs[2]);
-    key * 256 + u128::from(zero_context)
+    let mut front = u64::from(lookup);
+    front = front * 65536 + u64::from(length);
+    front = front * 65536 + u64::from(glyphs[0]);
+    front = front * 65536 + u64::from(glyphs[1]);
+    Key {
+        front,
+        back: u32::from(glyphs[2]) * 256 + u32::from(zero_context),
+    }
 }
 
 /// A font that answers by arrays, and keeps the questions without an answer.
@@ -123,7 +126,7 @@ impl hb_font_t for AskedFont<'_> {
     ghost font = { λ asked. font_of asked.answers.now };
 
     fn get_nominal_glyph(&self, c: u32) -> Option<GlyphId> {
-        let Some(entry) = look_up(self.answers.nominals, u128::from(c)) else {
+        let Some(entry) = look_up(self.answers.nominals, Key::of(u64::from(c))) else {
             self.open.ask(Question::of(1, c, 0));
             return None;
         };
@@ -136,7 +139,7 @@ impl hb_font_t for AskedFont<'_> {
 
     fn glyph_h_advance(&self, glyph: GlyphId) -> i32 {
         let number = u32::from(glyph.0);
-        match look_up(self.answers.advances, u128::from(number)) {
+        match look_up(self.answers.advances, Key::of(u64::from(number))) {
             Some(entry) => entry.advance,
             None => {
                 self.open.ask(Question::of(2, number, 0));
@@ -173,7 +176,7 @@ impl hb_font_t for AskedFont<'_> {
 
     fn has_feature(&self, tag: hb_tag_t) -> bool {
         let number = u32::from_be_bytes(tag.0);
-        match look_up(self.answers.offered, u128::from(number)) {
+        match look_up(self.answers.offered, Key::of(u64::from(number))) {
             Some(entry) => entry.offered != 0,
             None => {
                 self.open.ask(Question::of(4, number, 0));

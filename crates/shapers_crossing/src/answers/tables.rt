@@ -1,11 +1,12 @@
 //! The answers of Unicode's tables.
 ghost use Rattle.std.specs.Prelude.{◌≡◌, slice_get, unwrap_or, Some, None};
 ghost use Rattle.shapers_crossing.specs.Answers.{character_at, composition_key};
+ghost use Rattle.shapers_crossing.specs.Listed.{key_number};
 ghost use Rattle.shapers_crossing.specs.Numbers.{joining_types};
 
 use super::{OpenQuestions, Question};
 use crate::glyph::category_at;
-use crate::listed::{Keyed, look_up};
+use crate::listed::{Key, Keyed, look_up};
 use shapers_base::buffer::hb_unicode_general_category_t;
 use shapers_base::font::Tables;
 use shapers_base::plan::{Category, Position, hb_arabic_joining_type_t};
@@ -25,8 +26,8 @@ pub struct Character {
 impl Keyed for Character {
     ghost key_of = { λ entry. entry.character };
 
-    fn key(&self) -> u128 {
-        u128::from(self.character)
+    fn key(&self) -> Key {
+        Key::of(u64::from(self.character))
     }
 }
 
@@ -44,7 +45,7 @@ impl Keyed for Composition {
 
     ghost key_of = { λ entry. composition_key entry.first entry.second };
 
-    fn key(&self) -> u128 {
+    fn key(&self) -> Key {
         key_of_pair(self.first, self.second)
     }
 }
@@ -61,8 +62,8 @@ pub struct Decomposition {
 impl Keyed for Decomposition {
     ghost key_of = { λ entry. entry.composed };
 
-    fn key(&self) -> u128 {
-        u128::from(self.composed)
+    fn key(&self) -> Key {
+        Key::of(u64::from(self.composed))
     }
 }
 
@@ -95,10 +96,10 @@ fn joining_type_at(n: u8) -> Option<hb_arabic_joining_type_t>
 }
 
 // The number that compositions are sorted by.
-fn key_of_pair(first: u32, second: u32) -> u128
-    ensures { result ≡ composition_key first second }
+fn key_of_pair(first: u32, second: u32) -> Key
+    ensures { key_number result.front result.back ≡ composition_key first second }
 {
-    u128::from(first) * 4294967296 + u128::from(second)
+    Key::of(u64::from(first) * 4294967296 + u64::from(second))
 }
 
 /// Tables that answer by arrays, and keep the questions without an answer.
@@ -113,7 +114,7 @@ impl AskedTables<'_> {
     fn said_of(&self, c: u32) -> Character
         ensures { result ≡ character_at self.now.answers.now c }
     {
-        match look_up(self.answers.characters, u128::from(c)) {
+        match look_up(self.answers.characters, Key::of(u64::from(c))) {
             Some(entry) => entry,
             None => {
                 self.open.ask(Question::of(5, c, 0));
@@ -169,7 +170,7 @@ impl Tables for AskedTables<'_> {
 
     fn decompose(&self, ab: char) -> Option<(char, char)> {
         let composed = u32::from(ab);
-        match look_up(self.answers.decompositions, u128::from(composed)) {
+        match look_up(self.answers.decompositions, Key::of(u64::from(composed))) {
             Some(entry) => {
                 let first = char::from_u32(entry.first)?;
                 let second = char::from_u32(entry.second)?;
