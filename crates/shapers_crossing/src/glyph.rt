@@ -209,18 +209,35 @@ pub fn read_spans(alloc: Global, spans: &[SyllableSpan]) -> Result<Vec<Span>, Al
     spans.iter().map(read).collect(alloc)
 }
 
+// Reads the numbers of these glyphs into the list, and answers whether each is a glyph.
+fn fill(read: &mut [hb_glyph_info_t], glyphs: &[Glyph]) -> bool
+    requires { length read.old ≡ length glyphs.now }
+    ensures answer { result ≡ list_all is_glyph glyphs.now }
+    ensures read { IsTrue result → read.new ≡ map glyph_in glyphs.now }
+{
+    let mut rest = glyphs;
+    for glyph in read.iter_mut() {
+        if let Some((number, others)) = rest.split_first() {
+            if number.general_category >= 30 {
+                return false;
+            }
+            *glyph = read_glyph(*number);
+            rest = others;
+        }
+    }
+    true
+}
+
 /// The glyphs of an array. It stops with `Argument` where a general category is none.
 pub fn read_glyphs(alloc: Global, glyphs: &[Glyph]) -> Result<Vec<hb_glyph_info_t>, Stop>
     ensures read { IfOk result (λ read. read.items ≡ map glyph_in glyphs.now) }
     ensures argument { RefusesArgument (list_all is_glyph glyphs.now) result }
 {
-    let mut read = Vec::with_capacity(alloc, glyphs.len()).map_err(|_| ShaperError::Memory)?;
-    for glyph in glyphs {
-        if glyph.general_category >= 30 {
-            return Err(Stop::Argument);
-        }
-        read.push(read_glyph(*glyph))
-            .map_err(|_| ShaperError::Memory)?;
+    let default = hb_glyph_info_t::DEFAULT;
+    let mut read = Vec::from_elem(alloc, default, glyphs.len()).map_err(|_| ShaperError::Memory)?;
+    if fill(read.as_mut_slice(), glyphs) {
+        Ok(read)
+    } else {
+        Err(Stop::Argument)
     }
-    Ok(read)
 }

@@ -1,9 +1,9 @@
 //! Answers in ascending arrays, looked up by halves.
-ghost use Rattle.std.specs.Prelude.{ℕ, ◌≡◌, ◌==◌, ◌<◌, nat_lt};
-ghost use Rattle.shapers_crossing.specs.Listed.{FindsEntries, entry_in, entry_within, key_number};
+ghost use Rattle.std.specs.Prelude.{ℕ, ◌≡◌, ◌==◌, ◌<◌, nat_lt, if◌then◌else◌, None, Some};
+ghost use Rattle.shapers_crossing.specs.Listed.{FindsEntries, entry_in, key_number};
 
-/// A number that an array is sorted by, of up to 88 bits: the low 24 stand apart, so that mostly one
-/// comparison decides.
+/// A number that an array is sorted by, of up to 88 bits. The low 24 stand apart: mostly the others
+/// decide.
 #[derive(Clone, Copy)]
 pub struct Key {
     pub front: u64,
@@ -22,21 +22,18 @@ impl Key {
         }
     }
 
-    // Whether it is the same number.
-    fn is(self, other: Key) -> bool
-        ensures { result ≡ (key_number self.front self.back == key_number other.front other.back) }
+    // Whether it is a lower number than another one; None where they are the same.
+    fn is_below(self, other: Key) -> Option<bool>
+        ensures { let number = key_number self.front self.back in
+            let others = key_number other.front other.back in
+            result ≡ (if number == others then None else Some (nat_lt number others)) }
     {
-        self.front == other.front && self.back == other.back
-    }
-
-    // Whether it is a lower number.
-    fn is_below(self, other: Key) -> bool
-        ensures { result ≡ nat_lt (key_number self.front self.back) (key_number other.front other.back) }
-    {
-        if self.front == other.front {
-            self.back < other.back
+        if self.front != other.front {
+            Some(self.front < other.front)
+        } else if self.back != other.back {
+            Some(self.back < other.back)
         } else {
-            self.front < other.front
+            None
         }
     }
 }
@@ -65,11 +62,11 @@ pub fn look_up<T: Keyed>(entries: &[T], key: Key) -> Option<T>
         let Some((middle, above)) = rest.split_first() else {
             return None;
         };
-        let at = middle.key();
-        if at.is(key) {
-            return Some(*middle);
-        }
-        entries = if key.is_below(at) { below } else { above };
+        entries = match key.is_below(middle.key()) {
+            None => return Some(*middle),
+            Some(true) => below,
+            Some(false) => above,
+        };
         halvings -= 1;
     }
     None

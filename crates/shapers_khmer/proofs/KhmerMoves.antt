@@ -1,17 +1,16 @@
 -- Moves to the front: what they permute, how far they reach, and that they stay inside what merges.
-use Rattle.std.proofs.Common.{append-nil, ℕ, zero, suc, ◌+◌, ◌-◌, ◌<◌, ◌≤◌, ◌≡◌, min, max, inl, inr, nat_le, nat_lt, ◌&&◌, if◌then◌else◌, List, [], ◌∷◌, ◌++◌, map, length, get_or, take, drop, slice_index, refl, sym, ◌∙◌, ap, subst, arith, append_assoc, length-take-le, length-drop}
+use Rattle.std.proofs.Common.{append-nil, ℕ, ◌+◌, ◌-◌, ◌<◌, ◌≤◌, ◌≡◌, min, max, inl, inr, List, [], ◌∷◌, ◌++◌, map, length, get_or, take, drop, refl, sym, ◌∙◌, ap, subst, arith, append_assoc, length-take-le, length-drop}
 use Rattle.std.specs.List.{range_with_len}
 use Rattle.std.specs.List.Sorted.{IsPermutation}
 use Rattle.std.proofs.lemmas.List.{take-map, drop-map, map-append, take-append-drop, drop-drop, get_or-take, get_or-drop, get_or_append_left, get_or-append_right}
 use Rattle.std.proofs.lemmas.List.Sorted.{IsPermutation-append_comm, IsPermutation-append_left, IsPermutation-refl, IsPermutation-trans, length_permutation}
 use Rattle.std.proofs.lemmas.List.FromFn.{length-range_with_len, get_or-range_with_len}
-use Rattle.std.proofs.lemmas.Bool.{cases_lt, cases_Bool}
-use Rattle.std.proofs.lemmas.Bool.Decides.{nat_tests}
+use Rattle.std.proofs.lemmas.Bool.{cases_lt}
 use Rattle.shapers_buffer.specs.Clusters.{stretch_of}
 use Rattle.shapers_clusters.specs.Cuts.{EndWithin}
 use Rattle.shapers_clusters.specs.Steps.{HeldBetween, MovesInside}
 use Rattle.shapers_clusters.proofs.Moves.{held-front, held-rest, held_by}
-use Rattle.shapers_khmer.specs.Khmer.{Move, Pair, Vowel, brought, moved, moved_all, merged_for, is_coeng, is_ro, is_left_vowel}
+use Rattle.shapers_khmer.specs.Khmer.{Move, Pair, Vowel, brought, moved, moved_all, merged_for}
 
 -- the front, what moves and the rest are all
 parts : {X : Type 0} (n k : ℕ) (xs : List X) → (take n xs ++ stretch_of n (n + k) xs) ++ drop (n + k) xs ≡ xs
