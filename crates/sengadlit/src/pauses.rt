@@ -116,7 +116,8 @@ pub extern "C" fn sengadlit_run_pause(
         → Pauses pause plan.now font.now spans.now text.old glyphs.old text.new glyphs.new }
     ensures answer { let answer = pause_answer pause plan.now font.now text.old glyphs.old in
         IsTrue (is_done result) → result ≡ done_with answer 0 }
-    ensures stops { Stopped (PauseStops pause plan.now font.now spans.now text.old glyphs.old) result }
+    ensures stops { Stopped
+        (PauseStops pause plan.now font.now spans.now text.old glyphs.old) result }
     ensures text { IsFalse (is_done result) → text.new ≡ text.old }
     ensures glyphs { IsFalse (is_done result) → glyphs.new ≡ glyphs.old }
 {

@@ -135,7 +135,8 @@ pub extern "C" fn sengadlit_postprocess_glyphs(
         → Postprocesses shaper plan.now font.now text.old glyphs.old positions.old
         text.new glyphs.new positions.new }
     ensures answer { IsTrue (is_done result) → result ≡ done_with 0 0 }
-    ensures stops { Stopped (PostprocessStops shaper plan.now font.now text.old glyphs.old positions.old) result }
+    ensures stops { Stopped
+        (PostprocessStops shaper plan.now font.now text.old glyphs.old positions.old) result }
     ensures text { IsFalse (is_done result) → text.new ≡ text.old }
     ensures glyphs { IsFalse (is_done result) → glyphs.new ≡ glyphs.old }
     ensures positions { IsFalse (is_done result) → positions.new ≡ positions.old }

@@ -89,7 +89,8 @@ pub struct FontAnswers<'a> {
 
 // The number that answers about lookups are sorted by.
 fn key_of_numbers(lookup: u16, length: u16, glyphs: &[u16; 3], zero_context: u8) -> Key
-    ensures { key_number result.front result.back ≡ applies_key lookup length glyphs.now zero_context }
+    ensures { key_number result.front result.back
+        ≡ applies_key lookup length glyphs.now zero_context }
 {
     let mut front = u64::from(lookup);
     front = front * 65536 + u64::from(length);
