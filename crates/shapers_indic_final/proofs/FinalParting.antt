@@ -43,7 +43,7 @@ lefts_no m gs fails =
     ∙ ap reverse (append-nil (filter test (places 0 m)))
 
 -- a stretch between two parts
-stretch_between : {X : Type 0} (f : List X → List X) (i k : ℕ) (a b c : List X) → length a ≡ i → i + length b ≡ k → with_stretch i k f (a ++ (b ++ c)) ≡ a ++ (f b ++ c)
+pub stretch_between : {X : Type 0} (f : List X → List X) (i k : ℕ) (a b c : List X) → length a ≡ i → i + length b ≡ k → with_stretch i k f (a ++ (b ++ c)) ≡ a ++ (f b ++ c)
 stretch_between f i k a b c an bn =
     let all = a ++ (b ++ c) in
     let many : length b ≡ k - i = omega arith in

@@ -58,7 +58,7 @@ length-matra level s e b i j gs h l w m =
 left_seen : (gs : List hb_glyph_info_t) (q : ℕ) (d : hb_glyph_info_t) → is_left (get_or gs q d) ≡ is_left (get_or (order_view gs) q (plain d))
 left_seen gs q d = sym (ap is_left (get_or-map plain gs q d))
 
-left_read : (level : BufferClusterLevel) (s e b i j : ℕ) (gs : List hb_glyph_info_t) (d : hb_glyph_info_t) → i ≤ j → s + j < e → e ≤ length gs → (q : ℕ) → q < s + i → is_left (get_or (run_step level (widened s e (length gs) (matra_step (e - s) b i j)) gs) q d) ≡ is_left (get_or gs q d)
+pub left_read : (level : BufferClusterLevel) (s e b i j : ℕ) (gs : List hb_glyph_info_t) (d : hb_glyph_info_t) → i ≤ j → s + j < e → e ≤ length gs → (q : ℕ) → q < s + i → is_left (get_or (run_step level (widened s e (length gs) (matra_step (e - s) b i j)) gs) q d) ≡ is_left (get_or gs q d)
 left_read level s e b i j gs d h l m q k =
     let moved = with_stretch (s + i) (s + j + 1) first_goes_last gs in
     let n : length (take (s + i) gs) ≡ s + i = length-take-le (s + i) gs (omega arith) in
@@ -75,7 +75,7 @@ lefts_from i p gs = reverse (filter (passes is_left gs) (places i p))
 abbrev pub numbered_steps : ℕ → ℕ → ℕ → List ℕ → List Step
 numbered_steps n e p qs = map (λ t. matra_step n e t.1 (p - t.0)) (enumerate_from 0 qs)
 
-lefts_yes : (i p : ℕ) (gs : List hb_glyph_info_t) → i < p → passes is_left gs i ≡ true → lefts_from i p gs ≡ lefts_from (i + 1) p gs ++ i ∷ []
+pub lefts_yes : (i p : ℕ) (gs : List hb_glyph_info_t) → i < p → passes is_left gs i ≡ true → lefts_from i p gs ≡ lefts_from (i + 1) p gs ++ i ∷ []
 lefts_yes i p gs l holds =
     let test = passes is_left gs in
     let rest = filter test (places (i + 1) p) in
@@ -83,14 +83,14 @@ lefts_yes i p gs l holds =
     ∙ ap (λ b. reverse (cond b (i ∷ rest) rest)) holds
     ∙ reverse-append (i ∷ []) rest
 
-lefts_no : (i p : ℕ) (gs : List hb_glyph_info_t) → i < p → passes is_left gs i ≡ false → lefts_from i p gs ≡ lefts_from (i + 1) p gs
+pub lefts_no : (i p : ℕ) (gs : List hb_glyph_info_t) → i < p → passes is_left gs i ≡ false → lefts_from i p gs ≡ lefts_from (i + 1) p gs
 lefts_no i p gs l fails =
     let test = passes is_left gs in
     let rest = filter test (places (i + 1) p) in
     ap (λ qs. reverse (filter test qs)) (places_first i p l)
     ∙ ap (λ b. reverse (cond b (i ∷ rest) rest)) fails
 
-numbered_more : (n e p i : ℕ) (qs : List ℕ) → numbered_steps n e p (qs ++ i ∷ []) ≡ numbered_steps n e p qs ++ matra_step n e i (p - length qs) ∷ []
+pub numbered_more : (n e p i : ℕ) (qs : List ℕ) → numbered_steps n e p (qs ++ i ∷ []) ≡ numbered_steps n e p qs ++ matra_step n e i (p - length qs) ∷ []
 numbered_more n e p i qs =
     let F : (ℕ × ℕ) → Step = λ t. matra_step n e t.1 (p - t.0) in
     ap (map F) (enumerate-append qs (i ∷ []))

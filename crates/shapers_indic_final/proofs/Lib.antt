@@ -28,3 +28,11 @@ pub mod FinalTargets
 pub mod FinalText
 pub mod FinalTextWalk
 pub mod FinalWords
+pub mod PartingFloods
+pub mod PartingListing
+pub mod PartingFurther
+pub mod PartingMoves
+pub mod PartingPlaces
+pub mod PartingSplit
+pub mod PartingSteps
+pub mod PartingWalks

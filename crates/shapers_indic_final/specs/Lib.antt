@@ -10,3 +10,4 @@ pub mod FinalReordering
 pub mod FinalReph
 pub mod FinalRules
 pub mod FinalWalk
+pub mod PartingWalk

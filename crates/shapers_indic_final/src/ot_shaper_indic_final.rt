@@ -7,6 +7,7 @@ pub mod laws;
 mod matras;
 mod moves;
 mod opening;
+mod parting;
 mod pause;
 mod placing;
 mod pref;

@@ -1,13 +1,14 @@
 //! Left matras, the reph and a formed pref glyph of one syllable, each put in its place.
-ghost use Rattle.std.specs.Prelude.{◌≡◌, ◌<◌, ◌≤◌, ◌+◌, ◌-◌, length, map};
+ghost use Rattle.std.specs.Prelude.{◌≡◌, ◌≤◌, ◌+◌, ◌-◌, length, map};
 ghost use Rattle.shapers_buffer.specs.Clusters.{stretch_of};
 ghost use Rattle.shapers_clusters.specs.Steps.{run_steps, widened};
-ghost use Rattle.shapers_indic_final.specs.FinalMatras.{end_of_base, matra_steps, parting_steps, staying_steps};
+ghost use Rattle.shapers_indic_final.specs.FinalMatras.{end_of_base, matra_steps, staying_steps};
 ghost use Rattle.shapers_indic_final.specs.FinalPref.{pref_steps};
 ghost use Rattle.shapers_indic_final.specs.FinalReph.{base_after_reph, reph_steps};
 
-use super::matras::{end_of_base, first_left, has_room, is_left, matra_target, matras_go};
-use super::moves::{move_matra, move_pref, move_reph};
+use super::matras::{end_of_base, first_left, has_room, matra_target, matras_go};
+use super::moves::{move_pref, move_reph};
+use super::parting::part_matras;
 use super::pref::{formed_pref, pref_target};
 use super::reph::{base_after_reph, opens_with_reph, reph_target};
 use shapers_base::buffer::{Script, hb_buffer_t};
@@ -97,29 +98,6 @@ pub(super) fn place_matras(
         part_matras(target, end, buffer, s, e);
     } else {
         merge_matras(base, end, buffer, s, e);
-    }
-}
-
-// Moves the left matras before place `p` of the syllable from `s` to `e` there, the last one first,
-// and merges each with all up to place `b`.
-fn part_matras(p: usize, b: usize, buffer: &mut hb_buffer_t, s: usize, e: usize)
-    requires in_range { e ≤ length buffer.old.glyphs }
-    requires before { p < b }
-    requires base_in_order { s + b ≤ e }
-    ensures glyphs { let steps = parting_steps p b (stretch_of s e buffer.old.glyphs) in
-        let wide = map (widened s e (length buffer.old.glyphs)) steps in
-        buffer.new ≡ record buffer.old {
-          glyphs = run_steps buffer.old.level wide buffer.old.glyphs;
-          places = buffer.new.places;
-        } }
-    ensures same_length { length buffer.new.glyphs ≡ length buffer.old.glyphs }
-{
-    let mut target = p;
-    for i in (0..p).rev() {
-        if is_left(&buffer.glyphs()[s + i]) {
-            move_matra(buffer, s, e, b, i, target);
-            target -= 1;
-        }
     }
 }
 
