@@ -1,3 +1,4 @@
 mod DataRows
 mod NumberRows
+mod StopRows
 mod Stopping
