@@ -23,7 +23,7 @@ use Rattle.shapers_khmer.specs.Requests.{khmer_list, khmer_overrides}
 use Rattle.shapers_myanmar.specs.Myanmar.{myanmar_circles}
 use Rattle.shapers_myanmar.specs.Requests.{myanmar_list}
 use Rattle.shapers_syllabic.specs.Circles.{circled}
-use Rattle.shapers_syllabic.specs.Reordering.{circles_of_sort}
+use Rattle.shapers_syllabic.specs.Reordering.{script_circles}
 use Rattle.shapers_universal.specs.PlanData.{is_universal}
 use Rattle.shapers_universal.specs.Requests.{universal_list}
 use Rattle.shapers_universal.specs.UniversalText.{universal_circles}
@@ -96,7 +96,7 @@ unknown_in_indic font r h = h.0
 unknown_in_myanmar : (font : Font) → (r : Result (Unit {0}) ShaperError) → RefusesPause ReorderMyanmar font [] (kinds_of 4 4) r → r ≡ Err (UnknownSyllable 0)
 unknown_in_myanmar font r h = h.0
 
-known : (font : Font) → (r : Result (Unit {0}) ShaperError) → RefusesPause ReorderMyanmar font [] (kinds_of 3 2) r → circled (circles_of_sort myanmar_circles font (kinds_of 3 2)) (kinds_of 3 2).glyphs ≡ (kinds_of 3 2).glyphs → IsOk r
+known : (font : Font) → (r : Result (Unit {0}) ShaperError) → RefusesPause ReorderMyanmar font [] (kinds_of 3 2) r → circled (script_circles myanmar_circles font (kinds_of 3 2)) (kinds_of 3 2).glyphs ≡ (kinds_of 3 2).glyphs → IsOk r
 known font r h stays = h.1 refl stays
 
 -- the pauses that reorder, and no others
@@ -107,7 +107,7 @@ which_reorder : (plan : hb_ot_shape_plan_t) (font : Font) (b : Buffer) → map (
 which_reorder plan font b = refl
 
 -- which circles each of them opens, where the font has a glyph for them: none but the four before substitutions
-circles_are : (plan : hb_ot_shape_plan_t) (font : Font) (b : Buffer) → map (λ pause. circles_of pause plan font b) fifteen ≡ None ∷ None ∷ None ∷ None ∷ initial_circles font b ∷ circles_of_sort khmer_circles font b ∷ circles_of_sort myanmar_circles font b ∷ circles_of_sort universal_circles font b ∷ None ∷ None ∷ None ∷ None ∷ None ∷ None ∷ None ∷ []
+circles_are : (plan : hb_ot_shape_plan_t) (font : Font) (b : Buffer) → map (λ pause. circles_of pause plan font b) fifteen ≡ None ∷ None ∷ None ∷ None ∷ initial_circles font b ∷ script_circles khmer_circles font b ∷ script_circles myanmar_circles font b ∷ script_circles universal_circles font b ∷ None ∷ None ∷ None ∷ None ∷ None ∷ None ∷ None ∷ []
 circles_are plan font b = refl
 
 -- the pauses that shapers ask for, in their order

@@ -4,7 +4,7 @@ use Rattle.std.specs.Prelude.{ℕ, ◌+◌, ◌≤◌, List, map, true, false, �
 use Rattle.std.specs.List.{All, list_any}
 use Rattle.shapers_buffer.specs.Buffer.{Buffer}
 use Rattle.shapers_base.specs.Font.{CharacterTables, Font}
-use Rattle.shapers_buffer.specs.Glyph.{clusters}
+use Rattle.shapers_buffer.specs.Glyph.{clusters, characters}
 use Rattle.shapers_buffer.specs.Refusals.{Refuses, RefusesLength}
 use Rattle.shapers_arabic.specs.Marks as arabic
 use Rattle.shapers_arabic.specs.Marks.{marks_merged, marks_reordered}
@@ -32,7 +32,7 @@ use Rattle.shapers_universal.specs.PlanData.{arabic_of, is_universal, universal_
 use Rattle.shapers_universal.specs.UniversalMasks.{CanJoin, MasksAreSet}
 use Rattle.shapers_text.specs.Hebrew as hebrew
 use Rattle.shapers_text.specs.Hebrew.{composed_in_hebrew, mark_step}
-use Rattle.shapers_text.specs.Thai.{characters, is_sara_am, glyphs_in_two}
+use Rattle.shapers_text.specs.Thai.{is_sara_am, glyphs_in_two}
 use Rattle.shapers_text.specs.ThaiForms.{asks_for_forms, preprocessed_in_thai}
 use Rattle.shapers_text.specs.ThaiLaws.{ClustersInTwo, KeptInTwo}
 use Rattle.rustybuzz_shapers.specs.Standing.{Lacking, standing}

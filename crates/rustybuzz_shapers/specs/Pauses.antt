@@ -20,7 +20,7 @@ use Rattle.shapers_stretch.specs.Recorded.{tiles_recorded}
 use Rattle.shapers_syllabic.specs.Borders.{SetUpCutsAtSpans, spans_set_up}
 use Rattle.shapers_syllabic.specs.CircleLaws.{NoNewCluster}
 use Rattle.shapers_syllabic.specs.Circles.{circled}
-use Rattle.shapers_syllabic.specs.Reordering.{PauseReordered, carried, circles_of_sort, text_steps}
+use Rattle.shapers_syllabic.specs.Reordering.{PauseReordered, carried, script_circles, text_steps}
 use Rattle.shapers_syllabic.specs.ReorderingLaws.{PauseCutsAtBorders, TextReordered}
 use Rattle.shapers_syllabic.specs.declared.ot_shaper_syllabic.circles.DottedCircles.{DottedCircles}
 use Rattle.shapers_universal.specs.PlanData.{is_universal, rphf_of}
@@ -97,21 +97,21 @@ by_final plan font b = record {
 -- those of Khmer, Myanmar and the universal shaper
 abbrev pub by_khmer : hb_ot_shape_plan_t → Font → Buffer → Reordering
 by_khmer plan font b = record {
-  circles = circles_of_sort khmer_circles font b;
+  circles = script_circles khmer_circles font b;
   order = khmer_order (order_in plan.plan_data);
   steps = khmer_steps;
 }
 
 abbrev pub by_myanmar : Font → Buffer → Reordering
 by_myanmar font b = record {
-  circles = circles_of_sort myanmar_circles font b;
+  circles = script_circles myanmar_circles font b;
   order = myanmar_order;
   steps = myanmar_steps;
 }
 
 abbrev pub by_universal : Font → Buffer → Reordering
 by_universal font b = record {
-  circles = circles_of_sort universal_circles font b;
+  circles = script_circles universal_circles font b;
   order = universal_order;
   steps = universal_steps;
 }
@@ -236,11 +236,11 @@ RefusesPause SetupSyllablesUse font spans old r = RefusesInput (spans_refusal sp
 RefusesPause InitialReordering font spans old r =
     RefusesReordering (initial_refusal old) (initial_circles font old) old r
 RefusesPause ReorderKhmer font spans old r =
-    let circles = circles_of_sort khmer_circles font old in
+    let circles = script_circles khmer_circles font old in
     RefusesReordering (unknown_refusal 2 old.glyphs) circles old r
 RefusesPause ReorderMyanmar font spans old r =
-    let circles = circles_of_sort myanmar_circles font old in
+    let circles = script_circles myanmar_circles font old in
     RefusesReordering (unknown_refusal 3 old.glyphs) circles old r
 RefusesPause ReorderUse font spans old r =
-    RefusesReordering None (circles_of_sort universal_circles font old) old r
+    RefusesReordering None (script_circles universal_circles font old) old r
 RefusesPause _ font spans old r = IsOk r

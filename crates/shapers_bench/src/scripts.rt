@@ -37,13 +37,13 @@ fn plan(alloc: Global, script: [u8; 4]) -> Option<hb_ot_shape_plan_t>
 }
 
 // A glyph of a syllable: its number and cluster are its place.
-fn glyph(place: u32, sort: (Category, Position)) -> hb_glyph_info_t {
+fn glyph(place: u32, category: (Category, Position)) -> hb_glyph_info_t {
     hb_glyph_info_t {
         glyph_id: place,
         cluster: place,
         syllable: 0x10,
-        category: sort.0,
-        auxiliary: sort.1,
+        category: category.0,
+        auxiliary: category.1,
         ..hb_glyph_info_t::DEFAULT
     }
 }

@@ -1,7 +1,7 @@
 mod BufferRows
 mod CategoryRows
 pub mod ClusterLemmas
-pub mod FurtherMerges
+pub mod OneCluster
 mod ConstantRows
 mod GlyphFlagRows
 pub mod ListLaws

@@ -16,13 +16,13 @@ use Rattle.shapers_buffer.specs.RunWalk.{equal_before, equal_behind}
 use Rattle.shapers_buffer.specs.Lists.{last_run}
 use Rattle.shapers_buffer.proofs.ListLaws.{from_end, last_run_no, last_run_yes}
 use Rattle.shapers_buffer.proofs.ClusterLemmas.{flooded-parts, flooded_before, flooded_itself, length-stretch, merged_is, stretch_widened, stretched_parts, three_parts}
-use Rattle.shapers_buffer.proofs.FurtherMerges.{all_in_cluster, first_of_front, in_cluster_stays, last_of_end, least_stays, one_stays, stretch_in_two}
+use Rattle.shapers_buffer.proofs.OneCluster.{all_in_cluster, first_of_front, in_cluster_stays, last_of_end, least_stays, one_stays, stretch_in_two}
 
 -- a glyph put into a cluster, and then into one that isn't above it
 flags_twice : (n : ℕ) → without_flags (without_flags n) ≡ without_flags n
 flags_twice n = omega arith
 
-put_twice : (m c : ℕ) (g : hb_glyph_info_t) → m ≤ c → c ≤ g.cluster → in_cluster m (in_cluster c g) ≡ in_cluster m g
+pub put_twice : (m c : ℕ) (g : hb_glyph_info_t) → m ≤ c → c ≤ g.cluster → in_cluster m (in_cluster c g) ≡ in_cluster m g
 put_twice m c g h l = elim (cases_Bool (g.cluster == c)) [
   | inl same ↦ let stay : in_cluster c g ≡ g = rw same refl in ap (in_cluster m) stay
   | inr other ↦
@@ -35,7 +35,7 @@ put_twice m c g h l = elim (cases_Bool (g.cluster == c)) [
       ]
 ]
 
-puts_twice : (m c : ℕ) (gs : List hb_glyph_info_t) → m ≤ c → none_below c gs ≡ true → map (in_cluster m) (map (in_cluster c) gs) ≡ map (in_cluster m) gs
+pub puts_twice : (m c : ℕ) (gs : List hb_glyph_info_t) → m ≤ c → none_below c gs ≡ true → map (in_cluster m) (map (in_cluster c) gs) ≡ map (in_cluster m) gs
 puts_twice m c [] h none = refl
 puts_twice m c (g ∷ gs) h none =
     let parts = and_parts (nat_le c g.cluster) (none_below c gs) none in
@@ -43,7 +43,7 @@ puts_twice m c (g ∷ gs) h none =
     ∙ ap (λ xs. in_cluster m g ∷ xs) (puts_twice m c gs h parts.1)
 
 -- none below a number that is lower, or the least
-none_lower : (m c : ℕ) (gs : List hb_glyph_info_t) → m ≤ c → none_below c gs ≡ true → none_below m gs ≡ true
+pub none_lower : (m c : ℕ) (gs : List hb_glyph_info_t) → m ≤ c → none_below c gs ≡ true → none_below m gs ≡ true
 none_lower m c [] h none = refl
 none_lower m c (g ∷ gs) h none =
     let parts = and_parts (nat_le c g.cluster) (none_below c gs) none in
@@ -52,7 +52,7 @@ none_lower m c (g ∷ gs) h none =
     let rest = none_lower m c gs h parts.1 in
     rw (one, rest) refl
 
-none_of_cluster : (m c : ℕ) (gs : List hb_glyph_info_t) → m ≤ c → list_all (has_cluster c) gs ≡ true → none_below m gs ≡ true
+pub none_of_cluster : (m c : ℕ) (gs : List hb_glyph_info_t) → m ≤ c → list_all (has_cluster c) gs ≡ true → none_below m gs ≡ true
 none_of_cluster m c [] h all = refl
 none_of_cluster m c (g ∷ gs) h all =
     let parts = and_parts (g.cluster == c) (list_all (has_cluster c) gs) all in
@@ -90,7 +90,7 @@ last_run_passes test = from_end (λ gs. list_all test (last_run test gs) ≡ tru
   | inr fails ↦ ap (list_all test) (last_run_no test gs g fails)
 ])
 
-first_run_passes : (test : hb_glyph_info_t → Bool) (gs : List hb_glyph_info_t) → list_all test (take (prefix_len test gs) gs) ≡ true
+pub first_run_passes : (test : hb_glyph_info_t → Bool) (gs : List hb_glyph_info_t) → list_all test (take (prefix_len test gs) gs) ≡ true
 first_run_passes test [] = refl
 first_run_passes test (g ∷ gs) = elim (cases_Bool (test g)) [
   | inl passes ↦
@@ -160,7 +160,7 @@ ended_push c m g gs h =
     ∙ ap (λ b. reverse (if b then in_cluster m g ∷ flooded c m (reverse gs) else g ∷ reverse gs)) h
     ∙ reverse-append (in_cluster m g ∷ []) (flooded c m (reverse gs))
 
-ended_all : (c m : ℕ) (before gs : List hb_glyph_info_t) → list_all (has_cluster c) gs ≡ true → reverse (flooded c m (reverse (before ++ gs))) ≡ reverse (flooded c m (reverse before)) ++ map (in_cluster m) gs
+pub ended_all : (c m : ℕ) (before gs : List hb_glyph_info_t) → list_all (has_cluster c) gs ≡ true → reverse (flooded c m (reverse (before ++ gs))) ≡ reverse (flooded c m (reverse before)) ++ map (in_cluster m) gs
 ended_all c m before [] all = ap (λ l. reverse (flooded c m (reverse l))) (append-nil before) ∙ sym (append-nil (reverse (flooded c m (reverse before))))
 ended_all c m before (g ∷ gs) all =
     let parts = and_parts (g.cluster == c) (list_all (has_cluster c) gs) all in
@@ -188,7 +188,7 @@ least_with c (g ∷ gs) (h ∷ hs) some more all =
     ap (fold min g.cluster) (map-append (λ (x : hb_glyph_info_t). x.cluster) gs (h ∷ hs))
     ∙ fold-append min g.cluster (clusters gs) (clusters (h ∷ hs))
     ∙ ap (λ n. fold min (min (fold min n (clusters gs)) h.cluster) (clusters hs)) (eqb-true g.cluster c parts.0)
-    ∙ ap (λ n. fold min (min n h.cluster) (clusters hs)) (least_stays c gs parts.1)
+    ∙ ap (λ n. fold min (min n h.cluster) (clusters hs)) (least_stays c c gs (omega arith) parts.1)
     ∙ least_of_two c h.cluster (clusters hs)
 
 -- the merge of the end of glyphs in one cluster with others behind them

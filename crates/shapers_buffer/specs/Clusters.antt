@@ -71,10 +71,3 @@ in_one_cluster gs = list_all (has_cluster (first_cluster gs)) gs
 abbrev pub flooded : ℕ → ℕ → List hb_glyph_info_t → List hb_glyph_info_t
 flooded c m [] = []
 flooded c m (g ∷ gs) = if g.cluster == c then in_cluster m g ∷ flooded c m gs else g ∷ gs
-
--- in the code: the glyphs from s to e in cluster m, and with them those behind that share the
--- cluster of the last
-abbrev pub taken_in : ℕ → ℕ → ℕ → List hb_glyph_info_t → List hb_glyph_info_t
-taken_in m s e gs = take s gs
-    ++ (map (in_cluster m) (stretch_of s e gs)
-    ++ flooded (last_cluster (stretch_of s e gs)) m (drop e gs))

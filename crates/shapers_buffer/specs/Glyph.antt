@@ -42,3 +42,11 @@ order_view gs = map plain gs
 -- the clusters of a list of glyphs
 abbrev pub clusters : List hb_glyph_info_t → List ℕ
 clusters gs = map (λ g. g.cluster) gs
+
+-- the characters of a list of glyphs
+abbrev pub characters : List hb_glyph_info_t → List ℕ
+characters gs = map (λ g. g.glyph_id) gs
+
+-- the glyph at a position of its syllable
+abbrev pub at_position : ℕ → hb_glyph_info_t → hb_glyph_info_t
+at_position p g = record g { auxiliary = p }

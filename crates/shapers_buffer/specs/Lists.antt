@@ -33,3 +33,8 @@ opened_pieces test rule xs =
 abbrev pub each_after : {X : Type 0} → List X → List X → List (List X × X)
 each_after before [] = []
 each_after before (x ∷ xs) = (before, x) ∷ each_after (before ++ x ∷ []) xs
+
+-- a list with its first element as the last
+abbrev pub first_last : {X : Type 0} → List X → List X
+first_last [] = []
+first_last (x ∷ xs) = xs ++ x ∷ []

@@ -23,12 +23,3 @@ Refuses None limit wanted r = RefusesLength limit wanted r
 abbrev pub RefusesInput : {T : Type 0} → Option ShaperError → Result T ShaperError → Type 0
 RefusesInput (Some e) r = r ≡ Err e
 RefusesInput None r = IsOk r
-
--- Memory, and only where this holds, is all that may be refused
-abbrev pub RefusesMemoryIf : {T : Type 0} → Type 0 → Result T ShaperError → Type 0
-RefusesMemoryIf P (Ok _) = Unit {0}
-RefusesMemoryIf P (Err Memory) = P
-RefusesMemoryIf P (Err TooLong) = ⊥
-RefusesMemoryIf P (Err (UnknownSyllable _)) = ⊥
-RefusesMemoryIf P (Err SpansDontCover) = ⊥
-RefusesMemoryIf P (Err StretchOverflow) = ⊥

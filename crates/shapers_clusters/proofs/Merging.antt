@@ -11,7 +11,7 @@ use Rattle.shapers_buffer.specs.declared.buffer.cluster_runs.ClusterRun.{Cluster
 use Rattle.shapers_buffer.specs.ClusterRuns.{with_run}
 use Rattle.shapers_buffer.specs.Clusters.{in_cluster, flooded, merge, merge_all, merges, stretch_of}
 use Rattle.shapers_buffer.proofs.ClusterLemmas.{flood_merged, merge_is, three_parts}
-use Rattle.shapers_buffer.proofs.FurtherMerges.{length-flooded}
+use Rattle.shapers_buffer.proofs.OneCluster.{length-flooded}
 
 -- a stretch of at least two places merges, or nothing changes
 two_cases : (n : ℕ) (a : Bool) {X : Type 0} (P : X → Type 0) (x y : X) → P y → (1 < n → P x) → P (if a && not (nat_lt n 2) then x else y)

@@ -1,6 +1,7 @@
 -- The items that change the text, and what stands between them.
 use Rattle.std.proofs.Common.{◌≡◌, ℕ, zero, suc, ◌+◌, ◌-◌, ◌<◌, ◌≤◌, Bool, true, false, cond, List, [], ◌∷◌, ◌++◌, length, take, drop, refl, sym, ap, subst, ◌∙◌, arith}
 use Rattle.std.specs.Prelude.{slice_index_or, Result, OnOk}
+use Rattle.shapers_buffer.specs.Glyph.{characters}
 use Rattle.shapers_buffer.specs.Buffer.{Buffer}
 use Rattle.shapers_buffer.specs.declared.buffer.refusal.ShaperError.{ShaperError}
 use Rattle.std.proofs.lemmas.List.{append_assoc, append-nil, drop_all, drop-drop, length-drop, take-append-drop}
@@ -9,7 +10,7 @@ use Rattle.shapers_buffer.specs.declared.buffer.glyph.hb_glyph_info_t.{hb_glyph_
 use Rattle.shapers_buffer.specs.declared.buffer.level.BufferClusterLevel.{BufferClusterLevel}
 use Rattle.shapers_base.specs.Font.{Font}
 use Rattle.shapers_hangul.specs.declared.ot_shaper_hangul.item.Item.{Item}
-use Rattle.shapers_hangul.specs.Hangul.{item_len, is_kept, first_item, items_from, items_at, Fit, item_output, outputs, item_joined, all_joined, glyph_copies, characters, preprocessed, KeptBefore}
+use Rattle.shapers_hangul.specs.Hangul.{item_len, is_kept, first_item, items_from, items_at, Fit, item_output, outputs, item_joined, all_joined, glyph_copies, preprocessed, KeptBefore}
 use Rattle.shapers_hangul.specs.RewritingWalk.{changes, InTurn, changed_from}
 use Rattle.shapers_hangul.proofs.Items.{taken_some, first_item-within}
 use Rattle.shapers_hangul.proofs.Outputs.{preprocessed-kept}

@@ -13,7 +13,7 @@ use Rattle.shapers_buffer.specs.declared.buffer.refusal.ShaperError.{ShaperError
 use Rattle.shapers_buffer.specs.Buffer.{Buffer}
 use Rattle.shapers_buffer.specs.Clusters.{merge_all, merges}
 use Rattle.shapers_base.specs.Font.{Font}
-use Rattle.shapers_buffer.specs.Glyph.{clusters}
+use Rattle.shapers_buffer.specs.Glyph.{clusters, characters}
 use Rattle.shapers_buffer.specs.Places.{pick}
 use Rattle.shapers_buffer.proofs.MappedLists.{all-append, all-flat_map, drop-range, places-enumerate_from, Contains-flat_map}
 use Rattle.shapers_clusters.specs.Cuts.{EndWithin, ShareCluster}
@@ -27,7 +27,7 @@ use Rattle.shapers_hangul.specs.declared.ot_shaper_hangul.item.JoinedTone.{Joine
 use Rattle.shapers_hangul.specs.declared.ot_shaper_hangul.item.JoinedTone.TheVariants.{Absent, Before, Behind}
 use Rattle.shapers_hangul.specs.declared.ot_shaper_hangul.item.Unit.{Unit}
 use Rattle.shapers_hangul.specs.declared.ot_shaper_hangul.item.Unit.TheVariants.{ComposedTwo, ComposedThree, JamoTwo, JamoThree, PartsTwo, PartsThree, PartsBeforeT, Syllable, ToneCircle, CircleTone, Other}
-use Rattle.shapers_hangul.specs.Hangul.{taken, output_len, tone_len, item_len, items, Fit, Copying, unit_output, with_tone, item_output, outputs, is_merged, unit_stretch, tone_stretch, item_stretches, stretches, all_joined, glyph_copies, characters, rewritten, wants_circles}
+use Rattle.shapers_hangul.specs.Hangul.{taken, output_len, tone_len, item_len, items, Fit, Copying, unit_output, with_tone, item_output, outputs, is_merged, unit_stretch, tone_stretch, item_stretches, stretches, all_joined, glyph_copies, rewritten, wants_circles}
 use Rattle.shapers_hangul.specs.HangulLaws.{place_copies, sources, KeepsClusters, unnamed, RewrittenLaw}
 use Rattle.shapers_hangul.proofs.Items.{items_fit}
 use Rattle.shapers_hangul.proofs.Outputs.{Leads, outputs-map}

@@ -2,6 +2,7 @@
 use Rattle.std.proofs.Common.{◌≡◌, ℕ, ◌+◌, Bool, List, [], ◌∷◌, ◌++◌, length, map, take, drop, refl, sym, ap, subst, ◌∙◌}
 use Rattle.std.specs.Prelude.{◌≤◌, Result, Err}
 use Rattle.shapers_buffer.specs.declared.buffer.refusal.ShaperError.TheVariants.{Memory}
+use Rattle.shapers_buffer.specs.Glyph.{characters}
 use Rattle.shapers_buffer.specs.Refusals.{RefusesLength}
 use Rattle.shapers_buffer.specs.declared.buffer.refusal.ShaperError.{ShaperError}
 use Rattle.std.proofs.lemmas.List.{append-nil, length-append, length-take-le, map-append, drop-map, take_all}
@@ -14,7 +15,7 @@ use Rattle.shapers_hangul.specs.declared.ot_shaper_hangul.item.JoinedTone.{Joine
 use Rattle.shapers_hangul.specs.declared.ot_shaper_hangul.item.JoinedTone.TheVariants.{Absent, Before, Behind}
 use Rattle.shapers_hangul.specs.declared.ot_shaper_hangul.item.Unit.{Unit}
 use Rattle.shapers_hangul.specs.declared.ot_shaper_hangul.item.Unit.TheVariants.{ComposedTwo, ComposedThree, JamoTwo, JamoThree, PartsTwo, PartsThree, PartsBeforeT, Syllable, ToneCircle, CircleTone, Other}
-use Rattle.shapers_hangul.specs.Hangul.{taken, items, Copying, marked_from, unit_output, with_tone, item_output, outputs, all_joined, glyph_copies, character_copies, characters, items_at, preprocessed, KeptBefore}
+use Rattle.shapers_hangul.specs.Hangul.{taken, items, Copying, marked_from, unit_output, with_tone, item_output, outputs, all_joined, glyph_copies, character_copies, items_at, preprocessed, KeptBefore}
 use Rattle.shapers_hangul.proofs.Walks.{characters-all_joined, glyphs_end, length-characters}
 
 -- f leads what the one copying makes to what the other makes

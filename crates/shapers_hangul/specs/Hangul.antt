@@ -15,6 +15,7 @@ use Rattle.shapers_hangul.specs.declared.ot_shaper_hangul.item.JoinedTone.{Joine
 use Rattle.shapers_hangul.specs.declared.ot_shaper_hangul.item.JoinedTone.TheVariants.{Absent, Before, Behind}
 use Rattle.shapers_hangul.specs.declared.ot_shaper_hangul.item.Unit.{Unit}
 use Rattle.shapers_hangul.specs.declared.ot_shaper_hangul.item.Unit.TheVariants.{ComposedTwo, ComposedThree, JamoTwo, JamoThree, PartsTwo, PartsThree, PartsBeforeT, Syllable, ToneCircle, CircleTone, Other}
+use Rattle.shapers_buffer.specs.Glyph.{characters}
 
 abbrev pub is_between : ℕ → ℕ → ℕ → Bool
 is_between low high u = nat_le low u && nat_le u high
@@ -342,10 +343,6 @@ glyph_copies = record {
 -- the same on characters alone
 abbrev pub character_copies : Copying ℕ
 character_copies = record { as_character = λ u v. u; as_jamo = λ feature u. u }
-
--- the characters of glyphs
-abbrev pub characters : List hb_glyph_info_t → List ℕ
-characters gs = map (λ g. g.glyph_id) gs
 
 -- all items joined, on the old places, and then their outputs
 abbrev pub preprocessed : Font → Bool → BufferClusterLevel → List hb_glyph_info_t →

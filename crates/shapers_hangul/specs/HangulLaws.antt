@@ -6,13 +6,13 @@ use Rattle.shapers_buffer.specs.declared.buffer.level.BufferClusterLevel.{Buffer
 use Rattle.shapers_buffer.specs.Buffer.{Buffer}
 use Rattle.shapers_buffer.specs.Clusters.{merges}
 use Rattle.shapers_base.specs.Font.{Font, dotted_circle}
-use Rattle.shapers_buffer.specs.Glyph.{clusters}
+use Rattle.shapers_buffer.specs.Glyph.{clusters, characters}
 use Rattle.shapers_clusters.specs.Cuts.{ShareCluster}
 use Rattle.shapers_buffer.specs.Places.{pick}
 use Rattle.shapers_clusters.specs.Laws.{ClustersMade}
 use Rattle.shapers_hangul.specs.declared.ot_shaper_hangul.item.Item.{Item}
 use Rattle.shapers_hangul.specs.declared.ot_shaper_hangul.item.JoinedTone.TheVariants.{Before}
-use Rattle.shapers_hangul.specs.Hangul.{lead, vowel, trail, is_s, is_lv, is_tone, opening_unit, taken, Copying, unit_output, outputs, output_len, items, stretches, all_joined, character_copies, characters, preprocessed, wants_circles}
+use Rattle.shapers_hangul.specs.Hangul.{lead, vowel, trail, is_s, is_lv, is_tone, opening_unit, taken, Copying, unit_output, outputs, output_len, items, stretches, all_joined, character_copies, preprocessed, wants_circles}
 
 -- the rule on places: a copy has the place of what it copies
 abbrev pub place_copies : Copying ℕ

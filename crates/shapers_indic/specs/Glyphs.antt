@@ -28,12 +28,9 @@ is_joiner = is_one_of (OT_ZWJ ∷ OT_ZWNJ ∷ [])
 abbrev pub is_matra : hb_glyph_info_t → Bool
 is_matra g = list_any (λ c. c == g.category) (OT_M ∷ OT_MPst ∷ [])
 
--- the position of a glyph in its syllable, and the glyph with another one
+-- whether a glyph has this position in its syllable
 abbrev pub has_position : ℕ → hb_glyph_info_t → Bool
 has_position p g = g.auxiliary == p
-
-abbrev pub at_position : ℕ → hb_glyph_info_t → hb_glyph_info_t
-at_position p g = record g { auxiliary = p }
 
 -- whether the glyph at place i passes a test
 abbrev pub passes : (hb_glyph_info_t → Bool) → List hb_glyph_info_t → ℕ → Bool

@@ -1,4 +1,5 @@
 -- What the steps of a syllable merge stays in one cluster.
+use Rattle.shapers_buffer.specs.Lists.{first_last}
 use Rattle.shapers_clusters.proofs.Through.{length-same}
 use Rattle.shapers_syllabic.specs.Reordering.{carried}
 use Rattle.std.proofs.Common.{List, None, Option, Some, [], ap, arith, drop, false, get_or, if◌then◌else◌, inl, inr, length, length-drop, refl, subst, suc, sym, take, true, zero, ℕ, ◌++◌, ◌+◌, ◌-◌, ◌<◌, ◌∙◌, ◌∷◌, ◌≡◌, ◌≤◌}
@@ -36,7 +37,7 @@ use Rattle.shapers_syllabic.proofs.ReorderingWalk.{pieces_of}
 use Rattle.shapers_clusters.specs.Labels.{MergedStay}
 use Rattle.shapers_indic_final.specs.FinalClusters.{EachSyllableCuts, FinalCutsLaw, FinalMergesLaw}
 use Rattle.shapers_clusters.proofs.SparedCuts.{exact_spared}
-use Rattle.shapers_indic_final.specs.FinalGlyphs.{first_goes_last, last_goes_first}
+use Rattle.shapers_indic_final.specs.FinalGlyphs.{last_goes_first}
 use Rattle.shapers_indic_final.specs.FinalMatras.{end_of_base, has_room, is_left, matra_step, matra_steps, matra_target, matras_go, merging_step}
 use Rattle.shapers_indic_final.proofs.FinalMoves.{permutes_first_last, permutes_last_first, picks_first_last, picks_last_first}
 use Rattle.shapers_indic_final.proofs.FinalParting.{lefts, lefts_no, lefts_yes, steps_of}
@@ -118,7 +119,7 @@ later_stay gs n e p (suc m) k st l h a b c =
     elim (cases_Bool (passes is_left gs m)) [
       | inl holds ↦
           let j = p - k in
-          let w = changed_within first_goes_last permutes_first_last m (j + 1) n (omega arith) (omega arith) in
+          let w = changed_within first_last permutes_first_last m (j + 1) n (omega arith) (omega arith) in
           let one : StaysAt st (matra_step n e m j) = λ q x y. w.behind q (omega arith) (omega arith) in
           let rest = later_stay gs n e p m (k + 1) st (omega arith) h (omega arith) b (omega arith) in
           subst (λ qs. AllByRecursion (Spares n st) (steps_of n e p k qs)) (sym (ap (λ q. lefts q gs) i ∙ lefts_yes m gs holds)) (inl one, rest)
@@ -174,9 +175,9 @@ moves_reph position base gs =
       | inl on ↦ rw on (
           let high : j < length gs = reph_target_within position base gs (opens_some gs on) in
           let ends : j + 1 ≤ length gs = omega arith in
-          let at = stretch_at first_goes_last first_goes_last picks_first_last permutes_first_last 0 (j + 1) (reph_step (length gs) j) gs (omega arith) ends refl (ends, tt) tt in
+          let at = stretch_at first_last first_last picks_first_last permutes_first_last 0 (j + 1) (reph_step (length gs) j) gs (omega arith) ends refl (ends, tt) tt in
           let fits = at.fits in
-          (change_moves first_goes_last permutes_first_last 0 (j + 1) (length gs) (omega arith) ends (reph_step (length gs) j) refl refl refl fits.0, tt))
+          (change_moves first_last permutes_first_last 0 (j + 1) (length gs) (omega arith) ends (reph_step (length gs) j) refl refl refl fits.0, tt))
       | inr off ↦ rw off tt
     ]
 

@@ -9,6 +9,7 @@ use Rattle.std.proofs.lemmas.List.Elements.{filter-append}
 use Rattle.std.proofs.lemmas.List.Sorted.{IsPermutation-refl}
 use Rattle.shapers_buffer.specs.declared.buffer.glyph.hb_glyph_info_t.{hb_glyph_info_t}
 use Rattle.shapers_buffer.specs.declared.buffer.tag.Script.{Script}
+use Rattle.shapers_buffer.specs.Lists.{first_last}
 use Rattle.shapers_buffer.specs.Clusters.{with_stretch}
 use Rattle.shapers_buffer.specs.Glyph.{default_glyph}
 use Rattle.shapers_buffer.specs.Places.{pick}
@@ -19,7 +20,7 @@ use Rattle.shapers_clusters.specs.Steps.{FitSteps, Permutes}
 use Rattle.shapers_syllabic.specs.Reordering.{carried}
 use Rattle.shapers_indic.specs.Glyphs.{greatest_place, least_place, passes, places}
 use Rattle.shapers_indic_final.specs.FinalBase.{Based, with_viramas}
-use Rattle.shapers_indic_final.specs.FinalGlyphs.{first_goes_last, last_goes_first}
+use Rattle.shapers_indic_final.specs.FinalGlyphs.{last_goes_first}
 use Rattle.shapers_indic_final.specs.FinalLaws.{FinalReorderLaws}
 use Rattle.shapers_indic_final.specs.FinalMatras.{end_of_base, ends_search, halant_or_start, has_room, is_free_halant, is_left, matra_steps, matra_target, matras_go, merging_step, nearest_halant, parted, parting_steps, place_before, with_matras}
 use Rattle.shapers_indic_final.specs.FinalPref.{formed_pref, moved_before, pref_move, pref_step, pref_steps, pref_target, with_pref}
@@ -123,7 +124,7 @@ reph_at position base gs =
       | inl on ↦ rw on (
           let high : j < length gs = reph_target_within position base gs (opens_some gs on) in
           let ends : j + 1 ≤ length gs = omega arith in
-          stretch_at first_goes_last first_goes_last picks_first_last permutes_first_last 0 (j + 1) (reph_step (length gs) j) gs (omega arith) ends refl (ends, tt) tt)
+          stretch_at first_last first_last picks_first_last permutes_first_last 0 (j + 1) (reph_step (length gs) j) gs (omega arith) ends refl (ends, tt) tt)
       | inr off ↦ rw off (same_at gs gs refl)
     ]
 

@@ -7,6 +7,7 @@ use Rattle.std.proofs.lemmas.List.{ext_get_or, map-append, reverse-append, rever
 use Rattle.std.proofs.lemmas.List.FromFn.{get_or-map-range_with_len, get_or-range_with_len, length-map-range_with_len, length-range_with_len}
 use Rattle.std.proofs.lemmas.List.Sorted.{IsPermutation-append_comm, IsPermutation-refl, IsPermutation-reverse, IsPermutation-trans}
 use Rattle.shapers_buffer.specs.declared.buffer.glyph.hb_glyph_info_t.{hb_glyph_info_t}
+use Rattle.shapers_buffer.specs.Lists.{first_last}
 use Rattle.shapers_buffer.specs.Buffer.{Buffer}
 use Rattle.shapers_buffer.specs.Clusters.{stretch_of, with_stretch}
 use Rattle.shapers_buffer.specs.Glyph.{default_glyph}
@@ -14,7 +15,7 @@ use Rattle.shapers_buffer.specs.Places.{ListsEachOnce, listed, pick, place_at, p
 use Rattle.shapers_buffer.proofs.Listing.{written_elsewhere, written_there}
 use Rattle.shapers_clusters.proofs.Picks.{pick-append, pick-range, pick-within}
 use Rattle.shapers_clusters.proofs.Widened.{range-append}
-use Rattle.shapers_indic_final.specs.FinalGlyphs.{first_goes_last, last_goes_first}
+use Rattle.shapers_indic_final.specs.FinalGlyphs.{last_goes_first}
 
 -- places from s to e - 1 that list the next place each, and e - 1 that lists s
 pub record ListsNext (s i : ℕ) (places : List ℕ) : Type 0 where
@@ -38,7 +39,7 @@ mapped_next s m places next =
     let one : s + k + 1 ≡ s + 1 + k = omega arith in
     get_or-map-range_with_len (place_at places) s m k (s + k) 0 within refl ∙ next (s + k) (omega arith) (omega arith) ∙ one ∙ sym (get_or-range_with_len (s + 1) m k 0 within))
 
-pub lists_first_last : (s e : ℕ) (places : List ℕ) → s < e → ListsNext s (e - 1) places → listed s e (with_place (e - 1) s places) ≡ first_goes_last (range_with_len s (e - s))
+pub lists_first_last : (s e : ℕ) (places : List ℕ) → s < e → ListsNext s (e - 1) places → listed s e (with_place (e - 1) s places) ≡ first_last (range_with_len s (e - s))
 lists_first_last s e places l before =
     let m = e - 1 - s in
     let ps = with_place (e - 1) s places in
@@ -50,7 +51,7 @@ lists_first_last s e places l before =
     ∙ map-append (place_at ps) (range_with_len s m) (range_with_len (s + m) 1)
     ∙ ap (λ xs. xs ++ place_at ps (s + m) ∷ []) (mapped_next s m ps (λ q low high. written_elsewhere (e - 1) s places q (λ x. absurd (omega arith)) ∙ before.next q low (omega arith)))
     ∙ ap (λ p. range_with_len (s + 1) m ++ p ∷ []) (ap (place_at ps) last ∙ written_there (e - 1) s places)
-    ∙ sym (ap (λ k. first_goes_last (range_with_len s k)) n')
+    ∙ sym (ap (λ k. first_last (range_with_len s k)) n')
 
 -- place s lists e - 1, and each further place up to e the one before it
 pub record ListsBefore (s i last : ℕ) (places : List ℕ) : Type 0 where
@@ -81,7 +82,7 @@ mapped_before s m places before =
 
 pub last_goes_first-push : {X : Type 0} (xs : List X) (x : X) → last_goes_first (xs ++ x ∷ []) ≡ x ∷ xs
 last_goes_first-push xs x =
-    ap (λ ys. reverse (first_goes_last ys)) (reverse-append xs (x ∷ []))
+    ap (λ ys. reverse (first_last ys)) (reverse-append xs (x ∷ []))
     ∙ reverse-append (reverse xs) (x ∷ [])
     ∙ ap (λ ys. x ∷ ys) (reverse-reverse xs)
 
@@ -97,7 +98,7 @@ lists_last_first s e places l so =
     ∙ sym (ap (λ k. last_goes_first (range_with_len s k)) n ∙ ap last_goes_first (range-append s m 1) ∙ last_goes_first-push (range_with_len s m) (s + m))
 
 -- what such lists pick
-pub picks_first_last : (s e : ℕ) (gs : List hb_glyph_info_t) → s < e → e ≤ length gs → pick (first_goes_last (range_with_len s (e - s))) gs ≡ first_goes_last (stretch_of s e gs)
+pub picks_first_last : (s e : ℕ) (gs : List hb_glyph_info_t) → s < e → e ≤ length gs → pick (first_last (range_with_len s (e - s))) gs ≡ first_last (stretch_of s e gs)
 picks_first_last s e gs l w =
     let m = e - 1 - s in
     let d = default_glyph in
@@ -105,10 +106,10 @@ picks_first_last s e gs l w =
     let there : s < length gs = omega arith in
     let all : s + (e - s) ≤ length gs = omega arith in
     let is : stretch_of s e gs ≡ get_or gs s d ∷ pick (range_with_len (s + 1) m) gs = sym (pick-range s (e - s) gs all) ∙ ap (λ k. pick (range_with_len s k) gs) n' ∙ pick-within d s (range_with_len (s + 1) m) gs there in
-    ap (λ k. pick (first_goes_last (range_with_len s k)) gs) n'
+    ap (λ k. pick (first_last (range_with_len s k)) gs) n'
     ∙ pick-append (range_with_len (s + 1) m) (s ∷ []) gs
     ∙ ap (λ xs. pick (range_with_len (s + 1) m) gs ++ xs) (pick-within d s [] gs there)
-    ∙ sym (ap first_goes_last is)
+    ∙ sym (ap first_last is)
 
 pub picks_last_first : (s e : ℕ) (gs : List hb_glyph_info_t) → s < e → e ≤ length gs → pick (last_goes_first (range_with_len s (e - s))) gs ≡ last_goes_first (stretch_of s e gs)
 picks_last_first s e gs l w =
@@ -127,7 +128,7 @@ picks_last_first s e gs l w =
     ∙ sym (ap last_goes_first is ∙ last_goes_first-push (pick (range_with_len s m) gs) (get_or gs (s + m) d))
 
 -- they list each place once
-pub permutes_first_last : {X : Type 0} (xs : List X) → IsPermutation xs (first_goes_last xs)
+pub permutes_first_last : {X : Type 0} (xs : List X) → IsPermutation xs (first_last xs)
 permutes_first_last [] = IsPermutation-refl []
 permutes_first_last (x ∷ xs) = IsPermutation-append_comm (x ∷ []) xs
 
@@ -135,16 +136,16 @@ pub permutes_last_first : {X : Type 0} (xs : List X) → IsPermutation xs (last_
 permutes_last_first xs =
     let back = reverse xs in
     IsPermutation-trans xs back (last_goes_first xs) (IsPermutation-reverse xs)
-    (IsPermutation-trans back (first_goes_last back) (last_goes_first xs) (permutes_first_last back) (IsPermutation-reverse (first_goes_last back)))
+    (IsPermutation-trans back (first_last back) (last_goes_first xs) (permutes_first_last back) (IsPermutation-reverse (first_last back)))
 
-pub once_first_last : (s e : ℕ) (places : List ℕ) → listed s e places ≡ first_goes_last (range_with_len s (e - s)) → ListsEachOnce s e places
+pub once_first_last : (s e : ℕ) (places : List ℕ) → listed s e places ≡ first_last (range_with_len s (e - s)) → ListsEachOnce s e places
 once_first_last s e places is = subst (IsPermutation (range_with_len s (e - s))) (sym is) (permutes_first_last (range_with_len s (e - s)))
 
 pub once_last_first : (s e : ℕ) (places : List ℕ) → listed s e places ≡ last_goes_first (range_with_len s (e - s)) → ListsEachOnce s e places
 once_last_first s e places is = subst (IsPermutation (range_with_len s (e - s))) (sym is) (permutes_last_first (range_with_len s (e - s)))
 
 -- the glyphs put so
-pub placed_first_last : (s e : ℕ) (places : List ℕ) (gs : List hb_glyph_info_t) → s < e → e ≤ length gs → listed s e places ≡ first_goes_last (range_with_len s (e - s)) → placed s e places gs ≡ with_stretch s e first_goes_last gs
+pub placed_first_last : (s e : ℕ) (places : List ℕ) (gs : List hb_glyph_info_t) → s < e → e ≤ length gs → listed s e places ≡ first_last (range_with_len s (e - s)) → placed s e places gs ≡ with_stretch s e first_last gs
 placed_first_last s e places gs l w is = ap (λ xs. take s gs ++ (xs ++ drop e gs)) (ap (λ ps. pick ps gs) is ∙ picks_first_last s e gs l w)
 
 pub placed_last_first : (s e : ℕ) (places : List ℕ) (gs : List hb_glyph_info_t) → s < e → e ≤ length gs → listed s e places ≡ last_goes_first (range_with_len s (e - s)) → placed s e places gs ≡ with_stretch s e last_goes_first gs

@@ -6,11 +6,11 @@ use Rattle.std.proofs.lemmas.Bool.{cases_Bool}
 use Rattle.std.proofs.lemmas.List.{drop_at, reverse-append, take_at}
 use Rattle.std.proofs.lemmas.List.Elements.{filter-append}
 use Rattle.shapers_buffer.specs.declared.buffer.glyph.hb_glyph_info_t.{hb_glyph_info_t}
+use Rattle.shapers_buffer.specs.Lists.{first_last}
 use Rattle.shapers_buffer.specs.Clusters.{stretch_of, with_stretch}
 use Rattle.shapers_buffer.specs.Glyph.{default_glyph}
 use Rattle.shapers_clusters.specs.Steps.{Step}
 use Rattle.shapers_indic.specs.Glyphs.{passes, places}
-use Rattle.shapers_indic_final.specs.FinalGlyphs.{first_goes_last}
 use Rattle.shapers_indic_final.specs.FinalMatras.{is_left, matra_step}
 use Rattle.shapers_indic_final.proofs.FinalLawsAt.{LawsAt, same_at, stretch_at, then_at}
 use Rattle.shapers_indic_final.proofs.FinalMoves.{permutes_first_last, picks_first_last}
@@ -60,11 +60,11 @@ one_at : (a b c : List hb_glyph_info_t) (x : hb_glyph_info_t) (n e i j : ℕ) �
 one_at a b c x n e i j long ends at to =
     let gs = a ++ ((x ∷ b) ++ c) in
     let within : j + 1 ≤ length gs = omega (arith, length-append a ((x ∷ b) ++ c), length-append (x ∷ b) c) in
-    let is : with_stretch i (j + 1) first_goes_last gs ≡ a ++ (b ++ x ∷ c) =
-    stretch_between first_goes_last i (j + 1) a (x ∷ b) c (sym at) (omega arith) ∙ ap (λ xs. a ++ xs) (append_assoc b (x ∷ []) c) in
+    let is : with_stretch i (j + 1) first_last gs ≡ a ++ (b ++ x ∷ c) =
+    stretch_between first_last i (j + 1) a (x ∷ b) c (sym at) (omega arith) ∙ ap (λ xs. a ++ xs) (append_assoc b (x ∷ []) c) in
     subst (λ ms. LawsAt gs ms (matra_step n e i j ∷ [])) is
-    (stretch_at first_goes_last first_goes_last picks_first_last permutes_first_last i (j + 1) (matra_step n e i j) gs (omega arith) within
-    (ap (λ k. with_stretch i (j + 1) first_goes_last (places 0 k)) long) tt (omega arith, tt))
+    (stretch_at first_last first_last picks_first_last permutes_first_last i (j + 1) (matra_step n e i j) gs (omega arith) within
+    (ap (λ k. with_stretch i (j + 1) first_last (places 0 k)) long) tt (omega arith, tt))
 
 -- all of them
 pub all_at : (gs : List hb_glyph_info_t) (n e p m k : ℕ) (b c : List hb_glyph_info_t) → m ≤ length gs → e ≤ n → n ≡ m + (length b + length c) → p + 1 ≡ k + (m + length b) → LawsAt (take m gs ++ (b ++ c)) (filter is_other (take m gs) ++ (b ++ (filter is_left (take m gs) ++ c))) (steps_of n e p k (lefts m gs))

@@ -8,6 +8,7 @@ use Rattle.std.proofs.lemmas.List.Sums.{fold-append}
 use Rattle.shapers_buffer.specs.declared.buffer.glyph.hb_glyph_info_t.{hb_glyph_info_t}
 use Rattle.shapers_buffer.specs.declared.buffer.level.BufferClusterLevel.{BufferClusterLevel}
 use Rattle.shapers_buffer.specs.declared.buffer.tag.Script.{Script}
+use Rattle.shapers_buffer.specs.Lists.{first_last}
 use Rattle.shapers_buffer.specs.Buffer.{Buffer}
 use Rattle.shapers_buffer.specs.Clusters.{merge, stretch_of, with_stretch}
 use Rattle.shapers_buffer.specs.Glyph.{default_glyph, order_view, plain}
@@ -20,7 +21,7 @@ use Rattle.shapers_clusters.proofs.Merging.{length-merge, order_view-merge}
 use Rattle.shapers_clusters.proofs.Picks.{pick-all, within_range}
 use Rattle.shapers_clusters.proofs.Widened.{pick-widened}
 use Rattle.shapers_indic.specs.Glyphs.{least_place, passes, places}
-use Rattle.shapers_indic_final.specs.FinalGlyphs.{first_goes_last, last_goes_first}
+use Rattle.shapers_indic_final.specs.FinalGlyphs.{last_goes_first}
 use Rattle.shapers_indic_final.specs.FinalMatras.{end_of_base, is_left, matra_step, merging_step, staying_steps}
 use Rattle.shapers_indic_final.specs.FinalPref.{formed_pref, pref_move, pref_step, pref_steps, pref_target}
 use Rattle.shapers_indic_final.specs.FinalReph.{opens_with_reph, reph_step, reph_steps, reph_target}
@@ -51,7 +52,7 @@ pub length-matra : (level : BufferClusterLevel) (s e b i j : ℕ) (gs : List hb_
 length-matra level s e b i j gs h l w m =
     let n = length-moved (s + i) (s + j + 1) gs (omega arith) in
     ap length (sym (matra_stepped level s e b i j gs h l m))
-    ∙ length-merge level (s + j) (s + b) (with_stretch (s + i) (s + j + 1) first_goes_last gs) (omega arith)
+    ∙ length-merge level (s + j) (s + b) (with_stretch (s + i) (s + j + 1) first_last gs) (omega arith)
     ∙ n
 
 -- a left matra that moves leaves what stands before it
@@ -60,13 +61,13 @@ left_seen gs q d = sym (ap is_left (get_or-map plain gs q d))
 
 pub left_read : (level : BufferClusterLevel) (s e b i j : ℕ) (gs : List hb_glyph_info_t) (d : hb_glyph_info_t) → i ≤ j → s + j < e → e ≤ length gs → (q : ℕ) → q < s + i → is_left (get_or (run_step level (widened s e (length gs) (matra_step (e - s) b i j)) gs) q d) ≡ is_left (get_or gs q d)
 left_read level s e b i j gs d h l m q k =
-    let moved = with_stretch (s + i) (s + j + 1) first_goes_last gs in
+    let moved = with_stretch (s + i) (s + j + 1) first_last gs in
     let n : length (take (s + i) gs) ≡ s + i = length-take-le (s + i) gs (omega arith) in
     ap (λ xs. is_left (get_or xs q d)) (sym (matra_stepped level s e b i j gs h l m))
     ∙ left_seen (merge level (s + j) (s + b) moved) q d
     ∙ ap (λ xs. is_left (get_or xs q (plain d))) (order_view-merge level (s + j) (s + b) moved)
     ∙ sym (left_seen moved q d)
-    ∙ ap is_left (get_or_append_left (take (s + i) gs) (first_goes_last (stretch_of (s + i) (s + j + 1) gs) ++ drop (s + j + 1) gs) d q (omega arith) ∙ get_or-take (s + i) gs q d k)
+    ∙ ap is_left (get_or_append_left (take (s + i) gs) (first_last (stretch_of (s + i) (s + j + 1) gs) ++ drop (s + j + 1) gs) d q (omega arith) ∙ get_or-take (s + i) gs q d k)
 
 -- the left places from i to p, and their steps
 abbrev pub lefts_from : ℕ → ℕ → List hb_glyph_info_t → List ℕ

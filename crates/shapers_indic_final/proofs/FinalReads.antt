@@ -8,6 +8,8 @@ use Rattle.std.proofs.lemmas.List.{drop-map, length-map, map-append, take-map}
 use Rattle.std.proofs.lemmas.List.Sums.{sum_by-cons}
 use Rattle.shapers_buffer.specs.declared.buffer.glyph.hb_glyph_info_t.{hb_glyph_info_t}
 use Rattle.shapers_buffer.specs.declared.buffer.tag.Script.{Script}
+use Rattle.shapers_buffer.specs.Lists.{first_last}
+use Rattle.shapers_buffer.specs.Glyph.{at_position}
 use Rattle.shapers_buffer.specs.Clusters.{stretch_of, with_stretch}
 use Rattle.shapers_buffer.specs.Marks.{LIGATED, MULTIPLIED, is_ligated, is_multiplied, without_mark}
 use Rattle.shapers_buffer.proofs.MappedLists.{map-reverse}
@@ -17,9 +19,9 @@ use Rattle.shapers_base.specs.declared.plan.indic.RephPosition.TheVariants.{Afte
 use Rattle.shapers_base.specs.declared.plan.ot_category_t.TheConstants.{OT_H, OT_ZWJ}
 use Rattle.shapers_base.specs.declared.plan.ot_position_t.TheConstants.{POS_BASE_C, POS_SMVD}
 use Rattle.shapers_clusters.specs.Steps.{Step}
-use Rattle.shapers_indic.specs.Glyphs.{at_position, greatest_place, has_category, has_position, is_joiner, is_matra, is_one_of, least_place, passes, places}
+use Rattle.shapers_indic.specs.Glyphs.{greatest_place, has_category, has_position, is_joiner, is_matra, is_one_of, least_place, passes, places}
 use Rattle.shapers_indic_final.specs.FinalBase.{Based, along_links, as_linked, base_by_links, base_by_pref, before_halants, before_joiner, behind_halants, first_base, if_unformed, is_behind_base, is_from_base_on, is_unformed, is_unformed_below, last_link, links_from, links_written, may_be_settled, pref_place, settled_base, stepped_back, unformed_pref, with_base, with_base_at, with_links, with_pref_base, with_viramas}
-use Rattle.shapers_indic_final.specs.FinalGlyphs.{first_goes_last, has_mask, is_formed, is_halant, is_matra_or_halant, last_goes_first, recovered}
+use Rattle.shapers_indic_final.specs.FinalGlyphs.{has_mask, is_formed, is_halant, is_matra_or_halant, last_goes_first, recovered}
 use Rattle.shapers_indic_final.specs.FinalMatras.{end_of_base, ends_search, has_room, is_free_halant, is_left, matra_step, matra_steps, matra_target, matras_go, merging_step, nearest_halant, parted, parting_steps, place_before, staying_steps, steps_before, with_matras}
 use Rattle.shapers_indic_final.specs.FinalPref.{formed_pref, if_formed, is_joiner_behind_halant, moved_before, place_before_base, pref_step, pref_steps, pref_target, with_pref}
 use Rattle.shapers_indic_final.specs.FinalReordering.{after_matras, after_pref, after_reph, based, final_order, final_steps, steps_of_based, steps_of_pref}
@@ -79,12 +81,12 @@ stretch_stays v f keeps s e gs =
     ∙ same_two (λ xs (ys : List hb_glyph_info_t). xs ++ ys) (sym (take-map (shown v) s gs))
     (map-append (shown v) (f part) (drop e gs) ∙ same_two (λ xs (ys : List hb_glyph_info_t). xs ++ ys) (keeps part ∙ ap f (sym (stretch_read v s e gs))) (sym (drop-map (shown v) e gs)))
 
-pub first_last_stays : (v : View) → KeepsShown v first_goes_last
+pub first_last_stays : (v : View) → KeepsShown v first_last
 first_last_stays v [] = refl
 first_last_stays v (x ∷ xs) = map-append (shown v) xs (x ∷ [])
 
 pub last_first_stays : (v : View) → KeepsShown v last_goes_first
-last_first_stays v xs = map-reverse (shown v) (first_goes_last (reverse xs)) ∙ ap reverse (first_last_stays v (reverse xs) ∙ ap first_goes_last (map-reverse (shown v) xs))
+last_first_stays v xs = map-reverse (shown v) (first_last (reverse xs)) ∙ ap reverse (first_last_stays v (reverse xs) ∙ ap first_last (map-reverse (shown v) xs))
 
 -- viramas
 pub recovered_stays : (v : View) (virama : Option GlyphId) (g : hb_glyph_info_t) → shown v (recovered virama g) ≡ recovered virama (shown v g)
@@ -325,11 +327,11 @@ reph_target_stays v position base gs =
 pub with_reph_stays : (v : View) (position : RephPosition) (base : ℕ) (gs : List hb_glyph_info_t) → seen_by v (with_reph position base gs) ≡ with_reph position base (seen_by v gs)
 with_reph_stays v position base gs =
     let j = reph_target position base gs in
-    (elim (opens_with_reph gs) as (λ b. seen_by v (if b then with_stretch 0 (j + 1) first_goes_last gs else gs) ≡ (if b then with_stretch 0 (j + 1) first_goes_last (seen_by v gs) else seen_by v gs)) [
-      | true ↦ stretch_stays v first_goes_last (first_last_stays v) 0 (j + 1) gs
+    (elim (opens_with_reph gs) as (λ b. seen_by v (if b then with_stretch 0 (j + 1) first_last gs else gs) ≡ (if b then with_stretch 0 (j + 1) first_last (seen_by v gs) else seen_by v gs)) [
+      | true ↦ stretch_stays v first_last (first_last_stays v) 0 (j + 1) gs
       | false ↦ refl
     ])
-    ∙ same_two (λ (b : Bool) (k : ℕ). if b then with_stretch 0 (k + 1) first_goes_last (seen_by v gs) else seen_by v gs) (sym (opens_stays v gs)) (sym (reph_target_stays v position base gs))
+    ∙ same_two (λ (b : Bool) (k : ℕ). if b then with_stretch 0 (k + 1) first_last (seen_by v gs) else seen_by v gs) (sym (opens_stays v gs)) (sym (reph_target_stays v position base gs))
 
 pub base_after_stays : (v : View) (position : RephPosition) (base : ℕ) (gs : List hb_glyph_info_t) → base_after_reph position base (seen_by v gs) ≡ base_after_reph position base gs
 base_after_stays v position base gs = same_two (λ (b : Bool) (j : ℕ). if b then carried_along base j else base) (opens_stays v gs) (reph_target_stays v position base gs)

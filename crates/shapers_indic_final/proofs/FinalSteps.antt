@@ -9,6 +9,7 @@ use Rattle.std.proofs.lemmas.List.FromFn.{length-range_with_len}
 use Rattle.std.proofs.lemmas.List.Sorted.{All-permutation, IsPermutation-append_left, IsPermutation-append_right, length_permutation}
 use Rattle.shapers_buffer.specs.declared.buffer.glyph.hb_glyph_info_t.{hb_glyph_info_t}
 use Rattle.shapers_buffer.specs.declared.buffer.level.BufferClusterLevel.{BufferClusterLevel}
+use Rattle.shapers_buffer.specs.Lists.{first_last}
 use Rattle.shapers_buffer.specs.Buffer.{Buffer}
 use Rattle.shapers_buffer.specs.Clusters.{merge, stretch_of, with_stretch}
 use Rattle.shapers_buffer.specs.Places.{pick}
@@ -19,7 +20,7 @@ use Rattle.shapers_clusters.proofs.Merging.{length-merge}
 use Rattle.shapers_clusters.proofs.Picks.{pick-append, pick-range, within_range}
 use Rattle.shapers_clusters.proofs.Widened.{pick-widened, range-append}
 use Rattle.shapers_indic.specs.Glyphs.{places}
-use Rattle.shapers_indic_final.specs.FinalGlyphs.{first_goes_last, last_goes_first}
+use Rattle.shapers_indic_final.specs.FinalGlyphs.{last_goes_first}
 use Rattle.shapers_indic_final.specs.FinalMatras.{matra_step}
 use Rattle.shapers_indic_final.specs.FinalPref.{pref_move}
 use Rattle.shapers_indic_final.specs.FinalReph.{reph_step}
@@ -102,15 +103,15 @@ moved_by f g picks permutes s e i k step gs h l m b is =
     ∙ stretch_inside s e i k g gs h (omega arith) b
 
 -- The step of the reph: all up to place j of the syllable merges, and the first glyph goes there.
-pub reph_stepped : (level : BufferClusterLevel) (s e j : ℕ) (gs : List hb_glyph_info_t) → s + j < e → e ≤ length gs → with_stretch s (s + j + 1) first_goes_last (merge level s (s + j + 1) gs) ≡ run_step level (widened s e (length gs) (reph_step (e - s) j)) gs
+pub reph_stepped : (level : BufferClusterLevel) (s e j : ℕ) (gs : List hb_glyph_info_t) → s + j < e → e ≤ length gs → with_stretch s (s + j + 1) first_last (merge level s (s + j + 1) gs) ≡ run_step level (widened s e (length gs) (reph_step (e - s) j)) gs
 reph_stepped level s e j gs l m =
     let n = length-merge level (s + 0) (s + (j + 1)) gs (omega arith) in
     let ms = merge level (s + 0) (s + (j + 1)) gs in
     let from : s ≡ s + 0 = omega arith in
     let to : s + j + 1 ≡ s + (j + 1) = omega arith in
-    ap (λ a. with_stretch a (s + j + 1) first_goes_last (merge level a (s + j + 1) gs)) from
-    ∙ ap (λ b. with_stretch (s + 0) b first_goes_last (merge level (s + 0) b gs)) to
-    ∙ sym (moved_by first_goes_last first_goes_last picks_first_last permutes_first_last s e 0 (j + 1) (reph_step (e - s) j) ms (omega arith) (omega (arith, n, m)) (omega arith) (omega arith) refl)
+    ap (λ a. with_stretch a (s + j + 1) first_last (merge level a (s + j + 1) gs)) from
+    ∙ ap (λ b. with_stretch (s + 0) b first_last (merge level (s + 0) b gs)) to
+    ∙ sym (moved_by first_last first_last picks_first_last permutes_first_last s e 0 (j + 1) (reph_step (e - s) j) ms (omega arith) (omega (arith, n, m)) (omega arith) (omega arith) refl)
     ∙ ap (λ k. pick (widened s e k (reph_step (e - s) j)).places ms) n
 
 -- The step of a formed pref glyph: all from place j up to place i merges, and the glyph of place i goes to j.
@@ -124,18 +125,18 @@ pref_stepped level s e j i gs h l m =
     ∙ ap (λ k. pick (widened s e k (pref_move (e - s) j i)).places ms) n
 
 -- The step of a left matra: the glyph of place i goes behind those up to place j, and all from there to b merges.
-pub matra_stepped : (level : BufferClusterLevel) (s e b i j : ℕ) (gs : List hb_glyph_info_t) → i ≤ j → s + j < e → e ≤ length gs → merge level (s + j) (s + b) (with_stretch (s + i) (s + j + 1) first_goes_last gs) ≡ run_step level (widened s e (length gs) (matra_step (e - s) b i j)) gs
+pub matra_stepped : (level : BufferClusterLevel) (s e b i j : ℕ) (gs : List hb_glyph_info_t) → i ≤ j → s + j < e → e ≤ length gs → merge level (s + j) (s + b) (with_stretch (s + i) (s + j + 1) first_last gs) ≡ run_step level (widened s e (length gs) (matra_step (e - s) b i j)) gs
 matra_stepped level s e b i j gs h l m =
     let to : s + j + 1 ≡ s + (j + 1) = omega arith in
-    ap (λ k. merge level (s + j) (s + b) (with_stretch (s + i) k first_goes_last gs)) to
-    ∙ ap (merge level (s + j) (s + b)) (sym (moved_by first_goes_last first_goes_last picks_first_last permutes_first_last s e i (j + 1) (matra_step (e - s) b i j) gs (omega arith) m (omega arith) (omega arith) refl))
+    ap (λ k. merge level (s + j) (s + b) (with_stretch (s + i) k first_last gs)) to
+    ∙ ap (merge level (s + j) (s + b)) (sym (moved_by first_last first_last picks_first_last permutes_first_last s e i (j + 1) (matra_step (e - s) b i j) gs (omega arith) m (omega arith) (omega arith) refl))
 
 -- moving keeps the length
-pub length-moved : (s e : ℕ) (gs : List hb_glyph_info_t) → s ≤ e → length (with_stretch s e first_goes_last gs) ≡ length gs
+pub length-moved : (s e : ℕ) (gs : List hb_glyph_info_t) → s ≤ e → length (with_stretch s e first_last gs) ≡ length gs
 length-moved s e gs l =
     let part = stretch_of s e gs in
-    let is = IsPermutation-append_right (take s gs) (part ++ drop e gs) (first_goes_last part ++ drop e gs) (IsPermutation-append_left (drop e gs) part (first_goes_last part) (permutes_first_last part)) in
-    length_permutation (take s gs ++ (part ++ drop e gs)) (with_stretch s e first_goes_last gs) is ∙ ap length (three_parts s e gs l)
+    let is = IsPermutation-append_right (take s gs) (part ++ drop e gs) (first_last part ++ drop e gs) (IsPermutation-append_left (drop e gs) part (first_last part) (permutes_first_last part)) in
+    length_permutation (take s gs ++ (part ++ drop e gs)) (with_stretch s e first_last gs) is ∙ ap length (three_parts s e gs l)
 
 -- a buffer merged and then moved, and one moved and then merged
 pub merged_and_moved : (a b c : Buffer) (change : List hb_glyph_info_t → List hb_glyph_info_t) (gs hs : List hb_glyph_info_t) → b ≡ record a { glyphs = gs } → c ≡ record b { glyphs = change b.glyphs; places = c.places } → change gs ≡ hs → c ≡ record a { glyphs = hs; places = c.places }

@@ -1,18 +1,16 @@
 -- How far a merge floods over what has stayed before it, and over what follows it.
-use Rattle.std.proofs.Common.{◌≡◌, ◌≢◌, ℕ, suc, ◌+◌, ◌-◌, ◌<◌, ◌≤◌, ◌==◌, ◌||◌, inl, inr, Bool, true, false, cond, not, List, [], ◌∷◌, ◌++◌, min, map, length, take, drop, get_or, reverse, slice_index, refl, sym, ap, ◌∙◌, append_assoc, append-nil, arith, length-append, if◌then◌else◌}
-use Rattle.std.specs.Prelude.{fold, nat_le}
-use Rattle.std.specs.List.{list_all, prefix_len}
+use Rattle.std.proofs.Common.{◌≡◌, ◌≢◌, ℕ, ◌+◌, ◌-◌, ◌<◌, ◌≤◌, ◌==◌, ◌||◌, inl, inr, true, false, cond, not, List, [], ◌∷◌, ◌++◌, min, map, length, take, drop, get_or, reverse, slice_index, refl, sym, ap, ◌∙◌, append_assoc, arith, length-append, if◌then◌else◌}
+use Rattle.std.specs.Prelude.{fold}
+use Rattle.std.specs.List.{list_all}
 use Rattle.std.proofs.Math.ListN.{get_or-map}
 use Rattle.std.proofs.lemmas.List.{drop_at, reverse-append, take_at}
 use Rattle.std.proofs.lemmas.List.Folds.{list_all-append}
-use Rattle.std.proofs.lemmas.Bool.{and_parts, cases_Bool, eqb-true, false≢true, le-leb, leb-true, ne_eqb}
-use Rattle.std.proofs.lemmas.Bool.Decides.{nat_tests}
+use Rattle.std.proofs.lemmas.Bool.{and_parts, cases_Bool, eqb-true, false≢true, ne_eqb}
 use Rattle.shapers_buffer.specs.declared.buffer.glyph.hb_glyph_info_t.{hb_glyph_info_t}
-use Rattle.shapers_buffer.specs.Glyph.{clusters, default_glyph, without_flags}
+use Rattle.shapers_buffer.specs.Glyph.{clusters, default_glyph}
 use Rattle.shapers_buffer.specs.Clusters.{first_cluster, flooded, has_cluster, in_cluster, last_cluster, least, merged, stretch_of}
-use Rattle.shapers_buffer.specs.ClusterRuns.{none_below}
 use Rattle.shapers_buffer.proofs.ClusterLemmas.{merged_is}
-use Rattle.shapers_buffer.proofs.FurtherMerges.{last_of_end}
+use Rattle.shapers_buffer.proofs.OneCluster.{last_of_end, last_stays, least_stays}
 use Rattle.shapers_indic_final.specs.PartingWalk.{Reaches, has_gone, has_stayed, is_passed, staying}
 use Rattle.shapers_indic_final.proofs.PartingPlaces.{chosen-empty, chosen-one, chosen-split}
 
@@ -23,22 +21,6 @@ flooded_all c m (g ∷ gs) behind all =
     let parts = and_parts (g.cluster == c) (list_all (has_cluster c) gs) all in
     ap (λ b. if b then in_cluster m g ∷ flooded c m (gs ++ behind) else g ∷ (gs ++ behind)) parts.0
     ∙ ap (λ xs. in_cluster m g ∷ xs) (flooded_all c m gs behind parts.1)
-
-back_one : (c m : ℕ) (g : hb_glyph_info_t) (gs : List hb_glyph_info_t) → (g.cluster == c) ≡ true → reverse (flooded c m (reverse (gs ++ g ∷ []))) ≡ reverse (flooded c m (reverse gs)) ++ in_cluster m g ∷ []
-back_one c m g gs h =
-    ap (λ l. reverse (flooded c m l)) (reverse-append gs (g ∷ []))
-    ∙ ap (λ b. reverse (if b then in_cluster m g ∷ flooded c m (reverse gs) else g ∷ reverse gs)) h
-    ∙ reverse-append (in_cluster m g ∷ []) (flooded c m (reverse gs))
-
--- a flood to the left over such glyphs
-pub back_all : (c m : ℕ) (before gs : List hb_glyph_info_t) → list_all (has_cluster c) gs ≡ true → reverse (flooded c m (reverse (before ++ gs))) ≡ reverse (flooded c m (reverse before)) ++ map (in_cluster m) gs
-back_all c m before [] all = ap (λ l. reverse (flooded c m (reverse l))) (append-nil before) ∙ sym (append-nil (reverse (flooded c m (reverse before))))
-back_all c m before (g ∷ gs) all =
-    let parts = and_parts (g.cluster == c) (list_all (has_cluster c) gs) all in
-    ap (λ l. reverse (flooded c m (reverse l))) (sym (append_assoc before (g ∷ []) gs))
-    ∙ back_all c m (before ++ g ∷ []) gs parts.1
-    ∙ ap (λ l. l ++ map (in_cluster m) gs) (back_one c m g before parts.0)
-    ∙ append_assoc (reverse (flooded c m (reverse before))) (in_cluster m g ∷ []) (map (in_cluster m) gs)
 
 -- one that meets glyphs of another cluster
 pub back_none : (x c m : ℕ) (before gs : List hb_glyph_info_t) → x ≢ c → 0 < length gs → list_all (has_cluster c) gs ≡ true → flooded x m (reverse (before ++ gs)) ≡ reverse (before ++ gs)
@@ -54,80 +36,12 @@ back_none x c m before (g ∷ (k ∷ gs)) other some all =
     let is : before ++ g ∷ (k ∷ gs) ≡ (before ++ g ∷ []) ++ (k ∷ gs) = sym (append_assoc before (g ∷ []) (k ∷ gs)) in
     ap (λ l. flooded x m (reverse l)) is ∙ back_none x c m (before ++ g ∷ []) (k ∷ gs) other (omega arith) parts.1 ∙ sym (ap reverse is)
 
--- a glyph put into a cluster, and then into one that isn't above it
-flags_twice : (n : ℕ) → without_flags (without_flags n) ≡ without_flags n
-flags_twice n = omega arith
-
-pub put_twice : (m c : ℕ) (g : hb_glyph_info_t) → m ≤ c → c ≤ g.cluster → in_cluster m (in_cluster c g) ≡ in_cluster m g
-put_twice m c g h l = elim (cases_Bool (g.cluster == c)) [
-  | inl same ↦ let stay : in_cluster c g ≡ g = rw same refl in ap (in_cluster m) stay
-  | inr other ↦
-      let above : (g.cluster == m) ≡ false = grind (arith, nat_tests) in
-      let there : in_cluster c g ≡ record g { cluster = c; mask = without_flags g.mask } = rw other refl in
-      let here : in_cluster m g ≡ record g { cluster = m; mask = without_flags g.mask } = rw above refl in
-      ap (in_cluster m) there ∙ elim (cases_Bool (c == m)) [
-        | inl low ↦ rw low (ap (λ n. record g { cluster = n; mask = without_flags g.mask }) (eqb-true c m low)) ∙ sym here
-        | inr lower ↦ rw lower (ap (λ n. record g { cluster = m; mask = n }) (flags_twice g.mask)) ∙ sym here
-      ]
-]
-
-pub puts_twice : (m c : ℕ) (gs : List hb_glyph_info_t) → m ≤ c → none_below c gs ≡ true → map (in_cluster m) (map (in_cluster c) gs) ≡ map (in_cluster m) gs
-puts_twice m c [] h none = refl
-puts_twice m c (g ∷ gs) h none =
-    let parts = and_parts (nat_le c g.cluster) (none_below c gs) none in
-    ap (λ x. x ∷ map (in_cluster m) (map (in_cluster c) gs)) (put_twice m c g h (leb-true c g.cluster parts.0))
-    ∙ ap (λ xs. in_cluster m g ∷ xs) (puts_twice m c gs h parts.1)
-
--- none below a number that is lower
-pub none_lower : (m c : ℕ) (gs : List hb_glyph_info_t) → m ≤ c → none_below c gs ≡ true → none_below m gs ≡ true
-none_lower m c [] h none = refl
-none_lower m c (g ∷ gs) h none =
-    let parts = and_parts (nat_le c g.cluster) (none_below c gs) none in
-    let le = leb-true c g.cluster parts.0 in
-    let one : nat_le m g.cluster ≡ true = le-leb m g.cluster (omega arith) in
-    let rest = none_lower m c gs h parts.1 in
-    rw (one, rest) refl
-
-pub none_of_cluster : (m c : ℕ) (gs : List hb_glyph_info_t) → m ≤ c → list_all (has_cluster c) gs ≡ true → none_below m gs ≡ true
-none_of_cluster m c [] h all = refl
-none_of_cluster m c (g ∷ gs) h all =
-    let parts = and_parts (g.cluster == c) (list_all (has_cluster c) gs) all in
-    let same = eqb-true g.cluster c parts.0 in
-    let one : nat_le m g.cluster ≡ true = le-leb m g.cluster (omega arith) in
-    let rest = none_of_cluster m c gs h parts.1 in
-    rw (one, rest) refl
-
-pub first_run : (test : hb_glyph_info_t → Bool) (gs : List hb_glyph_info_t) → list_all test (take (prefix_len test gs) gs) ≡ true
-first_run test [] = refl
-first_run test (g ∷ gs) = elim (cases_Bool (test g)) [
-  | inl passes ↦
-      let n : prefix_len test (g ∷ gs) ≡ suc (prefix_len test gs) = rw passes (omega arith) in
-      ap (λ n. list_all test (take n (g ∷ gs))) n ∙ rw (passes, first_run test gs) refl
-  | inr fails ↦
-      let n : prefix_len test (g ∷ gs) ≡ 0 = rw fails refl in
-      ap (λ n. list_all test (take n (g ∷ gs))) n
-]
-
--- the last of glyphs in one cluster, and the least of them with another before
-last_in : (c : ℕ) (gs : List hb_glyph_info_t) → 0 < length gs → list_all (has_cluster c) gs ≡ true → last_cluster gs ≡ c
-last_in c [] some h = absurd (omega arith)
-last_in c (g ∷ []) some h = eqb-true g.cluster c (and_parts (g.cluster == c) true h).0
-last_in c (g ∷ (k ∷ gs)) some h =
-    last_of_end (g ∷ []) (k ∷ gs) (omega arith) ∙ last_in c (k ∷ gs) (omega arith) (and_parts (g.cluster == c) (list_all (has_cluster c) (k ∷ gs)) h).1
-
-least_in : (a c : ℕ) (gs : List hb_glyph_info_t) → a ≤ c → list_all (has_cluster c) gs ≡ true → fold min a (clusters gs) ≡ a
-least_in a c [] h all = refl
-least_in a c (g ∷ gs) h all =
-    let parts = and_parts (g.cluster == c) (list_all (has_cluster c) gs) all in
-    let is = eqb-true g.cluster c parts.0 in
-    let same : min a g.cluster ≡ a = omega arith in
-    ap (λ m. fold min m (clusters gs)) same ∙ least_in a c gs h parts.1
-
+-- the least of glyphs in one cluster, with another before them
 least_with : (a c : ℕ) (gs : List hb_glyph_info_t) → 0 < length gs → list_all (has_cluster c) gs ≡ true → fold min a (clusters gs) ≡ min a c
 least_with a c [] some all = absurd (omega arith)
 least_with a c (g ∷ gs) some all =
     let parts = and_parts (g.cluster == c) (list_all (has_cluster c) gs) all in
-    ap (λ n. fold min (min a n) (clusters gs)) (eqb-true g.cluster c parts.0) ∙ least_in (min a c) c gs (omega arith) parts.1
+    ap (λ n. fold min (min a n) (clusters gs)) (eqb-true g.cluster c parts.0) ∙ least_stays (min a c) c gs (omega arith) parts.1
 
 -- the merge of a glyph with glyphs in one cluster, between what stands before them and behind them
 pub merged_before : (at end m : ℕ) (front : List hb_glyph_info_t) (y : hb_glyph_info_t) (zs behind : List hb_glyph_info_t) → length front ≡ at → end ≡ at + 1 + length zs → 0 < length zs → list_all (has_cluster m) zs ≡ true → merged at end (front ++ ((y ∷ zs) ++ behind)) ≡ reverse (flooded y.cluster (min y.cluster m) (reverse front)) ++ (map (in_cluster (min y.cluster m)) (y ∷ zs) ++ flooded m (min y.cluster m) behind)
@@ -140,7 +54,7 @@ merged_before at end m front y zs behind long to some all =
     let middle : stretch_of at end gs ≡ y ∷ zs = ap (take (end - at)) rest ∙ take_at (y ∷ zs) behind (end - at) n in
     let after : drop end gs ≡ behind = ap (drop end) (sym (append_assoc front (y ∷ zs) behind)) ∙ drop_at (front ++ (y ∷ zs)) behind end (length-append front (y ∷ zs) ∙ omega arith) in
     let low : least (clusters (y ∷ zs)) ≡ min y.cluster m = least_with y.cluster m zs some all in
-    let last : last_cluster (y ∷ zs) ≡ m = last_of_end (y ∷ []) zs some ∙ last_in m zs some all in
+    let last : last_cluster (y ∷ zs) ≡ m = last_of_end (y ∷ []) zs some ∙ last_stays m zs some all in
     merged_is at end gs (omega arith)
     ∙ ap (λ l. reverse (flooded (first_cluster l) (least (clusters l)) (reverse (take at gs))) ++ (map (in_cluster (least (clusters l))) l ++ flooded (last_cluster l) (least (clusters l)) (drop end gs))) middle
     ∙ ap (λ l. reverse (flooded y.cluster (least (clusters (y ∷ zs))) (reverse l)) ++ (map (in_cluster (least (clusters (y ∷ zs)))) (y ∷ zs) ++ flooded (last_cluster (y ∷ zs)) (least (clusters (y ∷ zs))) (drop end gs))) before

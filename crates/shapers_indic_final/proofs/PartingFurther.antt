@@ -3,6 +3,7 @@ use Rattle.std.proofs.Common.{◌≡◌, ℕ, ◌+◌, ◌-◌, ◌<◌, ◌≤�
 use Rattle.std.specs.List.{enumerate_from, list_any}
 use Rattle.shapers_buffer.specs.declared.buffer.glyph.hb_glyph_info_t.{hb_glyph_info_t}
 use Rattle.shapers_buffer.specs.declared.buffer.level.BufferClusterLevel.{BufferClusterLevel}
+use Rattle.shapers_buffer.specs.Lists.{first_last}
 use Rattle.shapers_buffer.specs.Buffer.{Buffer}
 use Rattle.shapers_buffer.specs.Clusters.{in_one_cluster, merge, merged, merges, stretch_of, with_stretch}
 use Rattle.shapers_buffer.specs.Glyph.{default_glyph}
@@ -19,8 +20,7 @@ use Rattle.shapers_buffer.proofs.ClusterLemmas.{length-stretch, three_parts}
 use Rattle.shapers_indic_final.proofs.FinalPlaces.{passes_there}
 use Rattle.shapers_indic_final.proofs.FinalPlacing.{left_read, lefts_from, lefts_yes, length-matra}
 use Rattle.shapers_indic_final.proofs.FinalSteps.{length-moved, matra_stepped}
-use Rattle.shapers_indic_final.specs.FinalGlyphs.{first_goes_last}
-use Rattle.shapers_buffer.proofs.FurtherMerges.{one_merged}
+use Rattle.shapers_buffer.proofs.OneCluster.{one_merged}
 use Rattle.std.proofs.lemmas.Bool.Decides.{nat_tests}
 use Rattle.shapers_indic_final.proofs.PartingMoves.{parted_written}
 use Rattle.shapers_indic_final.proofs.PartingPlaces.{filter-split, filter_none, same_filter}
@@ -131,7 +131,7 @@ one_merge level s e gs l h on =
 
 one_moved : (level : BufferClusterLevel) (s e b k p : ℕ) (gs : List hb_glyph_info_t) → k ≤ p → p < b → s + b ≤ e → e ≤ length gs → merges level ≡ true → in_one_cluster (stretch_of (s + p) (s + b) (run_step level (widened s e (length gs) (matra_step (e - s) b k p)) gs)) ≡ true
 one_moved level s e b k p gs h l v w m =
-    let moved = with_stretch (s + k) (s + p + 1) first_goes_last gs in
+    let moved = with_stretch (s + k) (s + p + 1) first_last gs in
     let n : length moved ≡ length gs = length-moved (s + k) (s + p + 1) gs (omega arith) in
     ap (λ xs. in_one_cluster (stretch_of (s + p) (s + b) xs)) (sym (matra_stepped level s e b k p gs h (omega arith) w))
     ∙ one_merge level (s + p) (s + b) moved (omega arith) (omega (arith, n)) m

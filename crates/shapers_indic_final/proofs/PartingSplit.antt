@@ -13,7 +13,8 @@ use Rattle.shapers_buffer.proofs.ClusterLemmas.{length-stretch}
 use Rattle.shapers_indic.specs.Glyphs.{passes}
 use Rattle.shapers_indic_final.specs.FinalMatras.{is_left}
 use Rattle.shapers_indic_final.specs.PartingWalk.{gone, has_gone, has_stayed, put, staying}
-use Rattle.shapers_indic_final.proofs.PartingFloods.{cluster_read, put_twice}
+use Rattle.shapers_buffer.proofs.RunLemmas.{put_twice}
+use Rattle.shapers_indic_final.proofs.PartingFloods.{cluster_read}
 use Rattle.shapers_indic_final.proofs.PartingPlaces.{chosen, chosen-all, chosen-none, chosen-one, chosen-same, chosen-split, gone_before, gone_elsewhere, gone_here, one_before}
 
 -- glyphs put into a cluster

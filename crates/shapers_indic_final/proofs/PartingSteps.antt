@@ -7,18 +7,19 @@ use Rattle.std.proofs.lemmas.Bool.{and_parts, cases_Bool, cases_eq, false≢true
 use Rattle.std.proofs.lemmas.Bool.Decides.{nat_tests}
 use Rattle.shapers_buffer.specs.declared.buffer.glyph.hb_glyph_info_t.{hb_glyph_info_t}
 use Rattle.shapers_buffer.specs.declared.buffer.level.BufferClusterLevel.{BufferClusterLevel}
+use Rattle.shapers_buffer.specs.Lists.{first_last}
 use Rattle.shapers_buffer.specs.Glyph.{default_glyph}
 use Rattle.shapers_buffer.specs.Clusters.{flooded, has_cluster, in_cluster, merge, merged, merges, stretch_of, with_stretch}
 use Rattle.shapers_buffer.specs.ClusterRuns.{none_below}
 use Rattle.shapers_buffer.proofs.ClusterLemmas.{flooded-parts, length-stretch}
-use Rattle.shapers_buffer.proofs.FurtherMerges.{all_in_cluster, stretch_in_two}
+use Rattle.shapers_buffer.proofs.OneCluster.{all_in_cluster, stretch_in_two}
 use Rattle.shapers_indic.specs.Glyphs.{passes}
 use Rattle.shapers_indic_final.specs.declared.ot_shaper_indic_final.parting.Runs.{Runs}
-use Rattle.shapers_indic_final.specs.FinalGlyphs.{first_goes_last}
 use Rattle.shapers_indic_final.specs.FinalMatras.{is_left}
 use Rattle.shapers_indic_final.specs.PartingWalk.{Merged, Reaches, as_parted, gone, has_gone, has_stayed, own_cluster, put, staying}
 use Rattle.shapers_indic_final.proofs.FinalParting.{stretch_between}
-use Rattle.shapers_indic_final.proofs.PartingFloods.{back_all, back_none, first_run, flooded_all, merged_before, none_lower, none_of_cluster, puts_twice}
+use Rattle.shapers_buffer.proofs.RunLemmas.{ended_all, first_run_passes, none_lower, none_of_cluster, puts_twice}
+use Rattle.shapers_indic_final.proofs.PartingFloods.{back_none, flooded_all, merged_before}
 use Rattle.shapers_indic_final.proofs.PartingPlaces.{chosen-one, chosen-split, gone_behind}
 use Rattle.shapers_indic_final.proofs.PartingSplit.{both_long, gone_more, length-put, put_off, put_on, split}
 
@@ -76,11 +77,11 @@ length-parted level i top p b runs gs h lies =
     omega (arith, one, two, three, four, five, six, seven)
 
 -- the matra goes behind what stood between
-rotated : (k at : ℕ) (front back c : List hb_glyph_info_t) (y : hb_glyph_info_t) → length front ≡ k → at ≡ k + length back → with_stretch k (at + 1) first_goes_last ((front ++ (y ∷ back)) ++ c) ≡ (front ++ back) ++ (y ∷ c)
+rotated : (k at : ℕ) (front back c : List hb_glyph_info_t) (y : hb_glyph_info_t) → length front ≡ k → at ≡ k + length back → with_stretch k (at + 1) first_last ((front ++ (y ∷ back)) ++ c) ≡ (front ++ back) ++ (y ∷ c)
 rotated k at front back c y long to =
     let n : k + length (y ∷ back) ≡ at + 1 = omega arith in
-    ap (with_stretch k (at + 1) first_goes_last) (append_assoc front (y ∷ back) c)
-    ∙ stretch_between first_goes_last k (at + 1) front (y ∷ back) c long n
+    ap (with_stretch k (at + 1) first_last) (append_assoc front (y ∷ back) c)
+    ∙ stretch_between first_last k (at + 1) front (y ∷ back) c long n
     ∙ ap (λ xs. front ++ xs) (append_assoc back (y ∷ []) c)
     ∙ sym (append_assoc front back (y ∷ c))
 
@@ -125,9 +126,9 @@ fronted_floods level k top p m y old new gs on within own low r to kept =
       is =
           ap (λ n. reverse (flooded n m (reverse (staying k top gs 0 q ++ put level c R)))) own
           ∙ ap (λ xs. reverse (flooded c m (reverse (staying k top gs 0 q ++ xs)))) (put_on level c R on)
-          ∙ back_all c m (staying k top gs 0 q) (map (in_cluster c) R) (all_in_cluster c R)
+          ∙ ended_all c m (staying k top gs 0 q) (map (in_cluster c) R) (all_in_cluster c R)
           ∙ ap (λ xs. reverse (flooded c m (reverse xs)) ++ map (in_cluster m) (map (in_cluster c) R)) u
-          ∙ ap (λ xs. xs ++ map (in_cluster m) (map (in_cluster c) R)) (back_all c m U W r.equal)
+          ∙ ap (λ xs. xs ++ map (in_cluster m) (map (in_cluster c) R)) (ended_all c m U W r.equal)
           ∙ ap (λ xs. (reverse xs ++ map (in_cluster m) W) ++ map (in_cluster m) (map (in_cluster c) R)) (r.stops m)
           ∙ ap (λ xs. (xs ++ map (in_cluster m) W) ++ map (in_cluster m) (map (in_cluster c) R)) (reverse-reverse U)
           ∙ ap (λ xs. (U ++ map (in_cluster m) W) ++ xs) (puts_twice m c R low kept)
@@ -184,7 +185,7 @@ behind_is level p b e n m l y g go gs h to low same none is =
 
 -- One more: the matra at place k goes to `at`, and merges up to b.
 pub one_more : (level : BufferClusterLevel) (k top p b at : ℕ) (old new : Runs) (gs : List hb_glyph_info_t) → k < top → top < p → p < b → Lies p b old gs → passes is_left gs k ≡ true → Merged k top old new gs → at + 1 + length (gone (k + 1) top gs 0 p) ≡ p → (merges level ≡ true → Fits (k + 1) top p old gs) → Lies p b new gs
-    → (merge level at b (with_stretch k (at + 1) first_goes_last (as_parted level (k + 1) top p old gs)) ≡ as_parted level k top p new gs) × (merges level ≡ true → Fits k top p new gs)
+    → (merge level at b (with_stretch k (at + 1) first_last (as_parted level (k + 1) top p old gs)) ≡ as_parted level k top p new gs) × (merges level ≡ true → Fits k top p new gs)
 one_more level k top p b at old new gs h behind before lies left r count fits lies_new =
     let q = old.start in
     let c = old.before in
@@ -202,17 +203,17 @@ one_more level k top p b at old new gs h behind before lies left r count fits li
     let more : gone k top gs 0 p ≡ g ∷ G = gone_more k top p gs h (omega arith) (omega arith) left in
     let to : at ≡ k + length sp.back = omega (arith, sp.long, sum, front_long, count) in
     let C = put level m Z ++ drop e gs in
-    let moved : with_stretch k (at + 1) first_goes_last (as_parted level (k + 1) top p old gs) ≡ (sp.front ++ sp.back) ++ (sp.y ∷ (put level m Z ++ drop e gs)) =
-    ap (λ xs. with_stretch k (at + 1) first_goes_last (xs ++ C)) sp.before ∙ rotated k at sp.front sp.back C sp.y sp.long to in
+    let moved : with_stretch k (at + 1) first_last (as_parted level (k + 1) top p old gs) ≡ (sp.front ++ sp.back) ++ (sp.y ∷ (put level m Z ++ drop e gs)) =
+    ap (λ xs. with_stretch k (at + 1) first_last (xs ++ C)) sp.before ∙ rotated k at sp.front sp.back C sp.y sp.long to in
     elim (cases_Bool (merges level)) [
       | inr off ↦
-          let same : with_stretch k (at + 1) first_goes_last (as_parted level (k + 1) top p old gs) ≡ as_parted level k top p old gs =
+          let same : with_stretch k (at + 1) first_last (as_parted level (k + 1) top p old gs) ≡ as_parted level k top p old gs =
           moved
           ∙ ap (λ xs. xs ++ (sp.y ∷ C)) (sym sp.after)
           ∙ ap (λ xs. (staying k top gs 0 q ++ put level c (staying k top gs q p)) ++ xs)
           (ap (λ x. x ∷ C) (sp.plain off) ∙ ap (λ xs. g ∷ (xs ++ drop e gs)) (put_off level m Z off)
           ∙ sym (ap (λ xs. xs ++ drop e gs) (put_off level m (gone k top gs 0 p ++ stretch_of p e gs) off ∙ ap (λ xs. xs ++ stretch_of p e gs) more))) in (
-            merge_off level at b (with_stretch k (at + 1) first_goes_last (as_parted level (k + 1) top p old gs)) off
+            merge_off level at b (with_stretch k (at + 1) first_last (as_parted level (k + 1) top p old gs)) off
                 ∙ same ∙ parted_off level k top p b old gs (omega arith) lies off ∙ sym (parted_off level k top p b new gs (omega arith) lies_new off),
             λ on. absurd (false≢true (sym off ∙ on)),
           )
@@ -261,7 +262,7 @@ one_more level k top p b at old new gs h behind before lies left r count fits li
                   let one : nat_le (min sp.y.cluster m) g.cluster ≡ true = le-leb (min sp.y.cluster m) g.cluster (omega (arith, sp.above on)) in
                   let many : e + n - e ≡ n = omega arith in
                   let long : stretch_of p (e + n) gs ≡ stretch_of p e gs ++ take n (drop e gs) = stretch_in_two p e (e + n) gs (omega arith) (omega arith) ∙ ap (λ k2. stretch_of p e gs ++ take k2 (drop e gs)) many in
-                  let rest : none_below (min sp.y.cluster m) (Z ++ take n (drop e gs)) ≡ true = none-append (min sp.y.cluster m) Z (take n (drop e gs)) (none_lower l m Z low ft.least) (none_of_cluster l m (take n (drop e gs)) low (first_run (has_cluster m) (drop e gs))) in
+                  let rest : none_below (min sp.y.cluster m) (Z ++ take n (drop e gs)) ≡ true = none-append (min sp.y.cluster m) Z (take n (drop e gs)) (none_lower l m Z low ft.least) (none_of_cluster l m (take n (drop e gs)) low (first_run_passes (has_cluster m) (drop e gs))) in
                   ap (λ k2. none_below k2 (gone k top gs 0 p ++ stretch_of p new.end gs)) new_is
                   ∙ ap (λ xs. none_below l (xs ++ stretch_of p new.end gs)) more
                   ∙ ap (λ k2. none_below l (g ∷ (G ++ stretch_of p k2 gs))) r.end

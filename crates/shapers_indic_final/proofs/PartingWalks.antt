@@ -6,21 +6,21 @@ use Rattle.std.proofs.lemmas.List.{map-append}
 use Rattle.std.proofs.lemmas.List.Sums.{fold-append}
 use Rattle.shapers_buffer.specs.declared.buffer.glyph.hb_glyph_info_t.{hb_glyph_info_t}
 use Rattle.shapers_buffer.specs.declared.buffer.level.BufferClusterLevel.{BufferClusterLevel}
+use Rattle.shapers_buffer.specs.Lists.{first_last}
 use Rattle.shapers_buffer.specs.Glyph.{default_glyph}
 use Rattle.shapers_buffer.specs.Clusters.{has_cluster, in_one_cluster, merge, merges, stretch_of, with_stretch}
 use Rattle.shapers_buffer.specs.ClusterRuns.{none_below}
 use Rattle.shapers_buffer.proofs.ClusterLemmas.{get_or-stretch, length-stretch, three_parts}
-use Rattle.shapers_buffer.proofs.FurtherMerges.{cluster_at, in_cluster_stays}
+use Rattle.shapers_buffer.proofs.OneCluster.{cluster_at, in_cluster_stays}
 use Rattle.shapers_clusters.specs.Steps.{Step, run_step, run_steps, widened}
 use Rattle.shapers_indic.specs.Glyphs.{passes}
 use Rattle.shapers_indic_final.specs.declared.ot_shaper_indic_final.parting.Runs.{Runs}
-use Rattle.shapers_indic_final.specs.FinalGlyphs.{first_goes_last}
 use Rattle.shapers_indic_final.specs.FinalMatras.{is_left, matra_step}
 use Rattle.shapers_indic_final.specs.PartingWalk.{Merged, as_parted, gone, has_gone, has_stayed, put, staying, steps_to}
 use Rattle.shapers_indic_final.proofs.FinalPlaces.{passes_there, places_none}
 use Rattle.shapers_indic_final.proofs.FinalPlacing.{lefts_from, lefts_no, lefts_yes, numbered_more, numbered_steps}
 use Rattle.shapers_indic_final.proofs.FinalSteps.{matra_stepped}
-use Rattle.shapers_indic_final.proofs.PartingFloods.{none_of_cluster}
+use Rattle.shapers_buffer.proofs.RunLemmas.{none_of_cluster}
 use Rattle.shapers_indic_final.proofs.PartingPlaces.{chosen-all, chosen-none, chosen-one, chosen-same, chosen-split, gone_before, gone_behind, gone_same}
 use Rattle.shapers_indic_final.proofs.PartingSplit.{gone_more, put_off, put_on}
 use Rattle.shapers_indic_final.proofs.PartingSteps.{Fits, Lies, length-parted, one_more}
@@ -161,7 +161,7 @@ walk_yes s i k top p b old new gs one h l m w holds r within lies so =
           let many : length (qs ++ k ∷ []) ≡ length qs + 1 = length-append qs (k ∷ []) in
           let gm = ap length (gone_more (s + k) (s + top) (s + p) gs (omega arith) (omega arith) (omega arith) left) in
           let goes = wd.goes in
-          let stepped : merge level (s + wd.target) (s + b) (with_stretch (s + k) (s + wd.target + 1) first_goes_last V) ≡ run_step level (widened s e (length V) (matra_step (e - s) b k wd.target)) V = matra_stepped level s e b k wd.target V (omega arith) (omega (arith, count)) (omega (arith, long)) in
+          let stepped : merge level (s + wd.target) (s + b) (with_stretch (s + k) (s + wd.target + 1) first_last V) ≡ run_step level (widened s e (length V) (matra_step (e - s) b k wd.target)) V = matra_stepped level s e b k wd.target V (omega arith) (omega (arith, count)) (omega (arith, long)) in
           record {
             target = wd.target - 1;
             parted =

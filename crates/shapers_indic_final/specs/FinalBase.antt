@@ -5,11 +5,12 @@ use Rattle.std.specs.List.{prefix_len}
 use Rattle.std.specs.Option.{option_map_or}
 use Rattle.shapers_buffer.specs.declared.buffer.glyph.hb_glyph_info_t.{hb_glyph_info_t}
 use Rattle.shapers_buffer.specs.declared.buffer.tag.Script.{Script}
+use Rattle.shapers_buffer.specs.Glyph.{at_position}
 use Rattle.shapers_buffer.specs.Clusters.{with_stretch}
 use Rattle.shapers_buffer.specs.Marks.{is_substituted}
 use Rattle.shapers_base.specs.declared.plan.ot_category_t.TheConstants.{OT_H, OT_N, OT_ZWJ}
 use Rattle.shapers_base.specs.declared.plan.ot_position_t.TheConstants.{POS_BASE_C, POS_BELOW_C}
-use Rattle.shapers_indic.specs.Glyphs.{at_position, greatest_place, has_position, is_joiner, is_one_of, least_place, passes}
+use Rattle.shapers_indic.specs.Glyphs.{greatest_place, has_position, is_joiner, is_one_of, least_place, passes}
 use Rattle.shapers_indic_final.specs.FinalGlyphs.{has_mask, is_formed, is_halant, recovered}
 use Rattle.shapers_indic_final.specs.declared.ot_shaper_indic_final.rules.Rules.{Rules}
 use Rattle.shapers_indic_final.specs.FinalRules.{is_malayalam}

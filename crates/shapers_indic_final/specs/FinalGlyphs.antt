@@ -1,7 +1,8 @@
 -- What the final reordering asks of a glyph, and the two moves of a list.
-use Rattle.std.specs.Prelude.{ℕ, ◌==◌, Bool, ◌&&◌, false, not, List, [], ◌∷◌, ◌++◌, bit_and, reverse, Option, None, Some, if◌then◌else◌}
+use Rattle.std.specs.Prelude.{ℕ, ◌==◌, Bool, ◌&&◌, false, not, List, [], ◌∷◌, bit_and, reverse, Option, None, Some, if◌then◌else◌}
 use Rattle.shapers_buffer.specs.declared.buffer.glyph.hb_glyph_info_t.{hb_glyph_info_t}
 use Rattle.shapers_buffer.specs.Marks.{LIGATED, MULTIPLIED, is_ligated, is_multiplied, without_mark}
+use Rattle.shapers_buffer.specs.Lists.{first_last}
 use Rattle.shapers_base.specs.declared.font.GlyphId.{GlyphId}
 use Rattle.shapers_base.specs.declared.plan.ot_category_t.TheConstants.{OT_H, OT_M, OT_MPst}
 use Rattle.shapers_indic.specs.Glyphs.{is_one_of}
@@ -36,10 +37,6 @@ recovered virama g =
     }
     else g
 
--- a list with its first element as the last, and with its last one as the first
-abbrev pub first_goes_last : {X : Type 0} → List X → List X
-first_goes_last [] = []
-first_goes_last (x ∷ xs) = xs ++ x ∷ []
-
+-- a list with its last element as the first
 abbrev pub last_goes_first : {X : Type 0} → List X → List X
-last_goes_first xs = reverse (first_goes_last (reverse xs))
+last_goes_first xs = reverse (first_last (reverse xs))

@@ -4,12 +4,13 @@ use Rattle.std.specs.Prelude.{ℕ, ◌+◌, ◌-◌, ◌==◌, min, nat_lt, Bool
 use Rattle.std.specs.List.{enumerate_from}
 use Rattle.shapers_buffer.specs.declared.buffer.glyph.hb_glyph_info_t.{hb_glyph_info_t}
 use Rattle.shapers_buffer.specs.declared.buffer.tag.Script.{Script}
+use Rattle.shapers_buffer.specs.Lists.{first_last}
 use Rattle.shapers_buffer.specs.Clusters.{with_stretch}
 use Rattle.shapers_base.specs.declared.plan.ot_category_t.TheConstants.{OT_ZWJ}
 use Rattle.shapers_base.specs.declared.plan.ot_position_t.TheConstants.{POS_PRE_M}
 use Rattle.shapers_clusters.specs.Steps.{Step}
 use Rattle.shapers_indic.specs.Glyphs.{greatest_place, has_category, has_position, least_place, passes, places}
-use Rattle.shapers_indic_final.specs.FinalGlyphs.{first_goes_last, is_halant, is_matra_or_halant}
+use Rattle.shapers_indic_final.specs.FinalGlyphs.{is_halant, is_matra_or_halant}
 use Rattle.shapers_indic_final.specs.FinalRules.{has_no_half_forms}
 
 -- whether a glyph is a left matra; a halant that belongs to none
@@ -69,7 +70,7 @@ end_of_base base gs = min (length gs) (base + 1)
 abbrev pub matra_step : ℕ → ℕ → ℕ → ℕ → Step
 matra_step n e i j = record {
   merged_first = [];
-  places = with_stretch i (j + 1) first_goes_last (places 0 n);
+  places = with_stretch i (j + 1) first_last (places 0 n);
   merged_then = (j, e) ∷ [];
 }
 

@@ -4,6 +4,7 @@ use Rattle.std.specs.Prelude.{ℕ, ◌+◌, ◌-◌, ◌==◌, nat_le, nat_lt, B
 use Rattle.std.specs.List.{list_any, prefix_len}
 use Rattle.std.specs.Option.{option_map_or}
 use Rattle.shapers_buffer.specs.declared.buffer.glyph.hb_glyph_info_t.{hb_glyph_info_t}
+use Rattle.shapers_buffer.specs.Lists.{first_last}
 use Rattle.shapers_buffer.specs.Clusters.{stretch_of, with_stretch}
 use Rattle.shapers_base.specs.declared.plan.indic.RephPosition.{RephPosition}
 use Rattle.shapers_base.specs.declared.plan.indic.RephPosition.TheVariants.{AfterMain, BeforeSub, AfterSub, BeforePost, AfterPost}
@@ -11,7 +12,7 @@ use Rattle.shapers_base.specs.declared.plan.ot_category_t.TheConstants.{OT_Repha
 use Rattle.shapers_base.specs.declared.plan.ot_position_t.TheConstants.{POS_AFTER_MAIN, POS_AFTER_POST, POS_POST_C, POS_RA_TO_BECOME_REPH, POS_SMVD}
 use Rattle.shapers_clusters.specs.Steps.{Step}
 use Rattle.shapers_indic.specs.Glyphs.{greatest_place, has_category, has_position, is_joiner, is_matra, least_place, passes, places}
-use Rattle.shapers_indic_final.specs.FinalGlyphs.{first_goes_last, is_formed, is_halant}
+use Rattle.shapers_indic_final.specs.FinalGlyphs.{is_formed, is_halant}
 
 -- whether a glyph is a reph that moves: a formed one, or a character of its own that is not formed
 abbrev pub is_moving_reph : hb_glyph_info_t → Bool
@@ -75,7 +76,7 @@ reph_target position base gs =
 -- the syllable with the reph there, and where its base stands then
 abbrev pub with_reph : RephPosition → ℕ → List hb_glyph_info_t → List hb_glyph_info_t
 with_reph position base gs =
-    if opens_with_reph gs then with_stretch 0 (reph_target position base gs + 1) first_goes_last gs
+    if opens_with_reph gs then with_stretch 0 (reph_target position base gs + 1) first_last gs
     else gs
 
 abbrev pub carried_along : ℕ → ℕ → ℕ
@@ -89,7 +90,7 @@ base_after_reph position base gs =
 abbrev pub reph_step : ℕ → ℕ → Step
 reph_step n j = record {
   merged_first = (0, j + 1) ∷ [];
-  places = with_stretch 0 (j + 1) first_goes_last (places 0 n);
+  places = with_stretch 0 (j + 1) first_last (places 0 n);
   merged_then = [];
 }
 

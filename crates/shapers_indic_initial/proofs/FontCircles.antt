@@ -3,7 +3,7 @@ use Rattle.std.proofs.Common.{◌≡◌, ℕ, ◌+◌, ◌==◌, Bool, true, fal
 use Rattle.std.proofs.lemmas.List.{map-append, map-id, take-map, drop-map}
 use Rattle.shapers_buffer.specs.declared.buffer.glyph.hb_glyph_info_t.{hb_glyph_info_t}
 use Rattle.shapers_buffer.specs.Buffer.{Buffer}
-use Rattle.shapers_buffer.specs.Glyph.{default_glyph, order_view}
+use Rattle.shapers_buffer.specs.Glyph.{default_glyph, order_view, at_position}
 use Rattle.shapers_buffer.specs.Syllables.{kind_of, syllables}
 use Rattle.shapers_base.specs.declared.font.GlyphId.{GlyphId}
 use Rattle.shapers_base.specs.declared.plan.indic.indic_shape_plan_t.{indic_shape_plan_t}
@@ -13,7 +13,7 @@ use Rattle.shapers_syllabic.specs.declared.ot_shaper_syllabic.kinds.indic_syllab
 use Rattle.shapers_base.specs.Font.{Font}
 use Rattle.shapers_base.specs.Map.{Map}
 use Rattle.shapers_clusters.specs.Steps.{Step, run_steps, steps_along}
-use Rattle.shapers_indic.specs.Glyphs.{at_position, has_position, number}
+use Rattle.shapers_indic.specs.Glyphs.{has_position, number}
 use Rattle.shapers_indic.specs.Plan.{virama_glyph}
 use Rattle.shapers_indic_initial.specs.InitialFont.{all_by_virama, by_virama, consonant_position, positions_by_font}
 use Rattle.shapers_indic_initial.specs.InitialPause.{InitiallyReordered, initial_circles, order_by_font, steps_by_font, with_positions_and_circles}

@@ -7,6 +7,7 @@ use Rattle.std.specs.Option.{option_map_or, option_or}
 use Rattle.std.proofs.lemmas.List.{drop-map, length-map, take-map}
 use Rattle.shapers_buffer.specs.declared.buffer.glyph.hb_glyph_info_t.{hb_glyph_info_t}
 use Rattle.shapers_buffer.specs.declared.buffer.tag.Script.{Script}
+use Rattle.shapers_buffer.specs.Glyph.{at_position}
 use Rattle.shapers_buffer.specs.Marks.{is_ligated}
 use Rattle.shapers_base.specs.declared.font.GlyphId.{GlyphId}
 use Rattle.shapers_base.specs.declared.plan.indic.RephMode.{RephMode}
@@ -14,7 +15,7 @@ use Rattle.shapers_base.specs.declared.plan.indic.RephMode.TheVariants.{Explicit
 use Rattle.shapers_base.specs.declared.plan.ot_category_t.TheConstants.{OT_H, OT_Ra, OT_Repha, OT_ZWJ, OT_ZWNJ}
 use Rattle.shapers_base.specs.declared.plan.ot_position_t.TheConstants.{POS_BELOW_C, POS_POST_C}
 use Rattle.shapers_indic.specs.declared.ot_shaper_indic.indic_feature.TheConstants.{RPHF}
-use Rattle.shapers_indic.specs.Glyphs.{at_position, greatest_place, has_category, has_position, is_joiner, is_one_of, least_place, numbers, passes, some_place}
+use Rattle.shapers_indic.specs.Glyphs.{greatest_place, has_category, has_position, is_joiner, is_one_of, least_place, numbers, passes, some_place}
 use Rattle.shapers_indic.specs.Plan.{is_script}
 use Rattle.shapers_indic_initial.specs.InitialBase.{base_from, base_place, font_decides_reph, has_reph, is_base, is_base_candidate, is_below, joiner_comes_first, limit, limit_behind, may_be_base, opens_with_repha, reph_is_formed, reph_len, search_from, search_start, stops_search, third_lets_reph}
 use Rattle.shapers_indic_initial.specs.InitialPositions.{is_passed_by_halant}

@@ -9,13 +9,13 @@ use Rattle.shapers_buffer.specs.declared.buffer.glyph.hb_glyph_info_t.{hb_glyph_
 use Rattle.shapers_buffer.specs.declared.buffer.tag.Script.{Script}
 use Rattle.shapers_buffer.specs.Clusters.{stretch_of, with_stretch}
 use Rattle.shapers_buffer.specs.GlyphFlags.{with_bits}
-use Rattle.shapers_buffer.specs.Glyph.{plain, without_flags}
+use Rattle.shapers_buffer.specs.Glyph.{plain, without_flags, at_position}
 use Rattle.shapers_buffer.specs.Lists.{each_after}
 use Rattle.shapers_buffer.specs.Marks.{no_marks}
 use Rattle.shapers_buffer.proofs.ClusterLemmas.{three_parts}
 use Rattle.shapers_base.specs.declared.plan.ot_position_t.TheConstants.{POS_RA_TO_BECOME_REPH, POS_SMVD}
 use Rattle.shapers_indic.specs.declared.ot_shaper_indic.indic_feature.TheConstants.{ABVF, BLWF, HALF, PREF, PSTF, RPHF}
-use Rattle.shapers_indic.specs.Glyphs.{at_position, has_position}
+use Rattle.shapers_indic.specs.Glyphs.{has_position}
 use Rattle.shapers_indic_initial.specs.InitialMasks.{applies_before_base, bits_of, has_eyelash, is_in_eyelash, loses_half, mask_after_base, mask_before_base, pref_pair, with_bits_on_pair, with_eyelash_mask, with_initial_masks, with_masks_around, with_pref_mask, with_reph_mask, without_bits, without_half}
 use Rattle.shapers_indic_initial.specs.InitialPositions.{attached_to, before_next, bounds, by_base, halant_behind, owned_by, position_by_base, with_attached, with_halants, with_marks_attached, with_owners, with_owners_after, with_signs}
 use Rattle.shapers_indic_initial.specs.InitialRules.{Rules}

@@ -5,10 +5,11 @@ use Rattle.std.specs.Option.{option_map_or}
 use Rattle.std.proofs.lemmas.List.{drop-map, length-map, map-append, reverse-append, take-map}
 use Rattle.shapers_buffer.specs.declared.buffer.glyph.hb_glyph_info_t.{hb_glyph_info_t}
 use Rattle.shapers_buffer.specs.declared.buffer.tag.Script.{Script}
+use Rattle.shapers_buffer.specs.Glyph.{at_position}
 use Rattle.shapers_buffer.specs.Lists.{each_after}
 use Rattle.shapers_base.specs.declared.plan.ot_category_t.TheConstants.{OT_CM, OT_H, OT_M, OT_MPst, OT_N, OT_RS, OT_SM, OT_ZWJ, OT_ZWNJ}
 use Rattle.shapers_base.specs.declared.plan.ot_position_t.TheConstants.{POS_PRE_M, POS_SMVD}
-use Rattle.shapers_indic.specs.Glyphs.{at_position, greatest_place, has_category, has_position, is_matra, least_place, places}
+use Rattle.shapers_indic.specs.Glyphs.{greatest_place, has_category, has_position, is_matra, least_place, places}
 use Rattle.shapers_indic_initial.specs.InitialBase.{base_place, has_reph}
 use Rattle.shapers_indic_initial.specs.InitialPositions.{attached_to, before_next, bounds, by_base, carries, draws_sign, halant_after, halant_behind, halant_from, halant_places, halant_to, is_attached, is_passed_by_halant, last_after_halant, moved_behind, owned_by, position_by_base, with_attached, with_halants, with_marks_attached, with_owner, with_owners, with_owners_after, with_signs}
 use Rattle.shapers_indic_initial.specs.InitialReordering.{with_base}

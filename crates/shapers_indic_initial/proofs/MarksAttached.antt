@@ -4,8 +4,9 @@ use Rattle.std.specs.List.{list_any}
 use Rattle.std.proofs.lemmas.Bool.Decides.{nat_tests}
 use Rattle.std.proofs.lemmas.List.{append-nil, drop_all, drop_more, drop-set-lt, take_all, take_more_set}
 use Rattle.shapers_buffer.specs.declared.buffer.glyph.hb_glyph_info_t.{hb_glyph_info_t}
+use Rattle.shapers_buffer.specs.Glyph.{at_position}
 use Rattle.shapers_base.specs.declared.plan.ot_category_t.TheConstants.{OT_CM, OT_H, OT_N, OT_RS, OT_ZWJ, OT_ZWNJ}
-use Rattle.shapers_indic.specs.Glyphs.{at_position, has_category, has_position}
+use Rattle.shapers_indic.specs.Glyphs.{has_category, has_position}
 use Rattle.shapers_indic_initial.specs.InitialPositions.{before_next, draws_sign, is_attached, with_attached, with_marks_attached, with_signs}
 use Rattle.shapers_indic_initial.specs.MarkWalk.{drawn_position, marks_from, next_behind, next_carrier, parted_position}
 use Rattle.shapers_indic_initial.proofs.Positions.{attach_step, attached_all, halant_step_of, halants_all}

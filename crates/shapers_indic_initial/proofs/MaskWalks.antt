@@ -63,9 +63,9 @@ no_half_taken bits (g ∷ gs) none =
 abbrev pub half_taken : ℕ → Bool → hb_glyph_info_t → hb_glyph_info_t
 half_taken bits loses g = if loses then without_bits bits g else g
 
-same_sort : (bits : ℕ) (loses b : Bool) (g : hb_glyph_info_t) → (not (is_consonant (half_taken bits b g)) && (is_one_of (OT_ZWNJ ∷ []) (half_taken bits b g) || loses)) ≡ (not (is_consonant g) && (is_one_of (OT_ZWNJ ∷ []) g || loses))
-same_sort bits loses true g = refl
-same_sort bits loses false g = refl
+same_category : (bits : ℕ) (loses b : Bool) (g : hb_glyph_info_t) → (not (is_consonant (half_taken bits b g)) && (is_one_of (OT_ZWNJ ∷ []) (half_taken bits b g) || loses)) ≡ (not (is_consonant g) && (is_one_of (OT_ZWNJ ∷ []) g || loses))
+same_category bits loses true g = refl
+same_category bits loses false g = refl
 
 pub record HalfTaken (bits : ℕ) (gs : List hb_glyph_info_t) (i : ℕ) (r : Bool) (xs : List hb_glyph_info_t) : Type 0 where
   pub glyphs : xs ≡ take i gs ++ without_half bits (drop i gs)
@@ -82,7 +82,7 @@ half_back bits gs xs i k loses r g d e h is l g_is r_is =
     let g_is' : g ≡ half_taken bits (loses_half after) x = g_is ∙ ap (half_taken bits loses) at ∙ ap (λ b. half_taken bits b x) l' in
     record {
       glyphs = ap (λ ys. set ys k g) is' ∙ seam_set gs (without_half bits after) k d g h ∙ ap (λ y. take k gs ++ y ∷ without_half bits after) g_is' ∙ sym (ap (λ ys. take k gs ++ without_half bits ys) here);
-      loses = r_is ∙ ap (λ y. not (is_consonant y) && (is_one_of (OT_ZWNJ ∷ []) y || loses)) g_is' ∙ same_sort bits loses (loses_half after) x ∙ ap (λ b. not (is_consonant x) && (is_one_of (OT_ZWNJ ∷ []) x || b)) l' ∙ half_step x after ∙ sym (ap loses_half here);
+      loses = r_is ∙ ap (λ y. not (is_consonant y) && (is_one_of (OT_ZWNJ ∷ []) y || loses)) g_is' ∙ same_category bits loses (loses_half after) x ∙ ap (λ b. not (is_consonant x) && (is_one_of (OT_ZWNJ ∷ []) x || b)) l' ∙ half_step x after ∙ sym (ap loses_half here);
     }
 
 -- a search over places, one place on, and its answer
@@ -104,17 +104,17 @@ pair_at gs i d h =
     ∙ ap (λ ys. numbers (take 2 ys)) (drop_more gs i d (omega arith) ∙ ap (λ ys. get_or gs i d ∷ ys) (drop_more gs (i + 1) d h))
 
 -- the walk over an eyelash Ra: masks don't change what it reads
-sorts : List hb_glyph_info_t → List ℕ
-sorts gs = map (λ g. g.category) gs
+categories : List hb_glyph_info_t → List ℕ
+categories gs = map (λ g. g.category) gs
 
-passes_sort : (c : ℕ) (gs : List hb_glyph_info_t) (i : ℕ) → passes (has_category c) gs i ≡ option_map_or (λ x. x == c) (slice_get (map (λ g. g.category) gs) i) false
-passes_sort c [] zero = refl
-passes_sort c [] (suc i) = refl
-passes_sort c (g ∷ gs) zero = refl
-passes_sort c (g ∷ gs) (suc i) = passes_sort c gs i
+passes_category : (c : ℕ) (gs : List hb_glyph_info_t) (i : ℕ) → passes (has_category c) gs i ≡ option_map_or (λ x. x == c) (slice_get (map (λ g. g.category) gs) i) false
+passes_category c [] zero = refl
+passes_category c [] (suc i) = refl
+passes_category c (g ∷ gs) zero = refl
+passes_category c (g ∷ gs) (suc i) = passes_category c gs i
 
 pub passes_same : (c : ℕ) (xs gs : List hb_glyph_info_t) (i : ℕ) → map (λ g. g.category) xs ≡ map (λ g. g.category) gs → passes (has_category c) xs i ≡ passes (has_category c) gs i
-passes_same c xs gs i same = passes_sort c xs i ∙ ap (λ ys. option_map_or (λ x. x == c) (slice_get ys i) false) same ∙ sym (passes_sort c gs i)
+passes_same c xs gs i same = passes_category c xs i ∙ ap (λ ys. option_map_or (λ x. x == c) (slice_get ys i) false) same ∙ sym (passes_category c gs i)
 
 pub opens_same : (base : ℕ) (xs gs : List hb_glyph_info_t) (i : ℕ) → map (λ g. g.category) xs ≡ map (λ g. g.category) gs → opens_eyelash base xs i ≡ opens_eyelash base gs i
 opens_same base xs gs i same = cc (passes_same OT_Ra xs gs i same, passes_same OT_H xs gs (i + 1) same, passes_same OT_ZWJ xs gs (i + 2) same)
@@ -126,22 +126,22 @@ eyelash_same base xs gs i same = cc (opens_same base xs gs i same, opens_same ba
 abbrev pub bits_if : ℕ → (ℕ → Bool) → ℕ × hb_glyph_info_t → hb_glyph_info_t
 bits_if bits test t = if test t.0 then with_bits bits t.1 else t.1
 
-sorts_stay : (bits : ℕ) (test : ℕ → Bool) (n : ℕ) (gs : List hb_glyph_info_t) → map (λ g. g.category) (map (bits_if bits test) (enumerate_from n gs)) ≡ map (λ g. g.category) gs
-sorts_stay bits test n [] = refl
-sorts_stay bits test n (g ∷ gs) =
+categories_stay : (bits : ℕ) (test : ℕ → Bool) (n : ℕ) (gs : List hb_glyph_info_t) → map (λ g. g.category) (map (bits_if bits test) (enumerate_from n gs)) ≡ map (λ g. g.category) gs
+categories_stay bits test n [] = refl
+categories_stay bits test n (g ∷ gs) =
     (elim (test n) as (λ b. (let x : hb_glyph_info_t = if b then with_bits bits g else g in x.category ∷ map (λ h. h.category) (map (bits_if bits test) (enumerate_from (n + 1) gs)) ≡ g.category ∷ map (λ h. h.category) (map (bits_if bits test) (enumerate_from (n + 1) gs)))) [
       | true ↦ refl
       | false ↦ refl
-    ]) ∙ ap (λ cs. g.category ∷ cs) (sorts_stay bits test (n + 1) gs)
+    ]) ∙ ap (λ cs. g.category ∷ cs) (categories_stay bits test (n + 1) gs)
 
 -- such glyphs up to place i, and the rest as it was
 abbrev pub bits_up_to : ℕ → (ℕ → Bool) → ℕ → List hb_glyph_info_t → List hb_glyph_info_t
 bits_up_to bits test i gs = map (bits_if bits test) (enumerate_from 0 (take i gs)) ++ drop i gs
 
-sorts_up_to : (bits : ℕ) (test : ℕ → Bool) (i : ℕ) (gs : List hb_glyph_info_t) → map (λ g. g.category) (bits_up_to bits test i gs) ≡ map (λ g. g.category) gs
-sorts_up_to bits test i gs =
+categories_up_to : (bits : ℕ) (test : ℕ → Bool) (i : ℕ) (gs : List hb_glyph_info_t) → map (λ g. g.category) (bits_up_to bits test i gs) ≡ map (λ g. g.category) gs
+categories_up_to bits test i gs =
     map-append (λ g. g.category) (map (bits_if bits test) (enumerate_from 0 (take i gs))) (drop i gs)
-    ∙ ap (λ cs. cs ++ map (λ g. g.category) (drop i gs)) (sorts_stay bits test 0 (take i gs))
+    ∙ ap (λ cs. cs ++ map (λ g. g.category) (drop i gs)) (categories_stay bits test 0 (take i gs))
     ∙ sym (map-append (λ g. g.category) (take i gs) (drop i gs))
     ∙ ap (map (λ g. g.category)) (take-append-drop i gs)
 
@@ -155,7 +155,7 @@ eyelash_next bits base gs xs ys i d b h is test_is ys_is =
     let is' : xs ≡ front ++ g ∷ rest = is ∙ ap (λ zs. front ++ zs) (drop_more gs i d h) in
     let at : get_or xs i d ≡ g = ap (λ zs. get_or zs i d) is' ∙ subst (λ n. get_or (front ++ g ∷ rest) n d ≡ g) long (get_or-append_seam front g rest d) in
     let put : (y : hb_glyph_info_t) → set xs i y ≡ front ++ y ∷ rest = λ y. ap (λ zs. set zs i y) is' ∙ subst (λ n. set (front ++ g ∷ rest) n y ≡ front ++ y ∷ rest) long (set-append_seam front g rest y) in
-    let t : b ≡ test i = test_is ∙ eyelash_same base xs gs i (ap (map (λ x. x.category)) is ∙ sorts_up_to bits test i gs) in
+    let t : b ≡ test i = test_is ∙ eyelash_same base xs gs i (ap (map (λ x. x.category)) is ∙ categories_up_to bits test i gs) in
     let written : (c : Bool) → (if c then set xs i (with_bits bits (get_or xs i d)) else xs) ≡ front ++ (if c then with_bits bits g else g) ∷ rest = λ c. (elim c as (λ e. (if e then set xs i (with_bits bits (get_or xs i d)) else xs) ≡ front ++ (if e then with_bits bits g else g) ∷ rest) [ true ↦ put (with_bits bits (get_or xs i d)) ∙ ap (λ x. front ++ with_bits bits x ∷ rest) at | false ↦ is' ]) in
     let more : map (bits_if bits test) (enumerate_from 0 (take (i + 1) gs)) ≡ front ++ bits_if bits test (i, g) ∷ [] =
     ap (λ zs. map (bits_if bits test) (enumerate_from 0 zs)) (take_more gs i d h)

@@ -5,8 +5,9 @@ use Rattle.std.specs.Option.{option_map_or}
 use Rattle.std.proofs.lemmas.List.{append-nil, drop_more, drop_all, get_or_append_left, get_or-take, length-take-le, reverse-append, set_at, take_all, take-append-drop, take_more}
 use Rattle.std.proofs.lemmas.Bool.Decides.{nat_tests}
 use Rattle.shapers_buffer.specs.declared.buffer.glyph.hb_glyph_info_t.{hb_glyph_info_t}
+use Rattle.shapers_buffer.specs.Glyph.{at_position}
 use Rattle.shapers_buffer.specs.Lists.{each_after}
-use Rattle.shapers_indic.specs.Glyphs.{at_position, has_category, has_position}
+use Rattle.shapers_indic.specs.Glyphs.{has_category, has_position}
 use Rattle.shapers_indic_initial.specs.InitialPositions.{bounds, by_base, carries, is_attached, owned_by, position_by_base, with_attached, with_halants, with_owner, with_owners}
 use Rattle.shapers_indic_initial.proofs.Walks.{walk_done, walked}
 use Rattle.shapers_syllabic.specs.Consonants.{is_consonant}

@@ -2,6 +2,7 @@
 -- of position BASE_C.
 use Rattle.std.specs.Prelude.{ℕ, Bool, ◌||◌, List, [], ◌∷◌, map, Option, None, Some, if◌then◌else◌}
 use Rattle.shapers_buffer.specs.declared.buffer.glyph.hb_glyph_info_t.{hb_glyph_info_t}
+use Rattle.shapers_buffer.specs.Glyph.{at_position}
 use Rattle.shapers_base.specs.declared.font.GlyphId.{GlyphId}
 use Rattle.shapers_base.specs.declared.plan.indic.IndicWouldSubstituteFeature.{IndicWouldSubstituteFeature}
 use Rattle.shapers_base.specs.declared.plan.indic.indic_shape_plan_t.{indic_shape_plan_t}
@@ -9,7 +10,7 @@ use Rattle.shapers_base.specs.declared.plan.ot_position_t.TheConstants.{POS_BASE
 use Rattle.shapers_base.specs.Font.{Font}
 use Rattle.shapers_base.specs.Map.{Map}
 use Rattle.shapers_base.specs.Questions.{would_by}
-use Rattle.shapers_indic.specs.Glyphs.{at_position, has_position, number}
+use Rattle.shapers_indic.specs.Glyphs.{has_position, number}
 use Rattle.shapers_indic.specs.Plan.{virama_glyph}
 
 -- whether a feature would substitute the virama's glyph v and c, in either order

@@ -18,12 +18,12 @@ use Rattle.shapers_indic_initial.specs.InitialRules.{rules_of}
 use Rattle.shapers_syllabic.specs.declared.ot_shaper_syllabic.kinds.indic_syllable.TheConstants.{BROKEN_CLUSTER, NON_INDIC_CLUSTER}
 use Rattle.shapers_syllabic.specs.Circles.{circled}
 use Rattle.shapers_syllabic.specs.declared.ot_shaper_syllabic.circles.DottedCircles.{DottedCircles}
-use Rattle.shapers_syllabic.specs.Reordering.{SyllablesReordered, circles_of_sort}
-use Rattle.shapers_syllabic.specs.declared.ot_shaper_syllabic.pause.CircleSort.{CircleSort}
+use Rattle.shapers_syllabic.specs.Reordering.{SyllablesReordered, script_circles}
+use Rattle.shapers_syllabic.specs.declared.ot_shaper_syllabic.pause.ScriptCircles.{ScriptCircles}
 
 -- the dotted circles: behind a repha that opens a broken syllable, and of the last position, which
 -- the base's replaces where a circle is the base
-abbrev pub indic_circles : CircleSort
+abbrev pub indic_circles : ScriptCircles
 indic_circles = record {
   broken_kind = BROKEN_CLUSTER;
   category = OT_DOTTEDCIRCLE;
@@ -33,7 +33,7 @@ indic_circles = record {
 
 -- the circles that a buffer gets
 abbrev pub initial_circles : Font → Buffer → Option DottedCircles
-initial_circles font b = circles_of_sort indic_circles font b
+initial_circles font b = script_circles indic_circles font b
 
 -- the text with positions by the font and with its circles
 abbrev pub with_positions_and_circles : Font → Map → indic_shape_plan_t → Buffer → Buffer

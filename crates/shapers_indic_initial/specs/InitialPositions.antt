@@ -5,11 +5,12 @@ use Rattle.std.specs.List.{enumerate_from, list_any}
 use Rattle.std.specs.Option.{option_map_or}
 use Rattle.shapers_buffer.specs.declared.buffer.glyph.hb_glyph_info_t.{hb_glyph_info_t}
 use Rattle.shapers_buffer.specs.declared.buffer.tag.Script.{Script}
+use Rattle.shapers_buffer.specs.Glyph.{at_position}
 use Rattle.shapers_buffer.specs.Clusters.{stretch_of}
 use Rattle.shapers_buffer.specs.Lists.{each_after}
 use Rattle.shapers_base.specs.declared.plan.ot_category_t.TheConstants.{OT_CM, OT_H, OT_MPst, OT_N, OT_RS, OT_SM, OT_ZWJ, OT_ZWNJ}
 use Rattle.shapers_base.specs.declared.plan.ot_position_t.TheConstants.{POS_BASE_C, POS_PRE_C, POS_PRE_M, POS_RA_TO_BECOME_REPH, POS_SMVD}
-use Rattle.shapers_indic.specs.Glyphs.{at_position, greatest_place, has_category, has_position, is_matra, least_place, passes, places}
+use Rattle.shapers_indic.specs.Glyphs.{greatest_place, has_category, has_position, is_matra, least_place, passes, places}
 use Rattle.shapers_indic_initial.specs.InitialRules.{Rules}
 use Rattle.shapers_indic.specs.Plan.{is_script}
 use Rattle.shapers_syllabic.specs.Consonants.{is_consonant}

@@ -1,9 +1,10 @@
 -- Words of the code's walk that gives marks the positions of what they go with.
 use Rattle.std.specs.Prelude.{ℕ, ◌==◌, ◌&&◌, not, List, [], ◌∷◌, if◌then◌else◌}
 use Rattle.shapers_buffer.specs.declared.buffer.glyph.hb_glyph_info_t.{hb_glyph_info_t}
+use Rattle.shapers_buffer.specs.Glyph.{at_position}
 use Rattle.shapers_base.specs.declared.plan.ot_category_t.TheConstants.{OT_H}
 use Rattle.shapers_base.specs.declared.plan.ot_position_t.TheConstants.{POS_PRE_M}
-use Rattle.shapers_indic.specs.Glyphs.{at_position, has_category}
+use Rattle.shapers_indic.specs.Glyphs.{has_category}
 use Rattle.shapers_indic_initial.specs.InitialPositions.{carries, draws_sign, is_attached}
 
 -- the position of a glyph before these ones, behind a carrier of position c: an attached one has

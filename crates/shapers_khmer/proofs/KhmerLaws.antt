@@ -18,9 +18,9 @@ use Rattle.shapers_clusters.proofs.Picks.{pick-all, pick-map}
 use Rattle.shapers_clusters.proofs.Swaps.{still_moves_merged}
 use Rattle.shapers_clusters.proofs.Views.{seen-same}
 use Rattle.shapers_khmer.specs.declared.ot_shaper_khmer.reordering.KhmerOrder.{KhmerOrder}
-use Rattle.shapers_khmer.specs.Khmer.{Move, Pair, Vowel, is_reordered, khmer_masked, khmer_moves, khmer_order, khmer_places, khmer_step, khmer_steps, masked, masked_all, masked_for, merged_for, moved, moved_all, sorts_of, with_mask}
+use Rattle.shapers_khmer.specs.Khmer.{Move, Pair, Vowel, is_reordered, khmer_masked, khmer_moves, khmer_order, khmer_places, khmer_step, khmer_steps, masked, masked_all, masked_for, merged_for, moved, moved_all, categories_of, with_mask}
 use Rattle.shapers_khmer.proofs.KhmerCases.{cases_end}
-use Rattle.shapers_khmer.proofs.KhmerMasks.{carried-masked, carried-with_mask, hidden-masked, length-masked, length-sorts}
+use Rattle.shapers_khmer.proofs.KhmerMasks.{carried-masked, carried-with_mask, hidden-masked, length-masked, length-categories}
 use Rattle.shapers_khmer.proofs.KhmerMoves.{inside_merged, length-moved_all, permuted-moved_all}
 use Rattle.shapers_syllabic.specs.Reordering.{carried}
 use Rattle.shapers_syllabic.specs.ReorderingLaws.{ReorderLaws}
@@ -40,7 +40,7 @@ length-order moves n = length-moved_all moves (range_with_len 0 n) ∙ length-ra
 pub khmer_ends : (gs : List hb_glyph_info_t) → EndWithin (length gs) (map merged_for (khmer_moves gs))
 khmer_ends [] = tt
 khmer_ends (g ∷ []) = tt
-khmer_ends (g ∷ (h ∷ gs)) = cases_end (g.category ∷ []) h.category (sorts_of gs) 0 (length (g ∷ (h ∷ gs))) (omega arith) (omega (arith, length-sorts gs))
+khmer_ends (g ∷ (h ∷ gs)) = cases_end (g.category ∷ []) h.category (categories_of gs) 0 (length (g ∷ (h ∷ gs))) (omega arith) (omega (arith, length-categories gs))
 
 -- moves go only inside what merges first
 pub merged_moves : (moves : List Move) (n : ℕ) → EndWithin n (map merged_for moves) → MovesMerged n (record { merged_first = map merged_for moves; places = moved_all moves (range_with_len 0 n); merged_then = [] })
@@ -85,7 +85,7 @@ hidden-masked_for f hides r (Pair over) order gs ends =
 
 pub length-masked_for : (r : KhmerOrder) (move : Move) (order : List ℕ) (gs : List hb_glyph_info_t) → EndWithin (length gs) (merged_for move ∷ []) → length (masked_for r move order gs) ≡ length gs
 length-masked_for r move order gs ends =
-    sym (length-sorts (masked_for r move order gs)) ∙ ap length (hidden-masked_for (λ g. g.category) (λ m g. refl) r move order gs ends) ∙ length-sorts gs
+    sym (length-categories (masked_for r move order gs)) ∙ ap length (hidden-masked_for (λ g. g.category) (λ m g. refl) r move order gs ends) ∙ length-categories gs
 
 pub hidden-masked_all : {X : Type 0} (f : hb_glyph_info_t → X) → ((m : ℕ) (g : hb_glyph_info_t) → f (with_mask m g) ≡ f g) → (r : KhmerOrder) (moves : List Move) (order : List ℕ) (gs : List hb_glyph_info_t) → EndWithin (length gs) (map merged_for moves) → map f (masked_all r moves order gs) ≡ map f gs
 hidden-masked_all f hides r [] order gs ends = refl

@@ -12,7 +12,7 @@ use Rattle.shapers_buffer.proofs.ClusterLemmas.{three_parts}
 use Rattle.shapers_syllabic.specs.Reordering.{carried}
 use Rattle.shapers_syllabic.proofs.ReorderingLemmas.{stretch-viewed}
 use Rattle.shapers_khmer.specs.declared.ot_shaper_khmer.reordering.KhmerOrder.{KhmerOrder}
-use Rattle.shapers_khmer.specs.Khmer.{Move, with_mask, masked, masked_for, masked_all, moved, moved_all, sorts_of}
+use Rattle.shapers_khmer.specs.Khmer.{Move, with_mask, masked, masked_for, masked_all, moved, moved_all, categories_of}
 
 -- a mask without its glyph flags, added, leaves those of the other
 flags-or : (a m : ℕ) → bit_or a (without_flags m) % 8 ≡ a % 8
@@ -55,14 +55,14 @@ hidden-masked f m s e gs hides h =
 pub carried-masked : (m s e : ℕ) (gs : List hb_glyph_info_t) → s ≤ e → map carried (masked m s e gs) ≡ map carried gs
 carried-masked m s e gs h = hidden-masked carried m s e gs (carried-with_mask m) h
 
-pub sorts-masked : (m s e : ℕ) (gs : List hb_glyph_info_t) → s ≤ e → sorts_of (masked m s e gs) ≡ sorts_of gs
-sorts-masked m s e gs h = hidden-masked (λ g. g.category) m s e gs (λ g. refl) h
+pub categories-masked : (m s e : ℕ) (gs : List hb_glyph_info_t) → s ≤ e → categories_of (masked m s e gs) ≡ categories_of gs
+categories-masked m s e gs h = hidden-masked (λ g. g.category) m s e gs (λ g. refl) h
 
-pub length-sorts : (gs : List hb_glyph_info_t) → length (sorts_of gs) ≡ length gs
-length-sorts gs = length-map gs (λ g. g.category)
+pub length-categories : (gs : List hb_glyph_info_t) → length (categories_of gs) ≡ length gs
+length-categories gs = length-map gs (λ g. g.category)
 
 pub length-masked : (m s e : ℕ) (gs : List hb_glyph_info_t) → s ≤ e → length (masked m s e gs) ≡ length gs
-length-masked m s e gs h = sym (length-sorts (masked m s e gs)) ∙ ap length (sorts-masked m s e gs h) ∙ length-sorts gs
+length-masked m s e gs h = sym (length-categories (masked m s e gs)) ∙ ap length (categories-masked m s e gs h) ∙ length-categories gs
 
 plain_all : (m : ℕ) (gs : List hb_glyph_info_t) → order_view (map (with_mask m) gs) ≡ map (with_mask m) (order_view gs)
 plain_all m [] = refl

@@ -12,10 +12,10 @@ use Rattle.std.proofs.lemmas.List.FromFn.{get_or-enumerate_from, length-enumerat
 use Rattle.std.proofs.lemmas.Bool.{and_parts}
 use Rattle.shapers_buffer.specs.Glyph.{default_glyph}
 use Rattle.shapers_buffer.specs.Lists.{each_after}
-use Rattle.shapers_khmer.specs.Khmer.{Pair, brought, is_coeng, is_left_vowel, is_ro, khmer_masked, khmer_moves, masked, masked_all, masked_for, merged_for, moves_by_cases, sorts_of, with_mask}
+use Rattle.shapers_khmer.specs.Khmer.{Pair, brought, is_coeng, is_left_vowel, is_ro, khmer_masked, khmer_moves, masked, masked_all, masked_for, merged_for, moves_by_cases, categories_of, with_mask}
 use Rattle.shapers_khmer.proofs.KhmerCases.{brought_parts}
 use Rattle.shapers_khmer.proofs.KhmerMaskPlaces.{join_if, masked_before, masked_behind, masked_there, swap_if}
-use Rattle.shapers_khmer.proofs.KhmerMasks.{length-masked, length-sorts}
+use Rattle.shapers_khmer.proofs.KhmerMasks.{length-masked, length-categories}
 use Rattle.shapers_khmer.specs.KhmerWalk.{paired}
 use Rattle.shapers_khmer.proofs.KhmerLaws.{hidden-masked_all, khmer_ends}
 use Rattle.shapers_clusters.specs.Cuts.{EndWithin}
@@ -119,7 +119,7 @@ coengs_stays before p y es off = rw off refl
 
 -- THE WALK. What the moves give to the glyph at a place
 abbrev Masks : KhmerOrder → List hb_glyph_info_t → ℕ → hb_glyph_info_t → List Part → ℕ → List ℕ → ℕ → List ℕ → List ℕ → Type 0
-Masks r gs i d before p sorts c front places = get_or (masked_all r (looked front sorts c) (places ++ range_with_len p (length sorts)) gs) i d ≡ pairs_at r (coengs (each_after before (parts_from p sorts))) i (get_or gs i d)
+Masks r gs i d before p categories c front places = get_or (masked_all r (looked front categories c) (places ++ range_with_len p (length categories)) gs) i d ≡ pairs_at r (coengs (each_after before (parts_from p categories))) i (get_or gs i d)
 
 vowel_masks : (r : KhmerOrder) (gs : List hb_glyph_info_t) (i : ℕ) (d : hb_glyph_info_t) (before : List Part) (p z : ℕ) (rest : List ℕ) (c : ℕ) (front places : List ℕ) → length places ≡ length front → is_left_vowel z ≡ true → parts_from p (z ∷ rest) ≡ Alone p z ∷ parts_from (p + 1) rest → Masks r gs i d (before ++ Alone p z ∷ []) (p + 1) rest c (z ∷ front) (p ∷ places) → Masks r gs i d before p (z ∷ rest) c front places
 vowel_masks r gs i d before p z rest c front places len vowel parts further =
@@ -190,7 +190,7 @@ pair_masks r gs i d before p z y rest c front x places len at l h no_coeng no_vo
     ∙ ap (pairs_at r (coengs es) i) (pair_masked r p gs i d l h)
     ∙ ap (λ ps. pairs_at r ps i (get_or gs i d)) (sym (coengs_moves before p y es moves) ∙ ap (λ ps. coengs (each_after before ps)) (sym parts))
 
-given : (r : KhmerOrder) (gs : List hb_glyph_info_t) (i : ℕ) (d : hb_glyph_info_t) (before : List Part) (p : ℕ) (sorts : List ℕ) (c : ℕ) (front : List ℕ) (x : ℕ) (places : List ℕ) → length places ≡ length (front ++ x ∷ []) → length places ≡ p → length gs ≡ p + length sorts → i < length gs → is_coeng x ≡ false → is_left_vowel x ≡ false → is_inner sorts ≡ true → counted 0 (behind_coengs before) ≡ c → Masks r gs i d before p sorts c (front ++ x ∷ []) places
+given : (r : KhmerOrder) (gs : List hb_glyph_info_t) (i : ℕ) (d : hb_glyph_info_t) (before : List Part) (p : ℕ) (categories : List ℕ) (c : ℕ) (front : List ℕ) (x : ℕ) (places : List ℕ) → length places ≡ length (front ++ x ∷ []) → length places ≡ p → length gs ≡ p + length categories → i < length gs → is_coeng x ≡ false → is_left_vowel x ≡ false → is_inner categories ≡ true → counted 0 (behind_coengs before) ≡ c → Masks r gs i d before p categories c (front ++ x ∷ []) places
 given r gs i d before p [] c front x places len at size h no_coeng no_vowel inner count = refl
 given r gs i d before p (z ∷ []) c front x places len at size h no_coeng no_vowel inner count =
     let all = front ++ x ∷ [] in
@@ -200,13 +200,13 @@ given r gs i d before p (z ∷ []) c front x places len at size h no_coeng no_vo
     ]
 given r gs i d before p (z ∷ (y ∷ rest)) c front x places len at size h no_coeng no_vowel inner count =
     let all = front ++ x ∷ [] in
-    let sorts = y ∷ rest in
+    let categories = y ∷ rest in
     let both_places : length (places ++ p ∷ ((p + 1) ∷ [])) ≡ p + 2 = length-append places (p ∷ ((p + 1) ∷ [])) ∙ ap (λ n. n + 2) at in
     let one_place : length (places ++ p ∷ []) ≡ p + 1 = length-append places (p ∷ []) ∙ ap (λ n. n + 1) at in
     elim (cases_Bool (is_coeng z)) [
       | inl is ↦
           let behind = inner_behind z y rest inner is in
-          let tail = inner_tail y rest (inner_tail z sorts inner) in
+          let tail = inner_tail y rest (inner_tail z categories inner) in
           let counts = count_coeng before p y c count in
           let test : is_mover (before, Coeng p y) ≡ (is_ro y && nat_le c 2) = ap (λ b. is_ro y && b) (moves_by_count (behind_coengs before) ∙ ap (λ n. nat_le n 2) count) in
           elim (cases_Bool (is_ro y && nat_le c 2)) [
@@ -224,42 +224,42 @@ given r gs i d before p (z ∷ (y ∷ rest)) c front x places len at size h no_c
                 (ap length (sym (append_assoc places (p ∷ []) ((p + 1) ∷ []))) ∙ longer (places ++ p ∷ []) (all ++ z ∷ []) (p + 1) y (longer places all p z len)) both_places (omega arith) h behind.0 behind.1 tail counts)
           ]
       | inr off ↦
-          let tail = inner_tail z sorts inner in
+          let tail = inner_tail z categories inner in
           let counts = count_alone before p z c count in
-          let parts : parts_from p (z ∷ sorts) ≡ Alone p z ∷ parts_from (p + 1) sorts = rw off refl in
+          let parts : parts_from p (z ∷ categories) ≡ Alone p z ∷ parts_from (p + 1) categories = rw off refl in
           elim (cases_Bool (is_left_vowel z)) [
-            | inl vowel ↦ vowel_masks r gs i d before p z sorts c all places len vowel parts (given r gs i d (before ++ Alone p z ∷ []) (p + 1) (y ∷ rest) c (z ∷ front) x (p ∷ places) (ap suc len) (omega arith) (omega arith) h no_coeng no_vowel tail counts)
-            | inr other ↦ other_masks r gs i d before p z sorts c all places parts (looked_other all z sorts c off other) (given r gs i d (before ++ Alone p z ∷ []) (p + 1) (y ∷ rest) c all z (places ++ p ∷ []) (longer places all p z len) one_place (omega arith) h off other tail counts)
+            | inl vowel ↦ vowel_masks r gs i d before p z categories c all places len vowel parts (given r gs i d (before ++ Alone p z ∷ []) (p + 1) (y ∷ rest) c (z ∷ front) x (p ∷ places) (ap suc len) (omega arith) (omega arith) h no_coeng no_vowel tail counts)
+            | inr other ↦ other_masks r gs i d before p z categories c all places parts (looked_other all z categories c off other) (given r gs i d (before ++ Alone p z ∷ []) (p + 1) (y ∷ rest) c all z (places ++ p ∷ []) (longer places all p z len) one_place (omega arith) h off other tail counts)
           ]
     ]
 
 -- A SYLLABLE. The masks at each of its places
-masks_at : (r : KhmerOrder) (g : hb_glyph_info_t) (gs : List hb_glyph_info_t) (i : ℕ) (d : hb_glyph_info_t) → is_coeng g.category ≡ false → is_left_vowel g.category ≡ false → is_inner (sorts_of gs) ≡ true → i < length (g ∷ gs) → get_or (khmer_masked r (g ∷ gs)) i d ≡ masked_at r (moving_coengs (sorts_of (g ∷ gs))) i (get_or (g ∷ gs) i d)
+masks_at : (r : KhmerOrder) (g : hb_glyph_info_t) (gs : List hb_glyph_info_t) (i : ℕ) (d : hb_glyph_info_t) → is_coeng g.category ≡ false → is_left_vowel g.category ≡ false → is_inner (categories_of gs) ≡ true → i < length (g ∷ gs) → get_or (khmer_masked r (g ∷ gs)) i d ≡ masked_at r (moving_coengs (categories_of (g ∷ gs))) i (get_or (g ∷ gs) i d)
 masks_at r g gs i d no_coeng no_vowel inner h =
     let x = g.category in
-    let sorts = sorts_of gs in
+    let categories = categories_of gs in
     let all = g ∷ gs in
     let first = masked r.others 1 (length all) all in
     let one = Alone 0 x ∷ [] in
-    let es = each_after one (parts_from 1 sorts) in
-    let moving : coengs es ≡ moving_coengs (x ∷ sorts) = sym (coengs_alone [] 0 x es) ∙ ap (λ ps. coengs (each_after [] ps)) (sym (first_part x sorts no_coeng)) in
+    let es = each_after one (parts_from 1 categories) in
+    let moving : coengs es ≡ moving_coengs (x ∷ categories) = sym (coengs_alone [] 0 x es) ∙ ap (λ ps. coengs (each_after [] ps)) (sym (first_part x categories no_coeng)) in
     let len : length first ≡ length all = length-masked r.others 1 (length all) all (omega arith) in
-    let size : length first ≡ 1 + length sorts = let same = length-sorts gs in omega arith in
+    let size : length first ≡ 1 + length categories = let same = length-categories gs in omega arith in
     ap (λ ms. get_or (masked_all r ms (0 ∷ range_with_len 1 (length gs)) first) i d) (first_looked g gs)
-    ∙ ap (λ n. get_or (masked_all r (looked (x ∷ []) sorts 0) (0 ∷ range_with_len 1 n) first) i d) (sym (length-sorts gs))
-    ∙ given r first i d one 1 sorts 0 [] x (0 ∷ []) refl refl size (omega arith) no_coeng no_vowel inner refl
+    ∙ ap (λ n. get_or (masked_all r (looked (x ∷ []) categories 0) (0 ∷ range_with_len 1 n) first) i d) (sym (length-categories gs))
+    ∙ given r first i d one 1 categories 0 [] x (0 ∷ []) refl refl size (omega arith) no_coeng no_vowel inner refl
     ∙ ap (λ ps. pairs_at r ps i (get_or first i d)) moving
-    ∙ ap (pairs_at r (moving_coengs (x ∷ sorts)) i) (others_masked r.others all i d h)
-    ∙ pairs_once r (moving_coengs (x ∷ sorts)) i (with_mask_if (nat_lt 0 i) r.others (get_or all i d))
+    ∙ ap (pairs_at r (moving_coengs (x ∷ categories)) i) (others_masked r.others all i d h)
+    ∙ pairs_once r (moving_coengs (x ∷ categories)) i (with_mask_if (nat_lt 0 i) r.others (get_or all i d))
 
 length-khmer_masked : (r : KhmerOrder) (g : hb_glyph_info_t) (gs : List hb_glyph_info_t) → length (khmer_masked r (g ∷ gs)) ≡ length (g ∷ gs)
 length-khmer_masked r g gs =
     let all = g ∷ gs in
     let first = masked r.others 1 (length all) all in
     let len : length first ≡ length all = length-masked r.others 1 (length all) all (omega arith) in
-    sym (length-sorts (khmer_masked r all))
+    sym (length-categories (khmer_masked r all))
     ∙ ap length (hidden-masked_all (λ g. g.category) (λ m g. refl) r (khmer_moves all) (range_with_len 0 (length all)) first (subst (λ n. EndWithin n (map merged_for (khmer_moves all))) (sym len) (khmer_ends all)))
-    ∙ length-sorts first
+    ∙ length-categories first
     ∙ len
 
 pub khmer_masks_by_movers : KhmerMoversMasksLaw
@@ -267,9 +267,9 @@ khmer_masks_by_movers r [] regular = refl
 khmer_masks_by_movers r (g ∷ gs) regular =
     let x = g.category in
     let all = g ∷ gs in
-    let both = and_parts (not (is_coeng_or_left_vowel x)) (is_inner (x ∷ sorts_of gs)) regular in
+    let both = and_parts (not (is_coeng_or_left_vowel x)) (is_inner (x ∷ categories_of gs)) regular in
     let first = neither (is_coeng x) (is_left_vowel x) both.0 in
-    let ps = moving_coengs (sorts_of all) in
+    let ps = moving_coengs (categories_of all) in
     let f : ℕ × hb_glyph_info_t → hb_glyph_info_t = λ e. masked_at r ps e.0 e.1 in
     let es = enumerate_from 0 all in
     let left : length (khmer_masked r all) ≡ length all = length-khmer_masked r g gs in
@@ -281,4 +281,4 @@ khmer_masks_by_movers r (g ∷ gs) regular =
     let zero_on : 0 + i ≡ i = omega arith in
     let at : get_or (map f es) i d ≡ masked_at r ps i (get_or all i d) =
     get_or-map f es i (0, d) d (omega arith) ∙ ap f (get_or-enumerate_from 0 all i (0, d) inside) ∙ ap (λ k. masked_at r ps k (get_or all i d)) zero_on in
-    masks_at r g gs i d first.0 first.1 (inner_tail x (sorts_of gs) both.1) inside ∙ sym at)
+    masks_at r g gs i d first.0 first.1 (inner_tail x (categories_of gs) both.1) inside ∙ sym at)

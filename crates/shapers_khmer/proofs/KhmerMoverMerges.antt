@@ -2,7 +2,7 @@
 use Rattle.std.proofs.Common.{ℕ, suc, ◌+◌, ◌≡◌, true, false, not, inl, inr, nat_le, ◌&&◌, List, [], ◌∷◌, ◌++◌, map, length, filter, refl, sym, ◌∙◌, ap, arith, length-append}
 use Rattle.std.proofs.lemmas.Bool.{and_parts, cases_Bool}
 use Rattle.shapers_buffer.specs.Lists.{each_after}
-use Rattle.shapers_khmer.specs.Khmer.{is_coeng, is_left_vowel, is_ro, merged_for, sorts_of}
+use Rattle.shapers_khmer.specs.Khmer.{is_coeng, is_left_vowel, is_ro, merged_for, categories_of}
 use Rattle.shapers_khmer.specs.KhmerMovers.{Alone, Coeng, KhmerMoversMergesLaw, Part, behind_coengs, is_coeng_or_left_vowel, is_mover, merged_over, parts_from}
 use Rattle.shapers_khmer.proofs.KhmerMovers.{count_alone, count_coeng, counted, counted_on, first_looked, first_part, inner_behind, inner_tail, is_inner, looked, looked_coeng, looked_other, looked_pair, looked_vowel, moves_by_count, neither}
 
@@ -20,7 +20,7 @@ grown : (front : List ℕ) (z p : ℕ) → length front ≡ p → length (front 
 grown front z p at = length-append front (z ∷ []) ∙ ap (λ n. n + 1) at
 
 -- those of what is looked at, behind a front whose last is neither Coeng nor a left vowel
-merged : (before : List Part) (p : ℕ) (sorts : List ℕ) (c : ℕ) (front : List ℕ) (x : ℕ) → length (front ++ x ∷ []) ≡ p → is_coeng x ≡ false → is_left_vowel x ≡ false → is_inner sorts ≡ true → counted 0 (behind_coengs before) ≡ c → map merged_for (looked (front ++ x ∷ []) sorts c) ≡ merges (each_after before (parts_from p sorts))
+merged : (before : List Part) (p : ℕ) (categories : List ℕ) (c : ℕ) (front : List ℕ) (x : ℕ) → length (front ++ x ∷ []) ≡ p → is_coeng x ≡ false → is_left_vowel x ≡ false → is_inner categories ≡ true → counted 0 (behind_coengs before) ≡ c → map merged_for (looked (front ++ x ∷ []) categories c) ≡ merges (each_after before (parts_from p categories))
 merged before p [] c front x at no_coeng no_vowel inner count = refl
 merged before p (z ∷ []) c front x at no_coeng no_vowel inner count =
     let all = front ++ x ∷ [] in
@@ -30,14 +30,14 @@ merged before p (z ∷ []) c front x at no_coeng no_vowel inner count =
     ]
 merged before p (z ∷ (y ∷ rest)) c front x at no_coeng no_vowel inner count =
     let all = front ++ x ∷ [] in
-    let sorts = y ∷ rest in
+    let categories = y ∷ rest in
     elim (cases_Bool (is_coeng z)) [
       | inl is ↦
           let behind = inner_behind z y rest inner is in
-          let tail = inner_tail y rest (inner_tail z sorts inner) in
+          let tail = inner_tail y rest (inner_tail z categories inner) in
           let counts = count_coeng before p y c count in
           let es = each_after (before ++ Coeng p y ∷ []) (parts_from (p + 2) rest) in
-          let parts : parts_from p (z ∷ sorts) ≡ Coeng p y ∷ parts_from (p + 2) rest = rw is refl in
+          let parts : parts_from p (z ∷ categories) ≡ Coeng p y ∷ parts_from (p + 2) rest = rw is refl in
           let test : is_mover (before, Coeng p y) ≡ (is_ro y && nat_le c 2) = ap (λ b. is_ro y && b) (moves_by_count (behind_coengs before) ∙ ap (λ n. nat_le n 2) count) in
           elim (cases_Bool (is_ro y && nat_le c 2)) [
             | inl on ↦
@@ -56,20 +56,20 @@ merged before p (z ∷ (y ∷ rest)) c front x at no_coeng no_vowel inner count 
                 ∙ ap (λ ps. merges (each_after before ps)) (sym parts)
           ]
       | inr off ↦
-          let tail = inner_tail z sorts inner in
+          let tail = inner_tail z categories inner in
           let counts = count_alone before p z c count in
-          let es = each_after (before ++ Alone p z ∷ []) (parts_from (p + 1) sorts) in
-          let parts : parts_from p (z ∷ sorts) ≡ Alone p z ∷ parts_from (p + 1) sorts = rw off refl in
+          let es = each_after (before ++ Alone p z ∷ []) (parts_from (p + 1) categories) in
+          let parts : parts_from p (z ∷ categories) ≡ Alone p z ∷ parts_from (p + 1) categories = rw off refl in
           elim (cases_Bool (is_left_vowel z)) [
             | inl vowel ↦
-                let ms = map merged_for (looked (z ∷ all) sorts c) in
-                ap (map merged_for) (looked_vowel all z sorts c vowel)
+                let ms = map merged_for (looked (z ∷ all) categories c) in
+                ap (map merged_for) (looked_vowel all z categories c vowel)
                 ∙ ap (λ n. (0, n + 1) ∷ ms) at
                 ∙ ap (λ ms. (0, p + 1) ∷ ms) (merged (before ++ Alone p z ∷ []) (p + 1) (y ∷ rest) c (z ∷ front) x (ap suc at ∙ omega arith) no_coeng no_vowel tail counts)
                 ∙ sym (merges_more (before, Alone p z) es vowel)
                 ∙ ap (λ ps. merges (each_after before ps)) (sym parts)
             | inr other ↦
-                ap (map merged_for) (looked_other all z sorts c off other)
+                ap (map merged_for) (looked_other all z categories c off other)
                 ∙ merged (before ++ Alone p z ∷ []) (p + 1) (y ∷ rest) c all z (grown all z p at) off other tail counts
                 ∙ sym (merges_same (before, Alone p z) es other)
                 ∙ ap (λ ps. merges (each_after before ps)) (sym parts)
@@ -80,11 +80,11 @@ pub khmer_merges_by_movers : KhmerMoversMergesLaw
 khmer_merges_by_movers [] regular = refl
 khmer_merges_by_movers (g ∷ gs) regular =
     let x = g.category in
-    let sorts = sorts_of gs in
-    let both = and_parts (not (is_coeng_or_left_vowel x)) (is_inner (x ∷ sorts)) regular in
+    let categories = categories_of gs in
+    let both = and_parts (not (is_coeng_or_left_vowel x)) (is_inner (x ∷ categories)) regular in
     let first = neither (is_coeng x) (is_left_vowel x) both.0 in
-    let es = each_after (Alone 0 x ∷ []) (parts_from 1 sorts) in
+    let es = each_after (Alone 0 x ∷ []) (parts_from 1 categories) in
     ap (map merged_for) (first_looked g gs)
-    ∙ merged (Alone 0 x ∷ []) 1 sorts 0 [] x refl first.0 first.1 (inner_tail x sorts both.1) refl
+    ∙ merged (Alone 0 x ∷ []) 1 categories 0 [] x refl first.0 first.1 (inner_tail x categories both.1) refl
     ∙ sym (merges_same ([], Alone 0 x) es first.1)
-    ∙ ap (λ ps. merges (each_after [] ps)) (sym (first_part x sorts first.0))
+    ∙ ap (λ ps. merges (each_after [] ps)) (sym (first_part x categories first.0))

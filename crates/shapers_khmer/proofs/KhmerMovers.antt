@@ -8,9 +8,9 @@ use Rattle.std.proofs.lemmas.Grind.{flat_map-append, reverse_onto}
 use Rattle.std.proofs.lemmas.List.Concat.{flat_map-cons}
 use Rattle.shapers_buffer.specs.Lists.{each_after}
 use Rattle.shapers_buffer.specs.declared.buffer.glyph.hb_glyph_info_t.{hb_glyph_info_t}
-use Rattle.shapers_khmer.specs.Khmer.{Move, Pair, Vowel, brought, is_coeng, is_left_vowel, is_ro, khmer_moves, moved_all, moves_by_cases, sorts_of}
+use Rattle.shapers_khmer.specs.Khmer.{Move, Pair, Vowel, brought, is_coeng, is_left_vowel, is_ro, khmer_moves, moved_all, moves_by_cases, categories_of}
 use Rattle.shapers_khmer.proofs.KhmerCases.{brought_parts}
-use Rattle.shapers_khmer.proofs.KhmerMasks.{length-sorts}
+use Rattle.shapers_khmer.proofs.KhmerMasks.{length-categories}
 use Rattle.shapers_khmer.specs.KhmerMovers.{Alone, Coeng, KhmerMoversLaw, Part, behind_coengs, is_coeng_or_left_vowel, is_mover, moves_behind, order_by_movers, parts_from, places_of}
 
 -- THE COUNT. How many Coengs are counted, by what stands behind them: with more than two counted no Ro moves
@@ -164,10 +164,10 @@ inner_behind z y rest inner is =
     neither (is_coeng y) (is_left_vowel y) (ap (λ b. not (b && is_coeng_or_left_vowel y)) (sym is) ∙ first)
 
 -- THE WALK. What the moves make of the front and of what is still to be looked at
-abbrev Sorts : List Part → ℕ → List ℕ → ℕ → List ℕ → List ℕ → Type 0
-Sorts before p sorts c front places = moved_all (looked front sorts c) (places ++ range_with_len p (length sorts)) ≡ result places (each_after before (parts_from p sorts))
+abbrev Moved : List Part → ℕ → List ℕ → ℕ → List ℕ → List ℕ → Type 0
+Moved before p categories c front places = moved_all (looked front categories c) (places ++ range_with_len p (length categories)) ≡ result places (each_after before (parts_from p categories))
 
-alone_moves : (before : List Part) (p z : ℕ) (rest : List ℕ) (c : ℕ) (front places : List ℕ) → length places ≡ length front → is_left_vowel z ≡ true → parts_from p (z ∷ rest) ≡ Alone p z ∷ parts_from (p + 1) rest → Sorts (before ++ Alone p z ∷ []) (p + 1) rest c (z ∷ front) (p ∷ places) → Sorts before p (z ∷ rest) c front places
+alone_moves : (before : List Part) (p z : ℕ) (rest : List ℕ) (c : ℕ) (front places : List ℕ) → length places ≡ length front → is_left_vowel z ≡ true → parts_from p (z ∷ rest) ≡ Alone p z ∷ parts_from (p + 1) rest → Moved (before ++ Alone p z ∷ []) (p + 1) rest c (z ∷ front) (p ∷ places) → Moved before p (z ∷ rest) c front places
 alone_moves before p z rest c front places len vowel parts further =
     let range = range_with_len (p + 1) (length rest) in
     let all = places ++ p ∷ range in
@@ -179,7 +179,7 @@ alone_moves before p z rest c front places len vowel parts further =
     ∙ result_moves places (before, Alone p z) (each_after (before ++ Alone p z ∷ []) (parts_from (p + 1) rest)) vowel
     ∙ ap (λ ps. result places (each_after before ps)) (sym parts)
 
-alone_stays : (before : List Part) (p z : ℕ) (rest : List ℕ) (c : ℕ) (front places : List ℕ) → is_left_vowel z ≡ false → parts_from p (z ∷ rest) ≡ Alone p z ∷ parts_from (p + 1) rest → moves_by_cases front z rest c ≡ looked (front ++ z ∷ []) rest c → Sorts (before ++ Alone p z ∷ []) (p + 1) rest c (front ++ z ∷ []) (places ++ p ∷ []) → Sorts before p (z ∷ rest) c front places
+alone_stays : (before : List Part) (p z : ℕ) (rest : List ℕ) (c : ℕ) (front places : List ℕ) → is_left_vowel z ≡ false → parts_from p (z ∷ rest) ≡ Alone p z ∷ parts_from (p + 1) rest → moves_by_cases front z rest c ≡ looked (front ++ z ∷ []) rest c → Moved (before ++ Alone p z ∷ []) (p + 1) rest c (front ++ z ∷ []) (places ++ p ∷ []) → Moved before p (z ∷ rest) c front places
 alone_stays before p z rest c front places other parts passes further =
     let range = range_with_len (p + 1) (length rest) in
     ap (λ ms. moved_all ms (places ++ p ∷ range)) passes
@@ -192,7 +192,7 @@ alone_stays before p z rest c front places other parts passes further =
 pub range_behind : (p n : ℕ) → range_with_len (p + 1 + 1) n ≡ range_with_len (p + 2) n
 range_behind p n = let same : p + 1 + 1 ≡ p + 2 = omega arith in ap (λ q. range_with_len q n) same
 
-pair_moves : (before : List Part) (p z y : ℕ) (rest : List ℕ) (c : ℕ) (front : List ℕ) (x : ℕ) (places : List ℕ) → length places ≡ length (front ++ x ∷ []) → is_coeng x ≡ false → is_left_vowel x ≡ false → is_coeng z ≡ true → nat_le c 2 ≡ true → is_ro y ≡ true → is_mover (before, Coeng p y) ≡ true → Sorts (before ++ Coeng p y ∷ []) (p + 2) rest 2 (z ∷ (y ∷ (front ++ x ∷ []))) (p ∷ ((p + 1) ∷ places)) → Sorts before p (z ∷ (y ∷ rest)) c (front ++ x ∷ []) places
+pair_moves : (before : List Part) (p z y : ℕ) (rest : List ℕ) (c : ℕ) (front : List ℕ) (x : ℕ) (places : List ℕ) → length places ≡ length (front ++ x ∷ []) → is_coeng x ≡ false → is_left_vowel x ≡ false → is_coeng z ≡ true → nat_le c 2 ≡ true → is_ro y ≡ true → is_mover (before, Coeng p y) ≡ true → Moved (before ++ Coeng p y ∷ []) (p + 2) rest 2 (z ∷ (y ∷ (front ++ x ∷ []))) (p ∷ ((p + 1) ∷ places)) → Moved before p (z ∷ (y ∷ rest)) c (front ++ x ∷ []) places
 pair_moves before p z y rest c front x places len no_coeng no_vowel is few ro moves further =
     let n = length rest in
     let range = range_with_len (p + 1 + 1) n in
@@ -208,7 +208,7 @@ pair_moves before p z y rest c front x places len no_coeng no_vowel is few ro mo
     ∙ result_moves places (before, Coeng p y) es moves
     ∙ ap (λ ps. result places (each_after before ps)) (sym parts)
 
-coeng_stays : (before : List Part) (p z y : ℕ) (rest : List ℕ) (c : ℕ) (front places : List ℕ) → is_coeng y ≡ false → is_left_vowel y ≡ false → is_coeng z ≡ true → (is_ro y && nat_le c 2) ≡ false → is_mover (before, Coeng p y) ≡ false → Sorts (before ++ Coeng p y ∷ []) (p + 2) rest (counted_on c y) ((front ++ z ∷ []) ++ y ∷ []) (places ++ p ∷ ((p + 1) ∷ [])) → Sorts before p (z ∷ (y ∷ rest)) c front places
+coeng_stays : (before : List Part) (p z y : ℕ) (rest : List ℕ) (c : ℕ) (front places : List ℕ) → is_coeng y ≡ false → is_left_vowel y ≡ false → is_coeng z ≡ true → (is_ro y && nat_le c 2) ≡ false → is_mover (before, Coeng p y) ≡ false → Moved (before ++ Coeng p y ∷ []) (p + 2) rest (counted_on c y) ((front ++ z ∷ []) ++ y ∷ []) (places ++ p ∷ ((p + 1) ∷ [])) → Moved before p (z ∷ (y ∷ rest)) c front places
 coeng_stays before p z y rest c front places no_coeng no_vowel is stays no_mover further =
     let n = length rest in
     let range = range_with_len (p + 1 + 1) n in
@@ -233,21 +233,21 @@ pub longer : (a b : List ℕ) (x y : ℕ) → length a ≡ length b → length (
 longer a b x y same = length-append a (x ∷ []) ∙ ap (λ n. n + 1) same ∙ sym (length-append b (y ∷ []))
 
 -- what is looked at, behind a front whose last is neither Coeng nor a left vowel
-sorted : (before : List Part) (p : ℕ) (sorts : List ℕ) (c : ℕ) (front : List ℕ) (x : ℕ) (places : List ℕ) → length places ≡ length (front ++ x ∷ []) → is_coeng x ≡ false → is_left_vowel x ≡ false → is_inner sorts ≡ true → counted 0 (behind_coengs before) ≡ c → Sorts before p sorts c (front ++ x ∷ []) places
-sorted before p [] c front x places len no_coeng no_vowel inner count = refl
-sorted before p (z ∷ []) c front x places len no_coeng no_vowel inner count =
+moved : (before : List Part) (p : ℕ) (categories : List ℕ) (c : ℕ) (front : List ℕ) (x : ℕ) (places : List ℕ) → length places ≡ length (front ++ x ∷ []) → is_coeng x ≡ false → is_left_vowel x ≡ false → is_inner categories ≡ true → counted 0 (behind_coengs before) ≡ c → Moved before p categories c (front ++ x ∷ []) places
+moved before p [] c front x places len no_coeng no_vowel inner count = refl
+moved before p (z ∷ []) c front x places len no_coeng no_vowel inner count =
     let all = front ++ x ∷ [] in
     elim (cases_Bool (is_left_vowel z)) [
       | inl vowel ↦ alone_moves before p z [] c all places len vowel refl refl
       | inr other ↦ alone_stays before p z [] c all places other refl (rw other refl) refl
     ]
-sorted before p (z ∷ (y ∷ rest)) c front x places len no_coeng no_vowel inner count =
+moved before p (z ∷ (y ∷ rest)) c front x places len no_coeng no_vowel inner count =
     let all = front ++ x ∷ [] in
-    let sorts = y ∷ rest in
+    let categories = y ∷ rest in
     elim (cases_Bool (is_coeng z)) [
       | inl is ↦
           let behind = inner_behind z y rest inner is in
-          let tail = inner_tail y rest (inner_tail z sorts inner) in
+          let tail = inner_tail y rest (inner_tail z categories inner) in
           let counts = count_coeng before p y c count in
           let test : is_mover (before, Coeng p y) ≡ (is_ro y && nat_le c 2) = ap (λ b. is_ro y && b) (moves_by_count (behind_coengs before) ∙ ap (λ n. nat_le n 2) count) in
           elim (cases_Bool (is_ro y && nat_le c 2)) [
@@ -255,47 +255,47 @@ sorted before p (z ∷ (y ∷ rest)) c front x places len no_coeng no_vowel inne
                 let both = and_parts (is_ro y) (nat_le c 2) on in
                 let two : counted_on c y ≡ 2 = rw (both.1, both.0) refl in
                 pair_moves before p z y rest c front x places len no_coeng no_vowel is both.1 both.0 (test ∙ on)
-                (sorted (before ++ Coeng p y ∷ []) (p + 2) rest 2 (z ∷ (y ∷ front)) x (p ∷ ((p + 1) ∷ places)) (ap (λ n. suc (suc n)) len) no_coeng no_vowel tail (counts ∙ two))
+                (moved (before ++ Coeng p y ∷ []) (p + 2) rest 2 (z ∷ (y ∷ front)) x (p ∷ ((p + 1) ∷ places)) (ap (λ n. suc (suc n)) len) no_coeng no_vowel tail (counts ∙ two))
             | inr off ↦
                 coeng_stays before p z y rest c all places behind.0 behind.1 is off (test ∙ off)
-                (sorted (before ++ Coeng p y ∷ []) (p + 2) rest (counted_on c y) (all ++ z ∷ []) y (places ++ p ∷ ((p + 1) ∷ []))
+                (moved (before ++ Coeng p y ∷ []) (p + 2) rest (counted_on c y) (all ++ z ∷ []) y (places ++ p ∷ ((p + 1) ∷ []))
                 (ap length (sym (append_assoc places (p ∷ []) ((p + 1) ∷ []))) ∙ longer (places ++ p ∷ []) (all ++ z ∷ []) (p + 1) y (longer places all p z len)) behind.0 behind.1 tail counts)
           ]
       | inr off ↦
-          let tail = inner_tail z sorts inner in
+          let tail = inner_tail z categories inner in
           let counts = count_alone before p z c count in
-          let parts : parts_from p (z ∷ sorts) ≡ Alone p z ∷ parts_from (p + 1) sorts = rw off refl in
+          let parts : parts_from p (z ∷ categories) ≡ Alone p z ∷ parts_from (p + 1) categories = rw off refl in
           elim (cases_Bool (is_left_vowel z)) [
-            | inl vowel ↦ alone_moves before p z sorts c all places len vowel parts (sorted (before ++ Alone p z ∷ []) (p + 1) (y ∷ rest) c (z ∷ front) x (p ∷ places) (ap suc len) no_coeng no_vowel tail counts)
-            | inr other ↦ alone_stays before p z sorts c all places other parts (looked_other all z sorts c off other) (sorted (before ++ Alone p z ∷ []) (p + 1) (y ∷ rest) c all z (places ++ p ∷ []) (longer places all p z len) off other tail counts)
+            | inl vowel ↦ alone_moves before p z categories c all places len vowel parts (moved (before ++ Alone p z ∷ []) (p + 1) (y ∷ rest) c (z ∷ front) x (p ∷ places) (ap suc len) no_coeng no_vowel tail counts)
+            | inr other ↦ alone_stays before p z categories c all places other parts (looked_other all z categories c off other) (moved (before ++ Alone p z ∷ []) (p + 1) (y ∷ rest) c all z (places ++ p ∷ []) (longer places all p z len) off other tail counts)
           ]
     ]
 
 -- A SYLLABLE. Its first glyph is the front, and the others are looked at
-pub first_looked : (g : hb_glyph_info_t) (gs : List hb_glyph_info_t) → khmer_moves (g ∷ gs) ≡ looked (g.category ∷ []) (sorts_of gs) 0
+pub first_looked : (g : hb_glyph_info_t) (gs : List hb_glyph_info_t) → khmer_moves (g ∷ gs) ≡ looked (g.category ∷ []) (categories_of gs) 0
 first_looked g [] = refl
 first_looked g (h ∷ gs) = refl
 
-pub first_part : (x : ℕ) (sorts : List ℕ) → is_coeng x ≡ false → parts_from 0 (x ∷ sorts) ≡ Alone 0 x ∷ parts_from 1 sorts
+pub first_part : (x : ℕ) (categories : List ℕ) → is_coeng x ≡ false → parts_from 0 (x ∷ categories) ≡ Alone 0 x ∷ parts_from 1 categories
 first_part x [] off = refl
-first_part x (y ∷ sorts) off = rw off refl
+first_part x (y ∷ categories) off = rw off refl
 
-by_result : (sorts : List ℕ) → result [] (each_after [] (parts_from 0 sorts)) ≡ order_by_movers sorts
-by_result sorts =
-    let es = each_after [] (parts_from 0 sorts) in
+by_result : (categories : List ℕ) → result [] (each_after [] (parts_from 0 categories)) ≡ order_by_movers categories
+by_result categories =
+    let es = each_after [] (parts_from 0 categories) in
     sym (flat_map-append (λ (e : List Part × Part). places_of e.1) (reverse (filter is_mover es)) (filter is_stayer es))
 
 pub khmer_order_by_movers : KhmerMoversLaw
 khmer_order_by_movers [] regular = refl
 khmer_order_by_movers (g ∷ gs) regular =
     let x = g.category in
-    let sorts = sorts_of gs in
-    let both = and_parts (not (is_coeng_or_left_vowel x)) (is_inner (x ∷ sorts)) regular in
+    let categories = categories_of gs in
+    let both = and_parts (not (is_coeng_or_left_vowel x)) (is_inner (x ∷ categories)) regular in
     let first = neither (is_coeng x) (is_left_vowel x) both.0 in
-    let es = each_after (Alone 0 x ∷ []) (parts_from 1 sorts) in
+    let es = each_after (Alone 0 x ∷ []) (parts_from 1 categories) in
     ap (λ ms. moved_all ms (0 ∷ range_with_len 1 (length gs))) (first_looked g gs)
-    ∙ ap (λ n. moved_all (looked (x ∷ []) sorts 0) (0 ∷ range_with_len 1 n)) (sym (length-sorts gs))
-    ∙ sorted (Alone 0 x ∷ []) 1 sorts 0 [] x (0 ∷ []) refl first.0 first.1 (inner_tail x sorts both.1) refl
+    ∙ ap (λ n. moved_all (looked (x ∷ []) categories 0) (0 ∷ range_with_len 1 n)) (sym (length-categories gs))
+    ∙ moved (Alone 0 x ∷ []) 1 categories 0 [] x (0 ∷ []) refl first.0 first.1 (inner_tail x categories both.1) refl
     ∙ result_stays [] ([], Alone 0 x) es first.1
-    ∙ ap (λ ps. result [] (each_after [] ps)) (sym (first_part x sorts first.0))
-    ∙ by_result (x ∷ sorts)
+    ∙ ap (λ ps. result [] (each_after [] ps)) (sym (first_part x categories first.0))
+    ∙ by_result (x ∷ categories)

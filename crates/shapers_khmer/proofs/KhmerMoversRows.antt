@@ -106,7 +106,7 @@ at_places = refl
 
 -- the masks of the glyphs of a syllable of these categories, in their old places
 abbrev masks_in : List ℕ → List ℕ
-masks_in sorts = map (λ g. g.mask) (masked_by_movers by_masks (map (λ sort. let g : hb_glyph_info_t = record default_glyph { category = sort } in g) sorts))
+masks_in categories = map (λ g. g.mask) (masked_by_movers by_masks (map (λ category. let g : hb_glyph_info_t = record default_glyph { category = category } in g) categories))
 
 masks_of_pairs : map masks_in ([] ∷ (c ∷ []) ∷ (c ∷ h ∷ ra ∷ h ∷ c ∷ []) ∷ (c ∷ h ∷ ra ∷ h ∷ ra ∷ []) ∷ (c ∷ pre ∷ h ∷ ra ∷ pre ∷ h ∷ []) ∷ []) ≡ [] ∷ (0 ∷ []) ∷ (0 ∷ 0xF0 ∷ 0xF0 ∷ 0x1E0 ∷ 0x1E0 ∷ []) ∷ (0 ∷ 0xF0 ∷ 0xF0 ∷ 0x1F0 ∷ 0x1F0 ∷ []) ∷ (0 ∷ 0xE0 ∷ 0xF0 ∷ 0xF0 ∷ 0x1E0 ∷ 0x1E0 ∷ []) ∷ []
 masks_of_pairs = refl
@@ -116,7 +116,7 @@ masks_of_none = refl
 
 -- C H Ra H C of kind 0, of kind 1, and of kind 2, which stays: category and mask of each glyph
 abbrev made_of : ℕ → List ℕ → List (ℕ × ℕ)
-made_of kind sorts = map (λ g. (g.category, g.mask)) (khmer_by_movers by_masks (map (λ sort. let g : hb_glyph_info_t = record default_glyph { category = sort; syllable = kind } in g) sorts))
+made_of kind categories = map (λ g. (g.category, g.mask)) (khmer_by_movers by_masks (map (λ category. let g : hb_glyph_info_t = record default_glyph { category = category; syllable = kind } in g) categories))
 
 made_in_kinds : map (λ kind. made_of kind (c ∷ h ∷ ra ∷ h ∷ c ∷ [])) (0 ∷ 1 ∷ 2 ∷ []) ≡ ((h, 0xF0) ∷ (ra, 0xF0) ∷ (c, 0) ∷ (h, 0x1E0) ∷ (c, 0x1E0) ∷ []) ∷ ((h, 0xF0) ∷ (ra, 0xF0) ∷ (c, 0) ∷ (h, 0x1E0) ∷ (c, 0x1E0) ∷ []) ∷ ((c, 0) ∷ (h, 0) ∷ (ra, 0) ∷ (h, 0) ∷ (c, 0) ∷ []) ∷ []
 made_in_kinds = refl

@@ -146,7 +146,7 @@ broken = refl
 
 -- nothing but masks and places changes, and no mark counts
 abbrev full_of : ℕ → hb_glyph_info_t
-full_of sort = record full { category = sort; marks = record { 0 = 31 } }
+full_of category = record full { category = category; marks = record { 0 = 31 } }
 
 fields_stay : khmer_order by_masks (full_of 1 ∷ full_of 4 ∷ full_of 15 ∷ []) ≡ record (full_of 4) { mask = 0x10F3 } ∷ record (full_of 15) { mask = 0x10F3 } ∷ full_of 1 ∷ []
 fields_stay = refl

@@ -11,9 +11,9 @@ use Rattle.shapers_buffer.proofs.ClusterLemmas.{map-stretch}
 use Rattle.shapers_clusters.specs.Steps.{Step, still_step}
 use Rattle.shapers_clusters.proofs.Picks.{pick-map}
 use Rattle.shapers_khmer.specs.declared.ot_shaper_khmer.reordering.KhmerOrder.{KhmerOrder}
-use Rattle.shapers_khmer.specs.Khmer.{Move, Pair, Vowel, is_reordered, khmer_masked, khmer_moves, khmer_order, khmer_places, khmer_step, masked, masked_all, masked_for, merged_for, moved, moved_all, sorts_of, with_mask}
+use Rattle.shapers_khmer.specs.Khmer.{Move, Pair, Vowel, is_reordered, khmer_masked, khmer_moves, khmer_order, khmer_places, khmer_step, masked, masked_all, masked_for, merged_for, moved, moved_all, categories_of, with_mask}
 use Rattle.shapers_khmer.specs.KhmerLaws.{KhmerReadsNoSerials}
-use Rattle.shapers_khmer.proofs.KhmerCases.{moves_by_sorts, moves_of_sorts}
+use Rattle.shapers_khmer.proofs.KhmerCases.{moves_by_categories, moves_of_categories}
 use Rattle.shapers_syllabic.specs.Borders.{unnumbered}
 
 -- without serials, the kind, the categories and the length stay
@@ -21,16 +21,16 @@ kind_stays : (gs : List hb_glyph_info_t) → is_reordered (map unnumbered gs) �
 kind_stays [] = refl
 kind_stays (g ∷ gs) = let same : kind_of (kind_of g.syllable) ≡ kind_of g.syllable = omega arith in ap (λ (k : ℕ). list_any (λ kind. kind == k) (0 ∷ 1 ∷ [])) same
 
-sorts_stay : (gs : List hb_glyph_info_t) → sorts_of (map unnumbered gs) ≡ sorts_of gs
-sorts_stay [] = refl
-sorts_stay (g ∷ gs) = ap (λ xs. g.category ∷ xs) (sorts_stay gs)
+categories_stay : (gs : List hb_glyph_info_t) → categories_of (map unnumbered gs) ≡ categories_of gs
+categories_stay [] = refl
+categories_stay (g ∷ gs) = ap (λ xs. g.category ∷ xs) (categories_stay gs)
 
 length_stays : (gs : List hb_glyph_info_t) → length (map unnumbered gs) ≡ length gs
 length_stays gs = length-map gs unnumbered
 
 moves_stay : (gs : List hb_glyph_info_t) → khmer_moves (map unnumbered gs) ≡ khmer_moves gs
 moves_stay gs =
-    moves_by_sorts (map unnumbered gs) ∙ ap moves_of_sorts (sorts_stay gs) ∙ sym (moves_by_sorts gs)
+    moves_by_categories (map unnumbered gs) ∙ ap moves_of_categories (categories_stay gs) ∙ sym (moves_by_categories gs)
 
 places_stay : (gs : List hb_glyph_info_t) → khmer_places (map unnumbered gs) ≡ khmer_places gs
 places_stay gs =

@@ -4,7 +4,8 @@ use Rattle.std.specs.List.{prefix_len}
 use Rattle.std.proofs.lemmas.Bool.Decides.{nat_tests}
 use Rattle.std.proofs.lemmas.List.{drop_more, drop-set-lt, take_more_set}
 use Rattle.shapers_buffer.specs.declared.buffer.glyph.hb_glyph_info_t.{hb_glyph_info_t}
-use Rattle.shapers_myanmar.specs.Myanmar.{at_position, below_parts, carries_on_below, in_below_part, in_parts, main_len, main_part, own_position, with_own_positions}
+use Rattle.shapers_buffer.specs.Glyph.{at_position}
+use Rattle.shapers_myanmar.specs.Myanmar.{below_parts, carries_on_below, in_below_part, in_parts, main_len, main_part, own_position, with_own_positions}
 use Rattle.shapers_myanmar.specs.MyanmarWalk.{behind_part, in_part, part_of}
 
 -- the parts, one after another

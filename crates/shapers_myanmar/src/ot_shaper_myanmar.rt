@@ -10,7 +10,7 @@ ghost use Rattle.shapers_buffer.specs.Syllables.{unknown_refusal};
 ghost use Rattle.shapers_syllabic.specs.Characters.{with_category};
 ghost use Rattle.shapers_syllabic.specs.CircleLaws.{NoNewCluster};
 ghost use Rattle.shapers_syllabic.specs.Circles.{circled};
-ghost use Rattle.shapers_syllabic.specs.Reordering.{PauseReordered, carried, circles_of_sort, text_steps};
+ghost use Rattle.shapers_syllabic.specs.Reordering.{PauseReordered, carried, script_circles, text_steps};
 ghost use Rattle.shapers_syllabic.specs.ReorderingLaws.{PauseCutsAtBorders};
 ghost use Rattle.shapers_myanmar.specs.Myanmar.{myanmar_circles, myanmar_order, myanmar_steps};
 ghost use Rattle.shapers_myanmar.specs.Requests.{myanmar_list};
@@ -30,7 +30,7 @@ use shapers_base::map::{F_GLOBAL, F_MANUAL_ZWJ, F_PER_SYLLABLE};
 use shapers_base::plan::ot_category_t::OT_DOTTEDCIRCLE;
 use shapers_base::plan::{Pause, Request, ShaperError, hb_ot_shape_planner_t};
 use shapers_syllabic::ot_shaper_syllabic::{
-    CircleSort, myanmar_syllable, reorder_pause, set_categories,
+    ScriptCircles, myanmar_syllable, reorder_pause, set_categories,
 };
 
 // A basic feature: in the whole text, within syllables, and it sees joiners.
@@ -76,7 +76,7 @@ pub fn setup_masks<T: Tables>(tables: &T, buffer: &mut hb_buffer_t)
 }
 
 // The circles of broken syllables stand in front of them.
-const CIRCLES: CircleSort = CircleSort {
+const CIRCLES: ScriptCircles = ScriptCircles {
     broken_kind: myanmar_syllable::BROKEN_CLUSTER,
     category: OT_DOTTEDCIRCLE,
     repha: None,
@@ -92,23 +92,23 @@ pub fn reorder_myanmar<F: hb_font_t>(
     buffer: &mut hb_buffer_t,
 ) -> Result<bool, ShaperError>
     requires { buffer.old.positions ≡ [] }
-    ensures answer { let circles = circles_of_sort myanmar_circles (F.font face.now) buffer.old in
+    ensures answer { let circles = script_circles myanmar_circles (F.font face.now) buffer.old in
         IfOk result (λ answer. answer ≡ is_some circles) }
-    ensures order { let circles = circles_of_sort myanmar_circles (F.font face.now) buffer.old in
+    ensures order { let circles = script_circles myanmar_circles (F.font face.now) buffer.old in
         OnOk result (PauseReordered circles myanmar_order myanmar_steps buffer.old buffer.new) }
-    ensures cut { let circles = circles_of_sort myanmar_circles (F.font face.now) buffer.old in
+    ensures cut { let circles = script_circles myanmar_circles (F.font face.now) buffer.old in
         OnOk result (PauseCutsAtBorders circles myanmar_order myanmar_steps buffer.old buffer.new) }
-    ensures laws { let circles = circles_of_sort myanmar_circles (F.font face.now) buffer.old in
+    ensures laws { let circles = script_circles myanmar_circles (F.font face.now) buffer.old in
         let opened = record buffer.old { glyphs = circled circles buffer.old.glyphs } in
         let steps = text_steps myanmar_steps (order_view opened.glyphs) in
         OnOk result (ReorderedHold carried opened.level steps opened.glyphs buffer.new.glyphs) }
     ensures clusters { OnOk result (NoNewCluster buffer.old.glyphs buffer.new.glyphs) }
-    ensures refusal { let circles = circles_of_sort myanmar_circles (F.font face.now) buffer.old in
+    ensures refusal { let circles = script_circles myanmar_circles (F.font face.now) buffer.old in
         Refuses (unknown_refusal 3 buffer.old.glyphs)
         buffer.old.max_len (length (circled circles buffer.old.glyphs)) result }
     ensures err { OnErr result (buffer.new ≡ buffer.old) }
     ensures without_memory { let font = F.font face.now in
-        let circles = circles_of_sort myanmar_circles font buffer.old in
+        let circles = script_circles myanmar_circles font buffer.old in
         unknown_refusal 3 buffer.old.glyphs ≡ None →
         circled circles buffer.old.glyphs ≡ buffer.old.glyphs → IsOk result }
 {

@@ -10,7 +10,7 @@ use Rattle.shapers_buffer.specs.Glyph.{default_glyph}
 
 -- a glyph by its cluster, category and syllable byte
 abbrev glyph : ℕ → ℕ → ℕ → hb_glyph_info_t
-glyph c sort byte = record default_glyph { cluster = c; category = sort; syllable = byte; mask = 8 }
+glyph c category byte = record default_glyph { cluster = c; category = category; syllable = byte; mask = 8 }
 
 -- glyphs of category 1 and of these syllable bytes
 abbrev of_bytes : List ℕ → List hb_glyph_info_t
@@ -25,15 +25,15 @@ abbrev shown : List hb_glyph_info_t → List (ℕ × ℕ × ℕ × ℕ)
 shown gs = map (λ g. let row : ℕ × ℕ × ℕ × ℕ = (g.cluster, g.category, g.auxiliary, g.syllable) in row) gs
 
 -- the categories alone: 11 is a circle
-abbrev sorts : List hb_glyph_info_t → List ℕ
-sorts gs = map (λ g. g.category) gs
+abbrev categories : List hb_glyph_info_t → List ℕ
+categories gs = map (λ g. g.category) gs
 
 abbrev circled_text : ℕ → Option ℕ → Option ℕ → Buffer → List hb_glyph_info_t
 circled_text k repha place b = circled (circles_for (Some (record { 0 = 7 })) k 11 repha place b) b.glyphs
 
 -- the categories of glyphs of category 1 and these bytes, where kind k is broken and no category stays in front
 abbrev circled_bytes : ℕ → List ℕ → List ℕ
-circled_bytes k bytes = sorts (circled_text k None None (broken_text (of_bytes bytes)))
+circled_bytes k bytes = categories (circled_text k None None (broken_text (of_bytes bytes)))
 
 -- sixteen syllables of one glyph, the first and the last one broken: the serial wraps, so their bytes are equal; both open a circle
 abbrev sixteen : List ℕ

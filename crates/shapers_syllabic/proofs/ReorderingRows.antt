@@ -10,8 +10,8 @@ use Rattle.shapers_buffer.specs.Buffer.{new_buffer}
 use Rattle.shapers_buffer.specs.Glyph.{clusters, default_glyph}
 use Rattle.shapers_clusters.specs.Steps.{Step, run_steps}
 use Rattle.shapers_syllabic.specs.declared.ot_shaper_syllabic.circles.DottedCircles.{DottedCircles}
-use Rattle.shapers_syllabic.specs.Reordering.{carried, circles_of_sort, first_unknown, kind_refusal, text_order, text_steps}
-use Rattle.shapers_syllabic.specs.declared.ot_shaper_syllabic.pause.CircleSort.{CircleSort}
+use Rattle.shapers_syllabic.specs.Reordering.{carried, script_circles, first_unknown, kind_refusal, text_order, text_steps}
+use Rattle.shapers_syllabic.specs.declared.ot_shaper_syllabic.pause.ScriptCircles.{ScriptCircles}
 use Rattle.shapers_base.specs.Font.{Font}
 use Rattle.shapers_base.specs.declared.font.GlyphId.{GlyphId}
 use Rattle.shapers_buffer.specs.declared.buffer.refusal.ShaperError.TheVariants.{UnknownSyllable}
@@ -147,19 +147,19 @@ set_up_second : set_up_of ((2, 1) ∷ []) (3 ∷ 4 ∷ []) ≡ (3, 0x11, 0) ∷ 
 set_up_second = refl
 
 -- the circles of a shaper in a buffer, by the font's glyph
-abbrev sort : CircleSort
-sort = record { broken_kind = 4; category = 11; repha = Some 14; position = Some 3 }
+abbrev script : ScriptCircles
+script = record { broken_kind = 4; category = 11; repha = Some 14; position = Some 3 }
 
 abbrev font_of : Option GlyphId → Font
 font_of glyph = record { nominal = λ c. (if c == 0x25CC then glyph else None); advance = λ g. pos 0; applies = λ lookup gs context. false; offers = λ tag. false }
 
-circles_wanted : circles_of_sort sort (font_of (Some (record { 0 = 7 }))) (record (new_buffer 9) { broken = true }) ≡ Some (record { broken_kind = 4; circle = record default_glyph { glyph_id = 7; category = 11; auxiliary = 3 }; repha = Some 14 })
+circles_wanted : script_circles script (font_of (Some (record { 0 = 7 }))) (record (new_buffer 9) { broken = true }) ≡ Some (record { broken_kind = 4; circle = record default_glyph { glyph_id = 7; category = 11; auxiliary = 3 }; repha = Some 14 })
 circles_wanted = refl
 
-circles_without_broken : circles_of_sort sort (font_of (Some (record { 0 = 7 }))) (new_buffer 9) ≡ None
+circles_without_broken : script_circles script (font_of (Some (record { 0 = 7 }))) (new_buffer 9) ≡ None
 circles_without_broken = refl
 
-circles_without_glyph : circles_of_sort sort (font_of None) (record (new_buffer 9) { broken = true }) ≡ None
+circles_without_glyph : script_circles script (font_of None) (record (new_buffer 9) { broken = true }) ≡ None
 circles_without_glyph = refl
 
 -- unknown kinds: those above the last known, the first place of the first such syllable

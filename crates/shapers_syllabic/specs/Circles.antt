@@ -55,12 +55,12 @@ wants_circles b = b.broken && not (asks no_dotted_circle b)
 -- syllables, with a category and an auxiliary byte, behind rephas of a category
 abbrev pub circles_for : Option GlyphId → ℕ → ℕ → Option ℕ → Option ℕ → Buffer →
     Option DottedCircles
-circles_for None k sort repha place b = None
-circles_for (Some glyph) k sort repha place b =
+circles_for None k category repha place b = None
+circles_for (Some glyph) k category repha place b =
     if wants_circles b then Some (record {
       broken_kind = k;
       circle = record default_glyph
-          { glyph_id = glyph.0; category = sort; auxiliary = unwrap_or place 0 };
+          { glyph_id = glyph.0; category = category; auxiliary = unwrap_or place 0 };
       repha = repha;
     })
     else None

@@ -11,7 +11,7 @@ use Rattle.shapers_buffer.specs.Syllables.{syllables, unknown_syllable}
 use Rattle.shapers_base.specs.Font.{Font, dotted_circle}
 use Rattle.shapers_buffer.specs.declared.buffer.refusal.ShaperError.{ShaperError}
 use Rattle.shapers_buffer.specs.declared.buffer.refusal.ShaperError.TheVariants.{UnknownSyllable}
-use Rattle.shapers_syllabic.specs.declared.ot_shaper_syllabic.pause.CircleSort.{CircleSort}
+use Rattle.shapers_syllabic.specs.declared.ot_shaper_syllabic.pause.ScriptCircles.{ScriptCircles}
 use Rattle.shapers_syllabic.specs.declared.ot_shaper_syllabic.circles.DottedCircles.{DottedCircles}
 use Rattle.shapers_syllabic.specs.Circles.{circled, circles_for}
 use Rattle.shapers_clusters.specs.Steps.{Step, run_steps, steps_along, widened}
@@ -57,12 +57,11 @@ pub record SyllablesReordered (meaning : List hb_glyph_info_t →
   pub moved : map carried new.glyphs
       ≡ map carried (run_steps old.level (text_steps steps (order_view old.glyphs)) old.glyphs)
 
--- the circles that a buffer gets, where the font has a glyph for them, as the shaper has its
--- circles
-abbrev pub circles_of_sort : CircleSort → Font → Buffer → Option DottedCircles
-circles_of_sort sort font b =
+-- the circles that a buffer of a script gets, where the font has a glyph for them
+abbrev pub script_circles : ScriptCircles → Font → Buffer → Option DottedCircles
+script_circles script font b =
     let glyph = font.nominal dotted_circle in
-    circles_for glyph sort.broken_kind sort.category sort.repha sort.position b
+    circles_for glyph script.broken_kind script.category script.repha script.position b
 
 -- the first place of the first syllable of unknown kind, where there is a last known kind, and the
 -- refusal that it gives

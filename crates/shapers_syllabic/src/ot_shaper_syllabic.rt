@@ -16,7 +16,7 @@ pub use circles::{
 pub use clearing::{clear_substitution_flags, clear_syllables};
 pub use consonants::is_consonant;
 pub use kinds::{indic_syllable, khmer_syllable, myanmar_syllable, use_syllable};
-pub use pause::{CircleSort, pauses_cut_between_spans, pauses_cut_law, reorder_pause};
+pub use pause::{ScriptCircles, pauses_cut_between_spans, pauses_cut_law, reorder_pause};
 pub use reordering::{
     Reorder, reorder_syllables, reordering_cuts_at_borders, reordering_loses_nothing,
     serials_dont_count, text_reordered_law,

@@ -9,7 +9,7 @@ use Rattle.std.proofs.lemmas.Simd.{map-map}
 use Rattle.shapers_buffer.specs.declared.buffer.category.hb_unicode_general_category_t.TheVariants.{Cc}
 use Rattle.shapers_buffer.specs.declared.buffer.glyph.hb_glyph_info_t.{hb_glyph_info_t}
 use Rattle.shapers_buffer.specs.declared.buffer.level.BufferClusterLevel.{BufferClusterLevel}
-use Rattle.shapers_buffer.specs.Glyph.{clusters}
+use Rattle.shapers_buffer.specs.Glyph.{clusters, characters}
 use Rattle.shapers_buffer.specs.Clusters.{merge_all, merges}
 use Rattle.shapers_buffer.specs.Marks.{CONTINUATION}
 use Rattle.shapers_buffer.specs.Lists.{before_last_run, each_after}
@@ -19,7 +19,7 @@ use Rattle.shapers_clusters.specs.Cuts.{ShareCluster}
 use Rattle.shapers_clusters.proofs.Made.{Made, all_standing, glyphs-standing, numbered-standing}
 use Rattle.shapers_clusters.specs.Laws.{ClustersMade}
 use Rattle.shapers_clusters.proofs.Proved.{made_hold_by, part_shares}
-use Rattle.shapers_text.specs.Thai.{characters, is_sara_am, is_above_base, SaraAmRule, in_two, glyph_rule, place_rule, nikhahit, sara_aa, glyphs_in_two, sources, sara_am_stretches, stretches_at}
+use Rattle.shapers_text.specs.Thai.{is_sara_am, is_above_base, SaraAmRule, in_two, glyph_rule, place_rule, nikhahit, sara_aa, glyphs_in_two, sources, sara_am_stretches, stretches_at}
 use Rattle.shapers_text.specs.ThaiLaws.{without_name, new_place, ClustersInTwo, InTwoLaw}
 use Rattle.shapers_text.specs.ThaiForms.{preprocessed_text, pua_shaped}
 use Rattle.shapers_text.proofs.ThaiInTwo.{kept, none_lost, read_by, in_two-map, sources_at}

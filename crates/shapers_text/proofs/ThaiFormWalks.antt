@@ -5,7 +5,7 @@ use Rattle.std.proofs.lemmas.List.{append-nil, length-map, length-take-le, take_
 use Rattle.std.proofs.lemmas.Simd.{map-map}
 use Rattle.shapers_buffer.specs.declared.buffer.glyph.hb_glyph_info_t.{hb_glyph_info_t}
 use Rattle.shapers_buffer.specs.Clusters.{least, stretch_of}
-use Rattle.shapers_buffer.specs.Glyph.{clusters}
+use Rattle.shapers_buffer.specs.Glyph.{clusters, characters}
 use Rattle.shapers_buffer.specs.GlyphFlags.{with_bits, with_bits_off, flagged, unsafe_inside, unsafe_all}
 use Rattle.shapers_buffer.specs.Lists.{each_after}
 use Rattle.shapers_clusters.proofs.FlagCalls.{map-unsafe_inside, map-unsafe_all, without_flags-or}
@@ -16,7 +16,6 @@ use Rattle.shapers_text.specs.declared.ot_shaper_thai.forms.Base.{Base}
 use Rattle.shapers_text.specs.declared.ot_shaper_thai.forms.Consonant.TheVariants.{NotConsonant}
 use Rattle.shapers_text.specs.declared.ot_shaper_thai.forms.Mark.{Mark}
 use Rattle.shapers_text.specs.declared.ot_shaper_thai.forms.Mark.TheVariants.{AV, BV, T, NotMark}
-use Rattle.shapers_text.specs.Thai.{characters}
 use Rattle.shapers_text.specs.ThaiForms.{mark_type, stands_above, stands_below, is_thai_mark, base_type, marks_above, action_of, action_after, forms_between, with_character, with_characters, base_place, stretch_of_mark, mark_stretches_of_each, mark_stretches, pua_shaped, preprocessed_text}
 use Rattle.shapers_text.specs.ThaiWalk.{target, form_set, counted_base, base_after, after_action, after_character}
 use Rattle.shapers_text.specs.ThaiLaws.{without_form, FormsLaw}

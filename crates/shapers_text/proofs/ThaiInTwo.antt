@@ -9,11 +9,12 @@ use Rattle.std.specs.List.{Contains, list_any, count_by, suffix_len, take-map, e
 use Rattle.std.proofs.lemmas.Bool.{or_cases, eqb-true}
 use Rattle.std.proofs.lemmas.List.{map-append, append_assoc, append-nil, length_push}
 use Rattle.shapers_buffer.specs.declared.buffer.glyph.hb_glyph_info_t.{hb_glyph_info_t}
+use Rattle.shapers_buffer.specs.Glyph.{characters}
 use Rattle.shapers_buffer.specs.Lists.{last_run, before_last_run}
 use Rattle.shapers_buffer.proofs.ListLaws.{from_end, count_push, last_pass, none_in_front, last_run_yes, before_last_run_yes, last_run_no, before_last_run_no, last_run_stop, before_last_run_stop}
 use Rattle.shapers_buffer.proofs.PieceLaws.{one_piece, opened_pieces-none, opened_pieces-append, opened_pieces-push, opened_pieces-map}
 use Rattle.shapers_buffer.proofs.MappedLists.{Contains-map, Contains-flat_map, suffix_len-map, last_run-map, before_last_run-map, enumerate-append, before_last_run-enumerate_from, places-last_run}
-use Rattle.shapers_text.specs.Thai.{is_sara_am, is_above_base, is_am, is_above, SaraAmRule, piece_in_two, in_parts, in_two, place_rule, sources, characters}
+use Rattle.shapers_text.specs.Thai.{is_sara_am, is_above_base, is_am, is_above, SaraAmRule, piece_in_two, in_parts, in_two, place_rule, sources}
 use Rattle.shapers_text.specs.ThaiWalk.{above_marks_before, text_with_pending}
 
 -- a SARA AM is no above-base mark

@@ -7,10 +7,10 @@ use Rattle.std.proofs.lemmas.List.Sorted.{IsPermutation-map}
 use Rattle.std.proofs.lemmas.Simd.{map-map}
 use Rattle.shapers_buffer.specs.declared.buffer.glyph.hb_glyph_info_t.{hb_glyph_info_t}
 use Rattle.shapers_buffer.specs.declared.buffer.level.BufferClusterLevel.{BufferClusterLevel}
-use Rattle.shapers_buffer.specs.Glyph.{order_view, plain}
+use Rattle.shapers_buffer.specs.Glyph.{order_view, plain, characters}
 use Rattle.shapers_buffer.specs.Clusters.{merge_all}
 use Rattle.shapers_clusters.proofs.Merging.{order_view-merge_all, without_flags-twice}
-use Rattle.shapers_text.specs.Thai.{characters, glyph_rule, in_parts, is_sara_am, nikhahit, sara_aa, glyphs_in_two, sara_am_stretches}
+use Rattle.shapers_text.specs.Thai.{glyph_rule, in_parts, is_sara_am, nikhahit, sara_aa, glyphs_in_two, sara_am_stretches}
 use Rattle.shapers_text.specs.ThaiForms.{preprocessed_text, pua_shaped}
 use Rattle.shapers_text.specs.ThaiLaws.{kept_view, without_form, KeptInTwo}
 use Rattle.shapers_text.proofs.ThaiFormWalks.{without_form-pua}

@@ -7,9 +7,9 @@ use Rattle.shapers_buffer.specs.declared.buffer.category.hb_unicode_general_cate
 use Rattle.shapers_buffer.specs.declared.buffer.glyph.hb_glyph_info_t.{hb_glyph_info_t}
 use Rattle.shapers_buffer.specs.declared.buffer.level.BufferClusterLevel.{BufferClusterLevel}
 use Rattle.shapers_buffer.specs.declared.buffer.level.BufferClusterLevel.TheVariants.{MonotoneGraphemes, MonotoneCharacters}
-use Rattle.shapers_buffer.specs.Glyph.{default_glyph, clusters}
+use Rattle.shapers_buffer.specs.Glyph.{default_glyph, clusters, characters}
 use Rattle.shapers_buffer.specs.Marks.{is_continuation}
-use Rattle.shapers_text.specs.Thai.{characters, sources, sara_am_stretches}
+use Rattle.shapers_text.specs.Thai.{sources, sara_am_stretches}
 use Rattle.shapers_buffer.specs.Buffer.{new_buffer}
 use Rattle.shapers_base.specs.Font.{Font}
 use Rattle.shapers_base.specs.declared.plan.hb_ot_shape_plan_t.{hb_ot_shape_plan_t}

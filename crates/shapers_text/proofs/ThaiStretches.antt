@@ -7,7 +7,7 @@ use Rattle.std.proofs.lemmas.List.{append-nil, take-take, take_more, length-take
 use Rattle.std.proofs.lemmas.List.Sums.{sum_by-cons}
 use Rattle.shapers_buffer.specs.declared.buffer.glyph.hb_glyph_info_t.{hb_glyph_info_t}
 use Rattle.shapers_buffer.specs.declared.buffer.level.BufferClusterLevel.{BufferClusterLevel}
-use Rattle.shapers_buffer.specs.Glyph.{default_glyph}
+use Rattle.shapers_buffer.specs.Glyph.{default_glyph, characters}
 use Rattle.shapers_buffer.specs.declared.buffer.glyph.GlyphPosition.{GlyphPosition}
 use Rattle.shapers_buffer.specs.Buffer.{Buffer, grown, more_positions}
 use Rattle.shapers_buffer.specs.Clusters.{merge_all}
@@ -18,7 +18,7 @@ use Rattle.shapers_buffer.specs.declared.buffer.cluster_runs.ClusterRun.{Cluster
 use Rattle.shapers_buffer.specs.ClusterRuns.{RunFits, with_run}
 use Rattle.shapers_clusters.proofs.Merging.{length-merge_all, merge_all-append, map-merge_all, map-with_run}
 use Rattle.shapers_clusters.proofs.Appended.{merge_all-appended}
-use Rattle.shapers_text.specs.Thai.{characters, is_sara_am, is_above_base, glyph_rule, glyphs_in_two, stretch_of_sara_am, stretches_at, stretches_of_each, sara_am_stretches, joins_before}
+use Rattle.shapers_text.specs.Thai.{is_sara_am, is_above_base, glyph_rule, glyphs_in_two, stretch_of_sara_am, stretches_at, stretches_of_each, sara_am_stretches, joins_before}
 use Rattle.shapers_text.specs.ThaiWalk.{above_marks_before, merged_front, HasRoom}
 use Rattle.shapers_text.proofs.ThaiInTwo.{in_two_plain, lengths, above_marks_before-characters}
 

@@ -76,10 +76,6 @@ glyph_rule = record { character = λ g. g.glyph_id; nikhahit = nikhahit; sara_aa
 abbrev pub glyphs_in_two : List hb_glyph_info_t → List hb_glyph_info_t
 glyphs_in_two gs = in_two glyph_rule gs
 
--- the characters of glyphs
-abbrev pub characters : List hb_glyph_info_t → List ℕ
-characters gs = map (λ g. g.glyph_id) gs
-
 -- the rule on characters with their places: both parts of a SARA AM keep its place
 abbrev pub place_rule : SaraAmRule (ℕ × ℕ)
 place_rule = record {

@@ -3,13 +3,14 @@ use Rattle.std.specs.Prelude.{ℕ, ◌-◌, Bool, ◌||◌, ◌&&◌, ◌==◌, 
 use Rattle.std.specs.List.{list_any, suffix_len}
 use Rattle.shapers_buffer.specs.declared.buffer.glyph.hb_glyph_info_t.{hb_glyph_info_t}
 use Rattle.shapers_buffer.specs.declared.buffer.level.BufferClusterLevel.{BufferClusterLevel}
+use Rattle.shapers_buffer.specs.Glyph.{characters}
 use Rattle.shapers_base.specs.declared.plan.hb_ot_shape_plan_t.{hb_ot_shape_plan_t}
 use Rattle.shapers_buffer.specs.Buffer.{Buffer}
 use Rattle.shapers_base.specs.Font.{Font, has_nominal}
 use Rattle.shapers_buffer.specs.Clusters.{merge_all}
 use Rattle.shapers_buffer.specs.GlyphFlags.{unsafe_all}
 use Rattle.shapers_buffer.specs.Lists.{last_run, before_last_run, each_after}
-use Rattle.shapers_text.specs.Thai.{characters, glyphs_in_two, sara_am_stretches, wants_forms}
+use Rattle.shapers_text.specs.Thai.{glyphs_in_two, sara_am_stretches, wants_forms}
 use Rattle.shapers_text.specs.declared.ot_shaper_thai.forms.Consonant.{Consonant}
 use Rattle.shapers_text.specs.declared.ot_shaper_thai.forms.Consonant.TheVariants.{NC, AC, RC, DC, NotConsonant}
 use Rattle.shapers_text.specs.declared.ot_shaper_thai.forms.Mark.{Mark}

@@ -7,14 +7,14 @@ use Rattle.shapers_buffer.specs.declared.buffer.level.BufferClusterLevel.{Buffer
 use Rattle.shapers_buffer.specs.declared.buffer.category.hb_unicode_general_category_t.TheVariants.{Cc}
 use Rattle.shapers_buffer.specs.Marks.{CONTINUATION, without_mark}
 use Rattle.shapers_buffer.specs.Lists.{before_last_run}
-use Rattle.shapers_buffer.specs.Glyph.{clusters, plain, without_flags}
+use Rattle.shapers_buffer.specs.Glyph.{clusters, plain, without_flags, characters}
 use Rattle.shapers_buffer.specs.Clusters.{merge_all, merges}
 use Rattle.shapers_clusters.specs.Cuts.{ShareCluster}
 use Rattle.shapers_buffer.specs.Places.{pick}
 use Rattle.shapers_clusters.specs.Flags.{FlagsFall}
 use Rattle.shapers_clusters.specs.Laws.{ClustersMade}
 use Rattle.shapers_text.specs.ThaiForms.{preprocessed_text}
-use Rattle.shapers_text.specs.Thai.{is_sara_am, is_above_base, in_parts, glyph_rule, characters, glyphs_in_two, sources, sara_am_stretches}
+use Rattle.shapers_text.specs.Thai.{is_sara_am, is_above_base, in_parts, glyph_rule, glyphs_in_two, sources, sara_am_stretches}
 
 -- where the NIKHAHIT of a SARA AM stands in the result, if xs is the text before it: behind what
 -- comes of the text before its marks

@@ -3,7 +3,7 @@
 use Rattle.std.specs.Prelude.{ℕ, ◌+◌, ◌-◌, if◌then◌else◌, Bool, List, ◌∷◌, ◌++◌, length, slice_index_or, slice_set, Option, None, Some}
 use Rattle.std.specs.List.{suffix_len}
 use Rattle.shapers_buffer.specs.declared.buffer.glyph.hb_glyph_info_t.{hb_glyph_info_t}
-use Rattle.shapers_buffer.specs.Glyph.{default_glyph}
+use Rattle.shapers_buffer.specs.Glyph.{default_glyph, characters}
 use Rattle.shapers_buffer.specs.Lists.{last_run, before_last_run}
 use Rattle.shapers_text.specs.declared.ot_shaper_thai.forms.Mark.{Mark}
 use Rattle.shapers_text.specs.declared.ot_shaper_thai.forms.Mark.TheVariants.{AV, BV, T, NotMark}
@@ -14,7 +14,7 @@ use Rattle.shapers_buffer.specs.GlyphFlags.{unsafe_inside}
 use Rattle.shapers_text.specs.declared.ot_shaper_thai.forms.Action.TheVariants.{NOP, SD, SL, SDL, RD}
 use Rattle.shapers_text.specs.ThaiForms.{consonant_type, mark_type, is_thai_mark, action_of, shaped_by, with_character}
 use Rattle.std.proofs.Common.{◌≡◌, ◌≤◌, take, drop}
-use Rattle.shapers_text.specs.Thai.{is_above, glyph_rule, SaraAmRule, in_two, characters, glyphs_in_two, sara_am_stretches}
+use Rattle.shapers_text.specs.Thai.{is_above, glyph_rule, SaraAmRule, in_two, glyphs_in_two, sara_am_stretches}
 use Rattle.shapers_buffer.specs.declared.buffer.level.BufferClusterLevel.{BufferClusterLevel}
 use Rattle.shapers_buffer.specs.Clusters.{merge_all}
 

@@ -2,9 +2,9 @@
 //! forms.
 ghost use Rattle.std.specs.Prelude.{◌≡◌, [], length, false, IsOk, OnOk, OnErr};
 ghost use Rattle.std.specs.List.{list_any};
-ghost use Rattle.shapers_buffer.specs.Glyph.{clusters};
+ghost use Rattle.shapers_buffer.specs.Glyph.{clusters, characters};
 ghost use Rattle.shapers_buffer.specs.Refusals.{RefusesLength};
-ghost use Rattle.shapers_text.specs.Thai.{is_sara_am, characters, glyphs_in_two, is_thai};
+ghost use Rattle.shapers_text.specs.Thai.{is_sara_am, glyphs_in_two, is_thai};
 ghost use Rattle.shapers_text.specs.ThaiForms.{asks_for_forms, preprocessed_in_thai};
 ghost use Rattle.shapers_text.specs.ThaiLaws.{ClustersInTwo, KeptInTwo, InTwoLaw, FormsLaw};
 

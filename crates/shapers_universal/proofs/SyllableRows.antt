@@ -79,10 +79,10 @@ masks_of_map : form_masks (map_of 0x40 (feature "fina" 0x80 ∷ feature "isol" 0
 masks_of_map = refl
 
 -- the mask of rphf: on a reph alone, else on three at most
-abbrev of_sort : ℕ → hb_glyph_info_t
-of_sort sort = record default_glyph { category = sort; syllable = 0x12; mask = 8 }
+abbrev of_category : ℕ → hb_glyph_info_t
+of_category category = record default_glyph { category = category; syllable = 0x12; mask = 8 }
 
-rphf_masks : map (λ sorts. map (λ g. g.mask) (with_rphf 0x100 (map of_sort sorts))) ((1 ∷ 1 ∷ 1 ∷ 1 ∷ []) ∷ (18 ∷ 1 ∷ 1 ∷ []) ∷ (1 ∷ 18 ∷ []) ∷ (1 ∷ []) ∷ (18 ∷ []) ∷ [] ∷ []) ≡ (0x108 ∷ 0x108 ∷ 0x108 ∷ 8 ∷ []) ∷ (0x108 ∷ 8 ∷ 8 ∷ []) ∷ (0x108 ∷ 0x108 ∷ []) ∷ (0x108 ∷ []) ∷ (0x108 ∷ []) ∷ [] ∷ []
+rphf_masks : map (λ categories. map (λ g. g.mask) (with_rphf 0x100 (map of_category categories))) ((1 ∷ 1 ∷ 1 ∷ 1 ∷ []) ∷ (18 ∷ 1 ∷ 1 ∷ []) ∷ (1 ∷ 18 ∷ []) ∷ (1 ∷ []) ∷ (18 ∷ []) ∷ [] ∷ []) ≡ (0x108 ∷ 0x108 ∷ 0x108 ∷ 8 ∷ []) ∷ (0x108 ∷ 8 ∷ 8 ∷ []) ∷ (0x108 ∷ 0x108 ∷ []) ∷ (0x108 ∷ []) ∷ (0x108 ∷ []) ∷ [] ∷ []
 rphf_masks = refl
 
 rphf_keeps : with_rphf 0x100 (full ∷ full ∷ full ∷ full ∷ []) ≡ record full { mask = 0x13F } ∷ record full { mask = 0x13F } ∷ record full { mask = 0x13F } ∷ full ∷ []
@@ -128,13 +128,13 @@ recorded pref rows =
     let old : Buffer = record (new_buffer 9) { glyphs = map of_row rows } in
     if pref then with_pref_recorded old else with_rphf_recorded 0x100 old
 
-abbrev sorts : Buffer → List ℕ
-sorts b = map (λ g. g.category) b.glyphs
+abbrev categories : Buffer → List ℕ
+categories b = map (λ g. g.category) b.glyphs
 
-record_rphf : map (λ rows. sorts (recorded false rows)) (((0x100, 0) ∷ (0x100, 1) ∷ (0x100, 1) ∷ (0, 0) ∷ []) ∷ ((0, 0) ∷ (0x100, 1) ∷ []) ∷ ((0x101, 31) ∷ []) ∷ ((0x100, 30) ∷ (0, 1) ∷ []) ∷ []) ≡ (1 ∷ 18 ∷ 1 ∷ 1 ∷ []) ∷ (1 ∷ 1 ∷ []) ∷ (18 ∷ []) ∷ (1 ∷ 1 ∷ []) ∷ []
+record_rphf : map (λ rows. categories (recorded false rows)) (((0x100, 0) ∷ (0x100, 1) ∷ (0x100, 1) ∷ (0, 0) ∷ []) ∷ ((0, 0) ∷ (0x100, 1) ∷ []) ∷ ((0x101, 31) ∷ []) ∷ ((0x100, 30) ∷ (0, 1) ∷ []) ∷ []) ≡ (1 ∷ 18 ∷ 1 ∷ 1 ∷ []) ∷ (1 ∷ 1 ∷ []) ∷ (18 ∷ []) ∷ (1 ∷ 1 ∷ []) ∷ []
 record_rphf = refl
 
-record_pref : map (λ rows. sorts (recorded true rows)) (((0x100, 0) ∷ (0x100, 1) ∷ (0, 1) ∷ []) ∷ ((0, 0) ∷ (0, 30) ∷ []) ∷ ((0, 31) ∷ []) ∷ []) ≡ (1 ∷ 22 ∷ 1 ∷ []) ∷ (1 ∷ 1 ∷ []) ∷ (22 ∷ []) ∷ []
+record_pref : map (λ rows. categories (recorded true rows)) (((0x100, 0) ∷ (0x100, 1) ∷ (0, 1) ∷ []) ∷ ((0, 0) ∷ (0, 30) ∷ []) ∷ ((0, 31) ∷ []) ∷ []) ≡ (1 ∷ 22 ∷ 1 ∷ []) ∷ (1 ∷ 1 ∷ []) ∷ (22 ∷ []) ∷ []
 record_pref = refl
 
 without_mask : with_rphf_recorded 0 (record (new_buffer 9) { glyphs = full ∷ full ∷ [] }) ≡ record (new_buffer 9) { glyphs = full ∷ full ∷ [] }

@@ -11,16 +11,16 @@ use Rattle.shapers_universal.specs.declared.ot_shaper_use.forms.FormMasks.{FormM
 use Rattle.shapers_universal.specs.UniversalSyllables.{first_joins, first_recorded, formed, in_category, in_forms, joins_runs}
 
 -- the first glyph that a lookup put in, recorded at its place
-recorded_first : (sort : ℕ) (g : hb_glyph_info_t) (gs : List hb_glyph_info_t) → is_substituted g.marks ≡ true → in_category sort g ∷ gs ≡ first_recorded sort (g ∷ gs)
-recorded_first sort g gs h = rw h refl
+recorded_first : (category : ℕ) (g : hb_glyph_info_t) (gs : List hb_glyph_info_t) → is_substituted g.marks ≡ true → in_category category g ∷ gs ≡ first_recorded category (g ∷ gs)
+recorded_first category g gs h = rw h refl
 
-pub recorded_at : (sort : ℕ) (d : hb_glyph_info_t) (gs : List hb_glyph_info_t) (i : ℕ) → i < length gs → is_substituted (get_or gs i d).marks ≡ true → set gs i (in_category sort (get_or gs i d)) ≡ take i gs ++ first_recorded sort (drop i gs)
-recorded_at sort d gs i inside h =
+pub recorded_at : (category : ℕ) (d : hb_glyph_info_t) (gs : List hb_glyph_info_t) (i : ℕ) → i < length gs → is_substituted (get_or gs i d).marks ≡ true → set gs i (in_category category (get_or gs i d)) ≡ take i gs ++ first_recorded category (drop i gs)
+recorded_at category d gs i inside h =
     let g = get_or gs i d in
-    let new = set gs i (in_category sort g) in
+    let new = set gs i (in_category category g) in
     sym (take-append-drop i new)
-    ∙ ap (λ xs. xs ++ drop i new) (take-set gs i (in_category sort g))
-    ∙ ap (λ xs. take i gs ++ xs) (drop-set gs i (in_category sort g) inside ∙ recorded_first sort g (drop (i + 1) gs) h ∙ ap (first_recorded sort) (sym (drop_more gs i d inside)))
+    ∙ ap (λ xs. xs ++ drop i new) (take-set gs i (in_category category g))
+    ∙ ap (λ xs. take i gs ++ xs) (drop-set gs i (in_category category g) inside ∙ recorded_first category g (drop (i + 1) gs) h ∙ ap (first_recorded category) (sym (drop_more gs i d inside)))
 
 -- a text, and one from place s on, by its first syllable
 by_first : (gs : List hb_glyph_info_t) (n : ℕ) → 0 < length gs → n ≡ first_syllable_len gs → syllables gs ≡ take n gs ∷ syllables (drop n gs)

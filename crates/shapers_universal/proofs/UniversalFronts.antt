@@ -11,11 +11,11 @@ use Rattle.shapers_buffer.specs.ClusterRuns.{RunFits, with_run}
 use Rattle.shapers_buffer.specs.Clusters.{merge, merge_all, stretch_of}
 use Rattle.shapers_buffer.specs.Buffer.{Buffer}
 use Rattle.shapers_buffer.specs.Glyph.{default_glyph, order_view, plain}
-use Rattle.shapers_buffer.specs.Lists.{cut_after}
+use Rattle.shapers_buffer.specs.Lists.{cut_after, first_last}
 use Rattle.shapers_buffer.proofs.ClusterLemmas.{length-stretch}
 use Rattle.shapers_clusters.specs.Steps.{all_first, shifted, steps_along, widened}
 use Rattle.shapers_clusters.proofs.Merging.{order_view-merge, order_view-with_run}
-use Rattle.shapers_universal.specs.Universal.{first_last, goes_front, goes_front_at, is_halant, is_reordered, piece_step, piece_steps, reph_run, universal_steps}
+use Rattle.shapers_universal.specs.Universal.{goes_front, goes_front_at, is_halant, is_reordered, piece_step, piece_steps, reph_run, universal_steps}
 use Rattle.shapers_universal.specs.UniversalWalk.{fronts_from}
 use Rattle.shapers_universal.proofs.UniversalLists.{length-first_last}
 use Rattle.shapers_universal.proofs.UniversalPlaces.{at, first_last-any, reph_calm, rest_of, stretch_more}

@@ -8,11 +8,11 @@ use Rattle.shapers_buffer.proofs.MappedLists.{drop-range, map-reverse}
 use Rattle.std.proofs.lemmas.List.Elements.{filter-append}
 use Rattle.std.proofs.lemmas.List.Sorted.{IsPermutation-refl, IsPermutation-trans, IsPermutation-append_comm, IsPermutation-append_left, IsPermutation-filter_both, IsPermutation-reverse}
 use Rattle.std.proofs.lemmas.Bool.{or_parts}
-use Rattle.shapers_buffer.specs.Lists.{cut_after}
+use Rattle.shapers_buffer.specs.Lists.{cut_after, first_last}
 use Rattle.shapers_buffer.specs.Places.{pick}
 use Rattle.shapers_clusters.proofs.Picks.{pick-append, pick-all, pick-range}
 use Rattle.shapers_clusters.proofs.Widened.{range-append}
-use Rattle.shapers_universal.specs.Universal.{first_behind, first_last, reversed_first}
+use Rattle.shapers_universal.specs.Universal.{first_behind, reversed_first}
 
 -- what is picked at the places that pass
 picked_one : {X : Type 0} (t : ℕ → Bool) (test : X → Bool) (xs : List X) (p : ℕ) (ps : List ℕ) (o : Option X) → slice_get xs p ≡ o → ((x : X) → o ≡ Some x → t p ≡ test x) → pick (filter t ps) xs ≡ filter test (pick ps xs) → pick (filter t (p ∷ ps)) xs ≡ filter test (pick (p ∷ ps) xs)

@@ -15,7 +15,7 @@ use Rattle.std.proofs.lemmas.List.Sums.{fold-append, sum_by-cons}
 use Rattle.shapers_buffer.specs.declared.buffer.glyph.hb_glyph_info_t.{hb_glyph_info_t}
 use Rattle.shapers_buffer.specs.Clusters.{stretch_of}
 use Rattle.shapers_buffer.specs.Glyph.{default_glyph}
-use Rattle.shapers_buffer.specs.Lists.{cut_after}
+use Rattle.shapers_buffer.specs.Lists.{cut_after, first_last}
 use Rattle.shapers_buffer.specs.Places.{pick}
 use Rattle.shapers_buffer.proofs.ClusterLemmas.{get_or-stretch, length-stretch}
 use Rattle.shapers_buffer.proofs.MappedLists.{cut_after-map}
@@ -24,7 +24,7 @@ use Rattle.shapers_clusters.proofs.Moves.{length-old_places, moved_by_old_places
 use Rattle.shapers_clusters.proofs.Picks.{length-pick}
 use Rattle.shapers_clusters.proofs.Widened.{old_places-widened, pick-widened, range-append}
 use Rattle.shapers_syllabic.proofs.ReorderingLemmas.{old_places_one}
-use Rattle.shapers_universal.specs.Universal.{first_behind, first_last, goes_front, goes_front_at, is_halant, is_passed, is_reordered, piece_step, piece_steps, pieces, reph_moved, reph_run, reph_step, reversed_first, universal_steps}
+use Rattle.shapers_universal.specs.Universal.{first_behind, goes_front, goes_front_at, is_halant, is_passed, is_reordered, piece_step, piece_steps, pieces, reph_moved, reph_run, reph_step, reversed_first, universal_steps}
 use Rattle.shapers_universal.specs.UniversalWalk.{first_piece_len, is_halant_at, piece_places, places_in_order}
 use Rattle.shapers_universal.proofs.UniversalLists.{cut_after-concat, filter-none, filter_not-none, first_behind-map, length-first_behind, length-first_last, permuted-first_behind, permuted-first_last, permuted-reversed_first, pick-first_behind, pick-reversed_first}
 use Rattle.shapers_universal.proofs.Pieces.{cut_first}

@@ -12,23 +12,23 @@ use Rattle.shapers_universal.specs.Universal.{goes_front, is_halant, is_passed, 
 -- glyphs of one syllable of kind 2 by their categories, numbered from 0 in clusters of their own
 abbrev from_place : ℕ → List ℕ → List hb_glyph_info_t
 from_place i [] = []
-from_place i (sort ∷ sorts) = record default_glyph { glyph_id = i; cluster = i; mask = 0x101; syllable = 0x12; category = sort } ∷ from_place (suc i) sorts
+from_place i (category ∷ categories) = record default_glyph { glyph_id = i; cluster = i; mask = 0x101; syllable = 0x12; category = category } ∷ from_place (suc i) categories
 
 abbrev syl : List ℕ → List hb_glyph_info_t
-syl sorts = from_place 0 sorts
+syl categories = from_place 0 categories
 
 abbrev numbers : List hb_glyph_info_t → List ℕ
 numbers gs = map (λ g. g.glyph_id) gs
 
 -- where the glyphs come from, and their clusters
 abbrev ordered : List ℕ → List ℕ
-ordered sorts = numbers (universal_order (syl sorts))
+ordered categories = numbers (universal_order (syl categories))
 
 abbrev in_clusters : List ℕ → List ℕ
-in_clusters sorts = clusters (run_steps MonotoneGraphemes (universal_steps (syl sorts)) (syl sorts))
+in_clusters categories = clusters (run_steps MonotoneGraphemes (universal_steps (syl categories)) (syl categories))
 
 abbrev stepped : List ℕ → List ℕ
-stepped sorts = numbers (run_steps MonotoneGraphemes (universal_steps (syl sorts)) (syl sorts))
+stepped categories = numbers (run_steps MonotoneGraphemes (universal_steps (syl categories)) (syl categories))
 
 -- R B VAbv; B VPre H B VPre VPre; R B B VAbv; R B H; R VAbv; R alone; R B; nothing
 order_rows : map ordered ((18 ∷ 1 ∷ 33 ∷ []) ∷ (1 ∷ 22 ∷ 12 ∷ 1 ∷ 22 ∷ 22 ∷ []) ∷ (18 ∷ 1 ∷ 1 ∷ 33 ∷ []) ∷ (18 ∷ 1 ∷ 12 ∷ []) ∷ (18 ∷ 33 ∷ []) ∷ (18 ∷ []) ∷ (18 ∷ 1 ∷ []) ∷ [] ∷ []) ≡ (1 ∷ 0 ∷ 2 ∷ []) ∷ (1 ∷ 0 ∷ 2 ∷ 5 ∷ 4 ∷ 3 ∷ []) ∷ (1 ∷ 2 ∷ 0 ∷ 3 ∷ []) ∷ (1 ∷ 0 ∷ 2 ∷ []) ∷ (0 ∷ 1 ∷ []) ∷ (0 ∷ []) ∷ (1 ∷ 0 ∷ []) ∷ [] ∷ []
@@ -59,17 +59,17 @@ other_kind_steps = refl
 
 -- glyphs with all fields set: R B VPre, of which none changes
 abbrev full : ℕ → ℕ → hb_glyph_info_t
-full sort comp = record { glyph_id = 7; cluster = 5; mask = 0x1003; var = 0x7A; syllable = 0x22; category = sort; auxiliary = 3; general_category = Mn; modified_combining_class = 9; lig_comp = comp; marks = record { 0 = 31 } }
+full category comp = record { glyph_id = 7; cluster = 5; mask = 0x1003; var = 0x7A; syllable = 0x22; category = category; auxiliary = 3; general_category = Mn; modified_combining_class = 9; lig_comp = comp; marks = record { 0 = 31 } }
 
 fields_stay : universal_order (full 18 2 ∷ full 1 3 ∷ full 22 0 ∷ []) ≡ full 22 0 ∷ full 1 3 ∷ full 18 2 ∷ []
 fields_stay = refl
 
 -- each category from 0 to 55: what ends the run that a reph passes, which are halants, and what goes to the front
 abbrev of_category : ℕ → hb_glyph_info_t
-of_category sort = record default_glyph { category = sort }
+of_category category = record default_glyph { category = category }
 
 abbrev that_pass : (hb_glyph_info_t → Bool) → List ℕ
-that_pass test = filter (λ sort. test (of_category sort)) (range_with_len 0 57)
+that_pass test = filter (λ category. test (of_category category)) (range_with_len 0 57)
 
 not_passed : that_pass (λ g. not (is_passed g)) ≡ 12 ∷ 22 ∷ 23 ∷ 24 ∷ 25 ∷ 26 ∷ 27 ∷ 28 ∷ 29 ∷ 30 ∷ 33 ∷ 34 ∷ 35 ∷ 37 ∷ 38 ∷ 39 ∷ 44 ∷ 45 ∷ 46 ∷ 47 ∷ 53 ∷ []
 not_passed = refl
@@ -81,14 +81,14 @@ fronts : that_pass goes_front ≡ 22 ∷ 23 ∷ []
 fronts = refl
 
 -- a ligature is no halant; of several glyphs for one the first alone goes to the front
-ligatures : map (λ sort. is_halant (record (of_category sort) { marks = record { 0 = 2 } })) (12 ∷ 44 ∷ 53 ∷ []) ≡ false ∷ false ∷ false ∷ []
+ligatures : map (λ category. is_halant (record (of_category category) { marks = record { 0 = 2 } })) (12 ∷ 44 ∷ 53 ∷ []) ≡ false ∷ false ∷ false ∷ []
 ligatures = refl
 
 other_marks : map (λ marks. is_halant (record (of_category 12) { marks = record { 0 = marks } })) (0 ∷ 1 ∷ 2 ∷ 4 ∷ 8 ∷ 16 ∷ 29 ∷ 31 ∷ []) ≡ true ∷ true ∷ false ∷ true ∷ true ∷ true ∷ true ∷ false ∷ []
 other_marks = refl
 
 -- a ligature of what stands after the base ends what a reph passes, one of a halant doesn't
-ligatures_passed : map (λ sort. is_passed (record (of_category sort) { marks = record { 0 = 2 } })) (22 ∷ 33 ∷ 12 ∷ 1 ∷ []) ≡ false ∷ false ∷ true ∷ true ∷ []
+ligatures_passed : map (λ category. is_passed (record (of_category category) { marks = record { 0 = 2 } })) (22 ∷ 33 ∷ 12 ∷ 1 ∷ []) ≡ false ∷ false ∷ true ∷ true ∷ []
 ligatures_passed = refl
 
 components : map (λ comp. goes_front (record (of_category 22) { lig_comp = comp })) (0 ∷ 1 ∷ 15 ∷ []) ≡ true ∷ false ∷ false ∷ []

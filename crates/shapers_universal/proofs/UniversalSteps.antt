@@ -11,6 +11,7 @@ use Rattle.std.proofs.lemmas.List.FromFn.{length-range_with_len, get_or-range_wi
 use Rattle.std.proofs.lemmas.List.Sorted.{All-permutation, length_permutation}
 use Rattle.std.proofs.lemmas.List.Sums.{prefix_len-le-length, sum_by-cons}
 use Rattle.shapers_buffer.specs.declared.buffer.glyph.hb_glyph_info_t.{hb_glyph_info_t}
+use Rattle.shapers_buffer.specs.Lists.{first_last}
 use Rattle.shapers_buffer.proofs.ListLaws.{LastPass, last_pass}
 use Rattle.shapers_buffer.proofs.MappedLists.{all-mapped, drop-range}
 use Rattle.shapers_clusters.specs.Cuts.{EndWithin, held}
@@ -19,7 +20,7 @@ use Rattle.shapers_clusters.proofs.Permuted.{permutes-widened}
 use Rattle.shapers_clusters.proofs.Picks.{within_at, within_range}
 use Rattle.shapers_clusters.proofs.Swaps.{still_moves_merged}
 use Rattle.shapers_clusters.proofs.Widened.{all_along, fits-widened, moves-widened}
-use Rattle.shapers_universal.specs.Universal.{first_behind, first_last, goes_front_at, is_halant, is_passed, is_reordered, piece_step, piece_steps, pieces, places_of, reph_moved, reph_run, reph_step, reversed_first, universal_steps}
+use Rattle.shapers_universal.specs.Universal.{first_behind, goes_front_at, is_halant, is_passed, is_reordered, piece_step, piece_steps, pieces, places_of, reph_moved, reph_run, reph_step, reversed_first, universal_steps}
 use Rattle.shapers_universal.proofs.UniversalLists.{all-filter, cut_after-concat, filter-none, filter_not-none, length-first_behind, length-first_last, permuted-first_last, permuted-first_behind, permuted-reversed_first, reversed_first-append, take-range}
 
 -- a step that takes each place once fits

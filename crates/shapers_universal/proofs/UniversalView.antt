@@ -96,7 +96,7 @@ reph_run-seen v (g ∷ gs) = ap (λ k. if nat_eq g.category 18 then suc k else 0
 
 is_reordered-seen : (v : View) → KeepsKinds v → (gs : List hb_glyph_info_t) → is_reordered (seen_by v gs) ≡ is_reordered gs
 is_reordered-seen v kinds [] = refl
-is_reordered-seen v kinds (g ∷ gs) = ap (λ k. list_any (λ sort. sort == k) (0 ∷ (1 ∷ (2 ∷ (7 ∷ []))))) (kinds g.syllable)
+is_reordered-seen v kinds (g ∷ gs) = ap (λ k. list_any (λ category. category == k) (0 ∷ (1 ∷ (2 ∷ (7 ∷ []))))) (kinds g.syllable)
 
 reph_moved-seen : (v : View) (gs : List hb_glyph_info_t) → reph_moved (seen_by v gs) ≡ seen_by v (reph_moved gs)
 reph_moved-seen v gs = ap (λ k. first_behind k (seen_by v gs)) (reph_run-seen v gs) ∙ first_behind-map (shown v) (reph_run gs) gs

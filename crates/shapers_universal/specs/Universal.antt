@@ -4,7 +4,7 @@ use Rattle.std.specs.Prelude.{ℕ, suc, ◌==◌, Bool, false, not, ◌&&◌, �
 use Rattle.std.specs.List.{flat_map, list_any, prefix_len, range_with_len, slice_get}
 use Rattle.std.specs.Option.{option_map_or}
 use Rattle.shapers_buffer.specs.declared.buffer.glyph.hb_glyph_info_t.{hb_glyph_info_t}
-use Rattle.shapers_buffer.specs.Lists.{cut_after}
+use Rattle.shapers_buffer.specs.Lists.{cut_after, first_last}
 use Rattle.shapers_buffer.specs.Marks.{is_ligated}
 use Rattle.shapers_clusters.specs.Steps.{Step, steps_along}
 use Rattle.shapers_syllabic.specs.Circles.{is_of_kinds}
@@ -32,11 +32,6 @@ is_passed g = not (is_one_of post_base g || is_halant g)
 abbrev pub reph_run : List hb_glyph_info_t → ℕ
 reph_run [] = 0
 reph_run (g ∷ gs) = if g.category == R then suc (prefix_len is_passed gs) else 0
-
--- a list with its first element as the last
-abbrev pub first_last : {X : Type 0} → List X → List X
-first_last [] = []
-first_last (x ∷ xs) = xs ++ x ∷ []
 
 -- the list with the first of its first n elements as the last of them
 abbrev pub first_behind : {X : Type 0} → ℕ → List X → List X

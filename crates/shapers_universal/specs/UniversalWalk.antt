@@ -4,8 +4,8 @@ use Rattle.std.specs.List.{flat_map, range_with_len, slice_get}
 use Rattle.std.specs.Option.{option_map_or}
 use Rattle.shapers_buffer.specs.declared.buffer.glyph.hb_glyph_info_t.{hb_glyph_info_t}
 use Rattle.shapers_buffer.specs.Clusters.{stretch_of}
-use Rattle.shapers_buffer.specs.Lists.{cut_after}
-use Rattle.shapers_universal.specs.Universal.{first_behind, first_last, goes_front, goes_front_at, is_halant, reversed_first}
+use Rattle.shapers_buffer.specs.Lists.{cut_after, first_last}
+use Rattle.shapers_universal.specs.Universal.{first_behind, goes_front, goes_front_at, is_halant, reversed_first}
 use Rattle.shapers_universal.specs.declared.ot_shaper_use.category.TheConstants.{R}
 
 -- whether a reph stands in front

@@ -1,5 +1,6 @@
 //! What the shaper of the Indic scripts keeps in the plan, and its questions to the font.
 ghost use Rattle.std.specs.Prelude.{◌≡◌};
+ghost use Rattle.shapers_base.specs.Map.{lookups_in};
 ghost use Rattle.shapers_base.specs.Questions.{question_for, would_by};
 
 use crate::buffer::{Script, hb_tag_t};
@@ -83,8 +84,22 @@ impl IndicWouldSubstituteFeature {
     ) -> bool
         ensures { result ≡ would_by (F.font face.now).applies map.now self.now glyphs.now }
     {
-        let lookups = map.lookups(&self.lookups);
+        let lookups = self.lookups(map);
         lookups.iter().any(|lookup| face.would_apply(*lookup, glyphs, self.zero_context))
+    }
+
+    /// The lookups that it is about.
+    pub fn lookups<'a>(&self, map: &'a hb_ot_map_t) -> &'a [u16]
+        ensures { result.now ≡ lookups_in self.now.lookups map.now }
+    {
+        map.lookups(&self.lookups)
+    }
+
+    /// Whether only those count that ask for no context around the glyphs.
+    pub fn zero_context(&self) -> bool
+        ensures { result ≡ self.now.zero_context }
+    {
+        self.zero_context
     }
 }
 

@@ -37,7 +37,8 @@ impl hb_buffer_t {
     pub fn unsafe_to_concat(&mut self, s: usize, e: usize)
         requires in_order { s ≤ e }
         requires in_range { e ≤ length self.old.glyphs }
-        ensures { let flagged = unsafe_to_concat_in (asks flags_concat self.old) s e self.old.glyphs in
+        ensures { let asked = asks flags_concat self.old in
+            let flagged = unsafe_to_concat_in asked s e self.old.glyphs in
             self.new ≡ record self.old { glyphs = flagged } }
     {
         unsafe_to_concat_in(self.flags, &mut self.info, s, e);

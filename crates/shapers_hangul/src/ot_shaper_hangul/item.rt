@@ -1,7 +1,8 @@
 //! The units of a Hangul text, and the tones that join them.
 ghost use Rattle.std.specs.Prelude.{◌≡◌, ◌+◌, ◌<◌, ◌≤◌, ◌++◌, ◌∷◌, [], take, drop, if◌then◌else◌, length, get_or, true, OnOk, IsOkUnless, ◌||◌, ◌&&◌, Bool};
 ghost use Rattle.shapers_buffer.specs.declared.buffer.refusal.ShaperError.TheVariants.{Memory};
-ghost use Rattle.shapers_hangul.specs.Hangul.{is_s, is_lv, has_jamo_of, is_narrow, jamo_two, jamo_three, jamo_unit, parts, syllable_unit, lone_tone, lone_unit, first_unit, taken, is_syllable, is_marked, joined_tone, is_split, unsafe_len, first_item, tone_len, item_len, characters, glyph_copies, unit_output, item_output, is_merged, item_joined, output_len, is_kept};
+ghost use Rattle.shapers_buffer.specs.Glyph.{characters};
+ghost use Rattle.shapers_hangul.specs.Hangul.{is_s, is_lv, has_jamo_of, is_narrow, jamo_two, jamo_three, jamo_unit, parts, syllable_unit, lone_tone, lone_unit, first_unit, taken, is_syllable, is_marked, joined_tone, is_split, unsafe_len, first_item, tone_len, item_len, glyph_copies, unit_output, item_output, is_merged, item_joined, output_len, is_kept};
 
 use super::jamo::{
     compose_three, compose_two, decompose, follows, is_combined_s, is_combining_l, is_combining_t,

@@ -1,9 +1,10 @@
 //! The text rewritten, item after item.
 ghost use Rattle.std.specs.Prelude.{◌≡◌, ◌+◌, ◌-◌, ◌<◌, ◌≤◌, ◌++◌, ◌∷◌, [], true, drop, length, take, OnOk, OnErr, IfOk, IfErr, IsOkUnless};
+ghost use Rattle.shapers_buffer.specs.Glyph.{characters};
 ghost use Rattle.shapers_hangul.specs.RewritingWalk.{changes, InTurn, change_output, changed_from};
 ghost use Rattle.shapers_buffer.specs.Refusals.{RefusesLength};
 ghost use Rattle.shapers_buffer.specs.declared.buffer.refusal.ShaperError.TheVariants.{Memory, TooLong};
-ghost use Rattle.shapers_hangul.specs.Hangul.{first_item, item_len, items_at, characters, glyph_copies, outputs, Fit, all_joined, rewritten, wants_circles, is_kept, KeptBefore};
+ghost use Rattle.shapers_hangul.specs.Hangul.{first_item, item_len, items_at, glyph_copies, outputs, Fit, all_joined, rewritten, wants_circles, is_kept, KeptBefore};
 
 use super::item::{Item, first_item, stays_alone};
 use bitflags::Flags;

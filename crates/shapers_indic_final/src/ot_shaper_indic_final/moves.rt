@@ -1,10 +1,11 @@
 //! One glyph moved to the other end of a stretch, by the placement list.
 ghost use Rattle.std.specs.Prelude.{◌≡◌, ◌+◌, ◌-◌, ◌<◌, ◌≤◌, length};
 ghost use Rattle.std.specs.List.{range_with_len};
+ghost use Rattle.shapers_buffer.specs.Lists.{first_last};
 ghost use Rattle.shapers_buffer.specs.Clusters.{with_stretch};
 ghost use Rattle.shapers_buffer.specs.Places.{listed};
 ghost use Rattle.shapers_clusters.specs.Steps.{run_step, widened};
-ghost use Rattle.shapers_indic_final.specs.FinalGlyphs.{first_goes_last, last_goes_first};
+ghost use Rattle.shapers_indic_final.specs.FinalGlyphs.{last_goes_first};
 ghost use Rattle.shapers_indic_final.specs.FinalMatras.{matra_step};
 ghost use Rattle.shapers_indic_final.specs.FinalPref.{pref_move};
 ghost use Rattle.shapers_indic_final.specs.FinalReph.{reph_step};
@@ -64,7 +65,7 @@ fn move_first_last(buffer: &mut hb_buffer_t, s: usize, e: usize)
     requires in_order { s < e }
     requires in_range { e ≤ length buffer.old.glyphs }
     ensures { buffer.new ≡ record buffer.old {
-      glyphs = with_stretch s e first_goes_last buffer.old.glyphs;
+      glyphs = with_stretch s e first_last buffer.old.glyphs;
       places = buffer.new.places;
     } }
 {
@@ -91,7 +92,7 @@ fn list_first_last(buffer: &mut hb_buffer_t, s: usize, e: usize)
     requires in_range { e ≤ length buffer.old.glyphs }
     ensures others { buffer.new ≡ record buffer.old { places = buffer.new.places } }
     ensures same_length { length buffer.new.glyphs ≡ length buffer.old.glyphs }
-    ensures places { listed s e buffer.new.places ≡ first_goes_last (range_with_len s (e - s)) }
+    ensures places { listed s e buffer.new.places ≡ first_last (range_with_len s (e - s)) }
 {
     for i in s..e - 1 {
         buffer.set_place(i, i + 1);

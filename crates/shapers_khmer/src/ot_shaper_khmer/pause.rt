@@ -8,7 +8,7 @@ ghost use Rattle.shapers_khmer.specs.Khmer.{khmer_circles, khmer_order, khmer_st
 ghost use Rattle.shapers_khmer.specs.Plan.{is_khmer_data};
 ghost use Rattle.shapers_syllabic.specs.CircleLaws.{NoNewCluster};
 ghost use Rattle.shapers_syllabic.specs.Circles.{circled};
-ghost use Rattle.shapers_syllabic.specs.Reordering.{PauseReordered, carried, circles_of_sort, text_steps};
+ghost use Rattle.shapers_syllabic.specs.Reordering.{PauseReordered, carried, script_circles, text_steps};
 ghost use Rattle.shapers_syllabic.specs.ReorderingLaws.{PauseCutsAtBorders};
 
 use super::khmer_feature::{ABVF, BLWF, CFAR, PREF, PSTF};
@@ -18,10 +18,10 @@ use shapers_base::font::hb_font_t;
 use shapers_base::plan::ot_category_t::{OT_DOTTEDCIRCLE, OT_Repha};
 use shapers_base::plan::{PlanData, hb_ot_shape_plan_t};
 use shapers_syllabic::ot_shaper_syllabic::khmer_syllable::{BROKEN_CLUSTER, NON_KHMER_CLUSTER};
-use shapers_syllabic::ot_shaper_syllabic::{CircleSort, reorder_pause};
+use shapers_syllabic::ot_shaper_syllabic::{ScriptCircles, reorder_pause};
 
 // The dotted circles of Khmer.
-const CIRCLES: CircleSort = CircleSort {
+const CIRCLES: ScriptCircles = ScriptCircles {
     broken_kind: BROKEN_CLUSTER,
     category: OT_DOTTEDCIRCLE,
     repha: Some(OT_Repha),
@@ -40,25 +40,25 @@ pub fn reorder_khmer<F: hb_font_t>(
 ) -> Result<bool, ShaperError>
     requires kept { is_khmer_data plan.now.plan_data ≡ true }
     requires without_positions { buffer.old.positions ≡ [] }
-    ensures answer { let circles = circles_of_sort khmer_circles (F.font face.now) buffer.old in
+    ensures answer { let circles = script_circles khmer_circles (F.font face.now) buffer.old in
         IfOk result (λ answer. answer ≡ is_some circles) }
-    ensures ok { let circles = circles_of_sort khmer_circles (F.font face.now) buffer.old in
+    ensures ok { let circles = script_circles khmer_circles (F.font face.now) buffer.old in
         OnOk result (PauseReordered circles
         (khmer_order (order_in plan.now.plan_data)) khmer_steps buffer.old buffer.new) }
-    ensures cut { let circles = circles_of_sort khmer_circles (F.font face.now) buffer.old in
+    ensures cut { let circles = script_circles khmer_circles (F.font face.now) buffer.old in
         OnOk result (PauseCutsAtBorders circles
         (khmer_order (order_in plan.now.plan_data)) khmer_steps buffer.old buffer.new) }
-    ensures laws { let circles = circles_of_sort khmer_circles (F.font face.now) buffer.old in
+    ensures laws { let circles = script_circles khmer_circles (F.font face.now) buffer.old in
         let opened = circled circles buffer.old.glyphs in
         OnOk result (ReorderedHold carried buffer.old.level
         (text_steps khmer_steps (order_view opened)) opened buffer.new.glyphs) }
     ensures clusters { OnOk result (NoNewCluster buffer.old.glyphs buffer.new.glyphs) }
-    ensures refusal { let circles = circles_of_sort khmer_circles (F.font face.now) buffer.old in
+    ensures refusal { let circles = script_circles khmer_circles (F.font face.now) buffer.old in
         Refuses (unknown_refusal 2 buffer.old.glyphs)
         buffer.old.max_len (length (circled circles buffer.old.glyphs)) result }
     ensures err { OnErr result (buffer.new ≡ buffer.old) }
     ensures without_memory { let circles =
-        circles_of_sort khmer_circles (F.font face.now) buffer.old in
+        script_circles khmer_circles (F.font face.now) buffer.old in
         unknown_refusal 2 buffer.old.glyphs ≡ None →
         circled circles buffer.old.glyphs ≡ buffer.old.glyphs → IsOk result }
 {

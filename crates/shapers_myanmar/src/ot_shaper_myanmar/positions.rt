@@ -1,6 +1,7 @@
 //! The positions of the glyphs of a syllable. (OpenType, Myanmar script development.)
 ghost use Rattle.std.specs.Prelude.{◌≡◌, ◌==◌, ◌≤◌, length, map, position};
-ghost use Rattle.shapers_myanmar.specs.Myanmar.{at_position, before_base, behind_reph, from_base, has_reph, in_parts, own_position, reph_len, with_own_positions, with_positions};
+ghost use Rattle.shapers_buffer.specs.Glyph.{at_position};
+ghost use Rattle.shapers_myanmar.specs.Myanmar.{before_base, behind_reph, from_base, has_reph, in_parts, own_position, reph_len, with_own_positions, with_positions};
 ghost use Rattle.shapers_myanmar.specs.MyanmarWalk.{in_part, part_of};
 ghost use Rattle.shapers_syllabic.specs.Consonants.{is_consonant};
 

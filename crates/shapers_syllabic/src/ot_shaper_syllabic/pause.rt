@@ -3,7 +3,7 @@ ghost use Rattle.std.specs.Prelude.{◌≡◌, [], IfOk, IsOk, OnErr, OnOk, is_s
 ghost use Rattle.shapers_buffer.specs.Refusals.{Refuses};
 ghost use Rattle.shapers_syllabic.specs.CircleLaws.{NoNewCluster};
 ghost use Rattle.shapers_syllabic.specs.Circles.{circled};
-ghost use Rattle.shapers_syllabic.specs.Reordering.{PauseReordered, circles_of_sort, first_unknown, kind_refusal};
+ghost use Rattle.shapers_syllabic.specs.Reordering.{PauseReordered, script_circles, first_unknown, kind_refusal};
 ghost use Rattle.shapers_syllabic.specs.ReorderingLaws.{PauseCutsAtBorders, PausesCutAtSpans, ReorderLaws, TextReordered};
 ghost use Rattle.shapers_syllabic.specs.SpanCuts.{PausesCutBetweenSpans};
 
@@ -15,7 +15,7 @@ use shapers_base::font::hb_font_t;
 /// The dotted circles of a shaper: in syllables of the broken kind, with a category and a position,
 /// behind the leading glyphs of the repha category where there is one.
 #[derive(Clone, Copy, Debug, PartialEq, Eq)]
-pub struct CircleSort {
+pub struct ScriptCircles {
     pub broken_kind: u8,
     pub category: u8,
     pub repha: Option<u8>,
@@ -29,32 +29,32 @@ pub struct CircleSort {
 pub fn reorder_pause<F: hb_font_t, R: Reorder>(
     face: &F,
     order: &R,
-    sort: &CircleSort,
+    script: &ScriptCircles,
     last_kind: Option<u8>,
     buffer: &mut hb_buffer_t,
 ) -> Result<bool, ShaperError>
     requires without_positions { buffer.old.positions ≡ [] }
     requires laws { ReorderLaws
         (R.meaning order.now buffer.old.script) (R.steps order.now buffer.old.script) }
-    ensures answer { let circles = circles_of_sort sort.now (F.font face.now) buffer.old in
+    ensures answer { let circles = script_circles script.now (F.font face.now) buffer.old in
         IfOk result (λ answer. answer ≡ is_some circles) }
-    ensures ok { let circles = circles_of_sort sort.now (F.font face.now) buffer.old in
+    ensures ok { let circles = script_circles script.now (F.font face.now) buffer.old in
         OnOk result (PauseReordered circles
         (R.meaning order.now buffer.old.script) (R.steps order.now buffer.old.script)
         buffer.old buffer.new) }
-    ensures cut { let circles = circles_of_sort sort.now (F.font face.now) buffer.old in
+    ensures cut { let circles = script_circles script.now (F.font face.now) buffer.old in
         OnOk result (PauseCutsAtBorders circles
         (R.meaning order.now buffer.old.script) (R.steps order.now buffer.old.script)
         buffer.old buffer.new) }
-    ensures laws { let circles = circles_of_sort sort.now (F.font face.now) buffer.old in
+    ensures laws { let circles = script_circles script.now (F.font face.now) buffer.old in
         let opened = record buffer.old { glyphs = circled circles buffer.old.glyphs } in
         OnOk result (TextReordered (R.steps order.now buffer.old.script) opened buffer.new) }
     ensures clusters { OnOk result (NoNewCluster buffer.old.glyphs buffer.new.glyphs) }
-    ensures refusal { let circles = circles_of_sort sort.now (F.font face.now) buffer.old in
+    ensures refusal { let circles = script_circles script.now (F.font face.now) buffer.old in
         Refuses (kind_refusal last_kind buffer.old.glyphs)
         buffer.old.max_len (length (circled circles buffer.old.glyphs)) result }
     ensures err { OnErr result (buffer.new ≡ buffer.old) }
-    ensures without_memory { let circles = circles_of_sort sort.now (F.font face.now) buffer.old in
+    ensures without_memory { let circles = script_circles script.now (F.font face.now) buffer.old in
         kind_refusal last_kind buffer.old.glyphs ≡ None →
         circled circles buffer.old.glyphs ≡ buffer.old.glyphs → IsOk result }
 {
@@ -64,10 +64,10 @@ pub fn reorder_pause<F: hb_font_t, R: Reorder>(
     let circles = insert_dotted_circles(
         face,
         buffer,
-        sort.broken_kind,
-        sort.category,
-        sort.repha,
-        sort.position,
+        script.broken_kind,
+        script.category,
+        script.repha,
+        script.position,
     )?;
     reorder_syllables(order, buffer)?;
     Ok(circles)

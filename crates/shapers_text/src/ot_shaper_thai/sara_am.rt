@@ -1,10 +1,11 @@
 //! SARA AM in two: NIKHAHIT, which goes before the above-base marks, and SARA AA.
 ghost use Rattle.std.specs.Prelude.{◌≡◌, ◌+◌, ◌^◌, ◌<◌, ◌≤◌, [], true, false, length, take, count_by, None, Some, IsOk, OnOk, OnErr};
 ghost use Rattle.std.specs.List.{list_any};
+ghost use Rattle.shapers_buffer.specs.Glyph.{characters};
 ghost use Rattle.shapers_buffer.specs.Clusters.{merge_all};
 ghost use Rattle.shapers_buffer.specs.ClusterRuns.{RunFits, with_run};
 ghost use Rattle.shapers_buffer.specs.Refusals.{RefusesLength};
-ghost use Rattle.shapers_text.specs.Thai.{is_sara_am, is_above_base, nikhahit, sara_aa, characters, glyphs_in_two, stretch_of_sara_am, sara_am_stretches};
+ghost use Rattle.shapers_text.specs.Thai.{is_sara_am, is_above_base, nikhahit, sara_aa, glyphs_in_two, stretch_of_sara_am, sara_am_stretches};
 ghost use Rattle.shapers_text.specs.ThaiWalk.{above_marks_before, merged_front, HasRoom, Written, IsUnwritten, whole_of};
 
 use shapers_base::buffer::{

@@ -2,11 +2,12 @@
 //! with what it passes, and then the syllable is written once.
 ghost use Rattle.std.specs.Prelude.{◌≡◌, ◌==◌, IfSome, false, ◌&&◌, ◌||◌, ◌+◌, ◌-◌, ◌<◌, ◌≤◌, ◌^◌, true, length, filter, reverse};
 ghost use Rattle.std.specs.List.{list_any, prefix_len, range_with_len};
+ghost use Rattle.shapers_buffer.specs.Lists.{first_last};
 ghost use Rattle.shapers_buffer.specs.Clusters.{merge, merge_all, stretch_of, with_stretch};
 ghost use Rattle.shapers_buffer.specs.ListingWalk.{with_listed};
 ghost use Rattle.shapers_buffer.specs.Places.{pick};
 ghost use Rattle.shapers_syllabic.specs.Reordering.{SyllableReordered};
-ghost use Rattle.shapers_universal.specs.Universal.{first_last, goes_front, goes_front_at, is_halant, is_passed, is_reordered, post_base, reph_run, universal_order, universal_steps};
+ghost use Rattle.shapers_universal.specs.Universal.{goes_front, goes_front_at, is_halant, is_passed, is_reordered, post_base, reph_run, universal_order, universal_steps};
 ghost use Rattle.shapers_universal.specs.UniversalWalk.{MergesFirst, first_piece_len, fronts_from, has_reph, last_first, piece_places, places_in_order, start_from, stays_at};
 
 use super::category;

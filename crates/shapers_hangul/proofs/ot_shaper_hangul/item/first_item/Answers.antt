@@ -1,7 +1,8 @@
 -- An item stands within the text.
 use Rattle.std.proofs.Common.{arith, ap}
 use Rattle.std.proofs.lemmas.List.{length-map}
-use Rattle.shapers_hangul.specs.Hangul.{item_len, characters}
+use Rattle.shapers_buffer.specs.Glyph.{characters}
+use Rattle.shapers_hangul.specs.Hangul.{item_len}
 use Rattle.shapers_hangul.proofs.Items.{first_item-within}
 use Rattle.shapers_hangul.proofs.ot_shaper_hangul.item.first_item.Goals as goal
 

@@ -1,6 +1,7 @@
 -- A character that jamo or a tone doesn't follow.
 use Rattle.std.proofs.Common.{◌≡◌, ◌||◌, get_or, sym, ap, ◌∙◌, false}
-use Rattle.shapers_hangul.specs.Hangul.{is_v, is_t, is_tone, lone_unit, characters}
+use Rattle.shapers_buffer.specs.Glyph.{characters}
+use Rattle.shapers_hangul.specs.Hangul.{is_v, is_t, is_tone, lone_unit}
 use Rattle.shapers_hangul.proofs.Items.{lone_first}
 use Rattle.shapers_hangul.proofs.ot_shaper_hangul.item.read_item.Goals as goal
 

@@ -1,6 +1,7 @@
 -- One more item that is kept.
 use Rattle.std.proofs.Common.{◌∙◌, drop, refl, sym}
-use Rattle.shapers_hangul.specs.Hangul.{characters, first_item}
+use Rattle.shapers_buffer.specs.Glyph.{characters}
+use Rattle.shapers_hangul.specs.Hangul.{first_item}
 use Rattle.shapers_hangul.proofs.Walks.{kept_next}
 use Rattle.shapers_hangul.proofs.ot_shaper_hangul.rewriting.kept_len.Goals as goal
 

@@ -1,6 +1,7 @@
 -- One more item, no room for one, and the end.
 use Rattle.std.proofs.Common.{◌≡◌, ◌+◌, ◌++◌, sym, ap, subst, length, arith}
-use Rattle.shapers_hangul.specs.Hangul.{characters, glyph_copies, item_len, items_at, outputs}
+use Rattle.shapers_buffer.specs.Glyph.{characters}
+use Rattle.shapers_hangul.specs.Hangul.{glyph_copies, item_len, items_at, outputs}
 use Rattle.shapers_hangul.specs.RewritingWalk.{changes}
 use Rattle.shapers_hangul.proofs.Changes.{recording_next}
 use Rattle.shapers_hangul.proofs.Walks.{length_next}

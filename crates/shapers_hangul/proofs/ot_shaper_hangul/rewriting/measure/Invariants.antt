@@ -1,6 +1,7 @@
 -- The room that is left, and the items so far.
 use Rattle.std.proofs.Common.{◌≡◌, ◌+◌, ◌≤◌, ◌-◌, ◌++◌, length, true}
-use Rattle.shapers_hangul.specs.Hangul.{characters, glyph_copies, items_at, outputs}
+use Rattle.shapers_buffer.specs.Glyph.{characters}
+use Rattle.shapers_hangul.specs.Hangul.{glyph_copies, items_at, outputs}
 use Rattle.shapers_hangul.specs.RewritingWalk.{changes}
 use Rattle.shapers_hangul.proofs.ot_shaper_hangul.rewriting.measure.Given as goal
 

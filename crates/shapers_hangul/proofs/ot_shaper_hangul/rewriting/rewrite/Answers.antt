@@ -1,7 +1,8 @@
 -- The refusals, and that the items stand within the text.
 use Rattle.std.proofs.Common.{rules, ◌≡◌, ◌+◌, length, ap, subst, sym, ◌∙◌, arith}
+use Rattle.shapers_buffer.specs.Glyph.{characters}
 use Rattle.shapers_buffer.specs.Refusals.{RefusesLength}
-use Rattle.shapers_hangul.specs.Hangul.{characters, glyph_copies, items_at, outputs, preprocessed, wants_circles, Fit}
+use Rattle.shapers_hangul.specs.Hangul.{glyph_copies, items_at, outputs, preprocessed, wants_circles, Fit}
 use Rattle.shapers_hangul.specs.RewritingWalk.{changes, InTurn}
 use Rattle.shapers_hangul.proofs.Changes.{changes_fit, changed_text, items_at_turn, replaced_by}
 use Rattle.shapers_hangul.proofs.Items.{items_at_fit}

@@ -1,6 +1,6 @@
 -- The glyphs that are done, and what becomes of the rest.
 use Rattle.std.proofs.Common.{◌≡◌, ◌++◌, map, take, drop}
-use Rattle.shapers_indic.specs.Glyphs.{at_position}
+use Rattle.shapers_buffer.specs.Glyph.{at_position}
 use Rattle.shapers_indic_final.proofs.ot_shaper_indic_final.base.set_base.Given as goal
 
 abbrev pub invariant-loop-glyph : goal.invariant-loop-glyph

@@ -1,10 +1,11 @@
 -- One place more, which is listed or not.
 use Rattle.std.proofs.Common.{◌≡◌, ◌+◌, filter, length, sym, ap, ◌∙◌}
+use Rattle.shapers_buffer.proofs.Listing.{left_one}
 use Rattle.shapers_buffer.specs.ListingWalk.{with_listed}
 use Rattle.shapers_buffer.specs.Buffer.{Buffer}
 use Rattle.shapers_indic.specs.Glyphs.{places}
 use Rattle.shapers_indic_final.specs.PartingWalk.{is_listed}
-use Rattle.shapers_indic_final.proofs.PartingListing.{left_here, left_not, left_one}
+use Rattle.shapers_indic_final.proofs.PartingListing.{left_here, left_not}
 use Rattle.shapers_indic_final.proofs.ot_shaper_indic_final.parting.list_places.Goals as goal
 use Rattle.shapers_indic_final.proofs.ot_shaper_indic_final.parting.list_places.Goals.{then-is_listed, else-is_listed}
 

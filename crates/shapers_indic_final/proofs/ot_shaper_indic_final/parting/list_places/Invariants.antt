@@ -1,9 +1,9 @@
 -- What is left to list.
 use Rattle.std.proofs.Common.{◌+◌, filter, length}
+use Rattle.shapers_buffer.proofs.Listing.{Left}
 use Rattle.shapers_buffer.specs.ListingWalk.{with_listed}
 use Rattle.shapers_indic.specs.Glyphs.{places}
 use Rattle.shapers_indic_final.specs.PartingWalk.{is_listed}
-use Rattle.shapers_indic_final.proofs.PartingListing.{Left}
 use Rattle.shapers_indic_final.proofs.ot_shaper_indic_final.parting.list_places.Given as goal
 
 abbrev pub invariant-loop-j : goal.invariant-loop-j

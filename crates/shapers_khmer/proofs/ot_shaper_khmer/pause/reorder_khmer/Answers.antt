@@ -3,7 +3,7 @@ use Rattle.std.proofs.lemmas.Result.{on_ok_weaker}
 use Rattle.shapers_khmer.specs.declared.ot_shaper_khmer.reordering.KhmerOrder.{KhmerOrder}
 use Rattle.shapers_khmer.specs.Khmer.{khmer_circles, khmer_order, khmer_steps}
 use Rattle.shapers_khmer.proofs.KhmerLaws.{khmer_laws, khmer_moves_merged}
-use Rattle.shapers_syllabic.specs.Reordering.{PauseReordered, circles_of_sort}
+use Rattle.shapers_syllabic.specs.Reordering.{PauseReordered, script_circles}
 use Rattle.shapers_syllabic.specs.ReorderingLaws.{PauseCutsAtBorders}
 use Rattle.shapers_khmer.proofs.ot_shaper_khmer.pause.reorder_khmer.Goals as goal
 
@@ -12,11 +12,11 @@ reorder_pause-requires-clause-laws g c = khmer_laws c.order_of-order.result
 
 pub returns-clause-ok : goal.returns-clause-ok
 returns-clause-ok g c =
-    subst (λ (r : KhmerOrder). OnOk c.reorder_pause.result (PauseReordered (circles_of_sort khmer_circles (g.F.hb_font_t.font c.args.face.now) c.args.buffer.now) (khmer_order r) khmer_steps c.args.buffer.now c.reorder_pause.new.buffer)) c.order_of-order.ensures c.reorder_pause.ensures.ok
+    subst (λ (r : KhmerOrder). OnOk c.reorder_pause.result (PauseReordered (script_circles khmer_circles (g.F.hb_font_t.font c.args.face.now) c.args.buffer.now) (khmer_order r) khmer_steps c.args.buffer.now c.reorder_pause.new.buffer)) c.order_of-order.ensures c.reorder_pause.ensures.ok
 
 pub returns-clause-cut : goal.returns-clause-cut
 returns-clause-cut g c =
-    subst (λ (r : KhmerOrder). OnOk c.reorder_pause.result (PauseCutsAtBorders (circles_of_sort khmer_circles (g.F.hb_font_t.font c.args.face.now) c.args.buffer.now) (khmer_order r) khmer_steps c.args.buffer.now c.reorder_pause.new.buffer)) c.order_of-order.ensures c.reorder_pause.ensures.cut
+    subst (λ (r : KhmerOrder). OnOk c.reorder_pause.result (PauseCutsAtBorders (script_circles khmer_circles (g.F.hb_font_t.font c.args.face.now) c.args.buffer.now) (khmer_order r) khmer_steps c.args.buffer.now c.reorder_pause.new.buffer)) c.order_of-order.ensures c.reorder_pause.ensures.cut
 
 pub returns-clause-laws : goal.returns-clause-laws
 returns-clause-laws g c = on_ok_weaker c.reorder_pause.result (λ laws. laws.merged (λ gs. (khmer_moves_merged gs, tt))) c.reorder_pause.ensures.laws

@@ -1,6 +1,6 @@
 -- The glyphs that are done, and what becomes of the rest.
 use Rattle.std.proofs.Common.{◌≡◌, ◌++◌, map, take, drop}
-use Rattle.shapers_myanmar.specs.Myanmar.{at_position}
+use Rattle.shapers_buffer.specs.Glyph.{at_position}
 use Rattle.shapers_myanmar.proofs.ot_shaper_myanmar.positions.set_position.Given as goal
 
 abbrev pub invariant-loop-glyph : goal.invariant-loop-glyph

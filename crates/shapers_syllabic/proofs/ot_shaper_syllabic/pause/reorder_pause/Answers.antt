@@ -1,6 +1,6 @@
 use Rattle.shapers_buffer.specs.Buffer.{Buffer}
 use Rattle.shapers_syllabic.specs.Circles.{circled}
-use Rattle.shapers_syllabic.specs.Reordering.{circles_of_sort}
+use Rattle.shapers_syllabic.specs.Reordering.{script_circles}
 use Rattle.shapers_syllabic.proofs.CircleLaws.{no_new_cluster}
 use Rattle.shapers_syllabic.proofs.ReorderingCuts.{cuts_at_borders}
 use Rattle.shapers_syllabic.proofs.ReorderingLaws.{text_reordered}
@@ -12,7 +12,7 @@ returns-clause-cut g c =
     let order = c.args.order.now in
     let old = c.args.buffer.now in
     let new = c.reorder_syllables.new.buffer in
-    let circles = circles_of_sort c.args.sort.now (g.F.hb_font_t.font c.args.face.now) old in
+    let circles = script_circles c.args.script.now (g.F.hb_font_t.font c.args.face.now) old in
     cuts_at_borders circles (g.R.Reorder.meaning order old.script) (g.R.Reorder.steps order old.script) old new c.requires.laws
     (pause_reordered circles (g.R.Reorder.meaning order) (g.R.Reorder.steps order) old c.insert_dotted_circles.new.buffer new c.in_ok-circles.ensures.ok c.reorder_syllables.ensures.reordered)
 
@@ -21,7 +21,7 @@ returns-clause-laws g c =
     let order = c.args.order.now in
     let old = c.args.buffer.now in
     let new = c.reorder_syllables.new.buffer in
-    let circles = circles_of_sort c.args.sort.now (g.F.hb_font_t.font c.args.face.now) old in
+    let circles = script_circles c.args.script.now (g.F.hb_font_t.font c.args.face.now) old in
     let opened : Buffer = record old { glyphs = circled circles old.glyphs } in
     text_reordered (g.R.Reorder.meaning order old.script) (g.R.Reorder.steps order old.script) opened new c.requires.laws
     (pause_reordered circles (g.R.Reorder.meaning order) (g.R.Reorder.steps order) old c.insert_dotted_circles.new.buffer new c.in_ok-circles.ensures.ok c.reorder_syllables.ensures.reordered)
@@ -30,6 +30,6 @@ pub returns-clause-clusters : goal.returns-clause-clusters
 returns-clause-clusters g c =
     let old = c.args.buffer.now in
     let new = c.reorder_syllables.new.buffer in
-    let circles = circles_of_sort c.args.sort.now (g.F.hb_font_t.font c.args.face.now) old in
+    let circles = script_circles c.args.script.now (g.F.hb_font_t.font c.args.face.now) old in
     let law = returns-clause-laws g c in
     no_new_cluster circles old.glyphs new.glyphs law.glyphs.in_clusters.old_clusters

@@ -1,8 +1,9 @@
 -- One place back: it goes to the front, or stays.
 use Rattle.std.proofs.Common.{◌≡◌, ◌-◌, ◌∷◌, [], ◌++◌, filter, if◌then◌else◌, reverse, true, false, ap, arith, sym, ◌∙◌}
 use Rattle.std.specs.List.{range_with_len}
+use Rattle.shapers_buffer.proofs.Listing.{left_as, left_one}
 use Rattle.shapers_universal.specs.Universal.{goes_front, goes_front_at}
-use Rattle.shapers_universal.proofs.UniversalListing.{fronts_back, left_as, left_one, same_glyphs}
+use Rattle.shapers_universal.proofs.UniversalListing.{fronts_back, same_glyphs}
 use Rattle.shapers_universal.proofs.UniversalPlaces.{at, front_at}
 use Rattle.shapers_universal.proofs.ot_shaper_use.ordering.list_fronts.Goals as goal
 

@@ -1,7 +1,7 @@
 -- One place more.
 use Rattle.std.proofs.Common.{◌≡◌, ◌-◌, ◌+◌, ◌∷◌, suc, ap, arith, ◌∙◌}
 use Rattle.std.specs.List.{range_with_len}
-use Rattle.shapers_universal.proofs.UniversalListing.{left_as, left_one}
+use Rattle.shapers_buffer.proofs.Listing.{left_as, left_one}
 use Rattle.shapers_universal.proofs.ot_shaper_use.ordering.list_last_first.Goals as goal
 
 pub loop-i-preserved : goal.loop-i-preserved

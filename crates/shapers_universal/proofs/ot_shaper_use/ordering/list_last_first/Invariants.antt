@@ -1,9 +1,9 @@
 -- What is left to list behind the last.
 use Rattle.std.proofs.Common.{◌+◌, ◌-◌, ◌≤◌, length, suc}
 use Rattle.std.specs.List.{range_with_len}
+use Rattle.shapers_buffer.proofs.Listing.{Left}
 use Rattle.shapers_buffer.specs.ListingWalk.{with_listed}
 use Rattle.shapers_universal.specs.UniversalWalk.{last_first}
-use Rattle.shapers_universal.proofs.UniversalListing.{Left}
 use Rattle.shapers_universal.proofs.ot_shaper_use.ordering.list_last_first.Given as goal
 
 abbrev pub invariant-loop-i : goal.invariant-loop-i

@@ -1,9 +1,10 @@
 -- The three parts of a piece.
 use Rattle.std.proofs.Common.{◌+◌, ◌-◌, filter, length, reverse, ap, arith, sym, ◌∙◌}
 use Rattle.std.specs.List.{range_with_len}
+use Rattle.shapers_buffer.specs.Lists.{first_last}
 use Rattle.shapers_buffer.specs.Buffer.{Buffer}
 use Rattle.shapers_buffer.specs.ListingWalk.{with_listed}
-use Rattle.shapers_universal.specs.Universal.{first_last, goes_front_at}
+use Rattle.shapers_universal.specs.Universal.{goes_front_at}
 use Rattle.shapers_universal.specs.UniversalWalk.{stays_at}
 use Rattle.shapers_universal.proofs.UniversalListing.{both_counted, listed_thrice, reph_counted}
 use Rattle.shapers_universal.proofs.ot_shaper_use.ordering.list_piece.Goals as goal

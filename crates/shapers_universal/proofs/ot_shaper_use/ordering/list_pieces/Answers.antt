@@ -1,12 +1,13 @@
 -- One piece more.
 use Rattle.std.proofs.Common.{◌≡◌, ◌+◌, ◌-◌, ◌≤◌, length, ap, arith, ◌∙◌}
+use Rattle.shapers_buffer.proofs.Listing.{left_as, left_starts}
 use Rattle.shapers_buffer.specs.Buffer.{Buffer}
 use Rattle.shapers_buffer.specs.Clusters.{stretch_of}
 use Rattle.shapers_buffer.specs.ListingWalk.{with_listed}
 use Rattle.shapers_buffer.proofs.ClusterLemmas.{length-stretch}
 use Rattle.shapers_universal.specs.Universal.{is_halant}
 use Rattle.shapers_universal.specs.UniversalWalk.{first_piece_len, piece_places, places_in_order}
-use Rattle.shapers_universal.proofs.UniversalListing.{left_as, left_ends, left_part, left_starts, same_glyphs}
+use Rattle.shapers_universal.proofs.UniversalListing.{left_ends, left_part, same_glyphs}
 use Rattle.shapers_universal.proofs.UniversalPlaces.{calm_nothing, length-piece, order_first, order_none}
 use Rattle.shapers_universal.proofs.ot_shaper_use.ordering.list_pieces.Goals as goal
 

@@ -1,8 +1,8 @@
 -- What is left to list of the pieces.
 use Rattle.std.proofs.Common.{◌+◌, ◌-◌, ◌≤◌, length}
+use Rattle.shapers_buffer.proofs.Listing.{Left}
 use Rattle.shapers_buffer.specs.ListingWalk.{with_listed}
 use Rattle.shapers_universal.specs.UniversalWalk.{places_in_order}
-use Rattle.shapers_universal.proofs.UniversalListing.{Left}
 use Rattle.shapers_universal.proofs.ot_shaper_use.ordering.list_pieces.Given as goal
 
 abbrev pub invariant-loop-start : goal.invariant-loop-start

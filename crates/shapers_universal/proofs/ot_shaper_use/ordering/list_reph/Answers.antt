@@ -1,8 +1,9 @@
 -- One place more of those that the reph passes, and the reph.
 use Rattle.std.proofs.Common.{◌+◌, ◌-◌, ◌<◌, ◌∷◌, [], length, ap, arith, refl}
 use Rattle.std.specs.List.{range_with_len}
-use Rattle.shapers_universal.specs.Universal.{first_last}
-use Rattle.shapers_universal.proofs.UniversalListing.{left_as, left_ends, left_one, left_starts, reph_counted, reph_left, reph_next, reph_split, same_glyphs}
+use Rattle.shapers_buffer.proofs.Listing.{left_as, left_one, left_starts}
+use Rattle.shapers_buffer.specs.Lists.{first_last}
+use Rattle.shapers_universal.proofs.UniversalListing.{left_ends, reph_counted, reph_left, reph_next, reph_split, same_glyphs}
 use Rattle.shapers_universal.proofs.ot_shaper_use.ordering.list_reph.Goals as goal
 
 pub loop-i-init : goal.loop-i-init

@@ -1,9 +1,10 @@
 -- One place more: it stays, or goes to the front.
 use Rattle.std.proofs.Common.{◌≡◌, ◌+◌, ◌-◌, ◌∷◌, filter, if◌then◌else◌, length, not, true, false, ap, arith, sym, ◌∙◌}
 use Rattle.std.specs.List.{range_with_len}
+use Rattle.shapers_buffer.proofs.Listing.{left_as, left_one}
 use Rattle.shapers_universal.specs.Universal.{goes_front}
 use Rattle.shapers_universal.specs.UniversalWalk.{stays_at}
-use Rattle.shapers_universal.proofs.UniversalListing.{left_as, left_one, rest_next, same_glyphs}
+use Rattle.shapers_universal.proofs.UniversalListing.{rest_next, same_glyphs}
 use Rattle.shapers_universal.proofs.UniversalPlaces.{at, front_at}
 use Rattle.shapers_universal.proofs.ot_shaper_use.ordering.list_rest.Goals as goal
 use Rattle.shapers_universal.proofs.ot_shaper_use.ordering.list_rest.Goals.{then-not-goes_front, else-not-goes_front}

@@ -1,9 +1,9 @@
 -- What is left to list of those that don't go to the front.
 use Rattle.std.proofs.Common.{◌+◌, ◌-◌, filter, length}
 use Rattle.std.specs.List.{range_with_len}
+use Rattle.shapers_buffer.proofs.Listing.{Left}
 use Rattle.shapers_buffer.specs.ListingWalk.{with_listed}
 use Rattle.shapers_universal.specs.UniversalWalk.{stays_at}
-use Rattle.shapers_universal.proofs.UniversalListing.{Left}
 use Rattle.shapers_universal.proofs.ot_shaper_use.ordering.list_rest.Given as goal
 
 abbrev pub invariant-loop-i : goal.invariant-loop-i
