@@ -81,6 +81,12 @@ static sengadlit_outcome reorder(void)
                                world.glyphs, ROOM, questions, QUESTIONS);
 }
 
+static sengadlit_outcome likely(void)
+{
+    return sengadlit_likely_questions(SENGADLIT_REORDER_KHMER, &world.plan, &world.font, &world.text, world.glyphs,
+                                      ROOM, questions, QUESTIONS);
+}
+
 static sengadlit_outcome record(void)
 {
     return sengadlit_run_pause(SENGADLIT_RECORD_STCH, &world.plan, &world.font, world.spans, 0, &world.text,
@@ -105,7 +111,7 @@ static void print_world(const char *name, sengadlit_outcome outcome)
                (int)world.positions[i].x_offset);
 }
 
-/* Makes a call, again where it is refused memory, and prints what it leaves. */
+/* Makes a call, again where it is refused memory, and prints what it leaves: with memory it is done. */
 static void try_call(const char *name, sengadlit_outcome (*call)(void))
 {
     for (int attempt = 0; attempt < ATTEMPTS; attempt++) {
@@ -113,9 +119,13 @@ static void try_call(const char *name, sengadlit_outcome (*call)(void))
 
         keep_world();
         outcome = call();
-        if (outcome.status != SENGADLIT_MEMORY) {
+        if (outcome.status == SENGADLIT_DONE) {
             print_world(name, outcome);
             return;
+        }
+        if (outcome.status != SENGADLIT_MEMORY) {
+            printf("%s: status %" PRIu32 "\n", name, outcome.status);
+            exit(EXIT_FAILURE);
         }
         if (world_is_changed()) {
             printf("%s: refused, and something is written\n", name);
@@ -165,6 +175,7 @@ static void try_khmer(void)
     try_call("decompose", decompose);
     try_call("masks", masks);
     try_call("set up", set_up);
+    try_call("likely", likely);
     try_call("reorder", reorder);
 }
 

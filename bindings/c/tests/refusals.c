@@ -104,6 +104,13 @@ static sengadlit_outcome pause_of(uint32_t pause, size_t spans)
                                world.room, questions, QUESTIONS);
 }
 
+static sengadlit_outcome likely(uint32_t pause, size_t questions_room)
+{
+    keep_world();
+    return sengadlit_likely_questions(pause, &world.plan, &world.font, &world.text, world.glyphs, world.room, questions,
+                                      questions_room);
+}
+
 static sengadlit_outcome postprocess(uint32_t shaper, size_t positions_room)
 {
     keep_world();
@@ -222,6 +229,46 @@ static void questions_without_answers(void)
            sengadlit_setup_masks(SENGADLIT_KHMER, &world.plan, &world.tables, &world.text, world.glyphs, ROOM,
                                  questions, 0),
            SENGADLIT_MEMORY);
+}
+
+static void questions_of_hooks_on_text(void)
+{
+    begin_world(SENGADLIT_TAG('T', 'h', 'a', 'i'), 0x0E1B, 2);
+    world.glyphs[1].glyph_id = 0x0E49;
+    expect_count("Thai asks for a form", preprocess(SENGADLIT_THAI), SENGADLIT_ASKED, 1);
+    expect_question("a form", SENGADLIT_ASKS_NOMINAL, questions[0].first, 0);
+    begin_khmer();
+    expect("data of Khmer", create(SENGADLIT_KHMER), SENGADLIT_DONE);
+    world.text.has_broken_syllable = 1;
+    expect_count("Khmer asks for a circle", pause_of(SENGADLIT_REORDER_KHMER, 0), SENGADLIT_ASKED, 1);
+    expect_question("a circle", SENGADLIT_ASKS_NOMINAL, 0x25CC, 0);
+    world.nominals[0].character = 0x25CC;
+    world.nominals[0].glyph = SENGADLIT_NONE;
+    world.font.nominals_length = 1;
+    expect("Khmer with an answer", pause_of(SENGADLIT_REORDER_KHMER, 0), SENGADLIT_DONE);
+}
+
+static void likely_questions(void)
+{
+    begin_khmer();
+    expect_argument("likely questions without data", likely(SENGADLIT_REORDER_KHMER, QUESTIONS));
+    expect("data of Khmer", create(SENGADLIT_KHMER), SENGADLIT_DONE);
+    expect_count("a circle is likely", likely(SENGADLIT_REORDER_KHMER, QUESTIONS), SENGADLIT_ASKED, 1);
+    expect_question("a likely circle", SENGADLIT_ASKS_NOMINAL, 0x25CC, 0);
+    expect("a likely question without room", likely(SENGADLIT_REORDER_KHMER, 0), SENGADLIT_MEMORY);
+    world.nominals[0].character = 0x25CC;
+    world.font.nominals_length = 1;
+    expect("nothing likely is left", likely(SENGADLIT_REORDER_KHMER, QUESTIONS), SENGADLIT_DONE);
+    expect("a pause that asks nothing", likely(SENGADLIT_SYLLABIC_CLEAR_VAR, QUESTIONS), SENGADLIT_DONE);
+    expect_argument("likely questions of no pause", likely(NO_PAUSE, QUESTIONS));
+    world.text.level = 3;
+    expect_argument("likely questions of no level", likely(SENGADLIT_REORDER_KHMER, QUESTIONS));
+    begin_world(SENGADLIT_TAG('D', 'e', 'v', 'a'), 0x0915, 2);
+    expect("data of Indic", create(SENGADLIT_INDIC), SENGADLIT_DONE);
+    expect_count("room for one", likely(SENGADLIT_INITIAL_REORDERING, 1), SENGADLIT_ASKED, 1);
+    expect_count("circle and virama", likely(SENGADLIT_INITIAL_REORDERING, QUESTIONS), SENGADLIT_ASKED, 2);
+    expect_count("the virama alone", likely(SENGADLIT_FINAL_REORDERING, QUESTIONS), SENGADLIT_ASKED, 1);
+    expect_question("a virama", SENGADLIT_ASKS_NOMINAL, 0x094D, 0);
 }
 
 static void an_argument_is_told_before_absence(void)
@@ -426,6 +473,8 @@ int main(void)
     absent_hooks();
     rooms_for_requests();
     questions_without_answers();
+    questions_of_hooks_on_text();
+    likely_questions();
     an_argument_is_told_before_absence();
     plans_that_are_none();
     plans_without_data();

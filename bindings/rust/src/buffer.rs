@@ -187,7 +187,7 @@ impl Buffer {
     }
 
     /// The settings as the library reads them.
-    fn text(&self) -> ffi::Text {
+    pub(crate) fn text(&self) -> ffi::Text {
         ffi::Text {
             length: self.glyphs.len(),
             max_length: self.max_len,

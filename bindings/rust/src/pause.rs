@@ -97,6 +97,27 @@ impl Pause {
         Ok(answered.is_some_and(|outcome| outcome.answer != 0))
     }
 
+    /// Asks the font beforehand what the pause is likely to ask of this text, so that the pause
+    /// itself, run next, asks little or nothing. Only reorderings ask: of Indic text the nominal
+    /// glyphs of the circle and the virama, and then lookups on consonants, on the opening of each
+    /// syllable and on each two of its glyphs.
+    pub fn ask_likely<F: Font>(
+        self,
+        plan: &Plan,
+        font: &FontCache<F>,
+        buffer: &Buffer,
+    ) -> Result<(), Error> {
+        buffer.check_before_positioning()?;
+        let plan_arrays = plan.arrays();
+        let text = buffer.text();
+        let outcome = font.settle(|font, questions| {
+            let glyphs = &buffer.glyphs;
+            calls::likely_questions(self as u32, &plan_arrays, font, &text, glyphs, questions)
+        });
+        outcome.result(|| self.fault(plan, &[], buffer))?;
+        Ok(())
+    }
+
     /// The pause of a number of the library.
     pub(crate) fn from_number(number: u32) -> Option<Self> {
         Self::ALL

@@ -3,8 +3,8 @@
 #![forbid(unsafe_code)]
 
 use sengadlit::{
-    script, Buffer, Character, Font, FontCache, GlyphId, JoiningType, Plan, Shaper, Tables,
-    TablesCache, Tag,
+    script, Buffer, Character, Font, FontCache, GlyphId, JoiningType, Pause, Plan, Shaper, Span,
+    Tables, TablesCache, Tag,
 };
 use std::cell::{Cell, RefCell};
 use std::collections::BTreeSet;
@@ -116,6 +116,112 @@ fn a_font_settles_after_few_rounds() {
     assert_eq!(font.rounds(), rounds + 1);
     assert_eq!(font.font().count(), asked);
     assert_eq!(again, buffer);
+}
+
+/// A font of one glyph for each character, whose lookups apply to what begins with Ra's glyph.
+#[derive(Default)]
+struct LookupFont {
+    asked: Cell<usize>,
+}
+
+impl Font for LookupFont {
+    fn get_nominal_glyph(&self, character: char) -> Option<GlyphId> {
+        Some(GlyphId(u32::from(character) as u16))
+    }
+
+    fn glyph_h_advance(&self, _glyph: GlyphId) -> i32 {
+        0
+    }
+
+    fn would_apply(&self, _lookup: u16, glyphs: &[GlyphId], _zero_context: bool) -> bool {
+        self.asked.set(self.asked.get() + 1);
+        glyphs[0] == GlyphId(0x0930)
+    }
+}
+
+/// Indic syllables of Devanagari, with the categories and positions of consonants and halants.
+fn devanagari_text() -> (Buffer, Vec<Span>) {
+    let words = ["\u{0930}\u{094D}\u{0915}", "\u{0915}\u{094D}\u{0930}\u{094D}\u{0937}", "\u{0924}"];
+    let mut buffer = Buffer::from(words.concat().as_str());
+    buffer.script = Some(script::DEVANAGARI);
+    for glyph in &mut buffer.glyphs {
+        (glyph.category, glyph.auxiliary) = match glyph.glyph_id {
+            0x094D => (4, 14),
+            0x0930 => (15, 4),
+            _ => (1, 4),
+        };
+    }
+    let spans = words.map(|word| Span {
+        length: word.chars().count(),
+        kind: 0,
+    });
+    (buffer, spans.to_vec())
+}
+
+/// A plan of Devanagari with a lookup for each feature that the font is asked about.
+fn devanagari_plan() -> Plan {
+    let mut plan = Plan::builder()
+        .script(script::DEVANAGARI)
+        .chosen_script(Tag::from_bytes(b"dev2"))
+        .lookups(10..15);
+    for (place, tag) in [b"blwf", b"pref", b"pstf", b"rphf", b"vatu"].into_iter().enumerate() {
+        plan = plan
+            .feature(Tag::from_bytes(tag), 8 << place, place)
+            .stage(place..place + 1);
+    }
+    plan.build_for(Shaper::INDIC).unwrap()
+}
+
+#[test]
+fn likely_questions_save_the_rounds() {
+    let plan = devanagari_plan();
+    let (mut before, spans) = devanagari_text();
+    let asking = FontCache::new(LookupFont::default());
+    Pause::SetupSyllablesIndic
+        .run(&plan, &asking, &spans, &mut before)
+        .unwrap();
+
+    let mut asked = before.clone();
+    let rounds = asking.rounds();
+    Pause::InitialReordering
+        .run(&plan, &asking, &[], &mut asked)
+        .unwrap();
+    assert!(asking.rounds() > rounds + 2);
+
+    let font = FontCache::new(LookupFont::default());
+    let mut foretold = before.clone();
+    Pause::InitialReordering
+        .ask_likely(&plan, &font, &before)
+        .unwrap();
+    let (rounds, questions) = (font.rounds(), font.font().asked.get());
+    Pause::InitialReordering
+        .run(&plan, &font, &[], &mut foretold)
+        .unwrap();
+    assert_eq!(font.rounds(), rounds + 1);
+    assert_eq!(font.font().asked.get(), questions);
+    assert_eq!(foretold, asked);
+    assert_ne!(foretold.glyphs, before.glyphs);
+
+    // Asked again, nothing is left; and other pauses ask nothing.
+    Pause::InitialReordering
+        .ask_likely(&plan, &font, &before)
+        .unwrap();
+    Pause::SyllabicClearVar
+        .ask_likely(&plan, &font, &before)
+        .unwrap();
+    assert_eq!(font.rounds(), rounds + 3);
+    assert_eq!(font.font().asked.get(), questions);
+}
+
+#[test]
+fn likely_questions_want_the_arguments_of_the_pause() {
+    let font = FontCache::new(LookupFont::default());
+    let (buffer, _) = devanagari_text();
+    let plan = plain_plan(script::DEVANAGARI);
+    assert!(Pause::InitialReordering
+        .ask_likely(&plan, &font, &buffer)
+        .is_err());
+    assert_eq!(font.font().asked.get(), 0);
 }
 
 #[test]

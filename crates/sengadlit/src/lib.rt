@@ -6,6 +6,7 @@ mod constants;
 mod crossing;
 mod data;
 mod layout;
+mod likely;
 mod marks;
 mod masks;
 mod pairs;

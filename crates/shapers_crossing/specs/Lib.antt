@@ -4,4 +4,5 @@ pub mod Listed
 pub mod Numbers
 pub mod Outcome
 pub mod Plan
+pub mod Questions
 pub mod Text

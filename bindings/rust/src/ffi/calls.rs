@@ -99,6 +99,17 @@ extern "C" {
         questions_room: usize,
     ) -> Outcome;
 
+    fn sengadlit_likely_questions(
+        pause: u32,
+        plan: *const Plan<'_>,
+        font: *const Font<'_>,
+        text: *const Text,
+        glyphs: *const GlyphInfo,
+        room: usize,
+        questions: *mut Question,
+        questions_room: usize,
+    ) -> Outcome;
+
     fn sengadlit_postprocess_glyphs(
         shaper: u32,
         plan: *const Plan<'_>,
@@ -330,6 +341,34 @@ pub(crate) fn run_pause(
     };
     take_questions(questions, outcome);
     take_glyphs(glyphs, text, outcome);
+    outcome
+}
+
+/// What a pause is likely to ask, as far as the room of the vector goes.
+pub(crate) fn likely_questions(
+    pause: u32,
+    plan: &Plan<'_>,
+    font: &Font<'_>,
+    text: &Text,
+    glyphs: &[GlyphInfo],
+    questions: &mut Vec<Question>,
+) -> Outcome {
+    assert_eq!(text.length, glyphs.len(), "the text is the whole array");
+    questions.clear();
+    // SAFETY: see the top of the module.
+    let outcome = unsafe {
+        sengadlit_likely_questions(
+            pause,
+            plan,
+            font,
+            text,
+            glyphs.as_ptr(),
+            glyphs.len(),
+            questions.as_mut_ptr(),
+            questions.capacity(),
+        )
+    };
+    take_questions(questions, outcome);
     outcome
 }
 

@@ -1,9 +1,10 @@
 //! The answers of a font.
 ghost use Rattle.std.specs.Prelude.{◌≡◌, ◌+◌, ◌*◌, ◌<◌, length, None, Some};
-ghost use Rattle.shapers_crossing.specs.Answers.{applies_key, entry_key, number_at};
+ghost use Rattle.shapers_crossing.specs.Answers.{applies_key, entry_key};
 ghost use Rattle.shapers_crossing.specs.Listed.{key_number};
+ghost use Rattle.shapers_crossing.specs.Questions.{has_entry, has_lookup, is_answered};
 
-use super::{OpenQuestions, Question};
+use super::{OpenQuestions, Question, asks};
 use crate::listed::{Key, Keyed, look_up};
 use shapers_base::buffer::hb_tag_t;
 use shapers_base::font::{GlyphId, hb_font_t};
@@ -87,6 +88,44 @@ pub struct FontAnswers<'a> {
     pub offered: &'a [Offered],
 }
 
+impl FontAnswers<'_> {
+    /// Whether they have the answer to a question.
+    pub fn has(&self, question: &Question) -> bool
+        ensures { result ≡ is_answered self.now question.now }
+    {
+        match question.asks {
+            asks::NOMINAL => has_entry(self.nominals, question.first),
+            asks::ADVANCE => has_entry(self.advances, question.first),
+            asks::APPLIES => has_lookup(self.applies, question),
+            asks::OFFERED => has_entry(self.offered, question.first),
+            _ => false,
+        }
+    }
+}
+
+// Whether there is an entry under this number.
+fn has_entry<T: Keyed>(entries: &[T], number: u32) -> bool
+    ensures { result ≡ has_entry T.key_of number entries.now }
+{
+    look_up(entries, Key::of(u64::from(number))).is_some()
+}
+
+// Whether there is an entry for a question about a lookup.
+fn has_lookup(entries: &[Applies], question: &Question) -> bool
+    ensures { result ≡ has_lookup question.now entries.now }
+{
+    let Ok(lookup) = u16::try_from(question.first) else {
+        return false;
+    };
+    let key = key_of_numbers(
+        lookup,
+        question.length,
+        &question.glyphs,
+        question.zero_context,
+    );
+    look_up(entries, key).is_some()
+}
+
 // The number that answers about lookups are sorted by.
 fn key_of_numbers(lookup: u16, length: u16, glyphs: &[u16; 3], zero_context: u8) -> Key
     ensures { key_number result.front result.back
@@ -109,18 +148,6 @@ pub struct AskedFont<'a> {
     pub open: &'a OpenQuestions,
 }
 
-impl AskedFont<'_> {
-    // The glyph at a place, or 0.
-    fn number(glyphs: &[GlyphId], place: usize) -> u16
-        ensures { result ≡ number_at glyphs.now place }
-    {
-        match glyphs.get(place) {
-            Some(glyph) => glyph.0,
-            None => 0,
-        }
-    }
-}
-
 impl hb_font_t for AskedFont<'_> {
     ghost use Rattle.shapers_crossing.specs.Answers.{font_of};
 
@@ -128,7 +155,7 @@ impl hb_font_t for AskedFont<'_> {
 
     fn get_nominal_glyph(&self, c: u32) -> Option<GlyphId> {
         let Some(entry) = look_up(self.answers.nominals, Key::of(u64::from(c))) else {
-            self.open.ask(Question::of(1, c, 0));
+            self.open.ask(Question::nominal(c));
             return None;
         };
         u16::try_from(entry.glyph).ok().map(GlyphId)
@@ -143,7 +170,7 @@ impl hb_font_t for AskedFont<'_> {
         match look_up(self.answers.advances, Key::of(u64::from(number))) {
             Some(entry) => entry.advance,
             None => {
-                self.open.ask(Question::of(2, number, 0));
+                self.open.ask(Question::of(asks::ADVANCE, number, 0));
                 0
             }
         }
@@ -153,23 +180,17 @@ impl hb_font_t for AskedFont<'_> {
         if glyphs.len() > 3 {
             return false;
         }
-        let length = glyphs.len() as u16;
-        let numbers = [
-            Self::number(glyphs, 0),
-            Self::number(glyphs, 1),
-            Self::number(glyphs, 2),
-        ];
-        let zero_context = u8::from(zero_context);
-        let key = key_of_numbers(lookup, length, &numbers, zero_context);
+        let question = Question::applies(lookup, glyphs, zero_context);
+        let key = key_of_numbers(
+            lookup,
+            question.length,
+            &question.glyphs,
+            question.zero_context,
+        );
         match look_up(self.answers.applies, key) {
             Some(entry) => entry.applies != 0,
             None => {
-                self.open.ask(Question {
-                    length,
-                    glyphs: numbers,
-                    zero_context,
-                    ..Question::of(3, u32::from(lookup), 0)
-                });
+                self.open.ask(question);
                 false
             }
         }
@@ -180,7 +201,7 @@ impl hb_font_t for AskedFont<'_> {
         match look_up(self.answers.offered, Key::of(u64::from(number))) {
             Some(entry) => entry.offered != 0,
             None => {
-                self.open.ask(Question::of(4, number, 0));
+                self.open.ask(Question::of(asks::OFFERED, number, 0));
                 false
             }
         }

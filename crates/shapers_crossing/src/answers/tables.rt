@@ -4,7 +4,7 @@ ghost use Rattle.shapers_crossing.specs.Answers.{character_at, composition_key};
 ghost use Rattle.shapers_crossing.specs.Listed.{key_number};
 ghost use Rattle.shapers_crossing.specs.Numbers.{joining_types};
 
-use super::{OpenQuestions, Question};
+use super::{OpenQuestions, Question, asks};
 use crate::glyph::category_at;
 use crate::listed::{Key, Keyed, look_up};
 use shapers_base::buffer::hb_unicode_general_category_t;
@@ -117,7 +117,7 @@ impl AskedTables<'_> {
         match look_up(self.answers.characters, Key::of(u64::from(c))) {
             Some(entry) => entry,
             None => {
-                self.open.ask(Question::of(5, c, 0));
+                self.open.ask(Question::of(asks::CHARACTER, c, 0));
                 Character {
                     character: c,
                     joining_type: 0,
@@ -162,7 +162,8 @@ impl Tables for AskedTables<'_> {
         match look_up(self.answers.compositions, key_of_pair(first, second)) {
             Some(entry) => char::from_u32(entry.composed),
             None => {
-                self.open.ask(Question::of(6, first, second));
+                self.open
+                    .ask(Question::of(asks::COMPOSITION, first, second));
                 None
             }
         }
@@ -177,7 +178,8 @@ impl Tables for AskedTables<'_> {
                 Some((first, second))
             }
             None => {
-                self.open.ask(Question::of(7, composed, 0));
+                self.open
+                    .ask(Question::of(asks::DECOMPOSITION, composed, 0));
                 None
             }
         }
