@@ -151,13 +151,18 @@ static void try_thai(void)
 static void try_khmer(void)
 {
     static const sengadlit_character characters[] = {
-        {0x1780, 0, 7, 1, 14, 0}, {0x179A, 0, 7, 15, 14, 0}, {0x17D2, 0, 12, 4, 14, 0}, {0x25CC, 0, 26, 11, 14, 0}};
+        {0x41, 0, 9, 0, 14, 0},
+        {0x1780, 0, 7, 1, 14, 0},
+        {0x179A, 0, 7, 15, 14, 0},
+        {0x17D2, 0, 12, 4, 14, 0},
+        {0x25CC, 0, 26, 11, 14, 0},
+    };
 
     begin_world(SENGADLIT_TAG('K', 'h', 'm', 'r'), 0x1780, 4);
     world.glyphs[1].glyph_id = 0x17D2;
     world.glyphs[2].glyph_id = 0x179A;
     memcpy(world.characters, characters, sizeof characters);
-    world.tables.characters_length = 4;
+    world.tables.characters_length = 5;
     world.nominals[0].character = 0x25CC;
     world.nominals[0].glyph = 7;
     world.font.nominals_length = 1;
@@ -165,6 +170,10 @@ static void try_khmer(void)
     world.compositions[0].second = 0x300;
     world.compositions[0].composed = 0xC0;
     world.tables.compositions_length = 1;
+    world.decompositions[0].composed = 0xC0;
+    world.decompositions[0].first = 0x41;
+    world.decompositions[0].second = 0x300;
+    world.tables.decompositions_length = 1;
     world.spans[0].length = 3;
     world.spans[1].length = 1;
     world.spans[1].kind = 1;

@@ -235,8 +235,9 @@ static void questions_of_hooks_on_text(void)
 {
     begin_world(SENGADLIT_TAG('T', 'h', 'a', 'i'), 0x0E1B, 2);
     world.glyphs[1].glyph_id = 0x0E49;
-    expect_count("Thai asks for a form", preprocess(SENGADLIT_THAI), SENGADLIT_ASKED, 1);
-    expect_question("a form", SENGADLIT_ASKS_NOMINAL, questions[0].first, 0);
+    /* MAI THO over PO PLA goes down and to the left: Windows' form, and Apple's where that is none. */
+    expect_count("Thai asks for forms", preprocess(SENGADLIT_THAI), SENGADLIT_ASKED, 2);
+    expect_question("a form", SENGADLIT_ASKS_NOMINAL, 0xF706, 0);
     begin_khmer();
     expect("data of Khmer", create(SENGADLIT_KHMER), SENGADLIT_DONE);
     world.text.has_broken_syllable = 1;

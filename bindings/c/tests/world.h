@@ -16,7 +16,7 @@ struct world {
     sengadlit_applies applies[1];
     sengadlit_offered offered[1];
     sengadlit_font font;
-    sengadlit_character characters[4];
+    sengadlit_character characters[5];
     sengadlit_composition compositions[1];
     sengadlit_decomposition decompositions[1];
     sengadlit_tables tables;

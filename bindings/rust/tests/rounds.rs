@@ -141,7 +141,11 @@ impl Font for LookupFont {
 
 /// Indic syllables of Devanagari, with the categories and positions of consonants and halants.
 fn devanagari_text() -> (Buffer, Vec<Span>) {
-    let words = ["\u{0930}\u{094D}\u{0915}", "\u{0915}\u{094D}\u{0930}\u{094D}\u{0937}", "\u{0924}"];
+    let words = [
+        "\u{0930}\u{094D}\u{0915}",
+        "\u{0915}\u{094D}\u{0930}\u{094D}\u{0937}",
+        "\u{0924}",
+    ];
     let mut buffer = Buffer::from(words.concat().as_str());
     buffer.script = Some(script::DEVANAGARI);
     for glyph in &mut buffer.glyphs {
@@ -164,7 +168,10 @@ fn devanagari_plan() -> Plan {
         .script(script::DEVANAGARI)
         .chosen_script(Tag::from_bytes(b"dev2"))
         .lookups(10..15);
-    for (place, tag) in [b"blwf", b"pref", b"pstf", b"rphf", b"vatu"].into_iter().enumerate() {
+    for (place, tag) in [b"blwf", b"pref", b"pstf", b"rphf", b"vatu"]
+        .into_iter()
+        .enumerate()
+    {
         plan = plan
             .feature(Tag::from_bytes(tag), 8 << place, place)
             .stage(place..place + 1);
