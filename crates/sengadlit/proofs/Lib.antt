@@ -1,4 +1,5 @@
 mod DataRows
+mod LikelyRows
 mod NumberRows
 mod StopRows
 mod Stopping

@@ -3,4 +3,5 @@ pub mod Halving
 mod Listing
 mod NumberRows
 mod PlanRows
+mod QuestionRows
 mod TextRows
