@@ -373,9 +373,10 @@ sengadlit_outcome sengadlit_run_pause(
    that it can be answered before the pause runs. The reorderings ask for the glyph of the dotted circle,
    25CC; those of Indic for the script's virama. With the virama's glyph the first of them asks of each
    consonant, in either order, by the lookups of blwf, vatu, pstf and pref; of the first two and three
-   glyphs of each syllable by rphf; and of each two glyphs of a syllable, in either order, by pref. ASKED:
-   `count` questions are written, as many as there is room for; answer them and call again. DONE: nothing
-   likely is left, and the pause asks little or nothing. ARGUMENT: as for the pause. */
+   glyphs of each syllable by rphf; and of each two glyphs of a syllable, in either order, by pref, which
+   takes time by the square of the longest syllable. ASKED: `count` questions are written, as many as there
+   is room for; answer them and call again. DONE: nothing likely is left, and the pause asks little or
+   nothing. ARGUMENT: as for the pause. */
 sengadlit_outcome sengadlit_likely_questions(
     uint32_t pause, const sengadlit_plan *plan, const sengadlit_font *font, const sengadlit_text *text,
     const sengadlit_glyph *glyphs, size_t room, sengadlit_question *questions, size_t questions_room);
