@@ -26,14 +26,17 @@ impl Flags for BufferFlags {
 
     ghost set_of = { λ f. f.0 };
 
+    #[inline]
     fn flags<'a>() -> &'a [Flag<BufferFlags>] {
         BufferFlags::FLAGS
     }
 
+    #[inline]
     fn bits(&self) -> u32 {
         self.0
     }
 
+    #[inline]
     fn from_bits_retain(bits: u32) -> BufferFlags {
         BufferFlags(bits)
     }
