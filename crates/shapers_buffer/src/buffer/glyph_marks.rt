@@ -10,10 +10,15 @@ pub struct GlyphMarks(pub u8);
 
 bitflag_items! {
     impl GlyphMarks: u8 {
+        /// A lookup put the glyph in.
         const SUBSTITUTED = 1;
+        /// A lookup put the glyph in for several.
         const LIGATED = 2;
+        /// A lookup put the glyph in as one of several for one.
         const MULTIPLIED = 4;
+        /// The character may stay undrawn (Default_Ignorable_Code_Point).
         const IGNORABLE = 8;
+        /// The character carries on the grapheme of the one before it.
         const CONTINUATION = 16;
     }
 }
