@@ -34,6 +34,7 @@ pub enum TableIndex {
 /// A feature of the map.
 #[derive(Clone, Copy, Debug, PartialEq, Eq)]
 pub struct feature_map_t {
+    /// The tag of the feature.
     pub tag: hb_tag_t,
     /// The bits of a glyph's mask that ask for the feature.
     pub mask: u32,
@@ -42,7 +43,7 @@ pub struct feature_map_t {
 }
 
 /// The map that the font's GSUB table and the wanted features make.
-#[derive(Drop)]
+#[derive(Debug, Drop)]
 pub struct hb_ot_map_t {
     features: Vec<feature_map_t>,
     stages: Vec<Range<usize>>,
@@ -112,6 +113,7 @@ impl hb_ot_map_t {
     }
 
     /// The mask of the first feature by this tag, or 0. It touches no glyph flag bit.
+    #[inline]
     pub fn get_1_mask(&self, tag: hb_tag_t) -> u32
         ensures first { result ≡ mask_of tag self.now }
         ensures off_flags { result % 8 ≡ 0 }
@@ -123,6 +125,7 @@ impl hb_ot_map_t {
     }
 
     /// The stage of the first feature by this tag.
+    #[inline]
     pub fn get_feature_stage(&self, table_index: TableIndex, tag: hb_tag_t) -> Option<usize>
         ensures { result ≡ of_gsub table_index (stage_of tag self.now) None }
     {
@@ -133,6 +136,7 @@ impl hb_ot_map_t {
     }
 
     /// The places of a stage in the list of lookups: `0..0` if there is no such stage.
+    #[inline]
     pub fn stage_lookup_range(&self, table_index: TableIndex, stage: usize) -> Range<usize>
         ensures range { result ≡ of_gsub table_index (range_of stage self.now) no_range }
         ensures in_order { result.start ≤ result.end }
@@ -146,6 +150,7 @@ impl hb_ot_map_t {
     }
 
     /// The lookups of a range of the list, as far as it goes.
+    #[inline]
     pub fn lookups(&self, range: &Range<usize>) -> &[u16]
         ensures { result.now ≡ lookups_in range.now self.now }
     {
@@ -155,6 +160,7 @@ impl hb_ot_map_t {
     }
 
     /// The lookup at this place of the list.
+    #[inline]
     pub fn lookup(&self, table_index: TableIndex, index: usize) -> Option<u16>
         ensures { result ≡ of_gsub table_index (slice_get self.now.lookups index) None }
     {
@@ -165,6 +171,7 @@ impl hb_ot_map_t {
     }
 
     /// The script of the font that was chosen for the text.
+    #[inline]
     pub fn chosen_script(&self, table_index: TableIndex) -> Option<hb_tag_t>
         ensures { result ≡ of_gsub table_index self.now.chosen None }
     {
@@ -175,6 +182,7 @@ impl hb_ot_map_t {
     }
 
     /// Whether the table has the script that was asked for.
+    #[inline]
     pub fn found_script(&self, table_index: TableIndex) -> bool
         ensures { result ≡ of_gsub table_index self.now.found false }
     {
@@ -185,6 +193,7 @@ impl hb_ot_map_t {
     }
 
     /// The bits of the features that hold for the whole text.
+    #[inline]
     pub fn get_global_mask(&self) -> u32
         ensures { result ≡ self.now.global }
     {

@@ -35,7 +35,7 @@ pub type Category = u8;
 pub type Position = u8;
 
 /// What a shaper does to a text of one script.
-#[derive(Drop)]
+#[derive(Debug, Drop)]
 pub struct hb_ot_shape_plan_t {
     /// The script of the text, where it is known.
     pub script: Option<Script>,

@@ -115,6 +115,7 @@ impl GlyphChange for JamoMasks {
 
     ghost changed = { λ m g. with_jamo_mask m.masks g };
 
+    #[inline]
     fn change(&self, glyph: &mut hb_glyph_info_t) {
         let feature = usize::from(glyph.auxiliary);
         glyph.mask |= self.masks.get(feature).copied().unwrap_or(0);

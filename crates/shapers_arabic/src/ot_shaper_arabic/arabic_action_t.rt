@@ -22,6 +22,7 @@ pub const STRETCHING_FIXED: u8 = 8;
 pub const STRETCHING_REPEATING: u8 = 9;
 
 /// Whether the action is that of a piece of a mark that stretches.
+#[inline]
 pub fn is_stch(n: u8) -> bool
     ensures { result ≡ (n == STRETCHING_FIXED || n == STRETCHING_REPEATING) }
 {

@@ -25,6 +25,7 @@ const ABOVE: u8 = 230;
 /// Among the marks from `start` to `end`, brings those that modify a letter to the front, in
 /// classes of their own: first the ones below it, then the ones above it. What they pass merges
 /// with them. It can't refuse and takes no memory. (Unicode Technical Report 53.)
+#[inline]
 pub fn reorder_marks(plan: &hb_ot_shape_plan_t, buffer: &mut hb_buffer_t, start: usize, end: usize)
     requires in_order { start ≤ end }
     requires in_range { end ≤ length buffer.old.glyphs }
@@ -56,6 +57,7 @@ impl GlyphWalk for MarkOrder {
     ghost walks = { λ v w gs hs.
         hs ≡ marks_reordered v.start v.end (marks_merged v.level v.start v.end gs) };
 
+    #[inline]
     fn walk(&mut self, glyphs: &mut [hb_glyph_info_t]) {
         order_marks(self.level, glyphs, self.start, self.end);
     }

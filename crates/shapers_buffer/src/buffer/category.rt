@@ -4,35 +4,65 @@ ghost use Rattle.shapers_buffer.specs.Category.{is_mark};
 /// The general categories of the Unicode Character Database, in their order.
 #[derive(Clone, Copy, Debug, PartialEq, Eq)]
 pub enum hb_unicode_general_category_t {
+    /// Control.
     Cc,
+    /// Format.
     Cf,
+    /// Unassigned.
     Cn,
+    /// Private use.
     Co,
+    /// Surrogate.
     Cs,
+    /// Lowercase letter.
     Ll,
+    /// Modifier letter.
     Lm,
+    /// Other letter.
     Lo,
+    /// Titlecase letter.
     Lt,
+    /// Uppercase letter.
     Lu,
+    /// Spacing mark.
     Mc,
+    /// Enclosing mark.
     Me,
+    /// Nonspacing mark.
     Mn,
+    /// Decimal number.
     Nd,
+    /// Letter number.
     Nl,
+    /// Other number.
     No,
+    /// Connector punctuation.
     Pc,
+    /// Dash punctuation.
     Pd,
+    /// Close punctuation.
     Pe,
+    /// Final punctuation.
     Pf,
+    /// Initial punctuation.
     Pi,
+    /// Other punctuation.
     Po,
+    /// Open punctuation.
     Ps,
+    /// Currency symbol.
     Sc,
+    /// Modifier symbol.
     Sk,
+    /// Math symbol.
     Sm,
+    /// Other symbol.
     So,
+    /// Line separator.
     Zl,
+    /// Paragraph separator.
     Zp,
+    /// Space separator.
     Zs,
 }
 
@@ -72,6 +102,7 @@ impl hb_unicode_general_category_t {
     ];
 
     /// Whether a character of this category is a mark: spacing, enclosing or nonspacing.
+    #[inline]
     pub fn is_mark(self) -> bool
         ensures { result ≡ is_mark self }
     {

@@ -12,9 +12,14 @@ pub enum BufferClusterLevel {
 /// The direction of the text.
 #[derive(Clone, Copy, Debug, PartialEq, Eq)]
 pub enum Direction {
+    /// Not set.
     Invalid,
+    /// From left to right, as Thai.
     LeftToRight,
+    /// From right to left, as Arabic.
     RightToLeft,
+    /// From top to bottom, as Mongolian.
     TopToBottom,
+    /// From bottom to top.
     BottomToTop,
 }

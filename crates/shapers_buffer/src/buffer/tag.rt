@@ -6,6 +6,7 @@ pub struct hb_tag_t(pub [u8; 4]);
 
 impl hb_tag_t {
     /// The tag of four bytes, as `*b"rlig"` (OpenType, tags).
+    #[inline]
     pub fn from_bytes(bytes: [u8; 4]) -> Self
         ensures { result.0 ≡ bytes }
     {
@@ -13,6 +14,7 @@ impl hb_tag_t {
     }
 
     /// Its four bytes.
+    #[inline]
     pub fn to_bytes(self) -> [u8; 4]
         ensures { result ≡ self.0 }
     {
@@ -26,6 +28,7 @@ pub struct Script(pub [u8; 4]);
 
 impl Script {
     /// The script whose ISO 15924 code has these bytes.
+    #[inline]
     pub fn from_bytes(bytes: [u8; 4]) -> Self
         ensures { result.0 ≡ bytes }
     {
@@ -33,6 +36,7 @@ impl Script {
     }
 
     /// The four bytes of its code.
+    #[inline]
     pub fn to_bytes(self) -> [u8; 4]
         ensures { result ≡ self.0 }
     {
