@@ -15,7 +15,7 @@ use shapers_base::plan::hb_ot_shape_plan_t;
 /// qamats), (sheva or hiriq), (meteg or below), merges the last two and swaps them: a meteg stands
 /// before the point that it is written left of. It can't refuse and takes no memory.
 #[inline]
-pub fn reorder_marks(plan: &hb_ot_shape_plan_t, buffer: &mut hb_buffer_t, start: usize, end: usize)
+pub fn reorder_marks(_plan: &hb_ot_shape_plan_t, buffer: &mut hb_buffer_t, start: usize, end: usize)
     requires in_order { start ≤ end }
     requires in_range { end ≤ length buffer.old.glyphs }
     ensures step { let step = mark_step start end buffer.old.glyphs in

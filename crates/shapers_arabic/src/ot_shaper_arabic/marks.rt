@@ -26,7 +26,7 @@ const ABOVE: u8 = 230;
 /// classes of their own: first the ones below it, then the ones above it. What they pass merges
 /// with them. It can't refuse and takes no memory. (Unicode Technical Report 53.)
 #[inline]
-pub fn reorder_marks(plan: &hb_ot_shape_plan_t, buffer: &mut hb_buffer_t, start: usize, end: usize)
+pub fn reorder_marks(_plan: &hb_ot_shape_plan_t, buffer: &mut hb_buffer_t, start: usize, end: usize)
     requires in_order { start ≤ end }
     requires in_range { end ≤ length buffer.old.glyphs }
     requires at_most_32 { end ≤ start + 32 }
@@ -135,7 +135,7 @@ fn is_modifier_of(class: u8, mark: &hb_glyph_info_t) -> bool
 fn modifies(character: u32) -> bool
     ensures { result ≡ list_any (λ c. c == character) modifiers }
 {
-    MODIFIERS.iter().any(|c| *c == character)
+    MODIFIERS.contains(&character)
 }
 
 // Merges what the modifiers pass with them.

@@ -2,6 +2,8 @@
 ghost use Rattle.std.specs.Prelude.{◌≡◌, ◌≤◌, ◌∷◌, [], true, ◌||◌};
 ghost use Rattle.shapers_hangul.specs.Hangul.{is_l, is_v, is_t, combines_l, combines_v, combines_t, is_s, is_lv, is_tone, with_v, with_t, lead, vowel, trail};
 
+// Where the leading jamo that combine, their vowels and the syllable characters begin, and the
+// place before the trailing jamo.
 const L_BASE: u32 = 0x1100;
 
 const V_BASE: u32 = 0x1161;
@@ -9,6 +11,7 @@ const V_BASE: u32 = 0x1161;
 const T_BASE: u32 = 0x11A7;
 
 const S_BASE: u32 = 0xAC00;
+
 // How many syllable characters there are for one vowel, and for one leading jamo.
 const T_COUNT: u32 = 28;
 

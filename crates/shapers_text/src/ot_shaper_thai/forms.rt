@@ -20,6 +20,7 @@ enum Consonant {
     RC,
     /// With a descender that stays.
     DC,
+    /// Another character.
     NotConsonant,
 }
 
@@ -32,12 +33,14 @@ enum Mark {
     BV,
     /// A tone, above.
     T,
+    /// Another character.
     NotMark,
 }
 
 /// What a mark does.
 #[derive(Clone, Copy)]
 enum Action {
+    /// Nothing.
     NOP,
     /// It is shifted down.
     SD,
