@@ -40,7 +40,7 @@ pub use glyph_marks::{GlyphMarks, marks_are_set_alone};
 pub use level::{BufferClusterLevel, Direction};
 pub use merging::{least_cluster, merge_clusters_in};
 pub use refusal::ShaperError;
-pub use settings::BufferSettings;
+pub use settings::{BufferSettings, context_characters};
 pub use syllables::{
     Span, first_syllable_len, has_span_of_kind, set_syllable, spans_cover, syllables_are_runs,
 };
