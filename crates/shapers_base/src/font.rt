@@ -7,7 +7,8 @@ ghost use Rattle.shapers_base.specs.Map.{would_one};
 use crate::buffer::{hb_tag_t, hb_unicode_general_category_t};
 use crate::plan::{Category, Position, hb_arabic_joining_type_t};
 
-/// A glyph of a font, by its number.
+/// A glyph of a font, by its number, in two bytes.
+#[repr(transparent)]
 #[derive(Clone, Copy, Debug, PartialEq, Eq)]
 pub struct GlyphId(pub u16);
 

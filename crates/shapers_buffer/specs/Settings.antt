@@ -1,5 +1,5 @@
 -- A whole text for a buffer: its settings, glyphs and positions.
-use Rattle.std.specs.Prelude.{Bool, ◌||◌, ◌==◌, List, length, take}
+use Rattle.std.specs.Prelude.{ℕ, Bool, ◌||◌, ◌&&◌, ◌==◌, List, length, nat_lt, take, if◌then◌else◌}
 use Rattle.shapers_buffer.specs.Buffer.{Buffer}
 use Rattle.shapers_buffer.specs.declared.buffer.glyph.GlyphPosition.{GlyphPosition}
 use Rattle.shapers_buffer.specs.declared.buffer.glyph.hb_glyph_info_t.{hb_glyph_info_t}
@@ -28,3 +28,7 @@ with_text gs ps s b =
 -- whether there are no positions, or one for each of these glyphs
 abbrev pub are_paired : List GlyphPosition → List hb_glyph_info_t → Bool
 are_paired ps gs = length ps == 0 || length ps == length gs
+
+-- the character of a code point; one that is no character reads as U+FFFD
+abbrev pub character_of : ℕ → ℕ
+character_of n = if nat_lt n 0xD800 || (nat_lt 0xDFFF n && nat_lt n 0x110000) then n else 0xFFFD
