@@ -1,7 +1,7 @@
 //! The buffer: the glyphs of a text, and its settings.
 
 pub use crate::generated::shapers_buffer::buffer::{
-    Buffer, BufferClusterLevel, BufferFlags, CONTEXT_LENGTH, ClusterRun, Direction,
+    Buffer, BufferClusterLevel, BufferFlags, BufferSettings, CONTEXT_LENGTH, ClusterRun, Direction,
     GeneralCategory, GlyphChange, GlyphInfo, GlyphMarks, GlyphPosition, GlyphWalk, PositionedWalk,
     Script, ShaperError, Span, Tag, glyph_flag, modified_combining_class, spans_cover,
 };

@@ -7,7 +7,11 @@ extern crate alloc as rust_alloc;
 #[cfg(any(test, feature = "std"))]
 extern crate std;
 
+mod builder;
+mod fonts;
+mod numbers;
 mod support;
+mod text;
 
 /// The modules that the eraser makes of the sources, one for each crate of theirs.
 mod generated {
@@ -43,6 +47,7 @@ pub mod ot_shaper_thai;
 pub mod ot_shaper_use;
 pub mod plan;
 pub mod rustybuzz;
+pub mod script;
 pub mod shaper;
 
 pub use buffer::{Buffer, GlyphInfo, GlyphPosition, Script, ShaperError, Span, Tag};

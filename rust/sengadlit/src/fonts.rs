@@ -1,0 +1,133 @@
+//! Fonts made of less than a whole one: of what plan time asks, or of what shaping asks.
+
+use crate::buffer::Tag;
+use crate::font::{Font, GlyphId};
+
+mod wide;
+
+pub use wide::{GlyphTooLarge, Wide, WideGlyphs};
+
+/// What plan time asks of a font, and nothing else.
+///
+/// A function of a tag is one.
+pub trait Features {
+    /// Whether the font has a feature by this tag.
+    fn has_feature(&self, tag: Tag) -> bool;
+}
+
+impl<F: Fn(Tag) -> bool> Features for F {
+    fn has_feature(&self, tag: Tag) -> bool {
+        self(tag)
+    }
+}
+
+/// A [`Font`] for plan time alone: for [`Shaper::collect_features`](crate::Shaper::collect_features).
+///
+/// It answers whether the font has a feature. Every other question panics, since it has no answer;
+/// plan time asks none.
+///
+/// ```
+/// use sengadlit::font::FeaturesOnly;
+/// use sengadlit::{Planner, Script, ShaperError, Shaper, Tag, alloc::Global};
+///
+/// let font = FeaturesOnly(|tag: Tag| tag == Tag(*b"rclt"));
+/// let mut planner = Planner::new(Global, Some(Script(*b"Arab")));
+/// Shaper::Arabic.collect_features(&font, &mut planner)?;
+/// # Ok::<(), ShaperError>(())
+/// ```
+#[derive(Clone, Copy, Debug, Default)]
+pub struct FeaturesOnly<F>(pub F);
+
+impl<F> FeaturesOnly<F> {
+    #[cold]
+    fn has_no_answer(question: &str) -> ! {
+        panic!("a font for plan time alone was asked for {question}")
+    }
+}
+
+impl<F: Features> Font for FeaturesOnly<F> {
+    fn get_nominal_glyph(&self, _c: u32) -> Option<GlyphId> {
+        Self::has_no_answer("a glyph")
+    }
+
+    fn has_glyph(&self, _c: u32) -> bool {
+        Self::has_no_answer("a glyph")
+    }
+
+    fn glyph_h_advance(&self, _glyph: GlyphId) -> i32 {
+        Self::has_no_answer("an advance")
+    }
+
+    fn would_apply(&self, _lookup: u16, _glyphs: &[GlyphId], _zero_context: bool) -> bool {
+        Self::has_no_answer("a lookup")
+    }
+
+    fn has_feature(&self, tag: Tag) -> bool {
+        self.0.has_feature(tag)
+    }
+}
+
+/// What shaping asks of a font: everything but its features. See [`Font`] for each question.
+pub trait Glyphs {
+    /// The font's own glyph for a character, before any lookup.
+    fn get_nominal_glyph(&self, c: u32) -> Option<GlyphId>;
+
+    /// How far a glyph moves the pen, in font units.
+    fn glyph_h_advance(&self, glyph: GlyphId) -> i32;
+
+    /// Whether the lookup would apply to exactly these glyphs; with `zero_context`, only if it asks
+    /// for no context around them.
+    fn would_apply(&self, lookup: u16, glyphs: &[GlyphId], zero_context: bool) -> bool;
+
+    /// Whether the font has a nominal glyph for a character.
+    fn has_glyph(&self, c: u32) -> bool {
+        self.get_nominal_glyph(c).is_some()
+    }
+
+    /// Whether one of the lookups would apply to exactly these glyphs.
+    fn would_apply_any(&self, lookups: &[u16], glyphs: &[GlyphId], zero_context: bool) -> bool {
+        let would_apply = |lookup: &u16| self.would_apply(*lookup, glyphs, zero_context);
+        lookups.iter().any(would_apply)
+    }
+}
+
+/// A [`Font`] for shaping alone: for every hook and pause but
+/// [`Shaper::collect_features`](crate::Shaper::collect_features).
+///
+/// Whether the font has a feature it can't answer, and panics; shaping doesn't ask.
+#[derive(Clone, Copy, Debug, Default)]
+pub struct GlyphsOnly<F>(pub F);
+
+impl<F: Glyphs> Font for GlyphsOnly<F> {
+    fn get_nominal_glyph(&self, c: u32) -> Option<GlyphId> {
+        self.0.get_nominal_glyph(c)
+    }
+
+    fn has_glyph(&self, c: u32) -> bool {
+        self.0.has_glyph(c)
+    }
+
+    fn glyph_h_advance(&self, glyph: GlyphId) -> i32 {
+        self.0.glyph_h_advance(glyph)
+    }
+
+    fn would_apply(&self, lookup: u16, glyphs: &[GlyphId], zero_context: bool) -> bool {
+        self.0.would_apply(lookup, glyphs, zero_context)
+    }
+
+    fn would_apply_any(&self, lookups: &[u16], glyphs: &[GlyphId], zero_context: bool) -> bool {
+        self.0.would_apply_any(lookups, glyphs, zero_context)
+    }
+
+    fn has_feature(&self, _tag: Tag) -> bool {
+        has_no_features()
+    }
+}
+
+#[cold]
+fn has_no_features() -> ! {
+    panic!("a font for shaping alone was asked for a feature")
+}
+
+#[cfg(test)]
+mod tests;

@@ -1,0 +1,36 @@
+//! Generated from crates/shapers_base/src/plan/pause.rt by rust/erase; edit the source.
+
+/// What a shaper does between two stages of substitution.
+#[derive(Clone, Copy, Debug, PartialEq, Eq)]
+pub enum Pause {
+    /// Writes the spans of Indic syllables into the glyphs.
+    SetupSyllablesIndic,
+    /// Writes the spans of Khmer syllables into the glyphs.
+    SetupSyllablesKhmer,
+    /// Writes the spans of Myanmar syllables into the glyphs.
+    SetupSyllablesMyanmar,
+    /// Writes the spans of universal syllables into the glyphs.
+    SetupSyllablesUse,
+    /// The first reordering of Indic.
+    InitialReordering,
+    /// The reordering of Khmer.
+    ReorderKhmer,
+    /// The reordering of Myanmar.
+    ReorderMyanmar,
+    /// The reordering of the universal shaper.
+    ReorderUse,
+    /// The second reordering of Indic.
+    FinalReordering,
+    /// Records the pieces of marks that stretch.
+    RecordStch,
+    /// Records which glyphs form a reph.
+    RecordRphf,
+    /// Records which glyphs take a form before the base.
+    RecordPref,
+    /// Clears every syllable byte.
+    SyllabicClearVar,
+    /// Clears the marks of substituted glyphs.
+    ClearSubstitutionFlags,
+    /// Nothing: there is no fallback shaper for Arabic.
+    ArabicFallbackShape,
+}

@@ -1,0 +1,37 @@
+//! Generated from crates/shapers_indic/src/ot_shaper_indic/indic_feature.rt by rust/erase; edit the source.
+//!
+//! The places of the features in the shaper's list of them.
+
+pub const NUKT: usize = 0;
+
+pub const AKHN: usize = 1;
+
+pub const RPHF: usize = 2;
+
+pub const RKRF: usize = 3;
+
+pub const PREF: usize = 4;
+
+pub const BLWF: usize = 5;
+
+pub const ABVF: usize = 6;
+
+pub const HALF: usize = 7;
+
+pub const PSTF: usize = 8;
+
+pub const VATU: usize = 9;
+
+pub const CJCT: usize = 10;
+
+pub const INIT: usize = 11;
+
+pub const PRES: usize = 12;
+
+pub const ABVS: usize = 13;
+
+pub const BLWS: usize = 14;
+
+pub const PSTS: usize = 15;
+
+pub const HALN: usize = 16;

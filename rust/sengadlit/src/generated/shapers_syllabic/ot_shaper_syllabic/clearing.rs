@@ -1,0 +1,61 @@
+//! Generated from crates/shapers_syllabic/src/ot_shaper_syllabic/clearing.rt by rust/erase; edit the source.
+//!
+//! Clearing what one pause left on the glyphs for another.
+
+use crate::generated::shapers_base::buffer::{Buffer, GlyphChange, GlyphInfo};
+
+/// Takes every glyph out of its syllable: its syllable byte becomes 0. It takes no memory.
+///
+/// <details><summary>Contract</summary>
+///
+/// # Contract
+///
+/// ```text
+/// ensures { buffer.new ≡ record buffer.old { glyphs = map (in_syllable 0) buffer.old.glyphs } }
+/// ```
+///
+/// - `in_syllable`: crates/shapers_buffer/specs/Syllables.antt
+///
+/// </details>
+pub fn clear_syllables(buffer: &mut Buffer) {
+    let len = buffer.len();
+    buffer.change_each(0, len, &OutOfSyllable);
+}
+
+/// Takes back from every glyph the mark that a lookup substituted it. It takes no memory.
+///
+/// <details><summary>Contract</summary>
+///
+/// # Contract
+///
+/// ```text
+/// ensures { buffer.new ≡ record buffer.old { glyphs = map unsubstituted buffer.old.glyphs } }
+/// ```
+///
+/// - `unsubstituted`: crates/shapers_syllabic/specs/Syllabic.antt
+///
+/// </details>
+pub fn clear_substitution_flags(buffer: &mut Buffer) {
+    let len = buffer.len();
+    buffer.change_each(0, len, &Unsubstituted);
+}
+
+// Out of its syllable.
+#[derive(Clone, Copy)]
+struct OutOfSyllable;
+
+impl GlyphChange for OutOfSyllable {
+    fn change(&self, glyph: &mut GlyphInfo) {
+        glyph.syllable = 0;
+    }
+}
+
+// Without the mark of a substitution.
+#[derive(Clone, Copy)]
+struct Unsubstituted;
+
+impl GlyphChange for Unsubstituted {
+    fn change(&self, glyph: &mut GlyphInfo) {
+        glyph.marks.set_substituted(false);
+    }
+}
