@@ -109,6 +109,12 @@ impl Settings {
         self.features.as_slice()
     }
 
+    /// Adds a span.
+    pub(crate) fn add_span(&mut self, span: Span) -> Result<(), AllocError> {
+        self.spans.push(span)?;
+        Ok(())
+    }
+
     /// Sets a feature's mask.
     pub(crate) fn set_mask(&mut self, tag: hb_tag_t, mask: u32) -> Result<(), AllocError> {
         for feature in self.features.iter_mut() {
