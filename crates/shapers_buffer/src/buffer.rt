@@ -11,6 +11,7 @@ use std::marker::Model;
 
 mod category;
 mod cluster_runs;
+mod exchanging;
 mod fields;
 mod flags;
 mod glyph;
@@ -23,6 +24,7 @@ mod placement;
 mod refusal;
 mod replacing;
 mod reversing;
+mod settings;
 mod syllables;
 mod tag;
 mod walking;
@@ -38,6 +40,7 @@ pub use glyph_marks::{GlyphMarks, marks_are_set_alone};
 pub use level::{BufferClusterLevel, Direction};
 pub use merging::{least_cluster, merge_clusters_in};
 pub use refusal::ShaperError;
+pub use settings::BufferSettings;
 pub use syllables::{
     Span, first_syllable_len, has_span_of_kind, set_syllable, spans_cover, syllables_are_runs,
 };

@@ -1,6 +1,7 @@
 use bitflags::{Flag, Flags, bitflag_items};
 
 /// What the caller asks of the shapers; the numbers are this crate's own.
+#[repr(transparent)]
 #[derive(Clone, Copy, Debug, PartialEq, Eq)]
 pub struct BufferFlags(pub u32);
 

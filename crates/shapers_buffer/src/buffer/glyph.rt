@@ -1,7 +1,9 @@
 use super::category::hb_unicode_general_category_t;
 use super::glyph_marks::GlyphMarks;
 
-/// One glyph of the buffer, or before the font's mapping one character.
+/// One glyph of the buffer, or before the font's mapping one character. C's layout, 24 bytes: four
+/// words of four bytes, then seven single bytes in their order, then one that is unused.
+#[repr(C)]
 #[derive(Clone, Copy, Debug, PartialEq, Eq)]
 pub struct hb_glyph_info_t {
     /// A character before the font's mapping, a glyph number after it.
@@ -42,7 +44,8 @@ impl hb_glyph_info_t {
     };
 }
 
-/// Where a glyph is drawn and how far it moves the pen, in font units.
+/// Where a glyph is drawn and how far it moves the pen, in font units. C's layout, 16 bytes.
+#[repr(C)]
 #[derive(Clone, Copy, Debug, PartialEq, Eq)]
 pub struct GlyphPosition {
     pub x_advance: i32,

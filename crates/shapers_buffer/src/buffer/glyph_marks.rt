@@ -4,7 +4,8 @@ ghost use Rattle.shapers_buffer.specs.Marks.{SUBSTITUTED, LIGATED, MULTIPLIED, I
 
 use bitflags::{Flag, Flags, bitflag_items};
 
-/// The marks of a glyph, a bit for each. No mark reads the three bits above them.
+/// The marks of a glyph, a bit for each, in one byte. No mark reads the three bits above them.
+#[repr(transparent)]
 #[derive(Clone, Copy, Debug, PartialEq, Eq)]
 pub struct GlyphMarks(pub u8);
 

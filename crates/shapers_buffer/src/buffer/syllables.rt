@@ -9,7 +9,9 @@ ghost use Rattle.std.specs.List.{prefix_len, list_any};
 use super::glyph::hb_glyph_info_t;
 use super::{ShaperError, hb_buffer_t};
 
-/// A syllable as the script's grammar found it: its number of glyphs, and its kind, at most 15.
+/// A syllable as the script's grammar found it: its number of glyphs, and its kind, at most 15. C's
+/// layout.
+#[repr(C)]
 #[derive(Clone, Copy, Debug, PartialEq, Eq)]
 pub struct Span {
     pub len: usize,

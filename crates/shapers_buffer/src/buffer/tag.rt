@@ -1,6 +1,7 @@
 ghost use Rattle.std.specs.Prelude.{◌≡◌};
 
 /// A tag of the OpenType registry: four bytes.
+#[repr(transparent)]
 #[derive(Clone, Copy, Debug, PartialEq, Eq)]
 pub struct hb_tag_t(pub [u8; 4]);
 
@@ -21,6 +22,7 @@ impl hb_tag_t {
 }
 
 /// A script, by its ISO 15924 code: four bytes, as `Thai`.
+#[repr(transparent)]
 #[derive(Clone, Copy, Debug, PartialEq, Eq)]
 pub struct Script(pub [u8; 4]);
 
