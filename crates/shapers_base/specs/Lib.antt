@@ -1,4 +1,5 @@
 pub mod Font
 pub mod Map
+pub mod Plan
 pub mod Planner
 pub mod Questions

@@ -84,8 +84,7 @@ impl IndicWouldSubstituteFeature {
     ) -> bool
         ensures { result ≡ would_by (F.font face.now).applies map.now self.now glyphs.now }
     {
-        let lookups = self.lookups(map);
-        lookups.iter().any(|lookup| face.would_apply(*lookup, glyphs, self.zero_context))
+        face.would_apply_any(self.lookups(map), glyphs, self.zero_context)
     }
 
     /// The lookups that it is about.
