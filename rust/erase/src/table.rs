@@ -1,18 +1,10 @@
 //! All names that the eraser knows: what it makes, what it renames and what goes with the contracts.
 
-/// A tree of generated modules and the crates that it is made from.
-pub struct Tree {
-    /// The folder, from the top of the repository.
-    pub target: &'static str,
-    /// The crates in crates/.
-    pub crates: &'static [&'static str],
-}
-
-/// The trees of generated modules.
-pub const TREES: [Tree; 2] = [
-    Tree {
-        target: "rust/sengadlit/src/generated",
-        crates: &[
+/// The trees of generated modules: the folder, and the crates in crates/ that it is made from.
+pub const TREES: [(&str, &[&str]); 2] = [
+    (
+        "rust/sengadlit/src/generated",
+        &[
             "shapers_buffer",
             "shapers_base",
             "shapers_clusters",
@@ -29,14 +21,11 @@ pub const TREES: [Tree; 2] = [
             "shapers_indic_final",
             "rustybuzz_shapers",
         ],
-    },
-    Tree {
-        target: "rust/hbhook/src/generated",
-        crates: &["hbhook_lines", "hbhook_draw"],
-    },
+    ),
+    ("rust/hbhook/src/generated", &["hbhook_lines", "hbhook_draw"]),
 ];
 
-/// The types whose names change, and methods whose Rust namesake differs.
+/// The names that change.
 pub const NAMES: &[(&str, &str)] = &[
     ("hb_ot_shaper_t", "Shaper"),
     ("hb_buffer_t", "Buffer"),
@@ -54,7 +43,7 @@ pub const NAMES: &[(&str, &str)] = &[
     ("indic_shape_plan_t", "IndicPlan"),
     ("khmer_shape_plan_t", "KhmerPlan"),
     ("use_shape_plan_t", "UniversalPlan"),
-    (COUNTED.0, COUNTED.1),
+    COUNTED,
 ];
 
 /// A function that counts look-ups, and the one that does the same without counting: erased, the
@@ -68,44 +57,29 @@ pub const COUNTING: &[&str] = &["LookUps", "setup_masks_with"];
 pub const LEDGER: &[&str] = &["Ledger", "LookUps", "Blank", "Book", "Share", "Brand"];
 
 /// What nothing imports after erasing.
-pub const ERASED_PATHS: &[&str] = &[
-    "std::marker::Brand",
-    "std::marker::Model",
-    "std::sync::ledger::",
-    "thiserror::Error",
+pub const ERASED_PATHS: &[&str] =
+    &["std::marker::Brand", "std::marker::Model", "std::sync::ledger::", "thiserror::Error"];
+
+/// The first words of paths into the library, by what they become: `core` where Rust has the same,
+/// else the support module.
+pub const ROOTS: &[(&str, &[&str])] = &[
+    ("core", &["std::cell", "std::char", "std::cmp", "std::fmt", "std::iter", "std::mem"]),
+    ("core", &["std::num", "std::ops", "std::slice", "std::str"]),
+    ("core::str", &["str::from_utf8"]),
+    ("crate::support", &["std::alloc", "std::collections", "std::io"]),
+    ("crate::support::arrayvec", &["arrayvec"]),
+    ("crate::support::bitflags", &["bitflags"]),
+    ("crate::support::unicode", &["unicode"]),
 ];
 
-/// Modules of the library, and where Rust has them: in `core`, or in the support module where the
-/// meaning differs.
-pub const LIBRARY: &[(&str, &str)] = &[
-    ("std::alloc", "crate::support::alloc"),
-    ("std::cell", "core::cell"),
-    ("std::char", "core::char"),
-    ("std::cmp", "core::cmp"),
-    ("std::collections", "crate::support::collections"),
-    ("std::fmt", "core::fmt"),
-    ("std::io", "crate::support::io"),
-    ("std::iter", "core::iter"),
-    ("std::mem", "core::mem"),
-    ("std::num", "core::num"),
-    ("std::ops", "core::ops"),
-    ("std::slice", "core::slice"),
-    ("std::str", "core::str"),
-    ("arrayvec", "crate::support::arrayvec"),
-    ("bitflags", "crate::support::bitflags"),
-    ("unicode", "crate::support::unicode"),
-];
-
-/// Names that stand without a `use` in a source and come from the support's prelude in Rust.
+/// The names that a source has without a `use`, and Rust from the support's prelude.
 pub const PRELUDE: &[&str] = &["Vec", "String", "vec", "format", "collect_in"];
 
-/// The attributes that stay.
-pub const ATTRIBUTES: &[&str] = &[
-    "allow", "default", "derive", "expect", "inline", "must_use", "non_exhaustive", "repr",
+/// The attributes that stay, and those that go.
+pub const ATTRIBUTES: [&[&str]; 2] = [
+    &["allow", "default", "expect", "inline", "must_use", "non_exhaustive", "repr"],
+    &["tactic", "rattlefmt", "error"],
 ];
-
-/// The attributes that go.
-pub const ERASED_ATTRIBUTES: &[&str] = &["tactic", "rattlefmt", "error"];
 
 /// The derives that go.
 pub const ERASED_DERIVES: &[&str] = &["Drop", "Error"];
@@ -113,26 +87,22 @@ pub const ERASED_DERIVES: &[&str] = &["Drop", "Error"];
 /// The words that begin a clause of a contract.
 pub const CLAUSES: &[&str] = &["requires", "ensures", "invariant", "decreases"];
 
+/// The words that no erased file has.
+pub const UNKNOWN: &[&str] = &["ghost", "requires", "ensures", "prove", "Drop", "Model", "Ledger"];
+
 /// The path of a crate of this repository, as seen from another one or from itself.
 pub fn path_of(krate: &str, from: &str) -> Option<String> {
-    let tree_of = |krate: &str| TREES.iter().position(|tree| tree.crates.contains(&krate));
+    let tree_of = |krate: &str| TREES.iter().position(|(_, crates)| crates.contains(&krate));
     match (tree_of(krate)?, tree_of(from)?) {
         (to, from) if to == from => Some(format!("crate::generated::{krate}")),
-        _ if krate == "rustybuzz_shapers" => Some("sengadlit".to_string()),
-        _ => None,
+        _ => (krate == "rustybuzz_shapers").then(|| "sengadlit".to_string()),
     }
 }
 
-/// All that a word of a source can become, apart from itself.
-pub fn replacements(word: &str, krate: &str) -> Vec<String> {
+/// What the table makes of a word that begins this path, in a file of a crate.
+pub fn root_of(word: &str, path: &str, krate: &str) -> Option<String> {
+    let is_start = |start: &&str| *start == word || *start == path;
+    let root = ROOTS.iter().find(|(_, starts)| starts.iter().any(|start| is_start(&start)));
     let own = if word == "crate" { krate } else { word };
-    let renamed = NAMES.iter().filter(|(old, _)| *old == word);
-    let moved = LIBRARY.iter().filter(|(old, _)| old.split("::").next() == Some(word));
-    let roots = moved.map(|(old, new)| new.strip_suffix(&old[word.len()..]).unwrap_or(new));
-    let collected = (word == "collect").then(|| "collect_in".to_string());
-    let words = renamed.map(|(_, new)| *new).chain(roots).map(str::to_string);
-    words.chain(path_of(own, krate)).chain(collected).collect()
+    root.map(|(root, _)| root.to_string()).or_else(|| path_of(own, krate))
 }
-
-/// The words that no erased file has.
-pub const UNKNOWN: &[&str] = &["ghost", "requires", "ensures", "prove", "Model", "Ledger", "LookUps"];
