@@ -6,12 +6,9 @@ use std::ops::RangeInclusive;
 
 /// Whether the function with its keyword at `i` is public by itself or as part of a public trait.
 pub fn is_public(file: &File, i: usize) -> bool {
-    let is_open = |j: &usize| file.text(*j) == "{" && file.partner(*j) > i;
-    let block = (0..i).rev().find(is_open).unwrap_or(0);
-    let is_border = |j: &usize| matches!(file.text(*j), ";" | "}" | "{");
-    let header = (0..block).rev().take_while(|j| !is_border(j)).collect::<Vec<usize>>();
-    let is_trait = header.iter().any(|j| file.text(*j) == "trait" && file.before(*j) == "pub");
-    is_trait || (file.start(i)..i).any(|j| file.text(j) == "pub" && file.text(j + 1) != "(")
+    let is_trait = |j: &usize| file.text(*j) == "trait" && file.before(*j) == "pub";
+    let owner = (0..i).rev().find(|j| is_trait(j) && file.end(*j).is_ok_and(|end| end > i));
+    owner.is_some() || (file.start(i)..i).any(|j| file.text(j) == "pub" && file.text(j + 1) != "(")
 }
 
 /// The documentation of clauses: conditions first, then where the definitions that they name stand.
@@ -35,9 +32,9 @@ pub fn documentation(file: &File, clauses: &[RangeInclusive<usize>]) -> String {
 // A clause as it is written, moved to the left.
 fn written(file: &File, clause: &RangeInclusive<usize>) -> String {
     let tokens = &file.tokens[clause.clone()];
+    let text: String = tokens.iter().map(|token| token.lead.clone() + &token.text).collect();
+    let text = text.trim_start();
     let column = tokens[0].lead.rsplit('\n').next().map_or(0, str::len);
-    let rest = tokens[1..].iter().map(|token| token.lead.clone() + &token.text);
-    let text: String = std::iter::once(tokens[0].text.clone()).chain(rest).collect();
     let dedented = |line: &str| {
         let indent = line.len() - line.trim_start().len();
         line[indent.min(column)..].to_string() + "\n"

@@ -1,26 +1,9 @@
 //! A source file as tokens that can be cut, and the extent of its items.
 
-use crate::token::{Token, tokens};
+use crate::token::{Token, is_part, tokens};
 use std::collections::{BTreeMap, BTreeSet};
-use std::fmt;
+use std::iter::{once, successors};
 use std::ops::RangeInclusive;
-
-/// Why the eraser stops, and where.
-#[derive(Debug)]
-pub struct Fault {
-    /// The file, from the top of the repository.
-    pub path: String,
-    /// The line, from 1.
-    pub line: usize,
-    /// What is wrong there.
-    pub message: String,
-}
-
-impl fmt::Display for Fault {
-    fn fmt(&self, f: &mut fmt::Formatter<'_>) -> fmt::Result {
-        write!(f, "{}:{}: {}", self.path, self.line, self.message)
-    }
-}
 
 /// A source file: what is left of it, and what its imports and code that is gone named.
 pub struct File {
@@ -38,34 +21,25 @@ pub struct File {
 
 impl File {
     /// Reads a file of a crate. Returns an error where a comment, a string or a bracket has no end.
-    pub fn new(krate: &str, path: &str, text: &str) -> Result<Self, Fault> {
-        let fault = |(line, message): (usize, &str)| Fault {
-            path: path.to_string(),
-            line,
-            message: message.to_string(),
+    pub fn new(krate: &str, path: &str, text: &str) -> Result<Self, String> {
+        let tokens = tokens(text).map_err(|(line, message)| format!("{path}:{line}: {message}"))?;
+        let (krate, path) = (krate.to_string(), path.to_string());
+        let (erased, definitions) = (BTreeSet::new(), BTreeMap::new());
+        let file = File { krate, path, tokens, erased, definitions };
+        let is_open = |i: &usize| {
+            let both = [file.text(*i), file.text(file.partner(*i))];
+            "()[]{}".contains(both[0])
+                && !["()", "[]", "{}", ")(", "][", "}{", ""].contains(&both.concat().as_str())
         };
-        let file = File {
-            krate: krate.to_string(),
-            path: path.to_string(),
-            tokens: tokens(text).map_err(fault)?,
-            erased: BTreeSet::new(),
-            definitions: BTreeMap::new(),
-        };
-        let is_closed = |i: &usize| match (file.text(*i), file.text(file.partner(*i))) {
-            ("(", ")") | ("[", "]") | ("{", "}") => true,
-            (")", "(") | ("]", "[") | ("}", "{") => true,
-            (text, _) => !"([{}])".contains(text) || text.is_empty(),
-        };
-        match (0..file.tokens.len()).find(|i| !is_closed(i)) {
-            Some(i) => Err(file.fault(i, format!("unbalanced `{}`", file.text(i)))),
+        match (0..file.tokens.len()).find(is_open) {
+            Some(i) => Err(file.fault(i, &format!("unbalanced `{}`", file.text(i)))),
             None => Ok(file),
         }
     }
 
     /// An error at a token.
-    pub fn fault(&self, i: usize, message: impl Into<String>) -> Fault {
-        let line = self.tokens.get(i).map_or(0, |token| token.line);
-        Fault { path: self.path.clone(), line, message: message.into() }
+    pub fn fault(&self, i: usize, message: &str) -> String {
+        format!("{}:{}: {message}", self.path, self.tokens[i].line)
     }
 
     /// The characters of a token; none outside of the file.
@@ -80,9 +54,8 @@ impl File {
 
     /// The characters of some tokens, with a space around `as`.
     pub fn joined(&self, range: RangeInclusive<usize>) -> String {
-        let texts =
-            self.tokens.get(range).unwrap_or_default().iter().map(|token| token.text.as_str());
-        texts.map(|text| if text == "as" { " as " } else { text }).collect()
+        let tokens = self.tokens.get(range).unwrap_or_default();
+        tokens.iter().map(|token| if token.text == "as" { " as " } else { &token.text }).collect()
     }
 
     /// The places of a word, the last one first, so that what is cut there moves none to come.
@@ -90,68 +63,67 @@ impl File {
         (0..self.tokens.len()).rev().filter(|i| self.text(*i) == word).collect()
     }
 
+    /// The nearest place before with one of these texts.
+    pub fn nearest(&self, i: usize, texts: &[&str]) -> Option<usize> {
+        (0..i).rev().find(|j| texts.contains(&self.text(*j)))
+    }
+
     /// The partner of a bracket; another token's own place.
     pub fn partner(&self, i: usize) -> usize {
-        let step = |j: usize| match self.text(j) {
-            "(" | "[" | "{" => 1,
-            ")" | "]" | "}" => -1,
-            _ => 0,
-        };
         let mut depth = 0;
         let mut is_partner = |j: &usize| {
-            depth += step(*j);
+            match self.text(*j) {
+                "(" | "[" | "{" => depth += 1,
+                ")" | "]" | "}" => depth -= 1,
+                _ => {}
+            }
             depth == 0
         };
-        let found = match step(i) {
-            1 => (i..self.tokens.len()).find(is_partner),
+        let found = match self.text(i) {
+            "(" | "[" | "{" => (i..self.tokens.len()).find(is_partner),
             _ => (0..=i).rev().find(|j| is_partner(j)),
         };
         found.unwrap_or(i)
     }
 
+    // The tokens from a place on, without those in brackets.
+    fn outer(&self, i: usize) -> impl Iterator<Item = usize> + '_ {
+        let next = |j: &usize| Some(self.partner(*j).max(*j) + 1);
+        successors(Some(i), next).take_while(|j| *j < self.tokens.len())
+    }
+
     /// The first token of the item with its keyword at `i`: an attribute, `pub`, or the keyword.
-    pub fn start(&self, mut i: usize) -> usize {
-        while i > 0 {
-            let open = self.partner(i - 1);
-            i = match (self.text(i - 1), self.before(open)) {
-                ("pub" | "const" | "unsafe", _) => i - 1,
-                (")", "pub") | ("]", "#") => open - 1,
-                _ => break,
-            };
+    pub fn start(&self, i: usize) -> usize {
+        let open = if i > 0 { self.partner(i - 1) } else { return i };
+        match (self.text(i - 1), self.before(open)) {
+            ("pub" | "const" | "unsafe", _) => self.start(i - 1),
+            (")", "pub") | ("]", "#") => self.start(open - 1),
+            _ => i,
         }
-        i
     }
 
     /// The last token of the item or statement with its keyword at `i`: a semicolon, or the closing
     /// brace of its body.
-    pub fn end(&self, i: usize) -> Result<usize, Fault> {
+    pub fn end(&self, i: usize) -> Result<usize, String> {
         let has_body = !matches!(self.text(i), "use" | "const" | "static" | "type" | "let");
-        let mut j = i;
-        while self.text(j) != ";" {
-            match self.text(j) {
-                "" => return Err(self.fault(i, "an item without an end")),
-                "{" if has_body => return Ok(self.partner(j)),
-                "{" | "(" | "[" => j = self.partner(j) + 1,
-                _ => j += 1,
-            }
-        }
-        Ok(j)
+        let is_end = |j: &usize| self.text(*j) == ";" || has_body && self.text(*j) == "{";
+        let end = self.outer(i).find(is_end).map(|j| self.partner(j));
+        end.ok_or_else(|| self.fault(i, "an item without an end"))
     }
 
     /// The elements of the list between a bracket and its partner, the last one first.
     pub fn listed(&self, open: usize) -> Vec<RangeInclusive<usize>> {
-        let (mut elements, mut first, mut i) = (Vec::new(), open + 1, open + 1);
-        while i <= self.partner(open) {
-            let is_last = i == self.partner(open);
-            if (self.text(i) == "," || is_last) && first < i {
-                elements.insert(0, first..=i - 1);
-            }
-            if self.text(i) == "," {
-                first = i + 1;
-            }
-            i = if is_last { i } else { self.partner(i) } + 1;
-        }
-        elements
+        let close = self.partner(open);
+        let inner = self.outer(open + 1).take_while(|i| *i < close);
+        let commas = inner.filter(|i| self.text(*i) == ",");
+        let borders: Vec<usize> = once(open).chain(commas).chain(once(close)).collect();
+        let elements = borders.windows(2).rev().map(|pair| pair[0] + 1..=pair[1] - 1);
+        elements.filter(|element| !element.is_empty()).collect()
+    }
+
+    /// Whether a token is part of an import.
+    pub fn is_import(&self, i: usize) -> bool {
+        self.nearest(i + 1, &["use", ";"]).is_some_and(|start| self.text(start) == "use")
     }
 
     /// Cuts tokens out; the comments before them stay.
@@ -159,9 +131,8 @@ impl File {
         let lead = self.tokens[*range.start()].lead.clone();
         let behind = &mut self.tokens[*range.end() + 1].lead;
         *behind = if behind.trim().is_empty() { lead } else { lead + behind };
-        let is_word =
-            |text: &String| text.chars().next().is_some_and(|c| c == '_' || c.is_alphabetic());
-        self.erased.extend(self.tokens.drain(range).map(|token| token.text).filter(is_word));
+        let words = self.tokens.drain(range).map(|token| token.text);
+        self.erased.extend(words.filter(|word| word.starts_with(is_part)));
     }
 
     /// Cuts an item or a statement out, with the comments that stand directly on it.
@@ -170,10 +141,10 @@ impl File {
         let inner = lead.rfind("//!").map(|i| i + lead[i..].find('\n').unwrap_or(0));
         let trailing = lead.find('\n').filter(|_| *range.start() > 0);
         let kept = lead.rfind("\n\n").max(inner).max(trailing).map_or(0, |i| i + 1);
-        let behind = self.tokens[*range.end() + 1].lead.clone();
-        let lead = lead[..kept].trim_start_matches(['\n', ' ']).to_string() + &behind;
-        self.cut(range.clone());
-        self.tokens[*range.start()].lead = lead;
+        let kept = lead[..kept].trim_start_matches(['\n', ' ']).to_string();
+        let (start, lead) = (*range.start(), kept + &self.tokens[range.end() + 1].lead);
+        self.cut(range);
+        self.tokens[start].lead = lead;
     }
 
     /// Cuts an element of a list out, with the comma behind it or, if there is none, before it.
@@ -186,8 +157,8 @@ impl File {
         }
     }
 
-    /// Cuts out the item with its keyword at `i`.
-    pub fn cut_whole(&mut self, i: usize) -> Result<(), Fault> {
+    /// Cuts out the whole item with its keyword at `i`.
+    pub fn cut_whole(&mut self, i: usize) -> Result<(), String> {
         self.cut_item(self.start(i)..=self.end(i)?);
         Ok(())
     }

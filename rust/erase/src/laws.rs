@@ -1,20 +1,18 @@
 //! What goes from several files at once: law functions, and the imports and modules that are empty
 //! after that.
 
-use crate::file::{Fault, File};
-use crate::table::{COUNTING, ERASED_PATHS};
+use crate::file::File;
+use crate::table::ITEMS;
 use std::collections::{BTreeMap, BTreeSet};
 use std::ops::RangeInclusive;
 
 /// Cuts the law functions: those without parameters and result that do nothing, or nothing but call
 /// such functions. Returns their names, or an error where another function has the name of one.
-pub fn erase_laws(files: &mut [File]) -> Result<BTreeSet<String>, Fault> {
+pub fn erase_laws(files: &mut [File]) -> Result<BTreeSet<String>, String> {
     let mut laws: BTreeMap<String, Vec<String>> = BTreeMap::new();
     for file in files.iter() {
-        let functions = file.places("fn").into_iter();
-        laws.extend(
-            functions.filter_map(|i| Some((file.text(i + 1).to_string(), calls(file, i)?))),
-        );
+        let law = |i: usize| Some((file.text(i + 1).to_string(), calls(file, i)?));
+        laws.extend(file.places("fn").into_iter().filter_map(law));
     }
     let mut names = BTreeSet::new();
     while names.len() != laws.len() {
@@ -22,11 +20,10 @@ pub fn erase_laws(files: &mut [File]) -> Result<BTreeSet<String>, Fault> {
         laws.retain(|_, calls| calls.iter().all(|call| names.contains(call)));
     }
     for file in files {
-        for i in file.places("fn").into_iter() {
-            if names.contains(file.text(i + 1)) {
-                calls(file, i).ok_or_else(|| file.fault(i, "a function with the name of a law"))?;
-                file.cut_whole(i)?;
-            }
+        let is_named = |i: &usize| names.contains(file.text(i + 1));
+        for i in file.places("fn").into_iter().filter(is_named).collect::<Vec<usize>>() {
+            calls(file, i).ok_or_else(|| file.fault(i, "a function with the name of a law"))?;
+            file.cut_whole(i)?;
         }
     }
     Ok(names)
@@ -34,10 +31,8 @@ pub fn erase_laws(files: &mut [File]) -> Result<BTreeSet<String>, Fault> {
 
 // What a function without parameters and result calls, where it does nothing else.
 fn calls(file: &File, i: usize) -> Option<Vec<String>> {
-    if file.joined(i + 2..=i + 4) != "(){" {
-        return None;
-    }
-    let body = file.joined(i + 5..=file.partner(i + 4) - 1);
+    let is_bare = file.joined(i + 2..=i + 4) == "(){";
+    let body = is_bare.then(|| file.joined(i + 5..=file.partner(i + 4) - 1))?;
     let calls = body.split_terminator(';').map(|call| {
         let path = call.strip_suffix("()").filter(|path| !path.contains(['(', '.', '=']));
         path.and_then(|path| path.rsplit("::").next()).map(str::to_string)
@@ -46,52 +41,42 @@ fn calls(file: &File, i: usize) -> Option<Vec<String>> {
 }
 
 /// Cuts the imports of what is gone, and the modules that are empty then, from all files.
-pub fn erase_imports(files: &mut [File], laws: &BTreeSet<String>) -> Result<(), Fault> {
-    let mut is_done = false;
-    while !is_done {
-        is_done = true;
-        for file in files.iter_mut() {
-            erase_uses(file, laws);
-        }
-        let empty = files.iter().filter(|file| file.tokens.len() == 1);
-        let empty: BTreeSet<String> = empty.map(|file| file.path.clone()).collect();
+pub fn erase_imports(files: &mut [File], laws: &BTreeSet<String>) -> Result<(), String> {
+    let mut empty = None;
+    loop {
+        files.iter_mut().try_for_each(|file| erase_uses(file, laws))?;
+        let paths =
+            files.iter().filter(|file| file.tokens.len() == 1).map(|file| file.path.clone());
+        let paths: BTreeSet<String> = paths.collect();
         for file in files.iter_mut() {
             for i in file.places("mod") {
-                if empty.contains(&file.path_of_module(file.text(i + 1))) {
+                if paths.contains(&file.path_of_module(file.text(i + 1))) {
                     file.cut_whole(i)?;
-                    is_done = false;
                 }
             }
         }
+        if empty.replace(paths.len()) == Some(paths.len()) {
+            return Ok(());
+        }
     }
-    Ok(())
 }
 
-fn erase_uses(file: &mut File, laws: &BTreeSet<String>) {
+// Cuts the imports of what is gone, and the private ones of what only erased code named.
+fn erase_uses(file: &mut File, laws: &BTreeSet<String>) -> Result<(), String> {
     for i in file.places("use") {
         let is_private = file.start(i) == i;
         let is_dead = |file: &File, path: &str| {
             let path = path.trim_end_matches("::self").split(" as ").next().unwrap_or(path);
             let name = path.rsplit("::").next().unwrap_or(path);
-            let is_gone = laws.contains(name) || COUNTING.contains(&name);
-            let is_unused = || is_private && file.erased.contains(name) && !is_used(file, name);
-            is_gone || ERASED_PATHS.iter().any(|erased| path.starts_with(erased)) || is_unused()
+            let is_used = || file.places(name).iter().any(|i| !file.is_import(*i));
+            let is_unused = || is_private && file.erased.contains(name) && !is_used();
+            laws.contains(name) || ITEMS.contains(&name) || is_unused()
         };
-        let Ok(end) = file.end(i) else { continue };
-        if prune(file, i + 1..=end - 1, "", &is_dead) {
-            let start = file.start(i);
-            let end = file.end(i).unwrap_or(i);
-            file.cut_item(start..=end);
+        if prune(file, i + 1..=file.end(i)? - 1, "", &is_dead) {
+            file.cut_whole(i)?;
         }
     }
-}
-
-// Whether a name stands outside of imports.
-fn is_used(file: &File, name: &str) -> bool {
-    let end = |i: &usize| file.end(*i).unwrap_or(*i);
-    let imports: Vec<_> = file.places("use").iter().map(|i| *i..=end(i)).collect();
-    let is_import = |i: &usize| imports.iter().any(|import| import.contains(i));
-    file.places(name).iter().any(|i| !is_import(i))
+    Ok(())
 }
 
 // Cuts the dead names out of a tree of imports; returns whether nothing is left of it.

@@ -5,22 +5,22 @@
 
 #![forbid(unsafe_code)]
 
-pub mod contract;
-pub mod emit;
-pub mod file;
-pub mod ghost;
-pub mod laws;
-pub mod ledger;
+mod contract;
+mod emit;
+mod file;
+mod ghost;
+mod laws;
+mod ledger;
 pub mod table;
 pub mod token;
 
-use file::{Fault, File};
+use file::File;
 
 /// A generated file, before rustfmt.
 pub struct Output {
     /// The path of its source, from the top of the repository.
     pub source: String,
-    /// Its path below the tree's folder.
+    /// Its own path, from there.
     pub path: String,
     /// Its text.
     pub text: String,
@@ -29,8 +29,8 @@ pub struct Output {
 /// Gives the text of a file of the repository, if there is such a file.
 pub type Read<'a> = &'a dyn Fn(&str) -> Option<String>;
 
-/// Erases crates; returns their files. Returns an error at the first thing that isn't known.
-pub fn erase(crates: &[&str], read: Read) -> Result<Vec<Output>, Fault> {
+/// Erases crates. Returns their files, or file, line and message of the first thing that isn't known.
+pub fn erase(crates: &[&str], read: Read) -> Result<Vec<Output>, String> {
     let mut files = Vec::new();
     for krate in crates {
         load(krate, read, &mut files)?;
@@ -42,11 +42,11 @@ pub fn erase(crates: &[&str], read: Read) -> Result<Vec<Output>, Fault> {
 }
 
 // Reads the modules of a crate, from its root on, and erases each file for itself.
-fn load(krate: &str, read: Read, files: &mut Vec<File>) -> Result<(), Fault> {
+fn load(krate: &str, read: Read, files: &mut Vec<File>) -> Result<(), String> {
     let mut paths = vec![format!("crates/{krate}/src/lib.rt")];
     while let Some(path) = paths.pop() {
-        let missing = || Fault { path: path.clone(), line: 0, message: "no such file".to_string() };
-        let mut file = File::new(krate, &path, &read(&path).ok_or_else(missing)?)?;
+        let text = read(&path).ok_or_else(|| format!("{path}: no such file"))?;
+        let mut file = File::new(krate, &path, &text)?;
         for token in &mut file.tokens {
             token.lead = emit::in_comment(&token.lead);
         }
@@ -58,8 +58,9 @@ fn load(krate: &str, read: Read, files: &mut Vec<File>) -> Result<(), Fault> {
     Ok(())
 }
 
-fn output(file: &File) -> Result<Output, Fault> {
+fn output(file: &File) -> Result<Output, String> {
+    let tree = table::tree_of(&file.krate).unwrap_or("");
     let path = file.path.replace("/src/lib.rt", "/src/mod.rt").replacen("/src/", "/", 1);
-    let path = path.trim_start_matches("crates/").trim_end_matches(".rt").to_string() + ".rs";
+    let path = path.replacen("crates", tree, 1).trim_end_matches(".rt").to_string() + ".rs";
     Ok(Output { source: file.path.clone(), path, text: emit::emit(file)? })
 }

@@ -6,17 +6,16 @@
 use erase::erase;
 use erase::table::TREES;
 use erase::token::tokens;
-use std::collections::BTreeMap;
+use std::collections::{BTreeMap, BTreeSet};
 use std::error::Error;
-use std::fs;
 use std::path::{Path, PathBuf};
 use std::process::{Command, ExitCode};
+use std::{env, fs};
 
 type Files = BTreeMap<PathBuf, String>;
 
 fn main() -> ExitCode {
-    let arguments: Vec<String> = std::env::args().skip(1).collect();
-    let result = match arguments.join(" ").as_str() {
+    let result = match env::args().skip(1).collect::<Vec<String>>().join(" ").as_str() {
         "" => make(),
         "--check" => check(),
         _ => Err("usage: erase [--check]".into()),
@@ -29,7 +28,7 @@ fn main() -> ExitCode {
 
 // Writes what changed, and removes what is no longer made.
 fn make() -> Result<ExitCode, Box<dyn Error>> {
-    let (made, committed) = (generated()?, committed()?);
+    let (made, committed) = (generated()?, files_below(Path::new(""))?);
     for path in committed.keys().filter(|path| !made.contains_key(*path)) {
         fs::remove_file(path)?;
     }
@@ -41,69 +40,55 @@ fn make() -> Result<ExitCode, Box<dyn Error>> {
 
 // Prints each file that differs by more than white space and the layout's commas.
 fn check() -> Result<ExitCode, Box<dyn Error>> {
-    let (made, committed) = (generated()?, committed()?);
-    let compared = |text: Option<&String>| text.map(|text| compared(text));
-    let differs = |path: &&PathBuf| compared(made.get(*path)) != compared(committed.get(*path));
-    let others = committed.keys().filter(|path| !made.contains_key(*path));
-    let different: Vec<&PathBuf> = made.keys().chain(others).filter(differs).collect();
+    let (made, committed) = (generated()?, files_below(Path::new(""))?);
+    let differs =
+        |path: &PathBuf| made.get(path).map(compared) != committed.get(path).map(compared);
+    let paths: BTreeSet<PathBuf> = made.keys().chain(committed.keys()).cloned().collect();
+    let different: Vec<PathBuf> = paths.into_iter().filter(differs).collect();
     different.iter().for_each(|path| println!("{}", path.display()));
     Ok(if different.is_empty() { ExitCode::SUCCESS } else { ExitCode::FAILURE })
 }
 
 // The words of a text's comments and its tokens, without commas before closing brackets.
-fn compared(text: &str) -> Vec<String> {
+fn compared(text: &String) -> Vec<String> {
     let tokens = tokens(text).unwrap_or_default();
-    let is_kept = |i: usize| tokens[i].text != "," || !")]}>".contains(&tokens[i + 1].text);
-    let words = |i: usize| {
-        let text = if is_kept(i) { tokens[i].text.as_str() } else { "" };
-        tokens[i].lead.split_whitespace().chain([text]).filter(|word| !word.is_empty())
-    };
-    (0..tokens.len()).flat_map(words).map(str::to_string).collect()
+    let is_layout = |i: usize| tokens[i].text == "," && ")]}>".contains(&tokens[i + 1].text);
+    let text = |i: usize| if is_layout(i) { "" } else { &tokens[i].text };
+    let words = |i: usize| tokens[i].lead.split_whitespace().chain([text(i)]).map(str::to_string);
+    (0..tokens.len()).flat_map(words).filter(|word| !word.is_empty()).collect()
 }
 
 // The files of all trees after rustfmt, by their paths.
 fn generated() -> Result<Files, Box<dyn Error>> {
-    let crates: Vec<&str> = TREES.iter().flat_map(|(_, crates)| *crates).copied().collect();
-    let read = |path: &str| fs::read_to_string(path).ok();
-    let outputs = erase(&crates, &read).map_err(|fault| fault.to_string())?;
+    let crates: Vec<&str> = TREES.iter().flat_map(|(_, crates)| crates.split(' ')).collect();
+    let outputs = erase(&crates, &|path| fs::read_to_string(path).ok())?;
     let scratch = Path::new("target/erase");
     if scratch.exists() {
         fs::remove_dir_all(scratch)?;
     }
-    let is_of = |path: &str, crates: &[&str]| {
-        crates.iter().any(|krate| path.split('/').next() == Some(krate))
-    };
-    let mut roots = Vec::new();
-    for output in outputs {
-        let tree = TREES.iter().find(|(_, crates)| is_of(&output.path, crates)).ok_or("no tree")?;
-        let path = scratch.join(tree.0).join(&output.path);
-        write(&path, &output.text)?;
-        roots.extend(path.ends_with("mod.rs").then_some(path));
+    for output in &outputs {
+        write(&scratch.join(&output.path), &output.text)?;
     }
-    let status = Command::new("rustfmt").args(["--edition", "2024"]).args(roots).status()?;
-    if !status.success() {
-        return Err("rustfmt failed".into());
+    let roots = outputs.iter().map(|output| scratch.join(&output.path));
+    let roots = roots.filter(|path| path.ends_with("mod.rs"));
+    match Command::new("rustfmt").args(["--edition", "2024"]).args(roots).status()?.success() {
+        true => files_below(scratch),
+        false => Err("rustfmt failed".into()),
     }
-    files_below(scratch, scratch)
 }
 
-fn committed() -> Result<Files, Box<dyn Error>> {
+// The files of all trees below a folder, by their paths from there.
+fn files_below(top: &Path) -> Result<Files, Box<dyn Error>> {
     let mut files = Files::new();
-    for tree in TREES.iter().map(|tree| Path::new(tree.0)).filter(|tree| tree.exists()) {
-        files.extend(files_below(tree, Path::new(""))?);
-    }
-    Ok(files)
-}
-
-// The files below a folder, by their paths below `top`.
-fn files_below(folder: &Path, top: &Path) -> Result<Files, Box<dyn Error>> {
-    let mut files = Files::new();
-    for entry in fs::read_dir(folder)? {
-        let path = entry?.path();
-        if path.is_dir() {
-            files.extend(files_below(&path, top)?);
-        } else {
-            files.insert(path.strip_prefix(top)?.to_path_buf(), fs::read_to_string(&path)?);
+    let mut folders: Vec<PathBuf> = TREES.iter().map(|(folder, _)| top.join(folder)).collect();
+    while let Some(folder) = folders.pop() {
+        for entry in folder.read_dir().into_iter().flatten() {
+            let path = entry?.path();
+            if path.is_dir() {
+                folders.push(path);
+            } else {
+                files.insert(path.strip_prefix(top)?.to_path_buf(), fs::read_to_string(&path)?);
+            }
         }
     }
     Ok(files)

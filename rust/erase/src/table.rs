@@ -1,28 +1,14 @@
-//! All names that the eraser knows: what it makes, what it renames and what goes with the contracts.
+//! All names that the eraser knows: what it makes, what it renames and what it cuts.
 
 /// The trees of generated modules: the folder, and the crates in crates/ that it is made from.
-pub const TREES: [(&str, &[&str]); 2] = [
+pub const TREES: [(&str, &str); 2] = [
     (
         "rust/sengadlit/src/generated",
-        &[
-            "shapers_buffer",
-            "shapers_base",
-            "shapers_clusters",
-            "shapers_syllabic",
-            "shapers_text",
-            "shapers_arabic",
-            "shapers_stretch",
-            "shapers_hangul",
-            "shapers_khmer",
-            "shapers_myanmar",
-            "shapers_universal",
-            "shapers_indic",
-            "shapers_indic_initial",
-            "shapers_indic_final",
-            "rustybuzz_shapers",
-        ],
+        "shapers_buffer shapers_base shapers_clusters shapers_syllabic shapers_text shapers_arabic \
+         shapers_stretch shapers_hangul shapers_khmer shapers_myanmar shapers_universal \
+         shapers_indic shapers_indic_initial shapers_indic_final rustybuzz_shapers",
     ),
-    ("rust/hbhook/src/generated", &["hbhook_lines", "hbhook_draw"]),
+    ("rust/hbhook/src/generated", "hbhook_lines hbhook_draw"),
 ];
 
 /// The names that change.
@@ -50,18 +36,15 @@ pub const NAMES: &[(&str, &str)] = &[
 /// first has the name and the documentation of the second, which goes.
 pub const COUNTED: (&str, &str) = ("setup_masks_counted", "setup_masks_inner");
 
-/// Other items that are there for the count alone.
-pub const COUNTING: &[&str] = &["LookUps", "setup_masks_with"];
+/// What of the ledger that counts goes from the files that name it: parameters, fields, arguments
+/// and statements with one of these words.
+pub const LEDGER: &[&str] = &["L", "Brand", "Blank", "Ledger", "LookUps", "count"];
 
-/// The words of the ledger that counts: what is of such a type, or bounded by it, goes.
-pub const LEDGER: &[&str] = &["Ledger", "LookUps", "Blank", "Book", "Share", "Brand"];
+/// Functions and types that go with their `impl` blocks, and traits whose `impl` blocks go.
+pub const ITEMS: &[&str] = &["Model", "LookUps", "setup_masks_with"];
 
-/// What nothing imports after erasing.
-pub const ERASED_PATHS: &[&str] =
-    &["std::marker::Brand", "std::marker::Model", "std::sync::ledger::", "thiserror::Error"];
-
-/// The first words of paths into the library, by what they become: `core` where Rust has the same,
-/// else the support module.
+/// The paths, by their first words, that begin elsewhere in Rust: in `core` where it has the same,
+/// else in the support module.
 pub const ROOTS: &[(&str, &[&str])] = &[
     ("core", &["std::cell", "std::char", "std::cmp", "std::fmt", "std::iter", "std::mem"]),
     ("core", &["std::num", "std::ops", "std::slice", "std::str"]),
@@ -75,11 +58,11 @@ pub const ROOTS: &[(&str, &[&str])] = &[
 /// The names that a source has without a `use`, and Rust from the support's prelude.
 pub const PRELUDE: &[&str] = &["Vec", "String", "vec", "format", "collect_in"];
 
-/// The attributes that stay, and those that go.
-pub const ATTRIBUTES: [&[&str]; 2] = [
-    &["allow", "default", "expect", "inline", "must_use", "non_exhaustive", "repr"],
-    &["tactic", "rattlefmt", "error"],
-];
+/// The attributes that stay.
+pub const ATTRIBUTES: &[&str] = &["default", "inline", "must_use", "non_exhaustive", "repr"];
+
+/// The attributes that go.
+pub const ERASED_ATTRIBUTES: &[&str] = &["tactic", "rattlefmt", "error"];
 
 /// The derives that go.
 pub const ERASED_DERIVES: &[&str] = &["Drop", "Error"];
@@ -90,19 +73,22 @@ pub const CLAUSES: &[&str] = &["requires", "ensures", "invariant", "decreases"];
 /// The words that no erased file has.
 pub const UNKNOWN: &[&str] = &["ghost", "requires", "ensures", "prove", "Drop", "Model", "Ledger"];
 
-/// The path of a crate of this repository, as seen from another one or from itself.
-pub fn path_of(krate: &str, from: &str) -> Option<String> {
-    let tree_of = |krate: &str| TREES.iter().position(|(_, crates)| crates.contains(&krate));
-    match (tree_of(krate)?, tree_of(from)?) {
-        (to, from) if to == from => Some(format!("crate::generated::{krate}")),
-        _ => (krate == "rustybuzz_shapers").then(|| "sengadlit".to_string()),
-    }
+/// The folder of the tree that a crate belongs to.
+pub fn tree_of(krate: &str) -> Option<&'static str> {
+    let tree = TREES.iter().find(|(_, crates)| crates.split(' ').any(|name| name == krate));
+    tree.map(|(folder, _)| *folder)
 }
 
-/// What the table makes of a word that begins this path, in a file of a crate.
+/// What the word becomes that begins this path, in a file of a crate.
 pub fn root_of(word: &str, path: &str, krate: &str) -> Option<String> {
-    let is_start = |start: &&str| *start == word || *start == path;
-    let root = ROOTS.iter().find(|(_, starts)| starts.iter().any(|start| is_start(&start)));
     let own = if word == "crate" { krate } else { word };
-    root.map(|(root, _)| root.to_string()).or_else(|| path_of(own, krate))
+    match tree_of(own) {
+        Some(tree) if Some(tree) == tree_of(krate) => {
+            return Some(format!("crate::generated::{own}"));
+        }
+        Some(_) => return (own == "rustybuzz_shapers").then(|| "sengadlit".to_string()),
+        None => {}
+    }
+    let root = ROOTS.iter().find(|(_, paths)| paths.contains(&word) || paths.contains(&path));
+    root.map(|(root, _)| root.to_string())
 }
