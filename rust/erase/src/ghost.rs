@@ -1,157 +1,147 @@
 //! What each file loses for itself: ghost items, clauses, attributes, derives, bounds and tests.
 
-use crate::source::{Fault, Source, State};
-use crate::table::{ATTRIBUTES, CLAUSES, ERASED_ATTRIBUTES, ERASED_DERIVES};
-use std::ops::RangeInclusive;
+use crate::contract::{documentation, is_public};
+use crate::file::File;
+use crate::table::{ATTRIBUTES, CLAUSES, ERASED_ATTRIBUTES, ERASED_DERIVES, ITEMS};
 
-/// Deletes contracts and ghost items, and what only the proof or its tests read.
-pub fn erase_file(source: &mut Source) -> Result<(), Fault> {
-    erase_ghosts(source)?;
-    erase_clauses(source);
-    erase_proofs(source)?;
-    erase_attributes(source)?;
-    erase_bounds(source)?;
-    erase_models(source)
+/// Erases contracts and ghost items, and what only the proof or its tests read. `is_file` tells
+/// whether the repository has a file.
+pub fn erase_file(file: &mut File, is_file: &dyn Fn(&str) -> bool) -> Result<(), String> {
+    erase_ghosts(file, is_file)?;
+    erase_clauses(file);
+    file.erased.clear();
+    erase_proofs(file)?;
+    erase_attributes(file)?;
+    erase_bounds(file)?;
+    erase_items(file)
 }
 
-fn erase_ghosts(source: &mut Source) -> Result<(), Fault> {
-    for i in source.places("ghost") {
-        let item = i..=ghost_end(source, i)?;
-        if source.text(source.next(i)) == "use" {
-            source.ghost_uses.push(item.clone());
+// `ghost use ..;`, `ghost NAME: {..};`, `ghost NAME = {..};` or both together.
+fn erase_ghosts(file: &mut File, is_file: &dyn Fn(&str) -> bool) -> Result<(), String> {
+    for i in file.places("ghost") {
+        let mut end = i + 2;
+        while matches!(file.text(end), ":" | "=") && file.text(end + 1) == "{" {
+            end = file.partner(end + 1) + 1;
         }
-        source.delete_item(item, State::Ghost);
+        if file.text(i + 1) == "use" {
+            end = file.end(i + 1)?;
+            define(file, i, end, is_file)?;
+        }
+        if file.text(end) != ";" {
+            return Err(file.fault(i, "an unknown form of ghost item"));
+        }
+        file.cut_item(i..=end);
     }
     Ok(())
 }
 
-// The semicolon of `ghost use ..;`, `ghost NAME: {..};`, `ghost NAME = {..};` or both together.
-fn ghost_end(source: &Source, i: usize) -> Result<usize, Fault> {
-    let name = source.next(i);
-    if source.text(name) == "use" {
-        return source.end(name);
+// Notes what `ghost use Rattle.CRATE.specs.FILE.{..};` imports, unless it is the kit's.
+fn define(
+    file: &mut File,
+    i: usize,
+    end: usize,
+    is_file: &dyn Fn(&str) -> bool,
+) -> Result<(), String> {
+    let import = file.joined(i + 2..=end);
+    let parts = import.split_once(".{").ok_or_else(|| file.fault(i, "an unknown import"))?;
+    let specification = parts.0.strip_prefix("Rattle.").and_then(|path| path.split_once(".specs."));
+    let (krate, path) = specification.unwrap_or(("std", ""));
+    let place = format!("crates/{krate}/specs/{}.antt", path.replace('.', "/"));
+    if krate == "std" || path.starts_with("declared.") {
+        return Ok(());
     }
-    let mut j = source.next(name);
-    while matches!(source.text(j), ":" | "=") && source.text(source.next(j)) == "{" {
-        j = source.next(source.pair[source.next(j)]);
+    if !is_file(&place) {
+        return Err(file.fault(i, &format!("no file {place}")));
     }
-    match source.text(j) {
-        ";" => Ok(j),
-        _ => Err(source.fault(i, "an unknown form of ghost item")),
-    }
-}
-
-fn erase_clauses(source: &mut Source) {
-    for word in CLAUSES {
-        for i in source.places(word) {
-            let named = source.next(i);
-            let open = if source.text(named) == "{" { named } else { source.next(named) };
-            if source.text(open) == "{" {
-                let clause = i..=source.pair[open];
-                source.clauses.push(clause.clone());
-                source.delete_item(clause, State::Ghost);
-            }
-        }
-    }
-    source.clauses.sort_by_key(|clause| *clause.start());
-}
-
-fn erase_proofs(source: &mut Source) -> Result<(), Fault> {
-    for i in source.places("prove") {
-        let open = source.next(source.next(i));
-        let end = source.next(source.pair[open]);
-        if source.text(source.next(i)) != "!" || source.text(end) != ";" {
-            return Err(source.fault(i, "`prove` that is no statement"));
-        }
-        source.delete_item(i..=end, State::Deleted);
-    }
+    let names = parts.1.trim_end_matches(['}', ';']).split(',');
+    file.definitions.extend(names.map(|name| (name.to_string(), place.clone())));
     Ok(())
 }
 
-fn erase_attributes(source: &mut Source) -> Result<(), Fault> {
-    for i in source.places("#") {
-        let open = match source.next(i) {
-            inner if source.text(inner) == "!" => source.next(inner),
-            outer => outer,
+// Cuts the clauses of contracts; public functions keep theirs as documentation.
+fn erase_clauses(file: &mut File) {
+    for function in file.places("fn") {
+        let clause = |i: usize| {
+            let open = (i + 1..=i + 2).find(|open| file.text(*open) == "{")?;
+            CLAUSES.contains(&file.text(i)).then(|| i..=file.partner(open))
         };
-        let (name, attribute) = (source.next(open), i..=source.pair[open]);
-        match source.text(name) {
-            "cfg" => erase_test(source, attribute)?,
-            word if ERASED_ATTRIBUTES.contains(&word) => source.delete(attribute, State::Deleted),
-            "derive" => erase_derives(source, attribute, source.next(name)),
-            word if ATTRIBUTES.contains(&word) || !source.is_code(i) => {}
-            _ => return Err(source.fault(i, "an unknown attribute")),
+        let clauses: Vec<_> = (function..file.tokens.len()).filter_map(clause).collect();
+        if !clauses.is_empty() && is_public(file, function) {
+            let (start, docs) = (file.start(function), documentation(file, &clauses));
+            file.tokens[start].lead += &docs;
+        }
+        clauses.into_iter().rev().for_each(|clause| file.cut_item(clause));
+    }
+}
+
+fn erase_proofs(file: &mut File) -> Result<(), String> {
+    for i in file.places("prove") {
+        let end = file.partner(i + 2) + 1;
+        if file.text(i + 1) != "!" || file.text(end) != ";" {
+            return Err(file.fault(i, "`prove` that is no statement"));
+        }
+        file.cut_item(i..=end);
+    }
+    Ok(())
+}
+
+fn erase_attributes(file: &mut File) -> Result<(), String> {
+    for i in file.places("#") {
+        let open = if file.text(i + 1) == "!" { i + 2 } else { i + 1 };
+        let end = file.partner(open);
+        match file.text(open + 1) {
+            "cfg" if file.joined(i..=end) == "#[cfg(test)]" => file.cut_item(i..=file.end(end)?),
+            "derive" => erase_derives(file, i),
+            name if ERASED_ATTRIBUTES.contains(&name) => file.cut(i..=end),
+            name if ATTRIBUTES.contains(&name) => {}
+            _ => return Err(file.fault(i, "an unknown attribute")),
         }
     }
     Ok(())
 }
 
-// Deletes the item below `#[cfg(test)]`.
-fn erase_test(source: &mut Source, attribute: RangeInclusive<usize>) -> Result<(), Fault> {
-    let (first, last) = (*attribute.start(), *attribute.end());
-    if source.joined(attribute) != "#[cfg(test)]" {
-        return Err(source.fault(first, "an unknown `cfg`"));
-    }
-    let end = source.end(last)?;
-    source.delete_item(first..=end, State::Deleted);
-    Ok(())
-}
-
-fn erase_derives(source: &mut Source, attribute: RangeInclusive<usize>, open: usize) {
-    let derives = source.listed(open);
-    let is_erased = |i: &usize| ERASED_DERIVES.contains(&source.text(*i));
-    let erased: Vec<usize> = derives.iter().map(|derive| *derive.start()).filter(is_erased).collect();
-    if erased.len() == derives.len() {
-        source.delete(attribute, State::Deleted);
-    }
-    for i in erased {
-        if source.is_code(i) {
-            source.delete_listed(i..=i);
+fn erase_derives(file: &mut File, i: usize) {
+    for derive in file.listed(i + 3) {
+        if ERASED_DERIVES.contains(&file.text(*derive.start())) {
+            file.cut_listed(derive);
         }
     }
+    if file.text(i + 4) == ")" {
+        file.cut(i..=i + 5);
+    }
 }
 
-fn erase_bounds(source: &mut Source) -> Result<(), Fault> {
-    for i in source.places("Drop") {
-        let (before, behind) = (source.prev(i), source.next(i));
-        match (source.text(before), source.text(behind)) {
-            ("+", _) => source.delete(before..=i, State::Deleted),
-            (":", "+") => source.delete(i..=behind, State::Deleted),
-            (":", _) => erase_bound(source, before, i),
-            _ => return Err(source.fault(i, "`Drop` that is no bound")),
+// Cuts the bound `Drop`, and where it is the only one of a `where` clause's line that line.
+fn erase_bounds(file: &mut File) -> Result<(), String> {
+    for i in file.places("Drop") {
+        let owner = file.nearest(i, &["where", "fn", "impl", "struct", "enum", "trait"]);
+        let owner = owner.filter(|owner| file.text(*owner) == "where");
+        match (file.before(i), file.text(i + 1), owner) {
+            ("+", ..) => file.cut(i - 1..=i),
+            (":", "+", _) => file.cut(i..=i + 1),
+            (":", _, None) => file.cut(i - 1..=i),
+            (":", _, Some(owner)) => {
+                let first = file.nearest(i, &["where", ","]).unwrap_or(owner) + 1;
+                file.cut_listed(first..=i);
+                if matches!(file.text(owner + 1), "{" | ";") {
+                    file.cut(owner..=owner);
+                }
+            }
+            _ => return Err(file.fault(i, "`Drop` that is no bound")),
         }
     }
     Ok(())
 }
 
-// Deletes `: Drop`: in a `where` clause with all that stands before it.
-fn erase_bound(source: &mut Source, colon: usize, bound: usize) {
-    let mut first = colon;
-    while !matches!(source.text(source.prev(first)), "" | "<" | "," | "where" | ";" | "{" | "}") {
-        first = source.prev(first);
-    }
-    let start = source.prev(first);
-    match source.text(start) {
-        "where" => source.delete_listed(first..=bound),
-        "," if is_in_where(source, first) => source.delete_listed(first..=bound),
-        _ => source.delete(colon..=bound, State::Deleted),
-    }
-    if source.text(start) == "where" && matches!(source.text(source.next(start)), "{" | ";") {
-        source.delete(start..=start, State::Deleted);
-    }
-}
-
-// Whether a bound belongs to a `where` clause, and not to a list of type parameters.
-fn is_in_where(source: &Source, first: usize) -> bool {
-    let before = source.code().rev().skip_while(|i| *i >= first);
-    let border = |text: &str| matches!(text, "where" | "fn" | "impl" | "struct" | "enum" | "trait");
-    before.map(|i| source.text(i)).find(|text| border(text)) == Some("where")
-}
-
-fn erase_models(source: &mut Source) -> Result<(), Fault> {
-    for i in source.places("impl") {
-        if source.header(i).windows(2).any(|pair| pair == ["Model", "for"]) {
-            source.delete_item(source.start(i)..=source.end(i)?, State::Deleted);
+fn erase_items(file: &mut File) -> Result<(), String> {
+    for i in ITEMS.iter().flat_map(|name| file.places(name)).collect::<Vec<usize>>() {
+        let owner = file.nearest(i, &["impl", "fn", "struct", ";", "{", "}"]);
+        let is_item = |owner: &usize| match file.text(*owner) {
+            "fn" | "struct" => owner + 1 == i,
+            keyword => keyword == "impl",
+        };
+        if let Some(owner) = owner.filter(is_item) {
+            file.cut_whole(owner)?;
         }
     }
     Ok(())

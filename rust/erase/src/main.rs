@@ -1,116 +1,100 @@
-//! `erase` makes the generated trees anew, `erase --check` tells whether they are up to date. Both
-//! run at the top of the repository.
+//! `erase` makes the generated trees anew, `erase --check` prints each file that isn't up to date.
+//! Both run at the top of the repository.
 
 #![forbid(unsafe_code)]
 
 use erase::erase;
 use erase::table::TREES;
-use erase::token::{Token, tokens};
-use std::collections::BTreeMap;
-use std::fs;
-use std::path::Path;
+use erase::token::tokens;
+use std::collections::{BTreeMap, BTreeSet};
+use std::error::Error;
+use std::path::{Path, PathBuf};
 use std::process::{Command, ExitCode};
+use std::{env, fs};
 
-type Files = BTreeMap<String, String>;
+type Files = BTreeMap<PathBuf, String>;
 
 fn main() -> ExitCode {
-    let arguments: Vec<String> = std::env::args().skip(1).collect();
-    let result = match arguments.iter().map(String::as_str).collect::<Vec<_>>()[..] {
-        [] => make(),
-        ["--check"] => check(),
-        _ => Err("usage: erase [--check]".to_string()),
+    let result = match env::args().skip(1).collect::<Vec<String>>().join(" ").as_str() {
+        "" => make(),
+        "--check" => check(),
+        _ => Err("usage: erase [--check]".into()),
     };
-    match result {
-        Ok(status) => status,
-        Err(message) => {
-            eprintln!("{message}");
-            ExitCode::FAILURE
-        }
-    }
+    result.unwrap_or_else(|error| {
+        eprintln!("{error}");
+        ExitCode::FAILURE
+    })
 }
 
 // Writes what changed, and removes what is no longer made.
-fn make() -> Result<ExitCode, String> {
-    let (made, committed) = (generated()?, committed()?);
+fn make() -> Result<ExitCode, Box<dyn Error>> {
+    let (made, committed) = (generated()?, files_below(Path::new(""))?);
     for path in committed.keys().filter(|path| !made.contains_key(*path)) {
-        fs::remove_file(path).map_err(|error| format!("{path}: {error}"))?;
+        fs::remove_file(path)?;
     }
     for (path, text) in made.iter().filter(|(path, text)| committed.get(*path) != Some(text)) {
-        write(Path::new(path), text)?;
+        write(path, text)?;
     }
     Ok(ExitCode::SUCCESS)
 }
 
-// Prints each file that differs by more than white space and trailing commas.
-fn check() -> Result<ExitCode, String> {
-    let (made, committed) = (generated()?, committed()?);
-    let mut status = ExitCode::SUCCESS;
-    let paths = made.keys().chain(committed.keys().filter(|path| !made.contains_key(*path)));
-    for path in paths {
-        let both = [made.get(path), committed.get(path)].map(|text| text.and_then(|text| compared(text)));
-        if both[0].is_none() || both[0] != both[1] {
-            println!("{path}");
-            status = ExitCode::FAILURE;
-        }
-    }
-    Ok(status)
+// Prints each file that differs by more than white space and the layout's commas.
+fn check() -> Result<ExitCode, Box<dyn Error>> {
+    let (made, committed) = (generated()?, files_below(Path::new(""))?);
+    let differs =
+        |path: &PathBuf| made.get(path).map(compared) != committed.get(path).map(compared);
+    let paths: BTreeSet<PathBuf> = made.keys().chain(committed.keys()).cloned().collect();
+    let different: Vec<PathBuf> = paths.into_iter().filter(differs).collect();
+    different.iter().for_each(|path| println!("{}", path.display()));
+    Ok(if different.is_empty() { ExitCode::SUCCESS } else { ExitCode::FAILURE })
 }
 
-// The tokens of a text, without the commas that rustfmt sets by the layout.
-fn compared(text: &str) -> Option<Vec<String>> {
-    let tokens = tokens(text).ok()?;
-    let is_trailing = |pair: &[Token]| pair[0].text == "," && ")]}".contains(&pair[1].text);
-    let last = tokens.last().map(|token| token.text.clone());
-    let kept = tokens.windows(2).filter(|pair| !is_trailing(pair)).map(|pair| pair[0].text.clone());
-    Some(kept.chain(last).collect())
+// The words of a text's comments and its tokens, without commas before closing brackets.
+fn compared(text: &String) -> Vec<String> {
+    let tokens = tokens(text).unwrap_or_default();
+    let is_layout = |i: usize| tokens[i].text == "," && ")]}>".contains(&tokens[i + 1].text);
+    let text = |i: usize| if is_layout(i) { "" } else { &tokens[i].text };
+    let words = |i: usize| tokens[i].lead.split_whitespace().chain([text(i)]).map(str::to_string);
+    (0..tokens.len()).flat_map(words).filter(|word| !word.is_empty()).collect()
 }
 
 // The files of all trees after rustfmt, by their paths.
-fn generated() -> Result<Files, String> {
-    let read = |path: &str| fs::read_to_string(path).ok();
-    let outputs = erase(&TREES, &read).map_err(|fault| fault.to_string())?;
+fn generated() -> Result<Files, Box<dyn Error>> {
+    let crates: Vec<&str> = TREES.iter().flat_map(|(_, crates)| crates.split(' ')).collect();
+    let outputs = erase(&crates, &|path| fs::read_to_string(path).ok())?;
     let scratch = Path::new("target/erase");
     if scratch.exists() {
-        fs::remove_dir_all(scratch).map_err(|error| error.to_string())?;
+        fs::remove_dir_all(scratch)?;
     }
-    let mut roots = Vec::new();
-    for (tree, outputs) in TREES.iter().zip(outputs) {
-        for output in outputs {
-            let path = scratch.join(tree.target).join(&output.path);
-            write(&path, &output.text)?;
-            roots.extend(path.ends_with("mod.rs").then_some(path));
-        }
+    for output in &outputs {
+        write(&scratch.join(&output.path), &output.text)?;
     }
-    let status = Command::new("rustfmt").args(["--edition", "2024"]).args(roots).status();
-    match status {
-        Ok(status) if status.success() => files_below(scratch, scratch),
-        _ => Err("rustfmt failed".to_string()),
+    let roots = outputs.iter().map(|output| scratch.join(&output.path));
+    let roots = roots.filter(|path| path.ends_with("mod.rs"));
+    match Command::new("rustfmt").args(["--edition", "2024"]).args(roots).status()?.success() {
+        true => files_below(scratch),
+        false => Err("rustfmt failed".into()),
     }
 }
 
-fn committed() -> Result<Files, String> {
-    let trees = TREES.iter().map(|tree| Path::new(tree.target)).filter(|folder| folder.exists());
-    let files: Result<Vec<Files>, String> = trees.map(|tree| files_below(tree, Path::new(""))).collect();
-    Ok(files?.into_iter().flatten().collect())
-}
-
-// The files below a folder, by their paths below `top`.
-fn files_below(folder: &Path, top: &Path) -> Result<Files, String> {
+// The files of all trees below a folder, by their paths from there.
+fn files_below(top: &Path) -> Result<Files, Box<dyn Error>> {
     let mut files = Files::new();
-    for entry in fs::read_dir(folder).map_err(|error| error.to_string())? {
-        let path = entry.map_err(|error| error.to_string())?.path();
-        if path.is_dir() {
-            files.extend(files_below(&path, top)?);
-        } else {
-            let name = path.strip_prefix(top).unwrap_or(&path).display().to_string();
-            files.insert(name, fs::read_to_string(&path).map_err(|error| error.to_string())?);
+    let mut folders: Vec<PathBuf> = TREES.iter().map(|(folder, _)| top.join(folder)).collect();
+    while let Some(folder) = folders.pop() {
+        for entry in folder.read_dir().into_iter().flatten() {
+            let path = entry?.path();
+            if path.is_dir() {
+                folders.push(path);
+            } else {
+                files.insert(path.strip_prefix(top)?.to_path_buf(), fs::read_to_string(&path)?);
+            }
         }
     }
     Ok(files)
 }
 
-fn write(path: &Path, text: &str) -> Result<(), String> {
-    let folder = path.parent().unwrap_or(path);
-    let written = fs::create_dir_all(folder).and_then(|()| fs::write(path, text));
-    written.map_err(|error| format!("{}: {error}", path.display()))
+fn write(path: &Path, text: &str) -> Result<(), Box<dyn Error>> {
+    fs::create_dir_all(path.parent().unwrap_or(path))?;
+    Ok(fs::write(path, text)?)
 }

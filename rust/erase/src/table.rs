@@ -1,42 +1,17 @@
-//! All names that the eraser knows: what it makes, what it renames and what goes with the contracts.
+//! All names that the eraser knows: what it makes, what it renames and what it cuts.
 
-/// A tree of generated modules and the crates that it is made from.
-pub struct Tree {
-    /// The folder, from the top of the repository.
-    pub target: &'static str,
-    /// The crates in crates/.
-    pub crates: &'static [&'static str],
-}
-
-/// The trees of generated modules.
-pub const TREES: [Tree; 2] = [
-    Tree {
-        target: "rust/sengadlit/src/generated",
-        crates: &[
-            "shapers_buffer",
-            "shapers_base",
-            "shapers_clusters",
-            "shapers_syllabic",
-            "shapers_text",
-            "shapers_arabic",
-            "shapers_stretch",
-            "shapers_hangul",
-            "shapers_khmer",
-            "shapers_myanmar",
-            "shapers_universal",
-            "shapers_indic",
-            "shapers_indic_initial",
-            "shapers_indic_final",
-            "rustybuzz_shapers",
-        ],
-    },
-    Tree {
-        target: "rust/hbhook/src/generated",
-        crates: &["hbhook_lines", "hbhook_draw"],
-    },
+/// The trees of generated modules: the folder, and the crates in crates/ that it is made from.
+pub const TREES: [(&str, &str); 2] = [
+    (
+        "rust/sengadlit/src/generated",
+        "shapers_buffer shapers_base shapers_clusters shapers_syllabic shapers_text shapers_arabic \
+         shapers_stretch shapers_hangul shapers_khmer shapers_myanmar shapers_universal \
+         shapers_indic shapers_indic_initial shapers_indic_final rustybuzz_shapers",
+    ),
+    ("rust/hbhook/src/generated", "hbhook_lines hbhook_draw"),
 ];
 
-/// The types whose names change, and methods whose Rust namesake differs.
+/// The names that change.
 pub const NAMES: &[(&str, &str)] = &[
     ("hb_ot_shaper_t", "Shaper"),
     ("hb_buffer_t", "Buffer"),
@@ -54,55 +29,37 @@ pub const NAMES: &[(&str, &str)] = &[
     ("indic_shape_plan_t", "IndicPlan"),
     ("khmer_shape_plan_t", "KhmerPlan"),
     ("use_shape_plan_t", "UniversalPlan"),
-    (COUNTED.0, COUNTED.1),
+    COUNTED,
 ];
 
 /// A function that counts look-ups, and the one that does the same without counting: erased, the
 /// first has the name and the documentation of the second, which goes.
 pub const COUNTED: (&str, &str) = ("setup_masks_counted", "setup_masks_inner");
 
-/// Other items that are there for the count alone.
-pub const COUNTING: &[&str] = &["LookUps", "setup_masks_with"];
+/// What of the ledger that counts goes from the files that name it: parameters, fields, arguments
+/// and statements with one of these words.
+pub const LEDGER: &[&str] = &["L", "Brand", "Blank", "Ledger", "LookUps", "count"];
 
-/// The words of the ledger that counts: what is of such a type, or bounded by it, goes.
-pub const LEDGER: &[&str] = &["Ledger", "LookUps", "Blank", "Book", "Share", "Brand"];
+/// Functions and types that go with their `impl` blocks, and traits whose `impl` blocks go.
+pub const ITEMS: &[&str] = &["Model", "LookUps", "setup_masks_with"];
 
-/// What nothing imports after erasing.
-pub const ERASED_PATHS: &[&str] = &[
-    "std::marker::Brand",
-    "std::marker::Model",
-    "std::sync::ledger::",
-    "thiserror::Error",
+/// The paths, by their first words, that begin elsewhere in Rust: in `core` where it has the same,
+/// else in the support module.
+pub const ROOTS: &[(&str, &[&str])] = &[
+    ("core", &["std::cell", "std::char", "std::cmp", "std::fmt", "std::iter", "std::mem"]),
+    ("core", &["std::num", "std::ops", "std::slice", "std::str"]),
+    ("core::str", &["str::from_utf8"]),
+    ("crate::support", &["std::alloc", "std::collections", "std::io"]),
+    ("crate::support::arrayvec", &["arrayvec"]),
+    ("crate::support::bitflags", &["bitflags"]),
+    ("crate::support::unicode", &["unicode"]),
 ];
 
-/// Modules of the library, and where Rust has them: in `core`, or in the support module where the
-/// meaning differs.
-pub const LIBRARY: &[(&str, &str)] = &[
-    ("std::alloc", "crate::support::alloc"),
-    ("std::cell", "core::cell"),
-    ("std::char", "core::char"),
-    ("std::cmp", "core::cmp"),
-    ("std::collections", "crate::support::collections"),
-    ("std::fmt", "core::fmt"),
-    ("std::io", "crate::support::io"),
-    ("std::iter", "core::iter"),
-    ("std::mem", "core::mem"),
-    ("std::num", "core::num"),
-    ("std::ops", "core::ops"),
-    ("std::slice", "core::slice"),
-    ("std::str", "core::str"),
-    ("arrayvec", "crate::support::arrayvec"),
-    ("bitflags", "crate::support::bitflags"),
-    ("unicode", "crate::support::unicode"),
-];
-
-/// Names that stand without a `use` in a source and come from the support's prelude in Rust.
+/// The names that a source has without a `use`, and Rust from the support's prelude.
 pub const PRELUDE: &[&str] = &["Vec", "String", "vec", "format", "collect_in"];
 
 /// The attributes that stay.
-pub const ATTRIBUTES: &[&str] = &[
-    "allow", "default", "derive", "expect", "inline", "must_use", "non_exhaustive", "repr",
-];
+pub const ATTRIBUTES: &[&str] = &["default", "inline", "must_use", "non_exhaustive", "repr"];
 
 /// The attributes that go.
 pub const ERASED_ATTRIBUTES: &[&str] = &["tactic", "rattlefmt", "error"];
@@ -113,26 +70,25 @@ pub const ERASED_DERIVES: &[&str] = &["Drop", "Error"];
 /// The words that begin a clause of a contract.
 pub const CLAUSES: &[&str] = &["requires", "ensures", "invariant", "decreases"];
 
-/// The path of a crate of this repository, as seen from another one or from itself.
-pub fn path_of(krate: &str, from: &str) -> Option<String> {
-    let tree_of = |krate: &str| TREES.iter().position(|tree| tree.crates.contains(&krate));
-    match (tree_of(krate)?, tree_of(from)?) {
-        (to, from) if to == from => Some(format!("crate::generated::{krate}")),
-        _ if krate == "rustybuzz_shapers" => Some("sengadlit".to_string()),
-        _ => None,
-    }
-}
-
-/// All that a word of a source can become, apart from itself.
-pub fn replacements(word: &str, krate: &str) -> Vec<String> {
-    let own = if word == "crate" { krate } else { word };
-    let renamed = NAMES.iter().filter(|(old, _)| *old == word);
-    let moved = LIBRARY.iter().filter(|(old, _)| old.split("::").next() == Some(word));
-    let roots = moved.map(|(old, new)| new.strip_suffix(&old[word.len()..]).unwrap_or(new));
-    let collected = (word == "collect").then(|| "collect_in".to_string());
-    let words = renamed.map(|(_, new)| *new).chain(roots).map(str::to_string);
-    words.chain(path_of(own, krate)).chain(collected).collect()
-}
-
 /// The words that no erased file has.
-pub const UNKNOWN: &[&str] = &["ghost", "requires", "ensures", "prove", "Model", "Ledger", "LookUps"];
+pub const UNKNOWN: &[&str] = &["ghost", "requires", "ensures", "prove", "Drop", "Model", "Ledger"];
+
+/// The folder of the tree that a crate belongs to.
+pub fn tree_of(krate: &str) -> Option<&'static str> {
+    let tree = TREES.iter().find(|(_, crates)| crates.split(' ').any(|name| name == krate));
+    tree.map(|(folder, _)| *folder)
+}
+
+/// What the word becomes that begins this path, in a file of a crate.
+pub fn root_of(word: &str, path: &str, krate: &str) -> Option<String> {
+    let own = if word == "crate" { krate } else { word };
+    match tree_of(own) {
+        Some(tree) if Some(tree) == tree_of(krate) => {
+            return Some(format!("crate::generated::{own}"));
+        }
+        Some(_) => return (own == "rustybuzz_shapers").then(|| "sengadlit".to_string()),
+        None => {}
+    }
+    let root = ROOTS.iter().find(|(_, paths)| paths.contains(&word) || paths.contains(&path));
+    root.map(|(root, _)| root.to_string())
+}

@@ -3,6 +3,7 @@
 //! The lines of the input: one command each.
 
 use crate::support::prelude::*;
+
 mod fields;
 mod glyph_field;
 mod hook;

@@ -4,6 +4,7 @@
 //! buffer.
 
 use crate::support::prelude::*;
+
 mod command;
 mod expected;
 mod fault;

@@ -3,6 +3,7 @@
 //! Carries out the lines.
 
 use crate::support::prelude::*;
+
 mod hooks;
 
 use crate::generated::hbhook_lines::command::{Command, GlyphField, LineKind, Setting, Side};
@@ -216,6 +217,6 @@ pub fn kind_of_line(alloc: Global, line: &[u8]) -> Result<LineKind, LineFault> {
 
 // The command of a line, which is text.
 fn read_line(alloc: Global, line: &[u8]) -> Result<Command, LineFault> {
-    let line = str::from_utf8(line).map_err(|_| LineFault::Unreadable(Expected::Text))?;
+    let line = core::str::from_utf8(line).map_err(|_| LineFault::Unreadable(Expected::Text))?;
     Command::parse(alloc, line).map_err(|fault| fault.of_line(line))
 }

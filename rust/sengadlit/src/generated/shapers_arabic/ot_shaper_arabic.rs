@@ -111,6 +111,7 @@ fn joining_requests(flags: u32) -> [Request; 14] {
         Request::Pause(None),
     ]
 }
+
 /// Gives each glyph the form that its neighbours ask for, in its auxiliary byte, the form's mask
 /// and the glyph flags of joining; a text that is cut acts as the whole where the halves see their
 /// neighbours. It can't refuse and takes no memory.
