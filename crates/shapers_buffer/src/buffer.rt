@@ -45,7 +45,7 @@ pub use syllables::{
     Span, first_syllable_len, has_span_of_kind, set_syllable, spans_cover, syllables_are_runs,
 };
 pub use tag::{Script, hb_tag_t};
-pub use walking::{GlyphChange, GlyphWalk, PositionedWalk};
+pub use walking::{GlyphChange, GlyphWalk, PositionedWalk, change_each_in};
 
 /// How many characters of context a buffer keeps on each side.
 pub const CONTEXT_LENGTH: usize = 5;
