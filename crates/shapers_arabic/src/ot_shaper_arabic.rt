@@ -27,7 +27,7 @@ mod walk;
 pub use data::{create_data, data_create_arabic};
 use joining::nearest_in;
 pub use look_ups::LookUps;
-pub use marks::reorder_marks;
+pub use marks::{reorder_marks, reorder_marks_in};
 pub use shapers_base::plan::{arabic_shape_plan_t, hb_arabic_joining_type_t};
 use walk::JoiningWalk;
 
