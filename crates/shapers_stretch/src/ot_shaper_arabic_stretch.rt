@@ -10,7 +10,7 @@ mod postprocessing;
 mod recording;
 
 pub use postprocessing::postprocess_glyphs;
-pub use recording::record_stch;
+pub use recording::{record_stch, record_stch_in};
 
 /// The law of widths, of what `postprocess_glyphs` makes of a text: it is the parts of the text
 /// before, one after another, each with its run laid. The laid copies have no advance, and stand

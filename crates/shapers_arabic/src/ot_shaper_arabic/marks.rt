@@ -59,12 +59,17 @@ impl GlyphWalk for MarkOrder {
 
     #[inline]
     fn walk(&mut self, glyphs: &mut [hb_glyph_info_t]) {
-        order_marks(self.level, glyphs, self.start, self.end);
+        reorder_marks_in(self.level, glyphs, self.start, self.end);
     }
 }
 
-// Orders the marks from `start` to `end`.
-fn order_marks(level: BufferClusterLevel, glyphs: &mut [hb_glyph_info_t], start: usize, end: usize)
+/// The same in a slice whose clusters merge at this level.
+pub fn reorder_marks_in(
+    level: BufferClusterLevel,
+    glyphs: &mut [hb_glyph_info_t],
+    start: usize,
+    end: usize,
+)
     requires in_order { start ≤ end }
     requires in_range { end ≤ length glyphs.old }
     ensures { glyphs.new ≡ marks_reordered start end (marks_merged level start end glyphs.old) }

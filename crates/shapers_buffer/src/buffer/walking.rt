@@ -1,5 +1,6 @@
 //! Changes and walks of the glyphs in place, over the slice that the buffer keeps them in.
 ghost use Rattle.std.specs.Prelude.{◌≡◌, ◌<◌, ◌≤◌, List, length, map};
+ghost use Rattle.std.specs.Fn.{FnOnceReturnsAtMut};
 ghost use Rattle.shapers_buffer.specs.Clusters.{with_stretch};
 
 use super::glyph::{GlyphPosition, hb_glyph_info_t};
@@ -55,7 +56,7 @@ impl hb_buffer_t {
         ensures { let changed = with_stretch s e (map (C.changed change.now)) self.old.glyphs in
             self.new ≡ record self.old { glyphs = changed } }
     {
-        change_all(&mut self.info[s..e], change);
+        change_each_in(&mut self.info[s..e], change);
     }
 
     /// Walks over all glyphs. It takes no memory.
@@ -67,6 +68,30 @@ impl hb_buffer_t {
         ensures others { self.new ≡ record self.old { glyphs = self.new.glyphs } }
     {
         walk.walk(&mut self.info);
+    }
+
+    /// Calls `change` with all glyphs, which it may rewrite, and returns what it returned. It takes
+    /// no memory.
+    pub fn with_glyphs_mut<R, F: FnOnce(&mut [hb_glyph_info_t]) -> R>(&mut self, change: F) -> R
+        requires { F.IsAlwaysCallable change }
+        ensures changed { let call = FnOnceReturnsAtMut F.FnOnce change in
+            call self.old.glyphs result self.new.glyphs }
+        ensures same_length { length self.new.glyphs ≡ length self.old.glyphs }
+        ensures others { self.new ≡ record self.old { glyphs = self.new.glyphs } }
+    {
+        change(&mut self.info)
+    }
+
+    /// Calls `change` with all positions, which it may rewrite, and returns what it returned. It
+    /// takes no memory.
+    pub fn with_positions_mut<R, F: FnOnce(&mut [GlyphPosition]) -> R>(&mut self, change: F) -> R
+        requires { F.IsAlwaysCallable change }
+        ensures changed { let call = FnOnceReturnsAtMut F.FnOnce change in
+            call self.old.positions result self.new.positions }
+        ensures same_length { length self.new.positions ≡ length self.old.positions }
+        ensures others { self.new ≡ record self.old { positions = self.new.positions } }
+    {
+        change(&mut self.pos)
     }
 
     /// Walks over all glyphs and their positions. It takes no memory.
@@ -84,8 +109,8 @@ impl hb_buffer_t {
     }
 }
 
-// Changes all these glyphs.
-fn change_all<C: GlyphChange>(glyphs: &mut [hb_glyph_info_t], change: &C)
+/// Changes each of these glyphs.
+pub fn change_each_in<C: GlyphChange>(glyphs: &mut [hb_glyph_info_t], change: &C)
     ensures { glyphs.new ≡ map (C.changed change.now) glyphs.old }
 {
     for glyph in glyphs.iter_mut() {

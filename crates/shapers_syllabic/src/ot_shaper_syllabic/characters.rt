@@ -2,7 +2,7 @@
 ghost use Rattle.std.specs.Prelude.{◌≡◌, map};
 ghost use Rattle.shapers_syllabic.specs.Characters.{composed_behind, with_category, with_category_and_position};
 
-use shapers_base::buffer::{GlyphChange, hb_buffer_t, hb_glyph_info_t};
+use shapers_base::buffer::{GlyphChange, change_each_in, hb_buffer_t, hb_glyph_info_t};
 use shapers_base::font::Tables;
 
 /// The composition of two characters by the table. A mark composes with nothing behind it, so that
@@ -28,6 +28,13 @@ pub fn set_categories<T: Tables>(tables: &T, buffer: &mut hb_buffer_t)
     buffer.change_each(0, len, &ByTable { tables });
 }
 
+/// The same for the glyphs of a slice.
+pub fn set_categories_in<T: Tables>(tables: &T, glyphs: &mut [hb_glyph_info_t])
+    ensures { glyphs.new ≡ map (with_category (T.tables tables.now)) glyphs.old }
+{
+    change_each_in(glyphs, &ByTable { tables });
+}
+
 /// Gives each glyph the category and, as its auxiliary byte, the position that the table of the
 /// Indic, Khmer and Myanmar shapers has for its character. It takes no memory.
 #[inline]
@@ -38,6 +45,13 @@ pub fn set_categories_and_positions<T: Tables>(tables: &T, buffer: &mut hb_buffe
 {
     let len = buffer.len();
     buffer.change_each(0, len, &PlacedByTable { tables });
+}
+
+/// The same for the glyphs of a slice.
+pub fn set_categories_and_positions_in<T: Tables>(tables: &T, glyphs: &mut [hb_glyph_info_t])
+    ensures { glyphs.new ≡ map (with_category_and_position (T.tables tables.now)) glyphs.old }
+{
+    change_each_in(glyphs, &PlacedByTable { tables });
 }
 
 // The category by a table.

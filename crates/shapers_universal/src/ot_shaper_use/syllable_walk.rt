@@ -40,7 +40,7 @@ impl<'a, C: SyllableChange> GlyphWalk for EachSyllable<'a, C> {
 }
 
 // Changes each syllable of these glyphs.
-fn change_syllables<C: SyllableChange>(change: &C, glyphs: &mut [hb_glyph_info_t])
+pub(super) fn change_syllables<C: SyllableChange>(change: &C, glyphs: &mut [hb_glyph_info_t])
     ensures { glyphs.new ≡ flat_map (C.changed change.now) (syllables glyphs.old) }
 {
     let mut start = 0;

@@ -2,7 +2,7 @@
 use Rattle.shapers_clusters.specs.Steps.{shifted}
 use Rattle.shapers_arabic.specs.MarkParts.{passed_by}
 use Rattle.shapers_arabic.proofs.MarkLaws.{lengths-merged}
-use Rattle.shapers_arabic.proofs.ot_shaper_arabic.marks.order_marks.Goals as goal
+use Rattle.shapers_arabic.proofs.ot_shaper_arabic.marks.reorder_marks_in.Goals as goal
 
 pub bring_forward-requires : goal.bring_forward-requires
 bring_forward-requires c =

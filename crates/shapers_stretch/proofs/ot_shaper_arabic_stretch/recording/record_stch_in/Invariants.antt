@@ -3,7 +3,7 @@ use Rattle.std.proofs.Common.{◌≡◌, ◌++◌, ◌||◌, map, take, drop}
 use Rattle.std.specs.List.{list_any}
 use Rattle.shapers_buffer.specs.Marks.{is_multiplied}
 use Rattle.shapers_stretch.specs.Recorded.{recorded}
-use Rattle.shapers_stretch.proofs.ot_shaper_arabic_stretch.recording.record_all.Given as goal
+use Rattle.shapers_stretch.proofs.ot_shaper_arabic_stretch.recording.record_stch_in.Given as goal
 
 abbrev pub invariant-loop-glyph : goal.invariant-loop-glyph
 invariant-loop-glyph l = record {
