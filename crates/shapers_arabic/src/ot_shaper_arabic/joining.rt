@@ -7,7 +7,7 @@ ghost use Rattle.shapers_arabic.specs.JoinedText.{AreCharacters, context_types, 
 ghost use Rattle.shapers_arabic.specs.JoiningWalk.{FlaggedBy, IsWithin, JoinsTo, SameText, WalksAll, WalksOn, cell, column_of, given_flags, given_last, joined_at, state_at_start, step_flags, unformed, waits, written};
 
 use super::arabic_action_t::{FIN2, FIN3, FINA, INIT, ISOL, MED2, MEDI, NONE};
-use super::look_ups::{LookUps, look_up};
+use super::look_ups::LookUps;
 use shapers_base::buffer::{
     BufferFlags, hb_glyph_info_t, hb_unicode_general_category_t, safe_to_insert_tatweel_in,
     unsafe_to_concat_in,
@@ -170,6 +170,20 @@ fn resolve(
         hb_arabic_joining_type_t::X => hb_arabic_joining_type_t::U,
         own => own,
     }
+}
+
+// The joining type of a character as the tables have it; no other function asks them for it.
+#[inline]
+fn look_up<T: Tables, L: Ledger>(
+    tables: &T,
+    c: char,
+    count: &mut LookUps<L>,
+) -> hb_arabic_joining_type_t
+    ensures joining_type { result ≡ (T.tables tables.now).joining c }
+    ensures counted { count.new ≡ count.old + 1 }
+{
+    count.add_one();
+    tables.joining_type(c)
 }
 
 // The type of a glyph, by its stored category.

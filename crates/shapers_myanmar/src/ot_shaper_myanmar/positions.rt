@@ -67,6 +67,7 @@ fn before_base(glyphs: &[hb_glyph_info_t]) -> usize
 }
 
 // The place of the first consonant.
+#[allow(clippy::redundant_closure)]
 fn first_consonant(glyphs: &[hb_glyph_info_t]) -> Option<usize>
     ensures { result ≡ position is_consonant glyphs.now }
 {
