@@ -124,6 +124,28 @@ impl<F: Glyphs> Font for GlyphsOnly<F> {
     }
 }
 
+impl<F: Glyphs + ?Sized> Glyphs for &F {
+    fn get_nominal_glyph(&self, c: u32) -> Option<GlyphId> {
+        (**self).get_nominal_glyph(c)
+    }
+
+    fn glyph_h_advance(&self, glyph: GlyphId) -> i32 {
+        (**self).glyph_h_advance(glyph)
+    }
+
+    fn would_apply(&self, lookup: u16, glyphs: &[GlyphId], zero_context: bool) -> bool {
+        (**self).would_apply(lookup, glyphs, zero_context)
+    }
+
+    fn has_glyph(&self, c: u32) -> bool {
+        (**self).has_glyph(c)
+    }
+
+    fn would_apply_any(&self, lookups: &[u16], glyphs: &[GlyphId], zero_context: bool) -> bool {
+        (**self).would_apply_any(lookups, glyphs, zero_context)
+    }
+}
+
 #[cold]
 fn has_no_features() -> ! {
     panic!("a font for shaping alone was asked for a feature")
