@@ -14,7 +14,8 @@ use shapers_base::plan::hb_ot_shape_plan_t;
 /// Among the marks from `start` to `end`, at the first three neighbours of the classes (patah or
 /// qamats), (sheva or hiriq), (meteg or below), merges the last two and swaps them: a meteg stands
 /// before the point that it is written left of. It can't refuse and takes no memory.
-pub fn reorder_marks(plan: &hb_ot_shape_plan_t, buffer: &mut hb_buffer_t, start: usize, end: usize)
+#[inline]
+pub fn reorder_marks(_plan: &hb_ot_shape_plan_t, buffer: &mut hb_buffer_t, start: usize, end: usize)
     requires in_order { start ≤ end }
     requires in_range { end ≤ length buffer.old.glyphs }
     ensures step { let step = mark_step start end buffer.old.glyphs in
@@ -69,6 +70,7 @@ fn is_triple(a: hb_glyph_info_t, b: hb_glyph_info_t, c: hb_glyph_info_t) -> bool
 
 /// The composition of two characters: the table's, or else, where GPOS places no marks, the Hebrew
 /// presentation form of a letter and a point.
+#[inline]
 pub fn compose<T: Tables>(plan: &hb_ot_shape_plan_t, tables: &T, a: char, b: char) -> Option<char>
     ensures { let composed = (T.tables tables.now).composed a b in
         result ≡ composed_in_hebrew composed plan.now.has_gpos_mark a b }
@@ -102,6 +104,7 @@ const PAIRS: [(char, char, char); 14] = [
 const ALEF_WITH_DAGESH: u32 = 0xFB30;
 
 // The presentation form of a letter and a point.
+#[inline]
 fn form_of(a: char, b: char) -> Option<char>
     ensures { result ≡ hebrew_form a b }
 {

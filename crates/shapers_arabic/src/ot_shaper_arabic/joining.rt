@@ -104,6 +104,7 @@ fn column(joining_type: hb_arabic_joining_type_t) -> usize
 }
 
 // The cell of a state and a letter.
+#[inline]
 fn transition_of(state: usize, joining_type: hb_arabic_joining_type_t) -> Transition
     requires { state < 7 }
     ensures cell { result ≡ cell state joining_type }
@@ -113,6 +114,7 @@ fn transition_of(state: usize, joining_type: hb_arabic_joining_type_t) -> Transi
 }
 
 // The state before a text, by the nearest letter before it.
+#[inline]
 fn state_at_start(before: Option<hb_arabic_joining_type_t>) -> usize
     ensures state { result ≡ state_at_start before }
     ensures within { result < 7 }
@@ -156,6 +158,7 @@ fn is_passed_over(category: hb_unicode_general_category_t) -> bool
 }
 
 // The joining type, where X is told by the category.
+#[inline]
 fn resolve(
     joining_type: hb_arabic_joining_type_t,
     category: hb_unicode_general_category_t,
@@ -300,6 +303,7 @@ fn join_letter(
 }
 
 // Gives the glyph at place `i`, which has this type, its form as long as nothing follows.
+#[inline]
 fn join_place(
     flags: BufferFlags,
     glyphs: &mut [hb_glyph_info_t],
@@ -346,6 +350,7 @@ fn join_letters<T: Tables, L: Ledger>(
 }
 
 // Gives each glyph its form, between the nearest letters before and after the text.
+#[inline]
 pub(super) fn join<T: Tables, L: Ledger>(
     flags: BufferFlags,
     glyphs: &mut [hb_glyph_info_t],

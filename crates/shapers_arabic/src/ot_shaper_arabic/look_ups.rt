@@ -44,6 +44,7 @@ impl<L: Ledger> LookUps<L> {
 }
 
 // The joining type of a character as the tables have it; no other function asks them for it.
+#[inline]
 pub(super) fn look_up<T: Tables, L: Ledger>(
     tables: &T,
     c: char,

@@ -48,6 +48,7 @@ pub trait PositionedWalk {
 
 impl hb_buffer_t {
     /// Changes each glyph from `s` to `e`. It takes no memory.
+    #[inline]
     pub fn change_each<C: GlyphChange>(&mut self, s: usize, e: usize, change: &C)
         requires in_order { s ≤ e }
         requires in_range { e ≤ length self.old.glyphs }
@@ -58,6 +59,7 @@ impl hb_buffer_t {
     }
 
     /// Walks over all glyphs. It takes no memory.
+    #[inline]
     pub fn walk<W: GlyphWalk>(&mut self, walk: &mut W)
         requires { W.can_walk walk.old self.old.glyphs }
         ensures walked { W.walks walk.old walk.new self.old.glyphs self.new.glyphs }
@@ -68,6 +70,7 @@ impl hb_buffer_t {
     }
 
     /// Walks over all glyphs and their positions. It takes no memory.
+    #[inline]
     pub fn walk_positioned<W: PositionedWalk>(&mut self, walk: &W)
         requires { W.can_walk walk.now self.old.glyphs self.old.positions }
         ensures walked { W.walks walk.now

@@ -37,6 +37,7 @@ impl Rules {
 }
 
 // Whether a script is Malayalam.
+#[inline]
 pub(super) fn is_malayalam(script: Option<Script>) -> bool
     ensures { result ≡ is_malayalam script }
 {
@@ -44,6 +45,7 @@ pub(super) fn is_malayalam(script: Option<Script>) -> bool
 }
 
 // Whether a script has neither half forms nor explicit viramas: Malayalam and Tamil.
+#[inline]
 pub(super) fn has_no_half_forms(script: Option<Script>) -> bool
     ensures { result ≡ has_no_half_forms script }
 {

@@ -34,6 +34,7 @@ pub(super) struct Lay {
 }
 
 // Whether a number fits 32 bits with a sign.
+#[inline]
 pub(super) fn fits_i32(x: i128) -> bool
     ensures value { result ≡ fits_i32 x }
     ensures fits { IsTrue result → FitsSigned w32 x }
@@ -72,6 +73,7 @@ pub(super) fn measure<F: hb_font_t>(
 }
 
 /// How far a glyph of the font moves the pen.
+#[inline]
 pub(super) fn advance_of<F: hb_font_t>(face: &F, glyph: &hb_glyph_info_t) -> i32
     requires { glyph.now.glyph_id ≤ 65535 }
     ensures { result ≡ width_of (F.font face.now) glyph.now }

@@ -54,6 +54,7 @@ impl GlyphWalk for TileRecorder {
     ghost walks = { λ v w gs hs. (hs ≡ map recorded gs) × (w.has_stch ≡ list_any
         (λ g. is_multiplied g.marks) gs) };
 
+    #[inline]
     fn walk(&mut self, glyphs: &mut [hb_glyph_info_t]) {
         self.has_stch = record_all(glyphs);
     }

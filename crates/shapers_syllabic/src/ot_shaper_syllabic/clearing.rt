@@ -6,6 +6,7 @@ ghost use Rattle.shapers_buffer.specs.Syllables.{in_syllable};
 use shapers_base::buffer::{GlyphChange, hb_buffer_t, hb_glyph_info_t};
 
 /// Takes every glyph out of its syllable: its syllable byte becomes 0. It takes no memory.
+#[inline]
 pub fn clear_syllables(buffer: &mut hb_buffer_t)
     ensures { buffer.new ≡ record buffer.old { glyphs = map (in_syllable 0) buffer.old.glyphs } }
 {
@@ -14,6 +15,7 @@ pub fn clear_syllables(buffer: &mut hb_buffer_t)
 }
 
 /// Takes back from every glyph the mark that a lookup substituted it. It takes no memory.
+#[inline]
 pub fn clear_substitution_flags(buffer: &mut hb_buffer_t)
     ensures { buffer.new ≡ record buffer.old { glyphs = map unsubstituted buffer.old.glyphs } }
 {
@@ -30,6 +32,7 @@ impl GlyphChange for OutOfSyllable {
 
     ghost changed = { λ _ glyph. in_syllable 0 glyph };
 
+    #[inline]
     fn change(&self, glyph: &mut hb_glyph_info_t) {
         glyph.syllable = 0;
     }
@@ -44,6 +47,7 @@ impl GlyphChange for Unsubstituted {
 
     ghost changed = { λ _ glyph. unsubstituted glyph };
 
+    #[inline]
     fn change(&self, glyph: &mut hb_glyph_info_t) {
         glyph.marks.set_substituted(false);
     }

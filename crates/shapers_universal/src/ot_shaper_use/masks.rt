@@ -47,6 +47,7 @@ impl<'a, T: Tables> GlyphChange for Categories<'a, T> {
 
     ghost changed = { λ change glyph. categorized (T.tables change.tables.now).universal glyph };
 
+    #[inline]
     fn change(&self, glyph: &mut hb_glyph_info_t) {
         glyph.category = self.tables.use_category(glyph.glyph_id);
     }

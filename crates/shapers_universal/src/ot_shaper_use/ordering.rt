@@ -52,6 +52,7 @@ impl Reorder for UniversalOrder {
 
     ghost steps = { λ _ _ gs. universal_steps gs };
 
+    #[inline]
     fn reorder(
         &self,
         buffer: &mut hb_buffer_t,

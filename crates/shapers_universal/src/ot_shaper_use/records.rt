@@ -47,6 +47,7 @@ impl SyllableChange for RecordRphf {
 
     ghost changed = { λ change glyphs. rphf_recorded change.mask glyphs };
 
+    #[inline]
     fn change(&self, syllable: &mut [hb_glyph_info_t]) {
         let leading = leading_len(syllable, self.mask);
         record_first(&mut syllable[..leading], category::R);
@@ -63,6 +64,7 @@ impl SyllableChange for RecordPref {
 
     ghost changed = { λ _ glyphs. first_recorded VPre glyphs };
 
+    #[inline]
     fn change(&self, syllable: &mut [hb_glyph_info_t]) {
         record_first(syllable, category::VPre);
     }

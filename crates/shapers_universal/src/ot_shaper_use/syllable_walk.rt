@@ -33,6 +33,7 @@ impl<'a, C: SyllableChange> GlyphWalk for EachSyllable<'a, C> {
 
     ghost walks = { λ walk _ old new. new ≡ flat_map (C.changed walk.change.now) (syllables old) };
 
+    #[inline]
     fn walk(&mut self, glyphs: &mut [hb_glyph_info_t]) {
         change_syllables(self.change, glyphs);
     }

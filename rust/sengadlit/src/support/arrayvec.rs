@@ -34,6 +34,12 @@ impl<T: Copy, const CAP: usize> ArrayVec<T, CAP> {
         self.len += 1;
     }
 
+    /// Adds an element at the end, if the list has room for it.
+    #[inline]
+    pub fn try_push(&mut self, element: T) -> Result<(), CapacityError> {
+        self.try_extend_from_slice(&[element])
+    }
+
     /// Adds all of these elements at the end, or none where they find no room.
     #[inline]
     pub fn try_extend_from_slice(&mut self, other: &[T]) -> Result<(), CapacityError> {

@@ -34,7 +34,8 @@ use crate::generated::shapers_base::plan::Plan;
 /// - `MarksReordered`, `mark_step`, `marks_swapped`: crates/shapers_text/specs/Hebrew.antt
 ///
 /// </details>
-pub fn reorder_marks(plan: &Plan, buffer: &mut Buffer, start: usize, end: usize) {
+#[inline]
+pub fn reorder_marks(_plan: &Plan, buffer: &mut Buffer, start: usize, end: usize) {
     if let Some(i) = find_triple(buffer, start, end) {
         merge_and_swap(buffer, i);
     }
@@ -81,6 +82,7 @@ fn is_triple(a: GlyphInfo, b: GlyphInfo, c: GlyphInfo) -> bool {
 /// - `composed_in_hebrew`: crates/shapers_text/specs/Hebrew.antt
 ///
 /// </details>
+#[inline]
 pub fn compose<T: Tables>(plan: &Plan, tables: &T, a: char, b: char) -> Option<char> {
     match tables.compose(a, b) {
         Some(composed) => Some(composed),
@@ -111,6 +113,7 @@ const PAIRS: [(char, char, char); 14] = [
 const ALEF_WITH_DAGESH: u32 = 0xFB30;
 
 // The presentation form of a letter and a point.
+#[inline]
 fn form_of(a: char, b: char) -> Option<char> {
     if is_in_dagesh_row(a, b) {
         return char::from_u32(ALEF_WITH_DAGESH + (a as u32 - 0x05D0));

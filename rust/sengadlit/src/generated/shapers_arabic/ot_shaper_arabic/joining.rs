@@ -96,11 +96,13 @@ fn column(joining_type: JoiningType) -> usize {
 }
 
 // The cell of a state and a letter.
+#[inline]
 fn transition_of(state: usize, joining_type: JoiningType) -> Transition {
     STATE_TABLE[state][column(joining_type)]
 }
 
 // The state before a text, by the nearest letter before it.
+#[inline]
 fn state_at_start(before: Option<JoiningType>) -> usize {
     match before {
         None => 0,
@@ -130,6 +132,7 @@ fn is_passed_over(category: GeneralCategory) -> bool {
 }
 
 // The joining type, where X is told by the category.
+#[inline]
 fn resolve(joining_type: JoiningType, category: GeneralCategory) -> JoiningType {
     match joining_type {
         JoiningType::X if is_passed_over(category) => JoiningType::T,
@@ -223,6 +226,7 @@ fn join_letter(
 }
 
 // Gives the glyph at place `i`, which has this type, its form as long as nothing follows.
+#[inline]
 fn join_place(
     flags: BufferFlags,
     glyphs: &mut [GlyphInfo],
@@ -252,6 +256,7 @@ fn join_letters<T: Tables>(
 }
 
 // Gives each glyph its form, between the nearest letters before and after the text.
+#[inline]
 pub(super) fn join<T: Tables>(
     flags: BufferFlags,
     glyphs: &mut [GlyphInfo],

@@ -40,7 +40,8 @@ const ABOVE: u8 = 230;
 /// - `order_view`: crates/shapers_buffer/specs/Glyph.antt
 ///
 /// </details>
-pub fn reorder_marks(plan: &Plan, buffer: &mut Buffer, start: usize, end: usize) {
+#[inline]
+pub fn reorder_marks(_plan: &Plan, buffer: &mut Buffer, start: usize, end: usize) {
     let level = buffer.cluster_level();
     buffer.walk(&mut MarkOrder { level, start, end });
 }
@@ -53,6 +54,7 @@ struct MarkOrder {
 }
 
 impl GlyphWalk for MarkOrder {
+    #[inline]
     fn walk(&mut self, glyphs: &mut [GlyphInfo]) {
         order_marks(self.level, glyphs, self.start, self.end);
     }
@@ -113,7 +115,7 @@ fn is_modifier_of(class: u8, mark: &GlyphInfo) -> bool {
 
 // Whether this mark modifies a letter.
 fn modifies(character: u32) -> bool {
-    MODIFIERS.iter().any(|c| *c == character)
+    MODIFIERS.contains(&character)
 }
 
 // Merges what the modifiers pass with them.

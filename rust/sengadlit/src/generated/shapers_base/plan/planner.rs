@@ -18,12 +18,14 @@ pub enum Request {
 
 impl Default for Request {
     /// A pause without a function.
+    #[inline]
     fn default() -> Self {
         Request::Pause(None)
     }
 }
 
 /// Collects what a shaper asks of the map for one script.
+#[derive(Debug)]
 pub struct Planner {
     script: Option<Script>,
     requests: Vec<Request>,
@@ -41,6 +43,7 @@ impl Planner {
     /// ```
     ///
     /// </details>
+    #[inline]
     pub fn new(alloc: Global, script: Option<Script>) -> Self {
         Planner {
             script,
@@ -59,6 +62,7 @@ impl Planner {
     /// ```
     ///
     /// </details>
+    #[inline]
     pub fn script(&self) -> Option<Script> {
         self.script
     }
@@ -74,6 +78,7 @@ impl Planner {
     /// ```
     ///
     /// </details>
+    #[inline]
     pub fn requests(&self) -> &[Request] {
         self.requests.as_slice()
     }
@@ -89,6 +94,7 @@ impl Planner {
     /// ```
     ///
     /// </details>
+    #[inline]
     pub fn has_feature<F: Font>(&self, face: &F, tag: Tag) -> bool {
         face.has_feature(tag)
     }
@@ -109,6 +115,7 @@ impl Planner {
     /// - `with_requests`: crates/shapers_base/specs/Planner.antt
     ///
     /// </details>
+    #[inline]
     pub fn add_feature(&mut self, tag: Tag, flags: u32, value: u32) -> Result<(), ShaperError> {
         self.add_requests(&[Request::Feature(tag, flags, value)])
     }
@@ -129,6 +136,7 @@ impl Planner {
     /// - `with_requests`: crates/shapers_base/specs/Planner.antt
     ///
     /// </details>
+    #[inline]
     pub fn enable_feature(&mut self, tag: Tag, flags: u32, value: u32) -> Result<(), ShaperError> {
         self.add_feature(tag, flags | F_GLOBAL, value)
     }
@@ -149,6 +157,7 @@ impl Planner {
     /// - `with_requests`: crates/shapers_base/specs/Planner.antt
     ///
     /// </details>
+    #[inline]
     pub fn disable_feature(&mut self, tag: Tag) -> Result<(), ShaperError> {
         self.add_feature(tag, F_GLOBAL, 0)
     }
@@ -168,6 +177,7 @@ impl Planner {
     /// - `with_requests`: crates/shapers_base/specs/Planner.antt
     ///
     /// </details>
+    #[inline]
     pub fn add_gsub_pause(&mut self, pause: Option<Pause>) -> Result<(), ShaperError> {
         self.add_requests(&[Request::Pause(pause)])
     }

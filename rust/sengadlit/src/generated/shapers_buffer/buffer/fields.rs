@@ -18,6 +18,7 @@ impl Buffer {
     /// ```
     ///
     /// </details>
+    #[inline]
     pub fn position(&self, i: usize) -> GlyphPosition {
         self.pos[i]
     }
@@ -35,6 +36,7 @@ impl Buffer {
     /// ```
     ///
     /// </details>
+    #[inline]
     pub fn set_position(&mut self, i: usize, position: GlyphPosition) {
         self.pos[i] = position;
     }
@@ -50,6 +52,7 @@ impl Buffer {
     /// ```
     ///
     /// </details>
+    #[inline]
     pub fn positions(&self) -> &[GlyphPosition] {
         self.pos.as_slice()
     }
@@ -66,6 +69,7 @@ impl Buffer {
     /// ```
     ///
     /// </details>
+    #[inline]
     pub fn positions_len(&self) -> usize {
         self.pos.len()
     }
@@ -86,6 +90,7 @@ impl Buffer {
     /// - `can_be_positions`: crates/shapers_buffer/specs/Buffer.antt
     ///
     /// </details>
+    #[inline]
     pub fn set_positions(&mut self, positions: Vec<GlyphPosition>) -> bool {
         let fits = positions.is_empty() || positions.len() == self.info.len();
         if fits {
@@ -105,6 +110,7 @@ impl Buffer {
     /// ```
     ///
     /// </details>
+    #[inline]
     pub fn direction(&self) -> Direction {
         self.direction
     }
@@ -120,6 +126,7 @@ impl Buffer {
     /// ```
     ///
     /// </details>
+    #[inline]
     pub fn set_direction(&mut self, direction: Direction) {
         self.direction = direction;
     }
@@ -135,6 +142,7 @@ impl Buffer {
     /// ```
     ///
     /// </details>
+    #[inline]
     pub fn script(&self) -> Option<Script> {
         self.script
     }
@@ -150,6 +158,7 @@ impl Buffer {
     /// ```
     ///
     /// </details>
+    #[inline]
     pub fn set_script(&mut self, script: Option<Script>) {
         self.script = script;
     }
@@ -165,6 +174,7 @@ impl Buffer {
     /// ```
     ///
     /// </details>
+    #[inline]
     pub fn cluster_level(&self) -> BufferClusterLevel {
         self.cluster_level
     }
@@ -180,6 +190,7 @@ impl Buffer {
     /// ```
     ///
     /// </details>
+    #[inline]
     pub fn set_cluster_level(&mut self, cluster_level: BufferClusterLevel) {
         self.cluster_level = cluster_level;
     }
@@ -195,6 +206,7 @@ impl Buffer {
     /// ```
     ///
     /// </details>
+    #[inline]
     pub fn flags(&self) -> BufferFlags {
         self.flags
     }
@@ -210,6 +222,7 @@ impl Buffer {
     /// ```
     ///
     /// </details>
+    #[inline]
     pub fn set_flags(&mut self, flags: BufferFlags) {
         self.flags = flags;
     }
@@ -226,6 +239,7 @@ impl Buffer {
     /// ```
     ///
     /// </details>
+    #[inline]
     pub fn pre_context(&self) -> &[char] {
         self.pre_context.as_slice()
     }
@@ -241,6 +255,7 @@ impl Buffer {
     /// ```
     ///
     /// </details>
+    #[inline]
     pub fn set_pre_context(&mut self, chars: &[char]) {
         self.pre_context = context(chars);
     }
@@ -257,6 +272,7 @@ impl Buffer {
     /// ```
     ///
     /// </details>
+    #[inline]
     pub fn post_context(&self) -> &[char] {
         self.post_context.as_slice()
     }
@@ -272,6 +288,7 @@ impl Buffer {
     /// ```
     ///
     /// </details>
+    #[inline]
     pub fn set_post_context(&mut self, chars: &[char]) {
         self.post_context = context(chars);
     }
@@ -287,6 +304,7 @@ impl Buffer {
     /// ```
     ///
     /// </details>
+    #[inline]
     pub fn has_broken_syllable(&self) -> bool {
         self.has_broken_syllable
     }
@@ -302,6 +320,7 @@ impl Buffer {
     /// ```
     ///
     /// </details>
+    #[inline]
     pub fn set_has_broken_syllable(&mut self, has_broken_syllable: bool) {
         self.has_broken_syllable = has_broken_syllable;
     }
@@ -317,6 +336,7 @@ impl Buffer {
     /// ```
     ///
     /// </details>
+    #[inline]
     pub fn has_stch(&self) -> bool {
         self.has_stch
     }
@@ -332,6 +352,7 @@ impl Buffer {
     /// ```
     ///
     /// </details>
+    #[inline]
     pub fn set_has_stch(&mut self, has_stch: bool) {
         self.has_stch = has_stch;
     }
@@ -348,6 +369,7 @@ impl Buffer {
     /// ```
     ///
     /// </details>
+    #[inline]
     pub fn max_len(&self) -> usize {
         self.max_len
     }
@@ -364,6 +386,7 @@ impl Buffer {
     /// ```
     ///
     /// </details>
+    #[inline]
     pub fn set_max_len(&mut self, max_len: usize) {
         self.max_len = max_len;
     }

@@ -72,6 +72,7 @@ impl Buffer {
     /// - `with_stretch`: crates/shapers_buffer/specs/Clusters.antt
     ///
     /// </details>
+    #[inline]
     pub fn change_each<C: GlyphChange>(&mut self, s: usize, e: usize, change: &C) {
         change_all(&mut self.info[s..e], change);
     }
@@ -90,6 +91,7 @@ impl Buffer {
     /// ```
     ///
     /// </details>
+    #[inline]
     pub fn walk<W: GlyphWalk>(&mut self, walk: &mut W) {
         walk.walk(&mut self.info);
     }
@@ -111,6 +113,7 @@ impl Buffer {
     /// ```
     ///
     /// </details>
+    #[inline]
     pub fn walk_positioned<W: PositionedWalk>(&mut self, walk: &W) {
         walk.walk(&mut self.info, &mut self.pos);
     }

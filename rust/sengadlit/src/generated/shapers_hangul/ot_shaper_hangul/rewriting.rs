@@ -17,6 +17,7 @@ fn item_at<F: Font>(face: &F, circles: bool, glyphs: &[GlyphInfo], place: usize)
 }
 
 // The text from a place on.
+#[inline]
 fn rest_from(glyphs: &[GlyphInfo], place: usize) -> &[GlyphInfo] {
     &glyphs[place..]
 }
@@ -56,6 +57,7 @@ impl Cut {
     }
 
     // One more, unless it stays as it is.
+    #[inline]
     fn add(&mut self, place: usize, item: Item) {
         if !item.is_kept() && self.items.push((place, item)).is_err() {
             self.is_whole = false;

@@ -54,6 +54,7 @@ struct BaseWalk {
 }
 
 impl GlyphWalk for BaseWalk {
+    #[inline]
     fn walk(&mut self, glyphs: &mut [GlyphInfo]) {
         self.based = find_base(&self.rules, self.script, &mut glyphs[self.start..self.end]);
     }

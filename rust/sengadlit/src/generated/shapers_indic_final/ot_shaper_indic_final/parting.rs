@@ -174,6 +174,7 @@ struct PutInCluster {
 }
 
 impl GlyphChange for PutInCluster {
+    #[inline]
     fn change(&self, glyph: &mut GlyphInfo) {
         if glyph.cluster != self.cluster {
             glyph.cluster = self.cluster;

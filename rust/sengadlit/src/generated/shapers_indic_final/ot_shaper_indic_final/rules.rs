@@ -47,11 +47,13 @@ impl Rules {
 }
 
 // Whether a script is Malayalam.
+#[inline]
 pub(super) fn is_malayalam(script: Option<Script>) -> bool {
     script == Some(MALAYALAM)
 }
 
 // Whether a script has neither half forms nor explicit viramas: Malayalam and Tamil.
+#[inline]
 pub(super) fn has_no_half_forms(script: Option<Script>) -> bool {
     is_malayalam(script) || script == Some(TAMIL)
 }

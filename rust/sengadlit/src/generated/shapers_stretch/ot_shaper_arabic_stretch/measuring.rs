@@ -28,6 +28,7 @@ pub(super) struct Lay {
 }
 
 // Whether a number fits 32 bits with a sign.
+#[inline]
 pub(super) fn fits_i32(x: i128) -> bool {
     -0x8000_0000 <= x && x < 0x8000_0000
 }
@@ -56,6 +57,7 @@ pub(super) fn measure<F: Font>(face: &F, word: &[GlyphPosition], tiles: &[GlyphI
 }
 
 /// How far a glyph of the font moves the pen.
+#[inline]
 pub(super) fn advance_of<F: Font>(face: &F, glyph: &GlyphInfo) -> i32 {
     face.glyph_h_advance(GlyphId(glyph.glyph_id as u16))
 }

@@ -51,6 +51,7 @@ struct TileRecorder {
 }
 
 impl GlyphWalk for TileRecorder {
+    #[inline]
     fn walk(&mut self, glyphs: &mut [GlyphInfo]) {
         self.has_stch = record_all(glyphs);
     }

@@ -19,6 +19,7 @@ use crate::generated::shapers_base::font::Tables;
 /// - `composed_behind`: crates/shapers_syllabic/specs/Characters.antt
 ///
 /// </details>
+#[inline]
 pub fn compose<T: Tables>(tables: &T, a: char, b: char) -> Option<char> {
     if tables.general_category(a).is_mark() {
         return None;
@@ -41,6 +42,7 @@ pub fn compose<T: Tables>(tables: &T, a: char, b: char) -> Option<char> {
 /// - `with_category`: crates/shapers_syllabic/specs/Characters.antt
 ///
 /// </details>
+#[inline]
 pub fn set_categories<T: Tables>(tables: &T, buffer: &mut Buffer) {
     let len = buffer.len();
     buffer.change_each(0, len, &ByTable { tables });
@@ -62,6 +64,7 @@ pub fn set_categories<T: Tables>(tables: &T, buffer: &mut Buffer) {
 /// - `with_category_and_position`: crates/shapers_syllabic/specs/Characters.antt
 ///
 /// </details>
+#[inline]
 pub fn set_categories_and_positions<T: Tables>(tables: &T, buffer: &mut Buffer) {
     let len = buffer.len();
     buffer.change_each(0, len, &PlacedByTable { tables });
@@ -73,6 +76,7 @@ struct ByTable<'a, T: Tables> {
 }
 
 impl<'a, T: Tables> GlyphChange for ByTable<'a, T> {
+    #[inline]
     fn change(&self, glyph: &mut GlyphInfo) {
         glyph.category = self.tables.indic_categories(glyph.glyph_id).0;
     }
@@ -84,6 +88,7 @@ struct PlacedByTable<'a, T: Tables> {
 }
 
 impl<'a, T: Tables> GlyphChange for PlacedByTable<'a, T> {
+    #[inline]
     fn change(&self, glyph: &mut GlyphInfo) {
         let (category, position) = self.tables.indic_categories(glyph.glyph_id);
         glyph.category = category;

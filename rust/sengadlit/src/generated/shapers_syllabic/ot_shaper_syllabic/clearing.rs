@@ -17,6 +17,7 @@ use crate::generated::shapers_base::buffer::{Buffer, GlyphChange, GlyphInfo};
 /// - `in_syllable`: crates/shapers_buffer/specs/Syllables.antt
 ///
 /// </details>
+#[inline]
 pub fn clear_syllables(buffer: &mut Buffer) {
     let len = buffer.len();
     buffer.change_each(0, len, &OutOfSyllable);
@@ -35,6 +36,7 @@ pub fn clear_syllables(buffer: &mut Buffer) {
 /// - `unsubstituted`: crates/shapers_syllabic/specs/Syllabic.antt
 ///
 /// </details>
+#[inline]
 pub fn clear_substitution_flags(buffer: &mut Buffer) {
     let len = buffer.len();
     buffer.change_each(0, len, &Unsubstituted);
@@ -45,6 +47,7 @@ pub fn clear_substitution_flags(buffer: &mut Buffer) {
 struct OutOfSyllable;
 
 impl GlyphChange for OutOfSyllable {
+    #[inline]
     fn change(&self, glyph: &mut GlyphInfo) {
         glyph.syllable = 0;
     }
@@ -55,6 +58,7 @@ impl GlyphChange for OutOfSyllable {
 struct Unsubstituted;
 
 impl GlyphChange for Unsubstituted {
+    #[inline]
     fn change(&self, glyph: &mut GlyphInfo) {
         glyph.marks.set_substituted(false);
     }

@@ -51,6 +51,7 @@ struct Categories<'a, T: Tables> {
 }
 
 impl<'a, T: Tables> GlyphChange for Categories<'a, T> {
+    #[inline]
     fn change(&self, glyph: &mut GlyphInfo) {
         glyph.category = self.tables.use_category(glyph.glyph_id);
     }

@@ -39,6 +39,7 @@ const POST_BASE: [u8; 18] = [
 pub struct UniversalOrder;
 
 impl Reorder for UniversalOrder {
+    #[inline]
     fn reorder(&self, buffer: &mut Buffer, start: usize, end: usize) -> Result<(), ShaperError> {
         if is_reordered(&buffer.glyphs()[start..end]) {
             if has_reph(&buffer.glyphs()[start..end]) {

@@ -62,6 +62,7 @@ struct RecordRphf {
 }
 
 impl SyllableChange for RecordRphf {
+    #[inline]
     fn change(&self, syllable: &mut [GlyphInfo]) {
         let leading = leading_len(syllable, self.mask);
         record_first(&mut syllable[..leading], category::R);
@@ -73,6 +74,7 @@ impl SyllableChange for RecordRphf {
 struct RecordPref;
 
 impl SyllableChange for RecordPref {
+    #[inline]
     fn change(&self, syllable: &mut [GlyphInfo]) {
         record_first(syllable, category::VPre);
     }

@@ -16,6 +16,7 @@ pub(super) struct EachSyllable<'a, C: SyllableChange> {
 }
 
 impl<'a, C: SyllableChange> GlyphWalk for EachSyllable<'a, C> {
+    #[inline]
     fn walk(&mut self, glyphs: &mut [GlyphInfo]) {
         change_syllables(self.change, glyphs);
     }
