@@ -143,6 +143,7 @@ mod numbers;
 mod references;
 mod support;
 mod text;
+mod values;
 
 /// The modules that the eraser makes of the sources, one for each crate of theirs.
 #[allow(

@@ -1,9 +1,7 @@
 //! Texts into buffers, and glyphs out of them.
 
 use crate::alloc::{Global, Vec};
-use crate::buffer::{
-    Buffer, GeneralCategory, GlyphInfo, GlyphPosition, GlyphWalk, Script, ShaperError, Tag,
-};
+use crate::buffer::{Buffer, GeneralCategory, GlyphInfo, GlyphPosition, GlyphWalk, ShaperError};
 use crate::font::Tables;
 use core::fmt;
 use core::slice;
@@ -136,18 +134,6 @@ impl<T: Tables> GlyphWalk for Categories<'_, T> {
                 glyph.general_category = self.0.general_category(character);
             }
         }
-    }
-}
-
-impl fmt::Display for Tag {
-    fn fmt(&self, f: &mut fmt::Formatter<'_>) -> fmt::Result {
-        self.0.escape_ascii().fmt(f)
-    }
-}
-
-impl fmt::Display for Script {
-    fn fmt(&self, f: &mut fmt::Formatter<'_>) -> fmt::Result {
-        self.0.escape_ascii().fmt(f)
     }
 }
 
