@@ -3,30 +3,19 @@
 //!
 //! `cargo run --example thai`, or with a text `cargo run --example thai -- ก่ำ`
 
-use sengadlit::font::{Glyphs, GlyphsOnly};
+use sengadlit::font::NominalOnly;
 use sengadlit::{Buffer, GlyphId, GlyphInfo, Plan, Shaper, script};
 use std::env;
 use std::error::Error;
 
-/// A font with a glyph for each character of Thai, and with Thai in its GSUB table.
-struct ThaiFont;
-
-impl Glyphs for ThaiFont {
-    fn get_nominal_glyph(&self, c: u32) -> Option<GlyphId> {
-        let number = u16::try_from(c).ok()?.checked_sub(0x0E00)?;
-        (number < 0x80).then_some(GlyphId(number))
-    }
-
-    fn glyph_h_advance(&self, _glyph: GlyphId) -> i32 {
-        600
-    }
-
-    fn would_apply(&self, _lookup: u16, _glyphs: &[GlyphId], _zero_context: bool) -> bool {
-        false
-    }
+/// The glyph of a font that has one for each character of Thai.
+fn glyph_of(c: u32) -> Option<GlyphId> {
+    let number = u16::try_from(c).ok()?.checked_sub(0x0E00)?;
+    (number < 0x80).then_some(GlyphId(number))
 }
 
-/// The glyphs of a text, as a Thai font wants them. Clusters are places of characters.
+/// The glyphs of a text, as a font wants them that has Thai in its GSUB table. Clusters are places of
+/// characters.
 fn shape(text: &str) -> Result<Buffer, Box<dyn Error>> {
     let plan = Plan::builder()
         .script(script::THAI)
@@ -37,7 +26,7 @@ fn shape(text: &str) -> Result<Buffer, Box<dyn Error>> {
         .map(|(place, character)| GlyphInfo::of_character(character, place))
         .collect();
     buffer.set_script(plan.script);
-    Shaper::Thai.preprocess_text(&plan, &GlyphsOnly(ThaiFont), &mut buffer)?;
+    Shaper::Thai.preprocess_text(&plan, &NominalOnly(glyph_of), &mut buffer)?;
     Ok(buffer)
 }
 

@@ -14,28 +14,13 @@
 //! Thai puts SARA AM in two, and the tone that stood before it behind NIKHAHIT:
 //!
 //! ```
-//! use sengadlit::font::{Glyphs, GlyphsOnly};
+//! use sengadlit::font::NominalOnly;
 //! use sengadlit::{Buffer, GlyphId, Plan, Shaper, script};
 //!
-//! /// A font with a glyph for each character of Thai.
-//! struct ThaiFont;
+//! // a font with a glyph for each character of Thai
+//! let number = |c: u32| u16::try_from(c).ok()?.checked_sub(0x0E00);
+//! let font = NominalOnly(|c| number(c).filter(|number| *number < 0x80).map(GlyphId));
 //!
-//! impl Glyphs for ThaiFont {
-//!     fn get_nominal_glyph(&self, c: u32) -> Option<GlyphId> {
-//!         let number = u16::try_from(c).ok()?.checked_sub(0x0E00)?;
-//!         (number < 0x80).then_some(GlyphId(number))
-//!     }
-//!
-//!     fn glyph_h_advance(&self, _glyph: GlyphId) -> i32 {
-//!         600
-//!     }
-//!
-//!     fn would_apply(&self, _lookup: u16, _glyphs: &[GlyphId], _zero_context: bool) -> bool {
-//!         false
-//!     }
-//! }
-//!
-//! let font = GlyphsOnly(ThaiFont);
 //! let plan = Plan::builder().script(script::THAI).build_for(Shaper::Thai)?;
 //! let mut buffer = Buffer::from("\u{0E14}\u{0E4B}\u{0E33}");
 //! Shaper::Thai.preprocess_text(&plan, &font, &mut buffer)?;
@@ -66,15 +51,8 @@
 //! A Khmer word between steps 4 and 5:
 //!
 //! ```
-//! # use sengadlit::font::{Glyphs, GlyphsOnly};
-//! # use sengadlit::{GlyphId};
-//! # struct NoGlyphs;
-//! # impl Glyphs for NoGlyphs {
-//! #     fn get_nominal_glyph(&self, _c: u32) -> Option<GlyphId> { None }
-//! #     fn glyph_h_advance(&self, _glyph: GlyphId) -> i32 { 0 }
-//! #     fn would_apply(&self, _lookup: u16, _glyphs: &[GlyphId], _zero: bool) -> bool { false }
-//! # }
-//! # let font = GlyphsOnly(NoGlyphs);
+//! # use sengadlit::font::NominalOnly;
+//! # let font = NominalOnly(|_| None);
 //! use sengadlit::ot_shaper_syllabic::khmer_syllable::CONSONANT_SYLLABLE;
 //! use sengadlit::plan::ot_category_t::{OT_C, OT_VPre};
 //! use sengadlit::{Buffer, GlyphInfo, Pause, Plan, Shaper, Span, run_pause, script};

@@ -177,3 +177,28 @@ fn fonts_are_asked_through_references() {
     assert!(Wide::new(glyphs).would_apply(7, &[GlyphId(4)], false));
     assert_eq!(wide.asked, [(7, [4].to_vec())]);
 }
+
+#[test]
+fn a_font_of_characters_answers_for_them() {
+    let font = NominalOnly(|c| (c == CIRCLE).then_some(GlyphId(9)));
+    assert_eq!(broken_syllable(&font), Ok([9, 0x17B6].to_vec()));
+    assert!(font.has_glyph(CIRCLE) && !font.has_glyph(0x41));
+}
+
+#[test]
+#[should_panic = "a font for characters alone was asked for an advance"]
+fn a_font_of_characters_has_no_advances() {
+    NominalOnly(|_| None).glyph_h_advance(GlyphId(0));
+}
+
+#[test]
+#[should_panic = "a font for characters alone was asked for a lookup"]
+fn a_font_of_characters_has_no_lookups() {
+    NominalOnly(|_| None).would_apply(0, &[], false);
+}
+
+#[test]
+#[should_panic = "a font for characters alone was asked for a feature"]
+fn a_font_of_characters_has_no_features() {
+    NominalOnly(|_| None).has_feature(Tag(*b"rclt"));
+}

@@ -1,6 +1,6 @@
 //! A font whose glyph numbers have 32 bits, and which answers with `&mut self`.
 
-use super::has_no_features;
+use super::no_answer;
 use crate::buffer::Tag;
 use crate::font::{Font, GlyphId};
 use core::cell::{Cell, RefCell};
@@ -153,6 +153,6 @@ impl<F: WideGlyphs> Font for Wide<F> {
     }
 
     fn has_feature(&self, _tag: Tag) -> bool {
-        has_no_features()
+        no_answer("shaping", "a feature")
     }
 }
