@@ -1,4 +1,5 @@
-//! Fonts made of less than a whole one: of what plan time asks, or of what shaping asks.
+//! Fonts made of less than a whole one: of what plan time asks, of what shaping asks, or of glyphs for
+//! characters.
 
 use crate::buffer::Tag;
 use crate::font::{Font, GlyphId};
@@ -38,28 +39,21 @@ impl<F: Fn(Tag) -> bool> Features for F {
 #[derive(Clone, Copy, Debug, Default)]
 pub struct FeaturesOnly<F>(pub F);
 
-impl<F> FeaturesOnly<F> {
-    #[cold]
-    fn has_no_answer(question: &str) -> ! {
-        panic!("a font for plan time alone was asked for {question}")
-    }
-}
-
 impl<F: Features> Font for FeaturesOnly<F> {
     fn get_nominal_glyph(&self, _c: u32) -> Option<GlyphId> {
-        Self::has_no_answer("a glyph")
+        no_answer("plan time", "a glyph")
     }
 
     fn has_glyph(&self, _c: u32) -> bool {
-        Self::has_no_answer("a glyph")
+        no_answer("plan time", "a glyph")
     }
 
     fn glyph_h_advance(&self, _glyph: GlyphId) -> i32 {
-        Self::has_no_answer("an advance")
+        no_answer("plan time", "an advance")
     }
 
     fn would_apply(&self, _lookup: u16, _glyphs: &[GlyphId], _zero_context: bool) -> bool {
-        Self::has_no_answer("a lookup")
+        no_answer("plan time", "a lookup")
     }
 
     fn has_feature(&self, tag: Tag) -> bool {
@@ -120,13 +114,65 @@ impl<F: Glyphs> Font for GlyphsOnly<F> {
     }
 
     fn has_feature(&self, _tag: Tag) -> bool {
-        has_no_features()
+        no_answer("shaping", "a feature")
+    }
+}
+
+impl<F: Glyphs + ?Sized> Glyphs for &F {
+    fn get_nominal_glyph(&self, c: u32) -> Option<GlyphId> {
+        (**self).get_nominal_glyph(c)
+    }
+
+    fn glyph_h_advance(&self, glyph: GlyphId) -> i32 {
+        (**self).glyph_h_advance(glyph)
+    }
+
+    fn would_apply(&self, lookup: u16, glyphs: &[GlyphId], zero_context: bool) -> bool {
+        (**self).would_apply(lookup, glyphs, zero_context)
+    }
+
+    fn has_glyph(&self, c: u32) -> bool {
+        (**self).has_glyph(c)
+    }
+
+    fn would_apply_any(&self, lookups: &[u16], glyphs: &[GlyphId], zero_context: bool) -> bool {
+        (**self).would_apply_any(lookups, glyphs, zero_context)
+    }
+}
+
+/// A [`Font`] that maps characters to glyphs, by a function: all that the shapers of Thai and Lao,
+/// Khmer and Myanmar and the universal one ask.
+///
+/// Every other question panics, since it has no answer: advances (of Hangul and of marks that
+/// stretch), lookups (of the Indic scripts) and features (of Arabic's plan time).
+#[derive(Clone, Copy, Debug, Default)]
+pub struct NominalOnly<F>(pub F);
+
+impl<F: Fn(u32) -> Option<GlyphId>> Font for NominalOnly<F> {
+    fn get_nominal_glyph(&self, c: u32) -> Option<GlyphId> {
+        self.0(c)
+    }
+
+    fn has_glyph(&self, c: u32) -> bool {
+        self.0(c).is_some()
+    }
+
+    fn glyph_h_advance(&self, _glyph: GlyphId) -> i32 {
+        no_answer("characters", "an advance")
+    }
+
+    fn would_apply(&self, _lookup: u16, _glyphs: &[GlyphId], _zero_context: bool) -> bool {
+        no_answer("characters", "a lookup")
+    }
+
+    fn has_feature(&self, _tag: Tag) -> bool {
+        no_answer("characters", "a feature")
     }
 }
 
 #[cold]
-fn has_no_features() -> ! {
-    panic!("a font for shaping alone was asked for a feature")
+fn no_answer(part: &str, question: &str) -> ! {
+    panic!("a font for {part} alone was asked for {question}")
 }
 
 #[cfg(test)]

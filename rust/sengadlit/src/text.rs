@@ -1,9 +1,7 @@
 //! Texts into buffers, and glyphs out of them.
 
 use crate::alloc::{Global, Vec};
-use crate::buffer::{
-    Buffer, GeneralCategory, GlyphInfo, GlyphPosition, GlyphWalk, Script, ShaperError, Tag,
-};
+use crate::buffer::{Buffer, GeneralCategory, GlyphInfo, GlyphPosition, GlyphWalk, ShaperError};
 use crate::font::Tables;
 use core::fmt;
 use core::slice;
@@ -40,19 +38,18 @@ impl Buffer {
 
     /// Adds the characters of a text, each of general category Cc; see
     /// [`Buffer::set_general_categories`]. Their clusters are the places of their bytes in the
-    /// text. Returns [`ShaperError::Memory`] or [`ShaperError::TooLong`], and then adds nothing.
-    ///
-    /// The buffer has no positions before and after it.
-    ///
-    /// # Panics
-    ///
-    /// If the text has more than 2³² bytes.
+    /// text. Returns [`ShaperError::Memory`], or [`ShaperError::TooLong`] also where a place has more
+    /// than 32 bits, and then adds nothing.
     pub fn push_str(&mut self, text: &str) -> Result<(), ShaperError> {
+        if u32::try_from(text.len()).is_err() {
+            return Err(ShaperError::TooLong);
+        }
         let start = self.len();
         self.grow(text.chars().count())?;
-        let characters = text.char_indices();
-        for (glyph, (place, character)) in (start..).zip(characters) {
-            self.set(glyph, GlyphInfo::of_character(character, cluster_at(place)));
+        for (glyph, (place, character)) in (start..).zip(text.char_indices()) {
+            // it fits, as the length of the text does
+            let cluster = place as u32;
+            self.set(glyph, GlyphInfo::of_character(character, cluster));
         }
         Ok(())
     }
@@ -82,7 +79,7 @@ impl Default for Buffer {
 ///
 /// # Panics
 ///
-/// Where `push_str` returns an error: with less than 2³⁰ characters, where memory is refused.
+/// Where `push_str` returns an error: the text is too long, or memory is refused.
 impl From<&str> for Buffer {
     fn from(text: &str) -> Self {
         let mut buffer = Buffer::default();
@@ -117,11 +114,6 @@ impl<'a> IntoIterator for &'a Buffer {
     }
 }
 
-// The cluster of a character that begins at this byte.
-fn cluster_at(place: usize) -> u32 {
-    u32::try_from(place).expect("a place in the text has 32 bits")
-}
-
 // The first characters of these, in the room that is given.
 fn nearest(characters: impl Iterator<Item = char>, room: &mut [char; 5]) -> &[char] {
     let mut len = 0;
@@ -142,18 +134,6 @@ impl<T: Tables> GlyphWalk for Categories<'_, T> {
                 glyph.general_category = self.0.general_category(character);
             }
         }
-    }
-}
-
-impl fmt::Display for Tag {
-    fn fmt(&self, f: &mut fmt::Formatter<'_>) -> fmt::Result {
-        self.0.escape_ascii().fmt(f)
-    }
-}
-
-impl fmt::Display for Script {
-    fn fmt(&self, f: &mut fmt::Formatter<'_>) -> fmt::Result {
-        self.0.escape_ascii().fmt(f)
     }
 }
 

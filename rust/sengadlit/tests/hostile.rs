@@ -61,11 +61,18 @@ fn run_scenes(kind: Glyphs, first_seed: u64) {
     let (mut done, mut refused) = (0, 0);
     let scenes = (first_seed..first_seed + CALLS).map(|seed| (seed, Scene::random(seed, kind)));
     for (seed, scene) in scenes.filter(|(_, scene)| scene.fits()) {
-        let shown = Shown(format!("seed {seed}: {:?} of {:?}", scene.call, scene.shaper));
+        let shown = Shown(format!(
+            "seed {seed}: {:?} of {:?}",
+            scene.call, scene.shaper
+        ));
         let (returned, after) = scene.play();
         check(&scene, returned, &after);
         assert_eq!(scene.play(), (returned, after), "the same again");
-        *if returned.is_ok() { &mut done } else { &mut refused } += 1;
+        *if returned.is_ok() {
+            &mut done
+        } else {
+            &mut refused
+        } += 1;
         drop(shown);
     }
     println!("{kind:?}: {done} calls done, {refused} refused");

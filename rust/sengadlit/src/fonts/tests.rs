@@ -1,8 +1,8 @@
 use super::*;
+use crate::alloc::Global;
 use crate::buffer::{Buffer, Script, ShaperError, Span, Tag};
 use crate::plan::{Pause, Plan, Planner, Request};
 use crate::shaper::{Shaper, run_pause};
-use crate::{alloc::Global, map::F_HAS_FALLBACK};
 use std::string::ToString;
 use std::vec::Vec;
 
@@ -61,21 +61,20 @@ fn broken_syllable<F: Font>(font: &F) -> Result<Vec<u32>, ShaperError> {
     Ok(buffer.into_iter().map(|glyph| glyph.glyph_id).collect())
 }
 
+/// How many pauses Arabic asks for, with a font of this feature alone.
+fn pauses_of(feature: Tag) -> usize {
+    let mut planner = Planner::new(Global, Some(Script(*b"Arab")));
+    let font = FeaturesOnly(|tag| tag == feature);
+    let collected = Shaper::Arabic.collect_features(&font, &mut planner);
+    assert_eq!(collected, Ok(Some(())));
+    let is_pause = |request: &&Request| matches!(request, Request::Pause(_));
+    planner.requests().iter().filter(is_pause).count()
+}
+
 #[test]
 fn a_font_of_features_collects_features() {
-    let rclt = |font: bool| {
-        let mut planner = Planner::new(Global, Some(Script(*b"Arab")));
-        let font = FeaturesOnly(|tag: Tag| font && tag == Tag(*b"rclt"));
-        Shaper::Arabic
-            .collect_features(&font, &mut planner)
-            .unwrap();
-        let calt = Tag(*b"calt");
-        let is_calt =
-            |request: &Request| matches!(request, Request::Feature(tag, ..) if *tag == calt);
-        planner.requests().iter().any(is_calt)
-    };
-    assert!(rclt(true) && rclt(false));
-    assert_eq!(F_HAS_FALLBACK, 2);
+    // rclt takes the place of a pause
+    assert_eq!(pauses_of(Tag(*b"rclt")) + 1, pauses_of(Tag(*b"calt")));
 }
 
 #[test]
@@ -162,4 +161,44 @@ fn a_wide_font_is_asked_for_lookups_until_one_would_apply() {
 #[should_panic]
 fn a_question_for_more_than_eight_glyphs_panics() {
     one_glyph(1).would_apply(7, &[GlyphId(0); 9], false);
+}
+
+#[test]
+fn fonts_are_asked_through_references() {
+    let font: &dyn Font = &GlyphsOnly(9);
+    assert_eq!(broken_syllable(&font), Ok([9, 0x17B6].to_vec()));
+    let glyphs: &dyn Glyphs = &9_u16;
+    assert_eq!(
+        broken_syllable(&GlyphsOnly(glyphs)),
+        Ok([9, 0x17B6].to_vec())
+    );
+    let mut wide = OneGlyph::default();
+    let glyphs: &mut dyn WideGlyphs = &mut wide;
+    assert!(Wide::new(glyphs).would_apply(7, &[GlyphId(4)], false));
+    assert_eq!(wide.asked, [(7, [4].to_vec())]);
+}
+
+#[test]
+fn a_font_of_characters_answers_for_them() {
+    let font = NominalOnly(|c| (c == CIRCLE).then_some(GlyphId(9)));
+    assert_eq!(broken_syllable(&font), Ok([9, 0x17B6].to_vec()));
+    assert!(font.has_glyph(CIRCLE) && !font.has_glyph(0x41));
+}
+
+#[test]
+#[should_panic = "a font for characters alone was asked for an advance"]
+fn a_font_of_characters_has_no_advances() {
+    NominalOnly(|_| None).glyph_h_advance(GlyphId(0));
+}
+
+#[test]
+#[should_panic = "a font for characters alone was asked for a lookup"]
+fn a_font_of_characters_has_no_lookups() {
+    NominalOnly(|_| None).would_apply(0, &[], false);
+}
+
+#[test]
+#[should_panic = "a font for characters alone was asked for a feature"]
+fn a_font_of_characters_has_no_features() {
+    NominalOnly(|_| None).has_feature(Tag(*b"rclt"));
 }

@@ -1,6 +1,6 @@
 //! A font whose glyph numbers have 32 bits, and which answers with `&mut self`.
 
-use super::has_no_features;
+use super::no_answer;
 use crate::buffer::Tag;
 use crate::font::{Font, GlyphId};
 use core::cell::{Cell, RefCell};
@@ -32,6 +32,28 @@ pub trait WideGlyphs {
     }
 }
 
+impl<F: WideGlyphs + ?Sized> WideGlyphs for &mut F {
+    fn get_nominal_glyph(&mut self, c: u32) -> Option<u32> {
+        (**self).get_nominal_glyph(c)
+    }
+
+    fn glyph_h_advance(&mut self, glyph: u32) -> i32 {
+        (**self).glyph_h_advance(glyph)
+    }
+
+    fn would_apply(&mut self, lookup: u16, glyphs: &[u32], zero_context: bool) -> bool {
+        (**self).would_apply(lookup, glyphs, zero_context)
+    }
+
+    fn has_glyph(&mut self, c: u32) -> bool {
+        (**self).has_glyph(c)
+    }
+
+    fn would_apply_any(&mut self, lookups: &[u16], glyphs: &[u32], zero_context: bool) -> bool {
+        (**self).would_apply_any(lookups, glyphs, zero_context)
+    }
+}
+
 /// A hook asked for the glyph of a character, and the font's number for it, this one, doesn't fit
 /// 16 bits.
 #[derive(Clone, Copy, Debug, PartialEq, Eq)]
@@ -50,7 +72,8 @@ impl Error for GlyphTooLarge {}
 /// - *Whether there is a glyph* for a character is answered whatever its number.
 /// - *Which glyph* it is has 16 bits: a larger number is answered as no glyph, and
 ///   [`Wide::check`] returns an error afterwards. Asked for are the glyphs of the dotted circle, of
-///   Hangul's tones and of the virama of an Indic script.
+///   Hangul's tones and of the virama of an Indic script. While `check` returns no error, the
+///   answers are those of a font with numbers of 16 bits.
 /// - *Advances and lookups* are asked for numbers of the buffer's, which are at most 65535 by the
 ///   conditions of the hooks that ask.
 ///
@@ -130,6 +153,6 @@ impl<F: WideGlyphs> Font for Wide<F> {
     }
 
     fn has_feature(&self, _tag: Tag) -> bool {
-        has_no_features()
+        no_answer("shaping", "a feature")
     }
 }

@@ -2,7 +2,8 @@
 
 use core::error::Error;
 use core::fmt;
-use core::ops::Deref;
+use core::ops::{Deref, DerefMut};
+use core::slice;
 
 /// A list of at most `CAP` elements, which stand in the value itself.
 #[derive(Clone, Copy)]
@@ -22,6 +23,13 @@ impl<T: Copy + Default, const CAP: usize> ArrayVec<T, CAP> {
     }
 }
 
+impl<T: Copy + Default, const CAP: usize> Default for ArrayVec<T, CAP> {
+    #[inline]
+    fn default() -> Self {
+        ArrayVec::new()
+    }
+}
+
 impl<T: Copy, const CAP: usize> ArrayVec<T, CAP> {
     /// Adds an element at the end.
     ///
@@ -34,28 +42,70 @@ impl<T: Copy, const CAP: usize> ArrayVec<T, CAP> {
         self.len += 1;
     }
 
-    /// Adds an element at the end, if the list has room for it.
+    /// Adds an element at the end, or gives it back where the list is full.
     #[inline]
-    pub fn try_push(&mut self, element: T) -> Result<(), CapacityError> {
-        self.try_extend_from_slice(&[element])
+    pub fn try_push(&mut self, element: T) -> Result<(), CapacityError<T>> {
+        if self.is_full() {
+            return Err(CapacityError::new(element));
+        }
+        self.push(element);
+        Ok(())
     }
 
     /// Adds all of these elements at the end, or none where they find no room.
     #[inline]
     pub fn try_extend_from_slice(&mut self, other: &[T]) -> Result<(), CapacityError> {
         let room = &mut self.items[self.len..];
-        let found = room.get_mut(..other.len()).ok_or(CapacityError)?;
-        found.copy_from_slice(other);
+        let found = room.get_mut(..other.len());
+        found.ok_or(CapacityError::new(()))?.copy_from_slice(other);
         self.len += other.len();
         Ok(())
+    }
+
+    /// Takes the last element away.
+    #[inline]
+    pub fn pop(&mut self) -> Option<T> {
+        let last = self.last().copied()?;
+        self.len -= 1;
+        Some(last)
     }
 }
 
 impl<T, const CAP: usize> ArrayVec<T, CAP> {
+    /// The number of elements that there is room for: `CAP`.
+    #[inline]
+    pub const fn capacity(&self) -> usize {
+        CAP
+    }
+
+    /// Whether there are `CAP` elements.
+    #[inline]
+    pub const fn is_full(&self) -> bool {
+        self.len == CAP
+    }
+
     /// The elements.
     #[inline]
     pub fn as_slice(&self) -> &[T] {
         &self.items[..self.len]
+    }
+
+    /// The elements, to be changed.
+    #[inline]
+    pub fn as_mut_slice(&mut self) -> &mut [T] {
+        &mut self.items[..self.len]
+    }
+
+    /// Keeps the first `len` elements.
+    #[inline]
+    pub fn truncate(&mut self, len: usize) {
+        self.len = self.len.min(len);
+    }
+
+    /// Takes all elements away.
+    #[inline]
+    pub fn clear(&mut self) {
+        self.len = 0;
     }
 }
 
@@ -65,6 +115,23 @@ impl<T, const CAP: usize> Deref for ArrayVec<T, CAP> {
     #[inline]
     fn deref(&self) -> &[T] {
         self.as_slice()
+    }
+}
+
+impl<T, const CAP: usize> DerefMut for ArrayVec<T, CAP> {
+    #[inline]
+    fn deref_mut(&mut self) -> &mut [T] {
+        self.as_mut_slice()
+    }
+}
+
+impl<'a, T, const CAP: usize> IntoIterator for &'a ArrayVec<T, CAP> {
+    type Item = &'a T;
+    type IntoIter = slice::Iter<'a, T>;
+
+    #[inline]
+    fn into_iter(self) -> slice::Iter<'a, T> {
+        self.iter()
     }
 }
 
@@ -83,68 +150,33 @@ impl<T: fmt::Debug, const CAP: usize> fmt::Debug for ArrayVec<T, CAP> {
     }
 }
 
-/// A list in place had no room.
+/// A list in place had no room; what found none comes back.
 #[derive(Clone, Copy, Debug, PartialEq, Eq)]
-pub struct CapacityError;
+pub struct CapacityError<T = ()> {
+    element: T,
+}
 
-impl fmt::Display for CapacityError {
+impl<T> CapacityError<T> {
+    /// An error with what found no room.
+    #[inline]
+    pub const fn new(element: T) -> Self {
+        CapacityError { element }
+    }
+
+    /// What found no room.
+    #[inline]
+    pub fn element(self) -> T {
+        self.element
+    }
+}
+
+impl<T> fmt::Display for CapacityError<T> {
     fn fmt(&self, f: &mut fmt::Formatter<'_>) -> fmt::Result {
         f.write_str("insufficient capacity")
     }
 }
 
-impl Error for CapacityError {}
+impl<T: fmt::Debug> Error for CapacityError<T> {}
 
 #[cfg(test)]
-mod tests {
-    use super::*;
-    use std::format;
-    use std::string::ToString;
-
-    fn list(items: &[u32]) -> ArrayVec<u32, 3> {
-        let mut list = ArrayVec::new();
-        list.try_extend_from_slice(items).unwrap();
-        list
-    }
-
-    #[test]
-    fn a_new_list_is_empty() {
-        assert!(ArrayVec::<char, 0>::new().is_empty());
-        assert_eq!(ArrayVec::<u32, 3>::new().as_slice(), []);
-    }
-
-    #[test]
-    fn elements_are_added_at_the_end() {
-        let mut three = list(&[7, 8]);
-        three.push(9);
-        assert_eq!(three.as_slice(), [7, 8, 9]);
-        assert_eq!(three.len(), 3);
-        assert_eq!(three.try_extend_from_slice(&[]), Ok(()));
-    }
-
-    #[test]
-    fn all_elements_are_added_or_none() {
-        let mut three = list(&[7]);
-        assert_eq!(three.try_extend_from_slice(&[1, 2, 3]), Err(CapacityError));
-        assert_eq!(three, list(&[7]));
-        assert_eq!(three.try_extend_from_slice(&[8, 9]), Ok(()));
-        assert_eq!(three.as_slice(), [7, 8, 9]);
-        assert_eq!(CapacityError.to_string(), "insufficient capacity");
-    }
-
-    #[test]
-    #[should_panic]
-    fn a_full_list_takes_no_element() {
-        list(&[7, 8, 9]).push(10);
-    }
-
-    #[test]
-    fn equality_and_format_are_those_of_the_elements() {
-        let mut long = list(&[7, 8]);
-        long.push(9);
-        long.len = 2;
-        assert_eq!(long, list(&[7, 8]));
-        assert_ne!(long, list(&[7]));
-        assert_eq!(format!("{:?}", list(&[7, 8])), "[7, 8]");
-    }
-}
+mod tests;

@@ -108,8 +108,6 @@ fn contexts_are_kept_as_far_as_five_characters() {
 }
 
 #[test]
-fn tags_scripts_and_categories_are_shown_by_their_names() {
-    assert_eq!(Tag(*b"rphf").to_string(), "rphf");
-    assert_eq!(Script(*b"Thai").to_string(), "Thai");
+fn categories_are_shown_by_their_names() {
     assert_eq!(GeneralCategory::Lo.to_string(), "Lo");
 }

@@ -83,7 +83,10 @@ fn refuse_each(scene: &Scene) -> usize {
         let mut again = copy_of(&scene.buffer);
         let (returned, _) = allocator::refusing(refused, || scene.call.make(&setting, &mut again));
         assert_eq!(returned, Err(ShaperError::Memory));
-        assert_eq!(Contents::with_places(&again), Contents::with_places(&scene.buffer));
+        assert_eq!(
+            Contents::with_places(&again),
+            Contents::with_places(&scene.buffer)
+        );
         assert_eq!(scene.call.make(&setting, &mut again), wanted);
         assert_eq!(Contents::of(&again), Contents::of(&buffer));
     }
