@@ -1,5 +1,4 @@
-//! Each request for memory is refused in turn: the run ends with the refusal `Memory`, and prints
-//! nothing.
+//! Each request for memory is refused in turn: the run is refused with `Memory` and prints nothing.
 
 use hbhook::{draw_lines, explain_lines, run_lines};
 use sengadlit::alloc::Global;
@@ -9,7 +8,7 @@ use std::fs;
 use std::path::Path;
 use std::ptr;
 
-// Refuses a thread's request when so many have been met since it was told to.
+// The system's allocator, which refuses one request of a thread: the one after so many others.
 struct Refusing;
 
 thread_local! {
@@ -54,7 +53,7 @@ static ALLOCATOR: Refusing = Refusing;
 // Room for what a run prints and tells, so that the test's own lists never grow.
 const ROOM: usize = 1 << 20;
 
-// How a run ended, whose request number `refused` was refused, if it made so many.
+// How a run ended, and whether it made the request that was to be refused.
 struct Run {
     was_refused: bool,
     status: u8,
@@ -122,7 +121,7 @@ fn draw(script: &[u8], page: &mut Vec<u8>, told: &mut Vec<u8>) -> u8 {
     draw_lines(Global, script, page, told)
 }
 
-// Refuses each request of a run in turn, and tells how many there were.
+// Refuses each request of a run in turn, and returns their number.
 fn refuse_each(program: Program, script: &[u8], expect: impl Fn(usize, Run)) -> usize {
     let whole = Run::new(program, script, usize::MAX);
     assert_eq!((whole.status, whole.told.as_slice()), (0, &[][..]));
@@ -158,7 +157,7 @@ fn refusals_are_explained() {
     });
 }
 
-// What the second run of a hook is refused costs the lines of its drawing alone.
+// A hook is drawn without lines if the second run, which traces its glyphs, is refused.
 #[test]
 fn drawings_end_with_the_refusal_or_without_lines() {
     let script = examples(&["arabic-stretch.txt", "hebrew-letter.txt", "thai-forms.txt"]);
