@@ -13,7 +13,6 @@ use rustybuzz_shapers::font::{GlyphId, Tables, hb_font_t};
 use rustybuzz_shapers::shaper::hb_ot_shaper_t;
 use std::alloc::{AllocError, Global};
 use std::mem;
-use std::str;
 
 // The greatest length of a buffer before a line sets it.
 const MAX_LEN: usize = 1_000_000;

@@ -1,4 +1,4 @@
-//! The program: carries out the lines of a file or of standard input.
+//! The program: runs the lines of a file, or of standard input.
 
 #![forbid(unsafe_code)]
 
@@ -22,10 +22,10 @@ For FILE - or nothing: the lines of standard input. Status: 0; 1 after a refusal
 input or an argument doesn't read, or the output can't be written.
 ";
 
-// The status of arguments that don't read, and of a file that can't be read.
+// The exit status for bad arguments and for a file that can't be read.
 const UNREADABLE: u8 = 2;
 
-// What is done with the lines.
+// What to do with the lines.
 #[derive(Clone, Copy)]
 enum Task {
     Run,
@@ -34,7 +34,7 @@ enum Task {
 }
 
 impl Task {
-    // Carries out the lines of a reader; the answer is the status to end with.
+    // Carries out the lines of a reader, and returns the exit status.
     fn carry_out(self, input: impl Read) -> u8 {
         let (output, faults) = (io::stdout(), io::stderr());
         match self {
@@ -48,13 +48,13 @@ impl Task {
 fn main() -> ExitCode {
     let arguments: Vec<OsString> = env::args_os().skip(1).collect();
     ExitCode::from(run(&arguments).unwrap_or_else(|message| {
-        // A closed standard error changes nothing.
+        // Nothing more can be done where standard error is closed.
         let _ = writeln!(io::stderr(), "hbhook: {message}");
         UNREADABLE
     }))
 }
 
-// Does what the arguments say; the answer is the status to end with, or why they can't be followed.
+// Does what the arguments say, and returns the exit status, or what is wrong with the arguments.
 fn run(arguments: &[OsString]) -> Result<u8, String> {
     let (task, files) = match arguments.first().and_then(|word| word.to_str()) {
         Some("-h" | "--help") if arguments.len() == 1 => return Ok(print_usage()),

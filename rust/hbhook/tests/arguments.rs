@@ -1,12 +1,12 @@
-//! Arguments that read, and those that don't; streams that are closed.
+//! The program's arguments, its exit status, and an output that can't be written.
 
 mod common;
 
 use common::{Run, from_top, start};
 use std::io::Write;
 
-// Such arguments end the run with a message.
-fn expect_unreadable(arguments: &[&str], message: &str) {
+// The program rejects the arguments with a message.
+fn expect_rejected(arguments: &[&str], message: &str) {
     let expected = Run {
         printed: String::new(),
         told: format!("hbhook: {message}\n"),
@@ -16,20 +16,20 @@ fn expect_unreadable(arguments: &[&str], message: &str) {
 }
 
 #[test]
-fn tells_of_arguments_that_do_not_read() {
-    expect_unreadable(&["a", "b"], "one file at most (hbhook --help)");
-    expect_unreadable(&["--why", "a", "b"], "one file at most (hbhook --help)");
-    expect_unreadable(&["--help", "a"], "one file at most (hbhook --help)");
-    expect_unreadable(&["--what"], "there is no option --what (hbhook --help)");
-    expect_unreadable(
+fn rejects_bad_arguments() {
+    expect_rejected(&["a", "b"], "one file at most (hbhook --help)");
+    expect_rejected(&["--why", "a", "b"], "one file at most (hbhook --help)");
+    expect_rejected(&["--help", "a"], "one file at most (hbhook --help)");
+    expect_rejected(&["--what"], "there is no option --what (hbhook --help)");
+    expect_rejected(
         &["--why", "--draw"],
         "there is no option --draw (hbhook --help)",
     );
-    expect_unreadable(&["no such file"], "there is no file no such file");
-    expect_unreadable(&[""], "there is no file ");
+    expect_rejected(&["no such file"], "there is no file no such file");
+    expect_rejected(&[""], "there is no file ");
     let folder = from_top("examples");
     let folder = folder.to_str().unwrap();
-    expect_unreadable(
+    expect_rejected(
         &["--draw", folder],
         &format!("{folder} is a folder, not a file of lines"),
     );
@@ -67,8 +67,7 @@ fn ends_as_the_lines_say() {
     );
 }
 
-// A reader of the output that has gone ends the run with the status of an output that can't be
-// written, whatever is to be written.
+// A pipe whose reader is gone: the status is that of an output that can't be written.
 #[test]
 fn ends_where_no_one_reads_the_output() {
     for arguments in [&[][..], &["--why"], &["--draw"]] {
@@ -86,7 +85,7 @@ fn ends_where_no_one_reads_the_output() {
     }
 }
 
-// A device that is always full does the same.
+// A device that is always full: the same status.
 #[cfg(target_os = "linux")]
 #[test]
 fn ends_where_the_output_is_full() {

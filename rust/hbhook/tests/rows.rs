@@ -51,7 +51,7 @@ impl Row {
     }
 }
 
-// The rows of a file, which ends them at line feeds alone: a line may have a carriage return.
+// The rows of a file. Only line feeds end its lines: a line may hold a carriage return.
 fn rows_of(text: &str) -> Vec<Row> {
     let mut rows: Vec<Row> = Vec::new();
     let mut has_ended = true;

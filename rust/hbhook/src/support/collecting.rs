@@ -1,11 +1,15 @@
-//! Collections made of what an iterator gives.
+//! Collecting an iterator's items into collections whose growth can fail.
 
 use super::prelude::{String, Vec};
 use sengadlit::alloc::{AllocError, Global};
 
-/// A collection that an iterator's items can be collected into, in memory of an allocator.
+/// A collection that can be made of an iterator's items.
 pub trait FromIteratorIn<T>: Sized {
-    /// The collection of these items.
+    /// Makes the collection.
+    ///
+    /// # Errors
+    ///
+    /// [`AllocError`] if memory runs out.
     fn from_iter_in<I: Iterator<Item = T>>(alloc: Global, items: I) -> Result<Self, AllocError>;
 }
 
@@ -30,9 +34,13 @@ impl FromIteratorIn<char> for String {
     }
 }
 
-/// What [`Iterator::collect`] is to collections that can't be refused memory.
+/// [`Iterator::collect`] for collections whose growth can fail.
 pub trait CollectIn: Iterator + Sized {
-    /// The items as a collection, in memory of the allocator.
+    /// Collects the items.
+    ///
+    /// # Errors
+    ///
+    /// [`AllocError`] if memory runs out.
     fn collect_in<C: FromIteratorIn<Self::Item>>(self, alloc: Global) -> Result<C, AllocError> {
         C::from_iter_in(alloc, self)
     }

@@ -4,10 +4,9 @@ use super::prelude::Vec;
 use sengadlit::alloc::{AllocError, Global};
 use std::mem;
 
-/// A map with ordered keys.
+/// A map with ordered keys, kept as a sorted list of pairs.
 ///
-/// It keeps its pairs in one list in the order of the keys, and not in a tree: Rust's own map ends
-/// the program where it is refused memory.
+/// It stands in for [`std::collections::BTreeMap`], which aborts the program if memory runs out.
 #[derive(Debug)]
 pub struct BTreeMap<K, V>(Vec<(K, V)>);
 
@@ -17,7 +16,11 @@ impl<K: Ord, V> BTreeMap<K, V> {
         BTreeMap(Vec::new(alloc))
     }
 
-    /// Gives a key a value, and returns the one that it had. Without memory the map stays as it was.
+    /// Sets the value of a key, and returns the old one.
+    ///
+    /// # Errors
+    ///
+    /// [`AllocError`] if memory runs out; the map is then unchanged.
     pub fn insert(&mut self, key: K, value: V) -> Result<Option<V>, AllocError> {
         match self.place_of(&key) {
             Ok(place) => Ok(Some(mem::replace(&mut self.0[place].1, value))),
@@ -39,7 +42,7 @@ impl<K: Ord, V> BTreeMap<K, V> {
         self.place_of(key).is_ok()
     }
 
-    // The place of a key's pair, or the place where it would stand.
+    // The place of a key's pair, or the place where it would be inserted.
     fn place_of(&self, key: &K) -> Result<usize, usize> {
         self.0.binary_search_by(|(other, _)| other.cmp(key))
     }

@@ -4,10 +4,13 @@ use super::prelude::Vec;
 pub use std::io::{Error, ErrorKind, Result, Write};
 use std::mem;
 
-/// A reader: each reader of [`std::io`].
+/// A reader that fills a list whose growth can fail; every [`std::io::Read`] is one.
 pub trait Read {
-    /// Adds all that is left to a list, and returns how many bytes that was. Without memory for
-    /// them the kind of the error is [`ErrorKind::OutOfMemory`].
+    /// Appends all remaining bytes to a list, and returns their number.
+    ///
+    /// # Errors
+    ///
+    /// Those of the reader, and [`ErrorKind::OutOfMemory`] if memory runs out.
     fn read_to_end(&mut self, bytes: &mut Vec<u8>) -> Result<usize>;
 }
 

@@ -4,10 +4,9 @@ use sengadlit::alloc::{AllocError, Global};
 use std::fmt;
 use std::ops::Deref;
 
-/// A growable text, as [`std::string::String`], but a call that needs memory returns an error where
-/// it is refused.
+/// A growable text, like [`std::string::String`], whose growth returns an error if memory runs out.
 ///
-/// Everything that needs no memory is reached through the `str` that it dereferences to.
+/// It dereferences to `str`.
 #[derive(Debug, Default, PartialEq, Eq)]
 pub struct String(std::string::String);
 
@@ -18,13 +17,21 @@ impl String {
     }
 
     /// A copy of a text.
+    ///
+    /// # Errors
+    ///
+    /// [`AllocError`] if memory runs out.
     pub fn from_str(alloc: Global, text: &str) -> Result<Self, AllocError> {
         let mut copy = String::new(alloc);
         copy.push_str(text)?;
         Ok(copy)
     }
 
-    /// The text of these bytes, with U+FFFD for each sequence that isn't UTF-8.
+    /// The text of some bytes, with U+FFFD in place of each invalid sequence.
+    ///
+    /// # Errors
+    ///
+    /// [`AllocError`] if memory runs out.
     pub fn from_utf8_lossy(alloc: Global, bytes: &[u8]) -> Result<Self, AllocError> {
         let mut text = String::new(alloc);
         for chunk in bytes.utf8_chunks() {
@@ -41,24 +48,36 @@ impl String {
         &self.0
     }
 
-    /// Adds a text at the end. Without memory nothing is added.
+    /// Appends a text.
+    ///
+    /// # Errors
+    ///
+    /// [`AllocError`] if memory runs out; nothing is then appended.
     pub fn push_str(&mut self, text: &str) -> Result<(), AllocError> {
         self.0.try_reserve(text.len()).map_err(|_| AllocError)?;
         self.0.push_str(text);
         Ok(())
     }
 
-    /// Adds a character at the end. Without memory nothing is added.
+    /// Appends a character.
+    ///
+    /// # Errors
+    ///
+    /// [`AllocError`] if memory runs out; nothing is then appended.
     pub fn push(&mut self, character: char) -> Result<(), AllocError> {
         self.push_str(character.encode_utf8(&mut [0; 4]))
     }
 
-    /// Adds what `write!` and `writeln!` format. Without memory a part may have been added.
+    /// Appends formatted text, for `write!` and `writeln!`.
+    ///
+    /// # Errors
+    ///
+    /// [`AllocError`] if memory runs out; a part may then have been appended.
     pub fn write_fmt(&mut self, arguments: fmt::Arguments<'_>) -> Result<(), AllocError> {
         fmt::Write::write_fmt(&mut Growing(self), arguments).map_err(|_| AllocError)
     }
 
-    /// Takes the whole text away. Its memory stays.
+    /// Empties the text, and keeps its memory.
     pub fn clear(&mut self) {
         self.0.clear();
     }
@@ -72,7 +91,7 @@ impl Deref for String {
     }
 }
 
-// A text as formatting writes to it.
+// The sink that formatting writes to.
 struct Growing<'a>(&'a mut String);
 
 impl fmt::Write for Growing<'_> {
