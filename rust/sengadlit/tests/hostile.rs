@@ -32,14 +32,14 @@ fn check(scene: &Scene, returned: Result<Returned, ShaperError>, after: &Content
     assert!(after.glyphs.len() <= scene.buffer.max_len());
     let positions = after.positions.len();
     assert!(positions == 0 || positions == after.glyphs.len());
-    if returned == Ok(Returned::Changed(false)) {
+    let is_as_long = after.glyphs.len() == before.glyphs.len();
+    if matches!(returned, Ok(Returned::Changed(_))) && is_as_long {
         check_syllables(&before, after);
     }
 }
 
-/// A pause that inserts no circle loses and gains nothing in any syllable.
+/// A pause that inserts no circle moves glyphs within each syllable alone.
 fn check_syllables(before: &Contents, after: &Contents) {
-    assert_eq!(before.glyphs.len(), after.glyphs.len());
     let mut start = 0;
     for syllable in before
         .glyphs
@@ -61,11 +61,18 @@ fn run_scenes(kind: Glyphs, first_seed: u64) {
     let (mut done, mut refused) = (0, 0);
     let scenes = (first_seed..first_seed + CALLS).map(|seed| (seed, Scene::random(seed, kind)));
     for (seed, scene) in scenes.filter(|(_, scene)| scene.fits()) {
-        let shown = Shown(format!("seed {seed}: {:?} of {:?}", scene.call, scene.shaper));
+        let shown = Shown(format!(
+            "seed {seed}: {:?} of {:?}",
+            scene.call, scene.shaper
+        ));
         let (returned, after) = scene.play();
         check(&scene, returned, &after);
         assert_eq!(scene.play(), (returned, after), "the same again");
-        *if returned.is_ok() { &mut done } else { &mut refused } += 1;
+        *if returned.is_ok() {
+            &mut done
+        } else {
+            &mut refused
+        } += 1;
         drop(shown);
     }
     println!("{kind:?}: {done} calls done, {refused} refused");
