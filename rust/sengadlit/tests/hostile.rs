@@ -32,14 +32,14 @@ fn check(scene: &Scene, returned: Result<Returned, ShaperError>, after: &Content
     assert!(after.glyphs.len() <= scene.buffer.max_len());
     let positions = after.positions.len();
     assert!(positions == 0 || positions == after.glyphs.len());
-    if returned == Ok(Returned::Changed(false)) {
+    let is_as_long = after.glyphs.len() == before.glyphs.len();
+    if matches!(returned, Ok(Returned::Changed(_))) && is_as_long {
         check_syllables(&before, after);
     }
 }
 
-/// A pause that inserts no circle loses and gains nothing in any syllable.
+/// A pause that inserts no circle moves glyphs within each syllable alone.
 fn check_syllables(before: &Contents, after: &Contents) {
-    assert_eq!(before.glyphs.len(), after.glyphs.len());
     let mut start = 0;
     for syllable in before
         .glyphs

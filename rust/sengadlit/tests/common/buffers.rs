@@ -178,7 +178,7 @@ fn random_clusters(numbers: &mut Numbers, length: usize) -> Vec<u32> {
 
 fn random_glyph(numbers: &mut Numbers, kind: Glyphs, block: u32) -> GlyphInfo {
     let glyph_id = match kind {
-        Glyphs::Letters => block + numbers.below(48) as u32,
+        Glyphs::Letters => block + numbers.below(48).min(numbers.below(48)) as u32,
         Glyphs::Any => numbers.number(),
     };
     GlyphInfo {
@@ -199,9 +199,9 @@ fn random_glyph(numbers: &mut Numbers, kind: Glyphs, block: u32) -> GlyphInfo {
 /// while.
 fn random_syllable(numbers: &mut Numbers, kind: Glyphs) -> u8 {
     match kind {
-        Glyphs::Letters => (numbers.below(2) * 16 + numbers.below(2)) as u8,
+        Glyphs::Letters => (numbers.below(2) * 16 + numbers.below(3)) as u8,
         Glyphs::Any if numbers.once_in(30) => numbers.byte(),
-        Glyphs::Any => (numbers.below(2) * 16 + numbers.below(7)) as u8,
+        Glyphs::Any => (numbers.below(2) * 16 + numbers.below(8)) as u8,
     }
 }
 

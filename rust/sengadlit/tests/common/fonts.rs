@@ -79,8 +79,9 @@ impl<L: Lots> Font for LotFont<L> {
     }
 
     fn would_apply(&self, lookup: u16, glyphs: &[GlyphId], zero_context: bool) -> bool {
-        let mut question = vec![3, u64::from(lookup), u64::from(zero_context)];
-        question.extend(glyphs.iter().map(|glyph| u64::from(glyph.0)));
+        let numbers = glyphs.iter().map(|glyph| u64::from(glyph.0));
+        let sequence = numbers.fold(0, |sum, number| mixed(sum ^ number));
+        let question = [3, u64::from(lookup), u64::from(zero_context), sequence];
         self.0.lot(&question, 2) == 0
     }
 
