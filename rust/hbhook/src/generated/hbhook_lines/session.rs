@@ -13,7 +13,6 @@ use crate::generated::hbhook_lines::printing::print_buffer;
 use crate::generated::hbhook_lines::settings::{Feature, Settings};
 use crate::support::alloc::{AllocError, Global};
 use core::mem;
-use core::str;
 use sengadlit::buffer::{Buffer, GlyphInfo, GlyphPosition};
 use sengadlit::font::{Font, GlyphId, Tables};
 use sengadlit::shaper::Shaper;

@@ -41,7 +41,7 @@ pub use refusal::ShaperError;
 pub use settings::{BufferSettings, context_characters};
 pub use syllables::{Span, first_syllable_len, has_span_of_kind, set_syllable, spans_cover};
 pub use tag::{Script, Tag};
-pub use walking::{GlyphChange, GlyphWalk, PositionedWalk};
+pub use walking::{GlyphChange, GlyphWalk, PositionedWalk, change_each_in};
 
 /// How many characters of context a buffer keeps on each side.
 pub const CONTEXT_LENGTH: usize = 5;

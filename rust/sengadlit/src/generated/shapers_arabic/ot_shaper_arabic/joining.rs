@@ -4,7 +4,6 @@
 //! Joining"; for Alaph, Dalath and Rish the OpenType specification for Syriac.)
 
 use super::arabic_action_t::{FIN2, FIN3, FINA, INIT, ISOL, MED2, MEDI, NONE};
-use super::look_ups::look_up;
 use crate::generated::shapers_base::buffer::{
     BufferFlags, GeneralCategory, GlyphInfo, safe_to_insert_tatweel_in, unsafe_to_concat_in,
 };
@@ -139,6 +138,12 @@ fn resolve(joining_type: JoiningType, category: GeneralCategory) -> JoiningType 
         JoiningType::X => JoiningType::U,
         own => own,
     }
+}
+
+// The joining type of a character as the tables have it; no other function asks them for it.
+#[inline]
+fn look_up<T: Tables>(tables: &T, c: char) -> JoiningType {
+    tables.joining_type(c)
 }
 
 // The type of a glyph, by its stored category.

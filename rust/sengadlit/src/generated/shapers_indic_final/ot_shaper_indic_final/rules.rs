@@ -12,13 +12,16 @@ const MALAYALAM: Script = Script(*b"Mlym");
 
 const TAMIL: Script = Script(*b"Taml");
 
-/// Where the script wants its reph, the glyph of its virama if it has one and the font knows it, and
-/// the masks of `pref` and `init`.
+/// What the final reordering reads of the plan and the font.
 #[derive(Clone, Copy, Debug, PartialEq, Eq)]
 pub struct Rules {
+    /// Where the script wants its reph.
     pub reph_pos: RephPosition,
+    /// The glyph of its virama, if it has one and the font knows it.
     pub virama: Option<GlyphId>,
+    /// The mask of `pref`, without glyph flag bits.
     pub pref: u32,
+    /// The mask of `init`, without glyph flag bits.
     pub init: u32,
 }
 

@@ -52,6 +52,7 @@ fn before_base(glyphs: &[GlyphInfo]) -> usize {
 }
 
 // The place of the first consonant.
+#[allow(clippy::redundant_closure)]
 fn first_consonant(glyphs: &[GlyphInfo]) -> Option<usize> {
     glyphs.iter().position(|glyph| is_consonant(glyph))
 }

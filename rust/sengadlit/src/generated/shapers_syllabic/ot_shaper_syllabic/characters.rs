@@ -2,7 +2,7 @@
 //!
 //! What several shapers ask the tables about a character.
 
-use crate::generated::shapers_base::buffer::{Buffer, GlyphChange, GlyphInfo};
+use crate::generated::shapers_base::buffer::{Buffer, GlyphChange, GlyphInfo, change_each_in};
 use crate::generated::shapers_base::font::Tables;
 
 /// The composition of two characters by the table. A mark composes with nothing behind it, so that
@@ -48,6 +48,23 @@ pub fn set_categories<T: Tables>(tables: &T, buffer: &mut Buffer) {
     buffer.change_each(0, len, &ByTable { tables });
 }
 
+/// The same for the glyphs of a slice.
+///
+/// <details><summary>Contract</summary>
+///
+/// # Contract
+///
+/// ```text
+/// ensures { glyphs.new ≡ map (with_category (T.tables tables.now)) glyphs.old }
+/// ```
+///
+/// - `with_category`: crates/shapers_syllabic/specs/Characters.antt
+///
+/// </details>
+pub fn set_categories_in<T: Tables>(tables: &T, glyphs: &mut [GlyphInfo]) {
+    change_each_in(glyphs, &ByTable { tables });
+}
+
 /// Gives each glyph the category and, as its auxiliary byte, the position that the table of the
 /// Indic, Khmer and Myanmar shapers has for its character. It takes no memory.
 ///
@@ -68,6 +85,23 @@ pub fn set_categories<T: Tables>(tables: &T, buffer: &mut Buffer) {
 pub fn set_categories_and_positions<T: Tables>(tables: &T, buffer: &mut Buffer) {
     let len = buffer.len();
     buffer.change_each(0, len, &PlacedByTable { tables });
+}
+
+/// The same for the glyphs of a slice.
+///
+/// <details><summary>Contract</summary>
+///
+/// # Contract
+///
+/// ```text
+/// ensures { glyphs.new ≡ map (with_category_and_position (T.tables tables.now)) glyphs.old }
+/// ```
+///
+/// - `with_category_and_position`: crates/shapers_syllabic/specs/Characters.antt
+///
+/// </details>
+pub fn set_categories_and_positions_in<T: Tables>(tables: &T, glyphs: &mut [GlyphInfo]) {
+    change_each_in(glyphs, &PlacedByTable { tables });
 }
 
 // The category by a table.

@@ -3,7 +3,7 @@
 //! The masks of joining and the categories of the universal shaper.
 
 use crate::generated::shapers_arabic::ot_shaper_arabic::setup_masks_inner;
-use crate::generated::shapers_base::buffer::{Buffer, GlyphChange, GlyphInfo};
+use crate::generated::shapers_base::buffer::{Buffer, GlyphChange, GlyphInfo, change_each_in};
 use crate::generated::shapers_base::font::Tables;
 use crate::generated::shapers_base::plan::{Plan, PlanData};
 
@@ -42,6 +42,23 @@ pub fn setup_masks<T: Tables>(plan: &Plan, tables: &T, buffer: &mut Buffer) {
 fn set_categories<T: Tables>(tables: &T, buffer: &mut Buffer) {
     let len = buffer.len();
     buffer.change_each(0, len, &Categories { tables });
+}
+
+/// Gives each of these glyphs the category of its character in the universal shaper.
+///
+/// <details><summary>Contract</summary>
+///
+/// # Contract
+///
+/// ```text
+/// ensures { glyphs.new ≡ map (categorized (T.tables tables.now).universal) glyphs.old }
+/// ```
+///
+/// - `categorized`: crates/shapers_universal/specs/UniversalMasks.antt
+///
+/// </details>
+pub fn set_categories_in<T: Tables>(tables: &T, glyphs: &mut [GlyphInfo]) {
+    change_each_in(glyphs, &Categories { tables });
 }
 
 // The tables that tell categories.

@@ -23,7 +23,7 @@ impl<'a, C: SyllableChange> GlyphWalk for EachSyllable<'a, C> {
 }
 
 // Changes each syllable of these glyphs.
-fn change_syllables<C: SyllableChange>(change: &C, glyphs: &mut [GlyphInfo]) {
+pub(super) fn change_syllables<C: SyllableChange>(change: &C, glyphs: &mut [GlyphInfo]) {
     let mut start = 0;
     while start < glyphs.len() {
         let end = start + first_syllable_len(&glyphs[start..]);
