@@ -10,7 +10,10 @@ pub fn erase_count(file: &mut File) -> Result<(), String> {
     }
     merge_counted(file)?;
     for name in LEDGER {
-        while let Some(i) = file.places(name).into_iter().find(|i| !file.is_import(*i)) {
+        let stands_for_it = |file: &File, i| {
+            !file.is_import(i) && file.before(i) != "::" && file.text(i + 1) != "("
+        };
+        while let Some(i) = file.places(name).into_iter().find(|i| stands_for_it(file, *i)) {
             erase_element(file, i);
         }
     }

@@ -86,6 +86,7 @@ static STATE_TABLE: [[Transition; 6]; 7] = [
 // The column of a letter.
 fn column(joining_type: JoiningType) -> usize {
     match joining_type {
+        JoiningType::L => 1,
         JoiningType::R => 2,
         JoiningType::D => 3,
         JoiningType::GroupAlaph => 4,
