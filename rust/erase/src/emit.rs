@@ -10,10 +10,8 @@ pub fn emit(file: &File) -> Result<String, String> {
     let mut body = String::new();
     for (i, token) in file.tokens.iter().enumerate() {
         check(file, i)?;
-        let is_joined = token.lead.is_empty() && token.text.starts_with(is_part);
-        let space = if is_joined && body.ends_with(is_part) { " " } else { "" };
-        let name = renamed(file, i)?.unwrap_or_else(|| token.text.clone());
-        body.extend([&token.lead, space, &name]);
+        let text = renamed(file, i)?.unwrap_or_else(|| token.text.clone());
+        body = body + &token.lead + &text;
     }
     let body = body.trim_start();
     let is_inner = |line: &&str| line.starts_with("//!");
@@ -69,7 +67,7 @@ fn renamed(file: &File, i: usize) -> Result<Option<String>, String> {
         return Ok(name);
     }
     let path = format!("{word}::{}", file.text(i + 2));
-    match root_of(word, &path, &file.krate) {
+    match root_of(word, &path, file.path.split('/').nth(1).unwrap_or("")) {
         None if word == "std" => Err(file.fault(i, &format!("unknown path `{path}`"))),
         root => Ok(root),
     }

@@ -5,33 +5,23 @@ use std::collections::{BTreeMap, BTreeSet};
 use std::iter::{once, successors};
 use std::ops::RangeInclusive;
 
-/// A source file: what is left of it, and what its imports and code that is gone named.
+/// A source file: what is left of its tokens, of which the last one is empty, the words that are
+/// gone, and the names that contracts import from the specifications, each with its file.
 pub struct File {
-    /// The crate that it belongs to.
-    pub krate: String,
-    /// Its path, from the top of the repository.
     pub path: String,
-    /// Its tokens; the last one is empty.
     pub tokens: Vec<Token>,
-    /// The words of the code that is gone, contracts apart.
     pub erased: BTreeSet<String>,
-    /// The names that contracts import from the specifications, each with its file.
     pub definitions: BTreeMap<String, String>,
 }
 
 impl File {
-    /// Reads a file of a crate. Returns an error where a comment, a string or a bracket has no end.
-    pub fn new(krate: &str, path: &str, text: &str) -> Result<Self, String> {
+    /// Reads a file. Returns an error where a comment, a string or a bracket has no end.
+    pub fn new(path: &str, text: &str) -> Result<Self, String> {
         let tokens = tokens(text).map_err(|(line, message)| format!("{path}:{line}: {message}"))?;
-        let (krate, path) = (krate.to_string(), path.to_string());
         let (erased, definitions) = (BTreeSet::new(), BTreeMap::new());
-        let file = File { krate, path, tokens, erased, definitions };
-        let is_open = |i: &usize| {
-            let both = [file.text(*i), file.text(file.partner(*i))];
-            "()[]{}".contains(both[0])
-                && !["()", "[]", "{}", ")(", "][", "}{", ""].contains(&both.concat().as_str())
-        };
-        match (0..file.tokens.len()).find(is_open) {
+        let file = File { path: path.to_string(), tokens, erased, definitions };
+        let is_open = |i: &usize| "()[]{}".contains(file.text(*i)) && file.partner(*i) == *i;
+        match (0..file.tokens.len() - 1).find(is_open) {
             Some(i) => Err(file.fault(i, &format!("unbalanced `{}`", file.text(i)))),
             None => Ok(file),
         }
@@ -70,19 +60,15 @@ impl File {
 
     /// The partner of a bracket; another token's own place.
     pub fn partner(&self, i: usize) -> usize {
+        let is_in = |j: usize, brackets: &str| i32::from(brackets.contains(self.text(j)));
+        let step = |j: usize| is_in(j, "([{") - is_in(j, ")]}");
         let mut depth = 0;
-        let mut is_partner = |j: &usize| {
-            match self.text(*j) {
-                "(" | "[" | "{" => depth += 1,
-                ")" | "]" | "}" => depth -= 1,
-                _ => {}
-            }
+        let is_partner = |j: &usize| {
+            depth += step(*j);
             depth == 0
         };
-        let found = match self.text(i) {
-            "(" | "[" | "{" => (i..self.tokens.len()).find(is_partner),
-            _ => (0..=i).rev().find(|j| is_partner(j)),
-        };
+        let (mut behind, mut before) = (i..self.tokens.len(), (0..=i).rev());
+        let found = if step(i) > 0 { behind.find(is_partner) } else { before.find(is_partner) };
         found.unwrap_or(i)
     }
 
@@ -94,8 +80,8 @@ impl File {
 
     /// The first token of the item with its keyword at `i`: an attribute, `pub`, or the keyword.
     pub fn start(&self, i: usize) -> usize {
-        let open = if i > 0 { self.partner(i - 1) } else { return i };
-        match (self.text(i - 1), self.before(open)) {
+        let open = self.partner(i.saturating_sub(1));
+        match (self.before(i), self.before(open)) {
             ("pub" | "const" | "unsafe", _) => self.start(i - 1),
             (")", "pub") | ("]", "#") => self.start(open - 1),
             _ => i,

@@ -1,4 +1,5 @@
-//! What each file loses for itself: ghost items, clauses, attributes, derives, bounds and tests.
+//! What each file loses for itself: ghost items, contracts, attributes, derives, bounds and tests.
+//! What has an unknown form stays here, and the eraser stops at it when it writes the file.
 
 use crate::contract::{documentation, is_public};
 use crate::file::File;
@@ -7,29 +8,33 @@ use crate::table::{ATTRIBUTES, CLAUSES, ERASED_ATTRIBUTES, ERASED_DERIVES, ITEMS
 /// Erases contracts and ghost items, and what only the proof or its tests read. `is_file` tells
 /// whether the repository has a file.
 pub fn erase_file(file: &mut File, is_file: &dyn Fn(&str) -> bool) -> Result<(), String> {
-    erase_ghosts(file, is_file)?;
-    erase_clauses(file);
-    file.erased.clear();
-    erase_proofs(file)?;
-    erase_attributes(file)?;
-    erase_bounds(file)?;
-    erase_items(file)
+    for i in file.places("ghost") {
+        erase_ghost(file, i, is_file)?;
+    }
+    for i in (0..file.tokens.len()).rev() {
+        match file.text(i) {
+            "fn" => erase_clauses(file, i),
+            "prove" => erase_proof(file, i),
+            "Drop" => erase_bound(file, i),
+            "#" => erase_attribute(file, i)?,
+            _ => {}
+        }
+    }
+    let items: Vec<usize> = ITEMS.iter().flat_map(|name| file.places(name)).collect();
+    items.into_iter().try_for_each(|i| erase_item(file, i))
 }
 
 // `ghost use ..;`, `ghost NAME: {..};`, `ghost NAME = {..};` or both together.
-fn erase_ghosts(file: &mut File, is_file: &dyn Fn(&str) -> bool) -> Result<(), String> {
-    for i in file.places("ghost") {
-        let mut end = i + 2;
-        while matches!(file.text(end), ":" | "=") && file.text(end + 1) == "{" {
-            end = file.partner(end + 1) + 1;
-        }
-        if file.text(i + 1) == "use" {
-            end = file.end(i + 1)?;
-            define(file, i, end, is_file)?;
-        }
-        if file.text(end) != ";" {
-            return Err(file.fault(i, "an unknown form of ghost item"));
-        }
+fn erase_ghost(file: &mut File, i: usize, is_file: &dyn Fn(&str) -> bool) -> Result<(), String> {
+    let mut end = i + 2;
+    while matches!(file.text(end), ":" | "=") && file.text(end + 1) == "{" {
+        end = file.partner(end + 1) + 1;
+    }
+    if file.text(i + 1) == "use" {
+        end = file.end(i + 1)?;
+        define(file, i, end, is_file)?;
+    }
+    if file.text(end) == ";" {
         file.cut_item(i..=end);
     }
     Ok(())
@@ -43,8 +48,9 @@ fn define(
     is_file: &dyn Fn(&str) -> bool,
 ) -> Result<(), String> {
     let import = file.joined(i + 2..=end);
-    let parts = import.split_once(".{").ok_or_else(|| file.fault(i, "an unknown import"))?;
-    let specification = parts.0.strip_prefix("Rattle.").and_then(|path| path.split_once(".specs."));
+    let (path, names) =
+        import.split_once(".{").ok_or_else(|| file.fault(i, "an unknown import"))?;
+    let specification = path.strip_prefix("Rattle.").and_then(|path| path.split_once(".specs."));
     let (krate, path) = specification.unwrap_or(("std", ""));
     let place = format!("crates/{krate}/specs/{}.antt", path.replace('.', "/"));
     if krate == "std" || path.starts_with("declared.") {
@@ -53,49 +59,42 @@ fn define(
     if !is_file(&place) {
         return Err(file.fault(i, &format!("no file {place}")));
     }
-    let names = parts.1.trim_end_matches(['}', ';']).split(',');
+    let names = names.trim_end_matches(['}', ';']).split(',');
     file.definitions.extend(names.map(|name| (name.to_string(), place.clone())));
     Ok(())
 }
 
-// Cuts the clauses of contracts; public functions keep theirs as documentation.
-fn erase_clauses(file: &mut File) {
-    for function in file.places("fn") {
-        let clause = |i: usize| {
-            let open = (i + 1..=i + 2).find(|open| file.text(*open) == "{")?;
-            CLAUSES.contains(&file.text(i)).then(|| i..=file.partner(open))
-        };
-        let clauses: Vec<_> = (function..file.tokens.len()).filter_map(clause).collect();
-        if !clauses.is_empty() && is_public(file, function) {
-            let (start, docs) = (file.start(function), documentation(file, &clauses));
-            file.tokens[start].lead += &docs;
-        }
-        clauses.into_iter().rev().for_each(|clause| file.cut_item(clause));
+// Cuts the clauses of a function; a public one keeps them as documentation.
+fn erase_clauses(file: &mut File, function: usize) {
+    let clause = |i: usize| {
+        let open = (i + 1..=i + 2).find(|open| file.text(*open) == "{")?;
+        CLAUSES.contains(&file.text(i)).then(|| i..=file.partner(open))
+    };
+    let clauses: Vec<_> = (function..file.tokens.len()).filter_map(clause).collect();
+    if !clauses.is_empty() && is_public(file, function) {
+        let (start, docs) = (file.start(function), documentation(file, &clauses));
+        file.tokens[start].lead += &docs;
     }
+    clauses.into_iter().rev().for_each(|clause| file.cut_item(clause));
 }
 
-fn erase_proofs(file: &mut File) -> Result<(), String> {
-    for i in file.places("prove") {
-        let end = file.partner(i + 2) + 1;
-        if file.text(i + 1) != "!" || file.text(end) != ";" {
-            return Err(file.fault(i, "`prove` that is no statement"));
-        }
+// Cuts `prove!(..);`.
+fn erase_proof(file: &mut File, i: usize) {
+    let end = file.partner(i + 2) + 1;
+    if file.text(i + 1) == "!" && file.text(end) == ";" {
         file.cut_item(i..=end);
     }
-    Ok(())
 }
 
-fn erase_attributes(file: &mut File) -> Result<(), String> {
-    for i in file.places("#") {
-        let open = if file.text(i + 1) == "!" { i + 2 } else { i + 1 };
-        let end = file.partner(open);
-        match file.text(open + 1) {
-            "cfg" if file.joined(i..=end) == "#[cfg(test)]" => file.cut_item(i..=file.end(end)?),
-            "derive" => erase_derives(file, i),
-            name if ERASED_ATTRIBUTES.contains(&name) => file.cut(i..=end),
-            name if ATTRIBUTES.contains(&name) => {}
-            _ => return Err(file.fault(i, "an unknown attribute")),
-        }
+fn erase_attribute(file: &mut File, i: usize) -> Result<(), String> {
+    let open = if file.text(i + 1) == "!" { i + 2 } else { i + 1 };
+    let end = file.partner(open);
+    match file.text(open + 1) {
+        "cfg" if file.joined(i..=end) == "#[cfg(test)]" => file.cut_item(i..=file.end(end)?),
+        "derive" => erase_derives(file, i),
+        name if ERASED_ATTRIBUTES.contains(&name) => file.cut(i..=end),
+        name if ATTRIBUTES.contains(&name) => {}
+        _ => return Err(file.fault(i, "an unknown attribute")),
     }
     Ok(())
 }
@@ -111,38 +110,30 @@ fn erase_derives(file: &mut File, i: usize) {
     }
 }
 
-// Cuts the bound `Drop`, and where it is the only one of a `where` clause's line that line.
-fn erase_bounds(file: &mut File) -> Result<(), String> {
-    for i in file.places("Drop") {
-        let owner = file.nearest(i, &["where", "fn", "impl", "struct", "enum", "trait"]);
-        let owner = owner.filter(|owner| file.text(*owner) == "where");
-        match (file.before(i), file.text(i + 1), owner) {
-            ("+", ..) => file.cut(i - 1..=i),
-            (":", "+", _) => file.cut(i..=i + 1),
-            (":", _, None) => file.cut(i - 1..=i),
-            (":", _, Some(owner)) => {
-                let first = file.nearest(i, &["where", ","]).unwrap_or(owner) + 1;
-                file.cut_listed(first..=i);
-                if matches!(file.text(owner + 1), "{" | ";") {
-                    file.cut(owner..=owner);
-                }
+// Cuts the bound `Drop`, and where it is all that a line of a `where` clause asks that line.
+fn erase_bound(file: &mut File, i: usize) {
+    let owner = file.nearest(i, &["where", "fn", "impl", "struct", "enum", "trait"]);
+    let owner = owner.filter(|owner| file.text(*owner) == "where");
+    match (file.before(i), file.text(i + 1), owner) {
+        ("+", ..) => file.cut(i - 1..=i),
+        (":", "+", _) => file.cut(i..=i + 1),
+        (":", _, None) => file.cut(i - 1..=i),
+        (":", _, Some(owner)) => {
+            file.cut_listed(file.nearest(i, &["where", ","]).unwrap_or(owner) + 1..=i);
+            if matches!(file.text(owner + 1), "{" | ";") {
+                file.cut(owner..=owner);
             }
-            _ => return Err(file.fault(i, "`Drop` that is no bound")),
         }
+        _ => {}
     }
-    Ok(())
 }
 
-fn erase_items(file: &mut File) -> Result<(), String> {
-    for i in ITEMS.iter().flat_map(|name| file.places(name)).collect::<Vec<usize>>() {
-        let owner = file.nearest(i, &["impl", "fn", "struct", ";", "{", "}"]);
-        let is_item = |owner: &usize| match file.text(*owner) {
-            "fn" | "struct" => owner + 1 == i,
-            keyword => keyword == "impl",
-        };
-        if let Some(owner) = owner.filter(is_item) {
-            file.cut_whole(owner)?;
-        }
+// Cuts the item that has this name, or the `impl` block that names it in its header.
+fn erase_item(file: &mut File, i: usize) -> Result<(), String> {
+    let owner = file.nearest(i, &["impl", "fn", "struct", ";", "{", "}"]).unwrap_or(i);
+    match file.text(owner) {
+        "fn" | "struct" if owner + 1 == i => file.cut_whole(owner),
+        "impl" => file.cut_whole(owner),
+        _ => Ok(()),
     }
-    Ok(())
 }

@@ -42,21 +42,16 @@ fn calls(file: &File, i: usize) -> Option<Vec<String>> {
 
 /// Cuts the imports of what is gone, and the modules that are empty then, from all files.
 pub fn erase_imports(files: &mut [File], laws: &BTreeSet<String>) -> Result<(), String> {
-    let mut empty = None;
     loop {
         files.iter_mut().try_for_each(|file| erase_uses(file, laws))?;
-        let paths =
-            files.iter().filter(|file| file.tokens.len() == 1).map(|file| file.path.clone());
-        let paths: BTreeSet<String> = paths.collect();
-        for file in files.iter_mut() {
-            for i in file.places("mod") {
-                if paths.contains(&file.path_of_module(file.text(i + 1))) {
-                    file.cut_whole(i)?;
-                }
-            }
-        }
-        if empty.replace(paths.len()) == Some(paths.len()) {
-            return Ok(());
+        let empty = files.iter().filter(|file| file.tokens.len() == 1);
+        let empty: BTreeSet<String> = empty.map(|file| file.path.clone()).collect();
+        let is_empty =
+            |file: &File, i: usize| empty.contains(&file.path_of_module(file.text(i + 1)));
+        let module = |file: &File| file.places("mod").into_iter().find(|i| is_empty(file, *i));
+        match files.iter_mut().find_map(|file| module(file).map(|i| (file, i))) {
+            Some((file, i)) => file.cut_whole(i)?,
+            None => return Ok(()),
         }
     }
 }

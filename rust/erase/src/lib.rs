@@ -46,7 +46,7 @@ fn load(krate: &str, read: Read, files: &mut Vec<File>) -> Result<(), String> {
     let mut paths = vec![format!("crates/{krate}/src/lib.rt")];
     while let Some(path) = paths.pop() {
         let text = read(&path).ok_or_else(|| format!("{path}: no such file"))?;
-        let mut file = File::new(krate, &path, &text)?;
+        let mut file = File::new(&path, &text)?;
         for token in &mut file.tokens {
             token.lead = emit::in_comment(&token.lead);
         }
@@ -59,7 +59,7 @@ fn load(krate: &str, read: Read, files: &mut Vec<File>) -> Result<(), String> {
 }
 
 fn output(file: &File) -> Result<Output, String> {
-    let tree = table::tree_of(&file.krate).unwrap_or("");
+    let tree = file.path.split('/').nth(1).and_then(table::tree_of).unwrap_or("");
     let path = file.path.replace("/src/lib.rt", "/src/mod.rt").replacen("/src/", "/", 1);
     let path = path.replacen("crates", tree, 1).trim_end_matches(".rt").to_string() + ".rs";
     Ok(Output { source: file.path.clone(), path, text: emit::emit(file)? })

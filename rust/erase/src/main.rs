@@ -20,14 +20,16 @@ fn main() -> ExitCode {
         "--check" => check(),
         _ => Err("usage: erase [--check]".into()),
     };
-    result.unwrap_or_else(|error| {
-        eprintln!("{error}");
-        ExitCode::FAILURE
-    })
+    match result {
+        Ok(paths) if paths.is_empty() => return ExitCode::SUCCESS,
+        Ok(paths) => paths.iter().for_each(|path| println!("{}", path.display())),
+        Err(error) => eprintln!("{error}"),
+    }
+    ExitCode::FAILURE
 }
 
 // Writes what changed, and removes what is no longer made.
-fn make() -> Result<ExitCode, Box<dyn Error>> {
+fn make() -> Result<Vec<PathBuf>, Box<dyn Error>> {
     let (made, committed) = (generated()?, files_below(Path::new(""))?);
     for path in committed.keys().filter(|path| !made.contains_key(*path)) {
         fs::remove_file(path)?;
@@ -35,22 +37,20 @@ fn make() -> Result<ExitCode, Box<dyn Error>> {
     for (path, text) in made.iter().filter(|(path, text)| committed.get(*path) != Some(text)) {
         write(path, text)?;
     }
-    Ok(ExitCode::SUCCESS)
+    Ok(Vec::new())
 }
 
-// Prints each file that differs by more than white space and the layout's commas.
-fn check() -> Result<ExitCode, Box<dyn Error>> {
+// The files that differ by more than white space and the layout's commas.
+fn check() -> Result<Vec<PathBuf>, Box<dyn Error>> {
     let (made, committed) = (generated()?, files_below(Path::new(""))?);
-    let differs =
-        |path: &PathBuf| made.get(path).map(compared) != committed.get(path).map(compared);
+    let compared = |text: Option<&String>| text.map(|text| compared(text));
+    let differs = |path: &PathBuf| compared(made.get(path)) != compared(committed.get(path));
     let paths: BTreeSet<PathBuf> = made.keys().chain(committed.keys()).cloned().collect();
-    let different: Vec<PathBuf> = paths.into_iter().filter(differs).collect();
-    different.iter().for_each(|path| println!("{}", path.display()));
-    Ok(if different.is_empty() { ExitCode::SUCCESS } else { ExitCode::FAILURE })
+    Ok(paths.into_iter().filter(differs).collect())
 }
 
 // The words of a text's comments and its tokens, without commas before closing brackets.
-fn compared(text: &String) -> Vec<String> {
+fn compared(text: &str) -> Vec<String> {
     let tokens = tokens(text).unwrap_or_default();
     let is_layout = |i: usize| tokens[i].text == "," && ")]}>".contains(&tokens[i + 1].text);
     let text = |i: usize| if is_layout(i) { "" } else { &tokens[i].text };

@@ -82,13 +82,10 @@ pub fn tree_of(krate: &str) -> Option<&'static str> {
 /// What the word becomes that begins this path, in a file of a crate.
 pub fn root_of(word: &str, path: &str, krate: &str) -> Option<String> {
     let own = if word == "crate" { krate } else { word };
-    match tree_of(own) {
-        Some(tree) if Some(tree) == tree_of(krate) => {
-            return Some(format!("crate::generated::{own}"));
-        }
-        Some(_) => return (own == "rustybuzz_shapers").then(|| "sengadlit".to_string()),
-        None => {}
-    }
     let root = ROOTS.iter().find(|(_, paths)| paths.contains(&word) || paths.contains(&path));
-    root.map(|(root, _)| root.to_string())
+    match tree_of(own) {
+        None => root.map(|(root, _)| root.to_string()),
+        tree if tree == tree_of(krate) => Some(format!("crate::generated::{own}")),
+        _ => (own == "rustybuzz_shapers").then(|| "sengadlit".to_string()),
+    }
 }
