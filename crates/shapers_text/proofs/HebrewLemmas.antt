@@ -1,6 +1,7 @@
 -- Steps of the search for the first three marks.
 use Rattle.std.proofs.Common.{◌≡◌, ℕ, suc, ◌+◌, ◌-◌, ◌<◌, ◌≤◌, Bool, true, false, List, [], ◌∷◌, length, get_or, take, drop, set, refl, ap, subst, sym, ◌∙◌, arith, Some, None, Option}
 use Rattle.std.specs.Prelude.{option_map, swap, IfSome, if◌then◌else◌}
+use Rattle.std.proofs.lemmas.Bool.{false≢true}
 use Rattle.std.proofs.lemmas.List.{drop_more, get_or_read, take-map, drop-map}
 use Rattle.std.proofs.lemmas.List.Edits.{swap_is}
 use Rattle.shapers_buffer.specs.Glyph.{default_glyph, plain, order_view}
@@ -79,9 +80,9 @@ triple_none gs i end h =
 
 -- the first three stand within the text
 three_long : (gs : List hb_glyph_info_t) → opens_triple gs ≡ true → 2 < length gs
-three_long [] h = absurd h
-three_long (a ∷ []) h = absurd h
-three_long (a ∷ (b ∷ [])) h = absurd h
+three_long [] h = absurd (false≢true h)
+three_long (a ∷ []) h = absurd (false≢true h)
+three_long (a ∷ (b ∷ [])) h = absurd (false≢true h)
 three_long (a ∷ (b ∷ (c ∷ gs))) h = omega arith
 
 abbrev Within : ℕ → Option ℕ → Type 0
