@@ -130,7 +130,11 @@ fn unformed_pref(pref: u32, base: usize, glyphs: &[hb_glyph_info_t]) -> Option<u
     ensures within { IfSome result (λ i. i < length glyphs.now) }
 {
     let i = pref_place(pref, base, glyphs)?;
-    if is_unformed(&glyphs[i]) { Some(i) } else { None }
+    if is_unformed(&glyphs[i]) {
+        Some(i)
+    } else {
+        None
+    }
 }
 
 // Whether a glyph is not both substituted and formed.
