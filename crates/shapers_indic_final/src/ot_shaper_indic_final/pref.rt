@@ -35,10 +35,8 @@ pub(super) fn formed_pref(pref: u32, base: usize, glyphs: &[hb_glyph_info_t]) ->
     ensures behind { IfSome result (λ i. base < i) }
     ensures within { IfSome result (λ i. i < length glyphs.now) }
 {
-    match pref_place(pref, base, glyphs) {
-        Some(i) => { if is_formed(&glyphs[i]) { Some(i) } else { None } }
-        None => None,
-    }
+    let i = pref_place(pref, base, glyphs)?;
+    if is_formed(&glyphs[i]) { Some(i) } else { None }
 }
 
 // Where a formed glyph goes.

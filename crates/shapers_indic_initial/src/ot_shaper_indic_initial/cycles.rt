@@ -50,7 +50,7 @@ fn spend_cycle(buffer: &mut hb_buffer_t, start: usize, end: usize, p: usize) -> 
     let mut greatest = p;
     let mut q = old_place(buffer, start, end, p);
     spend_place(buffer, start, end, p);
-    for passed in start..end {
+    for _ in start..end {
         if q == p {
             break;
         }

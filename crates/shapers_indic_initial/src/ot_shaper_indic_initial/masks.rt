@@ -252,7 +252,7 @@ fn clear_half(bits: u32, glyphs: &mut [hb_glyph_info_t])
 fn has_non_joiner(glyphs: &[hb_glyph_info_t]) -> bool
     ensures { result ≡ list_any (is_one_of (OT_ZWNJ ∷ [])) glyphs.now }
 {
-    glyphs.iter().any(|glyph| is_non_joiner(glyph))
+    glyphs.iter().any(is_non_joiner)
 }
 
 // The same, glyph by glyph, from the last one on.
