@@ -1,7 +1,7 @@
 //! Plans and maps made from what a caller has.
 
 use crate::alloc::{AllocError, Global};
-use crate::buffer::{Script, ShaperError, Tag};
+use crate::buffer::{Script, Tag};
 use crate::map::{FeatureMap, Map};
 use crate::plan::{Plan, StretchStart};
 use crate::shaper::Shaper;
@@ -135,8 +135,10 @@ impl<'a> PlanBuilder<'a> {
             self.global_mask,
             self.chosen_script,
             self.found_script,
-        )?;
-        map.ok_or_else(|| self.fault())
+        );
+        // want of memory is its only refusal
+        map.map_err(|_| PlanError::Memory)?
+            .ok_or_else(|| self.fault())
     }
 
     /// The plan, without what a shaper keeps in it.
@@ -197,13 +199,6 @@ impl fmt::Display for PlanError {
 }
 
 impl Error for PlanError {}
-
-// A map is refused for want of memory alone.
-impl From<ShaperError> for PlanError {
-    fn from(_: ShaperError) -> Self {
-        PlanError::Memory
-    }
-}
 
 #[cfg(test)]
 mod tests {

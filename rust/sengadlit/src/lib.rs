@@ -73,11 +73,19 @@
 //!
 //! # What a caller owes
 //!
-//! - **Conditions.** Some calls have conditions (`requires` in the contract): there are no positions
-//!   before positioning, the plan has the data that the hook reads, glyphs are characters where masks
-//!   are set. Where one isn't met the result is unspecified and the call may panic; memory stays safe.
-//!   Whoever can't know calls the checked methods, which test the conditions before they change
-//!   anything: see `shaper::checked`.
+//! - **Conditions.** Some calls have conditions, `requires` in the contract. Where one isn't met the
+//!   result is unspecified and the call may panic; memory stays safe.
+//!
+//!   | call | asks |
+//!   |---|---|
+//!   | [`preprocess_text`], [`setup_masks`], [`reorder_marks`], [`run_pause`] | the buffer has no positions |
+//!   | [`setup_masks`] | for Arabic, Hangul and universal: the plan has the shaper's data; for Arabic, and for universal where letters join: glyphs are characters |
+//!   | [`reorder_marks`] | `start <= end`, and `end` is within the buffer; for Arabic, at most 32 places |
+//!   | [`run_pause`] | kinds of spans are at most 15; the plan has the data that the pause reads |
+//!   | [`postprocess_glyphs`] | a position a glyph; for Arabic, its data in the plan, and glyph numbers of at most 65535 |
+//!
+//!   [`Shaper::with_data`] and [`Plan::builder`] make plans that fit. Whoever can't know calls the
+//!   checked methods, which test the conditions before they change anything: see `shaper::checked`.
 //! - **Answers.** A [`Font`] and [`Tables`] give the same answer to the same question.
 //! - **Refusals.** A call that returns a [`ShaperError`] has changed nothing.
 //!

@@ -1,7 +1,7 @@
 //! Texts into buffers, and glyphs out of them.
 
 use crate::alloc::{Global, Vec};
-use crate::buffer::{Buffer, GeneralCategory, GlyphInfo, GlyphPosition, GlyphWalk, ShaperError};
+use crate::buffer::{Buffer, GeneralCategory, GlyphInfo, GlyphPosition, ShaperError};
 use crate::font::Tables;
 use core::fmt;
 use core::slice;
@@ -57,7 +57,7 @@ impl Buffer {
     /// Sets the general category of each character, as the tables have it. Marks that stretch read
     /// it, and Indic where a word begins. What is no character stays as it is.
     pub fn set_general_categories<T: Tables>(&mut self, tables: &T) {
-        self.walk(&mut Categories(tables));
+        self.with_glyphs_mut(|glyphs| set_categories(tables, glyphs));
     }
 
     /// Sets the text before the buffer's, of which the last five characters are kept, and the text
@@ -124,15 +124,11 @@ fn nearest(characters: impl Iterator<Item = char>, room: &mut [char; 5]) -> &[ch
     &room[..len]
 }
 
-// The walk that sets general categories.
-struct Categories<'a, T>(&'a T);
-
-impl<T: Tables> GlyphWalk for Categories<'_, T> {
-    fn walk(&mut self, glyphs: &mut [GlyphInfo]) {
-        for glyph in glyphs {
-            if let Some(character) = char::from_u32(glyph.glyph_id) {
-                glyph.general_category = self.0.general_category(character);
-            }
+// Sets the general category of each character.
+fn set_categories<T: Tables>(tables: &T, glyphs: &mut [GlyphInfo]) {
+    for glyph in glyphs {
+        if let Some(character) = char::from_u32(glyph.glyph_id) {
+            glyph.general_category = tables.general_category(character);
         }
     }
 }

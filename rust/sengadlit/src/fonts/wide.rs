@@ -78,7 +78,8 @@ impl Error for GlyphTooLarge {}
 ///   conditions of the hooks that ask.
 ///
 /// A question costs a test that no other is being answered, and one for a lookup a copy of its
-/// glyphs. The hooks ask one question at a time; a font that asks through its own adapter panics.
+/// glyphs: for Indic's initial reordering, which asks most, 7 % more instructions. The hooks ask one
+/// question at a time; a font that asks through its own adapter panics.
 #[derive(Debug, Default)]
 pub struct Wide<F> {
     font: RefCell<F>,
