@@ -5,7 +5,7 @@ use crate::numbers;
 use crate::status::{Argument, Error};
 use core::mem;
 use sengadlit::alloc::{AllocError, Global, Vec as List};
-use sengadlit::buffer::{Buffer as Inner, BufferClusterLevel, CONTEXT_LENGTH, Direction, GlyphPosition};
+use sengadlit::buffer::{Buffer as Inner, BufferClusterLevel, BufferFlags, CONTEXT_LENGTH, Direction, GlyphPosition};
 
 /// The number of general categories.
 const CATEGORIES: u8 = 30;
@@ -77,7 +77,7 @@ impl Buffer {
         self.inner.set_script(numbers::script(properties.script));
         self.inner.set_direction(direction);
         self.inner.set_cluster_level(level);
-        self.inner.set_flags(numbers::buffer_flags(properties.flags));
+        self.inner.set_flags(BufferFlags::from_harfbuzz(properties.flags));
         self.inner.set_max_len(properties.max_length as usize);
         Ok(())
     }

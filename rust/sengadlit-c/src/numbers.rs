@@ -1,5 +1,5 @@
 //! The header's numbers, as the types of `sengadlit` and back.
-use sengadlit::buffer::{BufferFlags, GeneralCategory, Script, Tag};
+use sengadlit::buffer::{GeneralCategory, Script, Tag};
 use sengadlit::plan::{JoiningType, Pause};
 use sengadlit::shaper::{NormalizationMode, Shaper, ZeroWidthMarks};
 
@@ -28,59 +28,27 @@ pub fn shaper_number(shaper: Shaper) -> u32 {
     SHAPERS.iter().position(|s| *s == shaper).map_or(u32::MAX, |number| number as u32)
 }
 
-const PAUSES: [Pause; 15] = [
-    Pause::SetupSyllablesIndic,
-    Pause::SetupSyllablesKhmer,
-    Pause::SetupSyllablesMyanmar,
-    Pause::SetupSyllablesUse,
-    Pause::InitialReordering,
-    Pause::ReorderKhmer,
-    Pause::ReorderMyanmar,
-    Pause::ReorderUse,
-    Pause::FinalReordering,
-    Pause::RecordStch,
-    Pause::RecordRphf,
-    Pause::RecordPref,
-    Pause::SyllabicClearVar,
-    Pause::ClearSubstitutionFlags,
-    Pause::ArabicFallbackShape,
-];
-
 /// The pause of `sengadlit_pause_t`.
 #[inline]
 pub fn pause(number: u32) -> Option<Pause> {
-    PAUSES.get(number as usize).copied()
+    Pause::from_number(u8::try_from(number).ok()?)
 }
 
 /// Its number; `NO_PAUSE` for none.
 pub fn pause_number(pause: Option<Pause>) -> u32 {
-    let number = pause.and_then(|pause| PAUSES.iter().position(|p| *p == pause));
-    number.map_or(NO_PAUSE, |number| number as u32)
+    pause.map_or(NO_PAUSE, |pause| u32::from(pause.number()))
 }
 
 /// The joining type of `SENGADLIT_JOINING_..`; U for any other number.
 #[inline]
 pub fn joining_type(number: u8) -> JoiningType {
-    use JoiningType::{D, GroupAlaph, GroupDalathRish, L, R, T, U, X};
-    const TYPES: [JoiningType; 9] = [U, L, R, D, GroupAlaph, GroupDalathRish, U, T, X];
-    TYPES.get(usize::from(number)).copied().unwrap_or(U)
+    JoiningType::from_number(number).unwrap_or(JoiningType::U)
 }
 
 /// The general category of `SENGADLIT_UNICODE_GENERAL_CATEGORY_..`; unassigned for any other number.
 #[inline]
 pub fn general_category(number: u8) -> GeneralCategory {
     GeneralCategory::from_number(number).unwrap_or(GeneralCategory::Cn)
-}
-
-/// The flags of `SENGADLIT_BUFFER_FLAG_..`, which are HarfBuzz's, as the crate numbers them.
-pub fn buffer_flags(numbers: u32) -> BufferFlags {
-    const KNOWN: [(u32, BufferFlags); 3] = [
-        (0x10, BufferFlags::DO_NOT_INSERT_DOTTED_CIRCLE),
-        (0x40, BufferFlags::PRODUCE_UNSAFE_TO_CONCAT),
-        (0x80, BufferFlags::PRODUCE_SAFE_TO_INSERT_TATWEEL),
-    ];
-    let set = KNOWN.iter().filter(|(number, _)| numbers & number != 0);
-    BufferFlags(set.fold(0, |bits, (_, flag)| bits | flag.0))
 }
 
 /// `sengadlit_normalization_mode_t`, which is HarfBuzz's.
