@@ -83,25 +83,24 @@ typedef enum sengadlit_argument_t {
     SENGADLIT_ARGUMENT_NONE = 0,     /* None: the status isn't SENGADLIT_ARGUMENT. */
     SENGADLIT_ARGUMENT_SHAPER = 1,   /* No shaper by this number. */
     SENGADLIT_ARGUMENT_PLAN = 2,     /* Null. */
-    SENGADLIT_ARGUMENT_BUFFER = 3,   /* Null. */
-    SENGADLIT_ARGUMENT_FONT = 4,     /* Null, or a function that the call asks is. */
-    SENGADLIT_ARGUMENT_TABLES = 5,   /* Null, or a function that the call asks is. */
-    SENGADLIT_ARGUMENT_MAP = 6,      /* Null, or one of its functions is. */
-    SENGADLIT_ARGUMENT_RESULT = 7,   /* A pointer to write a result to is null. */
-    SENGADLIT_ARGUMENT_PAUSE = 8,    /* No pause by this number, or one that the plan's shaper doesn't have. */
-    SENGADLIT_ARGUMENT_RANGE = 9,    /* Places that aren't in order, beyond the text, or too many. */
-    SENGADLIT_ARGUMENT_SPANS = 10,   /* Null, or the kind of span `index` is above 15. */
-    SENGADLIT_ARGUMENT_CODEPOINT = 11, /* That of glyph `index` is none that the hook takes; or an argument is none. */
-    SENGADLIT_ARGUMENT_GENERAL_CATEGORY = 12, /* That of glyph `index` is above 29. */
-    SENGADLIT_ARGUMENT_POSITIONS = 13, /* There are positions where the hook wants none, or none where it wants them. */
-    SENGADLIT_ARGUMENT_DIRECTION = 14,
-    SENGADLIT_ARGUMENT_CLUSTER_LEVEL = 15,
-    SENGADLIT_ARGUMENT_PROPERTIES = 16, /* Null. */
-    SENGADLIT_ARGUMENT_CONTEXT = 17, /* Null, or character `index` is none of Unicode's scalar values. */
-    SENGADLIT_ARGUMENT_INPUT = 18,   /* Null. */
-    SENGADLIT_ARGUMENT_FEATURES = 19, /* Null, or the mask of feature `index` has one of the low three bits. */
-    SENGADLIT_ARGUMENT_STAGES = 20,  /* Null, or stage `index` is no range of the lookups. */
-    SENGADLIT_ARGUMENT_LOOKUPS = 21, /* Null. */
+    SENGADLIT_ARGUMENT_FONT = 3,     /* Null, or a function that the call asks is. */
+    SENGADLIT_ARGUMENT_TABLES = 4,   /* Null, or a function that the call asks is. */
+    SENGADLIT_ARGUMENT_MAP = 5,      /* Null, or one of its functions is. */
+    SENGADLIT_ARGUMENT_RESULT = 6,   /* A pointer to write a result to is null. */
+    SENGADLIT_ARGUMENT_PAUSE = 7,    /* No pause by this number, or one that the plan's shaper doesn't have. */
+    SENGADLIT_ARGUMENT_RANGE = 8,    /* Places that aren't in order, beyond the text, or too many. */
+    SENGADLIT_ARGUMENT_SPANS = 9,   /* Null, or the kind of span `index` is above 15. */
+    SENGADLIT_ARGUMENT_CODEPOINT = 10, /* That of glyph `index` is none that the hook takes; or an argument is none. */
+    SENGADLIT_ARGUMENT_GENERAL_CATEGORY = 11, /* That of glyph `index` is above 29. */
+    SENGADLIT_ARGUMENT_POSITIONS = 12, /* There are positions where the hook wants none, or none where it wants them. */
+    SENGADLIT_ARGUMENT_DIRECTION = 13,
+    SENGADLIT_ARGUMENT_CLUSTER_LEVEL = 14,
+    SENGADLIT_ARGUMENT_PROPERTIES = 15, /* Null. */
+    SENGADLIT_ARGUMENT_CONTEXT = 16, /* Null, or character `index` is none of Unicode's scalar values. */
+    SENGADLIT_ARGUMENT_INPUT = 17,   /* Null. */
+    SENGADLIT_ARGUMENT_FEATURES = 18, /* Null, or the mask of feature `index` has one of the low three bits. */
+    SENGADLIT_ARGUMENT_STAGES = 19,  /* Null, or stage `index` is no range of the lookups. */
+    SENGADLIT_ARGUMENT_LOOKUPS = 20, /* Null. */
     SENGADLIT_ARGUMENT_MAX_VALUE = 0x7FFFFFFF
 } sengadlit_argument_t;
 
@@ -449,7 +448,9 @@ typedef struct sengadlit_buffer_properties_t {
     sengadlit_direction_t direction;
     sengadlit_buffer_cluster_level_t cluster_level;
     uint32_t flags;                  /* SENGADLIT_BUFFER_FLAG_.. */
-    uint32_t max_length;             /* A hook that would make the text longer returns TOO_LONG. */
+    uint32_t max_length;             /* A hook that would make the text longer returns TOO_LONG. A stretched mark may
+                                        repeat a tile as often as this allows: HarfBuzz sets 64 times the length of the
+                                        text, or 16384 if that is more. */
 } sengadlit_buffer_properties_t;
 
 typedef struct sengadlit_buffer_t sengadlit_buffer_t;
@@ -511,12 +512,12 @@ sengadlit_status_t sengadlit_preprocess_text(const sengadlit_plan_t *plan, const
 
 /* Whether the shaper composes two characters, or decomposes one: DONE, and what they make is written; NOT_FOUND; or ABSENT,
    where Unicode's own composition holds. Asks compose (and for Indic, Khmer and universal general_category), or decompose.
-   No buffer is concerned, and these two tell no more of an error than ARGUMENT: PLAN, TABLES, RESULT, or CODEPOINT, which
-   is no scalar value. */
+   `error` may be null; it is written where ARGUMENT is returned: PLAN, TABLES, RESULT, or CODEPOINT, which is no scalar
+   value. */
 sengadlit_status_t sengadlit_decompose(const sengadlit_plan_t *plan, const sengadlit_tables_t *tables, uint32_t ab,
-                                       uint32_t *a, uint32_t *b);
+                                       uint32_t *a, uint32_t *b, sengadlit_error_t *error);
 sengadlit_status_t sengadlit_compose(const sengadlit_plan_t *plan, const sengadlit_tables_t *tables, uint32_t a, uint32_t b,
-                                     uint32_t *ab);
+                                     uint32_t *ab, sengadlit_error_t *error);
 
 /* Reorders the marks from place `start` to before `end` (Arabic, Hebrew). Reads codepoint (Arabic),
    modified_combining_class, cluster; moves glyphs, and writes modified_combining_class (Arabic).

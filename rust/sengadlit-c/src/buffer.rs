@@ -5,7 +5,9 @@ use crate::numbers;
 use crate::status::{Argument, Error};
 use core::mem;
 use sengadlit::alloc::{AllocError, Global, Vec as List};
-use sengadlit::buffer::{Buffer as Inner, BufferClusterLevel, BufferFlags, CONTEXT_LENGTH, Direction, GlyphPosition};
+use sengadlit::buffer::{
+    Buffer as Inner, BufferClusterLevel, BufferFlags, CONTEXT_LENGTH, Direction, GlyphPosition,
+};
 
 /// The number of general categories.
 const CATEGORIES: u8 = 30;
@@ -62,7 +64,8 @@ impl Buffer {
     /// The positions, one a glyph, all zero if there were none.
     pub fn positions(&mut self) -> Result<&mut [GlyphPosition], AllocError> {
         if self.positions.is_empty() {
-            self.positions.resize(self.glyphs.len(), GlyphPosition::ZERO)?;
+            self.positions
+                .resize(self.glyphs.len(), GlyphPosition::ZERO)?;
         }
         Ok(self.positions.as_mut_slice())
     }
@@ -77,7 +80,8 @@ impl Buffer {
         self.inner.set_script(numbers::script(properties.script));
         self.inner.set_direction(direction);
         self.inner.set_cluster_level(level);
-        self.inner.set_flags(BufferFlags::from_harfbuzz(properties.flags));
+        self.inner
+            .set_flags(BufferFlags::from_harfbuzz(properties.flags));
         self.inner.set_max_len(properties.max_length as usize);
         Ok(())
     }
@@ -124,7 +128,11 @@ impl Buffer {
 
     /// That each codepoint is one of Unicode's scalar values.
     pub fn are_characters(&self) -> Result<(), Error> {
-        match self.glyphs.iter().position(|glyph| char::from_u32(glyph.codepoint).is_none()) {
+        match self
+            .glyphs
+            .iter()
+            .position(|glyph| char::from_u32(glyph.codepoint).is_none())
+        {
             Some(index) => Err(Error::argument_at(Argument::Codepoint, index)),
             None => Ok(()),
         }
@@ -133,8 +141,13 @@ impl Buffer {
     // One pass without a branch a glyph.
     #[inline]
     fn glyphs_are(&self, greatest: u32) -> Result<(), Error> {
-        let is_wrong = |glyph: &Glyph| (glyph.general_category >= CATEGORIES) | (glyph.codepoint > greatest);
-        if self.glyphs.iter().fold(false, |wrong, glyph| wrong | is_wrong(glyph)) {
+        let is_wrong =
+            |glyph: &Glyph| (glyph.general_category >= CATEGORIES) | (glyph.codepoint > greatest);
+        if self
+            .glyphs
+            .iter()
+            .fold(false, |wrong, glyph| wrong | is_wrong(glyph))
+        {
             return Err(self.wrong_glyph(greatest));
         }
         Ok(())
@@ -142,10 +155,17 @@ impl Buffer {
 
     #[cold]
     fn wrong_glyph(&self, greatest: u32) -> Error {
-        match self.glyphs.iter().position(|glyph| glyph.general_category >= CATEGORIES) {
+        match self
+            .glyphs
+            .iter()
+            .position(|glyph| glyph.general_category >= CATEGORIES)
+        {
             Some(index) => Error::argument_at(Argument::GeneralCategory, index),
             None => {
-                let index = self.glyphs.iter().position(|glyph| glyph.codepoint > greatest);
+                let index = self
+                    .glyphs
+                    .iter()
+                    .position(|glyph| glyph.codepoint > greatest);
                 Error::argument_at(Argument::Codepoint, index.unwrap_or(0))
             }
         }
@@ -153,7 +173,10 @@ impl Buffer {
 
     /// Runs a hook on the glyphs, which it finds in the crate's buffer, and on the positions if there are any.
     #[inline]
-    pub fn run<A>(&mut self, hook: impl FnOnce(&mut Inner) -> Result<A, Error>) -> Result<A, Error> {
+    pub fn run<A>(
+        &mut self,
+        hook: impl FnOnce(&mut Inner) -> Result<A, Error>,
+    ) -> Result<A, Error> {
         let mut infos = match as_infos(mem::take(&mut self.glyphs)) {
             Ok(infos) => infos,
             Err((glyphs, index)) => {
@@ -178,10 +201,15 @@ impl Buffer {
 }
 
 // The nearest of these characters, which are counted from `first` on.
-fn nearest<'a>(characters: &[u32], first: usize, room: &'a mut [char; CONTEXT_LENGTH]) -> Result<&'a [char], Error> {
+fn nearest<'a>(
+    characters: &[u32],
+    first: usize,
+    room: &'a mut [char; CONTEXT_LENGTH],
+) -> Result<&'a [char], Error> {
     let length = characters.len().min(CONTEXT_LENGTH);
     for (i, number) in characters[..length].iter().enumerate() {
-        room[i] = char::from_u32(*number).ok_or_else(|| Error::argument_at(Argument::Context, first + i))?;
+        room[i] = char::from_u32(*number)
+            .ok_or_else(|| Error::argument_at(Argument::Context, first + i))?;
     }
     Ok(&room[..length])
 }

@@ -1,17 +1,14 @@
 //! The structs of the header that hold numbers alone, and the layout of all of them.
-use crate::border::callbacks::{Font, FontFuncs, Map, MapFuncs, Tables, TablesFuncs};
-use crate::border::plans::PlanInput;
-use crate::status::Error;
 use core::ffi::{c_int, c_uint};
 use core::mem::{align_of, offset_of, size_of};
-use sengadlit::buffer::{GlyphInfo, GlyphPosition, Span};
+use sengadlit::buffer::GlyphInfo;
 
 /// `sengadlit_bool_t`: 0 is false.
 pub type Bool = c_int;
 
 /// `sengadlit_glyph_info_t`: a glyph as C writes it, whose general category may be any number.
 #[repr(C)]
-#[derive(Clone, Copy, Default)]
+#[derive(Clone, Copy, Debug, Default)]
 pub struct Glyph {
     pub codepoint: u32,
     pub cluster: u32,
@@ -86,12 +83,21 @@ pub struct Data {
     pub masks: [u32; 9],
 }
 
-/// The size of each struct and the offset of each field, a line each, as `tests/layout.c` prints them.
+const _: () = assert!(size_of::<c_uint>() == 4 && size_of::<Bool>() == 4);
+
 #[cfg(test)]
-fn layouts() -> String {
+mod tests {
+    use super::*;
+    use crate::border::callbacks::{Font, FontFuncs, Map, MapFuncs, Tables, TablesFuncs};
+    use crate::border::plans::PlanInput;
+    use crate::status::Error;
     use core::fmt::Write;
-    let mut lines = String::new();
-    macro_rules! layout {
+    use sengadlit::buffer::{GlyphPosition, Span};
+
+    /// The size of each struct and the offset of each field, a line each, as `tests/layout.c` prints them.
+    fn layouts() -> String {
+        let mut lines = String::new();
+        macro_rules! layout {
         ($name:literal, $c:ty: $($field:ident $(.$inner:ident)? $(= $as:literal)?),*) => {
             writeln!(lines, "{} {}", $name, size_of::<$c>()).unwrap();
             $(
@@ -100,32 +106,31 @@ fn layouts() -> String {
             )*
         };
     }
-    layout!("error", Error: status, argument, index);
-    layout!("shaper_constants", Constants: hooks, gpos_tag, normalization_preference, zero_width_marks, fallback_position);
-    layout!("font_funcs", FontFuncs: nominal_glyph, glyph_h_advance, would_substitute, has_feature);
-    layout!("tables_funcs", TablesFuncs: joining_type, general_category, indic_categories, use_category, compose, decompose);
-    layout!("map_funcs", MapFuncs: add_feature, add_gsub_pause);
-    layout!("font", Font<'static>: funcs, user_data);
-    layout!("tables", Tables<'static>: funcs, user_data);
-    layout!("map", Map<'static>: funcs, user_data);
-    layout!("feature", Feature: tag, mask, stage);
-    layout!("stage", Stage: start, end);
-    layout!("plan_input", PlanInput: script, chosen_script, found_script, has_gpos_mark, centres_stretch, global_mask,
+        layout!("error", Error: status, argument, index);
+        layout!("shaper_constants", Constants: hooks, gpos_tag, normalization_preference, zero_width_marks, fallback_position);
+        layout!("font_funcs", FontFuncs: nominal_glyph, glyph_h_advance, would_substitute, has_feature);
+        layout!("tables_funcs", TablesFuncs: joining_type, general_category, indic_categories, use_category, compose, decompose);
+        layout!("map_funcs", MapFuncs: add_feature, add_gsub_pause);
+        layout!("font", Font<'static>: funcs, user_data);
+        layout!("tables", Tables<'static>: funcs, user_data);
+        layout!("map", Map<'static>: funcs, user_data);
+        layout!("feature", Feature: tag, mask, stage);
+        layout!("stage", Stage: start, end);
+        layout!("plan_input", PlanInput: script, chosen_script, found_script, has_gpos_mark, centres_stretch, global_mask,
         features, features_length, stages, stages_length, lookups, lookups_length, kept.user_data = "user_data", kept.destroy = "destroy");
-    layout!("plan_data", Data: shaper, joins, has_stch, rphf_mask, masks);
-    layout!("glyph_info", Glyph: codepoint, cluster, mask, var, syllable, category, auxiliary, general_category,
+        layout!("plan_data", Data: shaper, joins, has_stch, rphf_mask, masks);
+        layout!("glyph_info", Glyph: codepoint, cluster, mask, var, syllable, category, auxiliary, general_category,
         modified_combining_class, lig_comp, marks);
-    layout!("glyph_position", GlyphPosition: x_advance, y_advance, x_offset, y_offset);
-    layout!("buffer_properties", Properties: script, direction, cluster_level, flags, max_length);
-    layout!("span", Span: len = "length", kind);
-    lines
-}
+        layout!("glyph_position", GlyphPosition: x_advance, y_advance, x_offset, y_offset);
+        layout!("buffer_properties", Properties: script, direction, cluster_level, flags, max_length);
+        layout!("span", Span: len = "length", kind);
+        lines
+    }
 
-/// `abi/layout.txt` is what C prints of the header: `checks/c` compares it.
-#[cfg(all(test, target_arch = "x86_64"))]
-#[test]
-fn layouts_are_the_recorded_ones() {
-    assert_eq!(layouts(), include_str!("../abi/layout.txt"));
+    /// `abi/layout.txt` is what C prints of the header: `checks/c` compares it.
+    #[cfg(target_arch = "x86_64")]
+    #[test]
+    fn layouts_are_the_recorded_ones() {
+        assert_eq!(layouts(), include_str!("../abi/layout.txt"));
+    }
 }
-
-const _: () = assert!(size_of::<c_uint>() == 4 && size_of::<Bool>() == 4);

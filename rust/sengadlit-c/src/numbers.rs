@@ -25,7 +25,10 @@ pub fn shaper(number: u32) -> Option<Shaper> {
 
 /// Its number.
 pub fn shaper_number(shaper: Shaper) -> u32 {
-    SHAPERS.iter().position(|s| *s == shaper).map_or(u32::MAX, |number| number as u32)
+    SHAPERS
+        .iter()
+        .position(|s| *s == shaper)
+        .map_or(u32::MAX, |number| number as u32)
 }
 
 /// The pause of `sengadlit_pause_t`.

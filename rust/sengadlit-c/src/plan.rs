@@ -30,7 +30,10 @@ pub fn make(
     stages: &[Stage],
     lookups: &[u16],
 ) -> Result<Plan, Error> {
-    if let Some(index) = features.iter().position(|feature| feature.mask & GLYPH_FLAGS != 0) {
+    if let Some(index) = features
+        .iter()
+        .position(|feature| feature.mask & GLYPH_FLAGS != 0)
+    {
         return Err(Error::argument_at(Argument::Features, index));
     }
     let is_range = |stage: &Stage| stage.start <= stage.end && stage.end as usize <= lookups.len();
@@ -42,18 +45,39 @@ pub fn make(
     if input.centres_stretch != 0 {
         plan.stretch_start = StretchStart::Centred;
     }
-    Ok(Plan { references: AtomicUsize::new(1), shaper, inner: shaper.with_data(plan), kept: input.kept })
+    Ok(Plan {
+        references: AtomicUsize::new(1),
+        shaper,
+        inner: shaper.with_data(plan),
+        kept: input.kept,
+    })
 }
 
 // The map of these features, stages and lookups, which fit each other.
-fn map(input: &PlanInput, features: &[Feature], stages: &[Stage], lookups: &[u16]) -> Result<Map, Error> {
-    let of_feature = |f: &Feature| FeatureMap { tag: tag(f.tag), mask: f.mask, stage: f.stage as usize };
+fn map(
+    input: &PlanInput,
+    features: &[Feature],
+    stages: &[Stage],
+    lookups: &[u16],
+) -> Result<Map, Error> {
+    let of_feature = |f: &Feature| FeatureMap {
+        tag: tag(f.tag),
+        mask: f.mask,
+        stage: f.stage as usize,
+    };
     let of_stage = |s: &Stage| -> Range<usize> { s.start as usize..s.end as usize };
     let features = list(features, of_feature).map_err(ShaperError::from)?;
     let stages = list(stages, of_stage).map_err(ShaperError::from)?;
     let lookups = List::from_slice(Global, lookups).map_err(ShaperError::from)?;
     let chosen = (input.chosen_script != 0).then(|| tag(input.chosen_script));
-    let map = Map::new(features, stages, lookups, input.global_mask, chosen, input.found_script != 0);
+    let map = Map::new(
+        features,
+        stages,
+        lookups,
+        input.global_mask,
+        chosen,
+        input.found_script != 0,
+    );
     map.ok_or_else(|| Error::argument(Argument::Stages))
 }
 
@@ -69,7 +93,10 @@ fn list<A, B>(items: &[A], of: impl Fn(&A) -> B) -> Result<List<B>, AllocError> 
 /// What the shaper keeps in the plan.
 pub fn data(plan: &Plan) -> Data {
     let kept = &plan.inner.plan_data;
-    let mut data = Data { shaper: numbers::shaper_number(plan.shaper), ..Data::default() };
+    let mut data = Data {
+        shaper: numbers::shaper_number(plan.shaper),
+        ..Data::default()
+    };
     if let Some(arabic) = kept.arabic() {
         put_joining(&mut data, arabic);
     }
@@ -106,7 +133,11 @@ impl Plan {
     pub fn joins(&self) -> bool {
         match self.shaper {
             Shaper::Arabic => true,
-            Shaper::Universal => self.inner.plan_data.universal().is_some_and(|kept| kept.arabic_plan.is_some()),
+            Shaper::Universal => self
+                .inner
+                .plan_data
+                .universal()
+                .is_some_and(|kept| kept.arabic_plan.is_some()),
             _ => false,
         }
     }

@@ -35,7 +35,6 @@ named_numbers! {
     None = c"SENGADLIT_ARGUMENT_NONE",
     Shaper = c"SENGADLIT_ARGUMENT_SHAPER",
     Plan = c"SENGADLIT_ARGUMENT_PLAN",
-    Buffer = c"SENGADLIT_ARGUMENT_BUFFER",
     Font = c"SENGADLIT_ARGUMENT_FONT",
     Tables = c"SENGADLIT_ARGUMENT_TABLES",
     Map = c"SENGADLIT_ARGUMENT_MAP",
@@ -74,19 +73,29 @@ impl Error {
     pub const INTERNAL: Self = Error::of(Status::Internal);
 
     const fn of(status: Status) -> Self {
-        Error { status, argument: Argument::None, index: 0 }
+        Error {
+            status,
+            argument: Argument::None,
+            index: 0,
+        }
     }
 
     /// An argument isn't what the call asks for.
     #[cold]
     pub fn argument(argument: Argument) -> Self {
-        Error { argument, ..Error::of(Status::Argument) }
+        Error {
+            argument,
+            ..Error::of(Status::Argument)
+        }
     }
 
     /// The same of its part at this place.
     #[cold]
     pub fn argument_at(argument: Argument, index: usize) -> Self {
-        Error { index: index as c_uint, ..Error::argument(argument) }
+        Error {
+            index: index as c_uint,
+            ..Error::argument(argument)
+        }
     }
 }
 
@@ -96,7 +105,10 @@ impl From<ShaperError> for Error {
         match error {
             ShaperError::Memory => Error::of(Status::Memory),
             ShaperError::TooLong => Error::of(Status::TooLong),
-            ShaperError::UnknownSyllable(place) => Error { index: place as c_uint, ..Error::of(Status::UnknownSyllable) },
+            ShaperError::UnknownSyllable(place) => Error {
+                index: place as c_uint,
+                ..Error::of(Status::UnknownSyllable)
+            },
             ShaperError::SpansDontCover => Error::of(Status::SpansDontCover),
             ShaperError::StretchOverflow => Error::of(Status::StretchOverflow),
         }

@@ -120,7 +120,7 @@ static void names_and_versions(void)
     check("a status", strcmp(sengadlit_status_name(SENGADLIT_INTERNAL), "SENGADLIT_INTERNAL") == 0);
     check("no status", strcmp(sengadlit_status_name((sengadlit_status_t)10), "unknown") == 0);
     check("an argument", strcmp(sengadlit_argument_name(SENGADLIT_ARGUMENT_LOOKUPS), "SENGADLIT_ARGUMENT_LOOKUPS") == 0);
-    check("no argument", strcmp(sengadlit_argument_name((sengadlit_argument_t)22), "unknown") == 0);
+    check("no argument", strcmp(sengadlit_argument_name((sengadlit_argument_t)21), "unknown") == 0);
 }
 
 /* ---- Shapers and features ---- */
@@ -415,8 +415,8 @@ static void plans_that_are_none(void)
     world.plan = NULL;
     every_hook_refuses("no plan", SENGADLIT_ARGUMENT_PLAN, 0);
     REFUSES("no plan at last", postprocess(), PLAN, 0);
-    expect("compose without a plan", sengadlit_compose(NULL, &world.tables, 0x41, 0x300, &a), SENGADLIT_ARGUMENT);
-    expect("decompose without a plan", sengadlit_decompose(NULL, &world.tables, 0xC0, &a, &b), SENGADLIT_ARGUMENT);
+    expect("compose without a plan", sengadlit_compose(NULL, &world.tables, 0x41, 0x300, &a, NULL), SENGADLIT_ARGUMENT);
+    expect("decompose without a plan", sengadlit_decompose(NULL, &world.tables, 0xC0, &a, &b, NULL), SENGADLIT_ARGUMENT);
     check("nothing is written", a == UNTOUCHED && b == UNTOUCHED);
 }
 
@@ -461,29 +461,56 @@ static void fonts_that_are_none(void)
     check("Thai doesn't", asked == 0);
 }
 
+/* Both, with the same argument wrong. */
+static void expect_no_pair(const char *what, const sengadlit_plan_t *plan, const sengadlit_tables_t *tables, uint32_t a,
+                           uint32_t *to, sengadlit_argument_t argument)
+{
+    sengadlit_error_t error = {SENGADLIT_DONE, SENGADLIT_ARGUMENT_NONE, 0};
+    uint32_t other = UNTOUCHED;
+
+    expect(what, sengadlit_compose(plan, tables, a, 0x300, to, &error), SENGADLIT_ARGUMENT);
+    expect_error(what, error, SENGADLIT_ARGUMENT, argument, 0);
+    error.status = SENGADLIT_DONE;
+    expect(what, sengadlit_decompose(plan, tables, a, &other, to, &error), SENGADLIT_ARGUMENT);
+    expect_error(what, error, SENGADLIT_ARGUMENT, argument, 0);
+    check(what, other == UNTOUCHED);
+}
+
+static void pairs_of_wrong_arguments(void)
+{
+    uint32_t to = UNTOUCHED;
+
+    begin_khmer();
+    expect_no_pair("no plan", NULL, &world.tables, 0x41, &to, SENGADLIT_ARGUMENT_PLAN);
+    expect_no_pair("no tables", world.plan, NULL, 0x41, &to, SENGADLIT_ARGUMENT_TABLES);
+    expect_no_pair("nowhere", world.plan, &world.tables, 0x41, NULL, SENGADLIT_ARGUMENT_RESULT);
+    expect_no_pair("a surrogate", world.plan, &world.tables, 0xD800, &to, SENGADLIT_ARGUMENT_CODEPOINT);
+    check("nothing is written", to == UNTOUCHED);
+}
+
 static void compositions(void)
 {
     uint32_t ab = UNTOUCHED;
 
     begin_hebrew();
-    expect("a pair nowhere", sengadlit_compose(world.plan, &world.tables, 0x41, 0x300, NULL), SENGADLIT_ARGUMENT);
-    expect("no tables", sengadlit_compose(world.plan, NULL, 0x41, 0x300, &ab), SENGADLIT_ARGUMENT);
-    expect("a surrogate first", sengadlit_compose(world.plan, &world.tables, 0xDFFF, 0x300, &ab), SENGADLIT_ARGUMENT);
-    expect("a surrogate second", sengadlit_compose(world.plan, &world.tables, 0x41, 0xD800, &ab), SENGADLIT_ARGUMENT);
-    expect("beyond Unicode", sengadlit_compose(world.plan, &world.tables, 0x41, 0x110000, &ab), SENGADLIT_ARGUMENT);
-    expect("no pair", sengadlit_compose(world.plan, &world.tables, 0x41, 0x301, &ab), SENGADLIT_NOT_FOUND);
+    expect("a pair nowhere", sengadlit_compose(world.plan, &world.tables, 0x41, 0x300, NULL, NULL), SENGADLIT_ARGUMENT);
+    expect("no tables", sengadlit_compose(world.plan, NULL, 0x41, 0x300, &ab, NULL), SENGADLIT_ARGUMENT);
+    expect("a surrogate first", sengadlit_compose(world.plan, &world.tables, 0xDFFF, 0x300, &ab, NULL), SENGADLIT_ARGUMENT);
+    expect("a surrogate second", sengadlit_compose(world.plan, &world.tables, 0x41, 0xD800, &ab, NULL), SENGADLIT_ARGUMENT);
+    expect("beyond Unicode", sengadlit_compose(world.plan, &world.tables, 0x41, 0x110000, &ab, NULL), SENGADLIT_ARGUMENT);
+    expect("no pair", sengadlit_compose(world.plan, &world.tables, 0x41, 0x301, &ab, NULL), SENGADLIT_NOT_FOUND);
     begin_khmer();
     world.tables_funcs.general_category = NULL;
-    expect("no categories", sengadlit_compose(world.plan, &world.tables, 0x41, 0x300, &ab), SENGADLIT_ARGUMENT);
+    expect("no categories", sengadlit_compose(world.plan, &world.tables, 0x41, 0x300, &ab, NULL), SENGADLIT_ARGUMENT);
     begin_khmer();
     world.tables_funcs.compose = NULL;
-    expect("no pairs", sengadlit_compose(world.plan, &world.tables, 0x41, 0x300, &ab), SENGADLIT_ARGUMENT);
+    expect("no pairs", sengadlit_compose(world.plan, &world.tables, 0x41, 0x300, &ab, NULL), SENGADLIT_ARGUMENT);
     begin_thai();
-    expect("no hook", sengadlit_compose(world.plan, NULL, 0x41, 0x300, &ab), SENGADLIT_ABSENT);
-    expect("a surrogate and no hook", sengadlit_compose(world.plan, NULL, 0xD800, 0x300, &ab), SENGADLIT_ARGUMENT);
+    expect("no hook", sengadlit_compose(world.plan, NULL, 0x41, 0x300, &ab, NULL), SENGADLIT_ABSENT);
+    expect("a surrogate and no hook", sengadlit_compose(world.plan, NULL, 0xD800, 0x300, &ab, NULL), SENGADLIT_ARGUMENT);
     check("nothing is written", ab == UNTOUCHED);
     begin_indic();
-    expect("a pair", sengadlit_compose(world.plan, &world.tables, 0x41, 0x300, &ab), SENGADLIT_DONE);
+    expect("a pair", sengadlit_compose(world.plan, &world.tables, 0x41, 0x300, &ab, NULL), SENGADLIT_DONE);
     check("the pair", ab == 0xC0);
 }
 
@@ -492,18 +519,18 @@ static void decompositions(void)
     uint32_t a = UNTOUCHED, b = UNTOUCHED;
 
     begin_khmer();
-    expect("parts nowhere", sengadlit_decompose(world.plan, &world.tables, 0xC0, NULL, &b), SENGADLIT_ARGUMENT);
-    expect("a part nowhere", sengadlit_decompose(world.plan, &world.tables, 0xC0, &a, NULL), SENGADLIT_ARGUMENT);
-    expect("no tables", sengadlit_decompose(world.plan, NULL, 0xC0, &a, &b), SENGADLIT_ARGUMENT);
-    expect("a surrogate", sengadlit_decompose(world.plan, &world.tables, 0xD800, &a, &b), SENGADLIT_ARGUMENT);
-    expect("no parts", sengadlit_decompose(world.plan, &world.tables, 0xC1, &a, &b), SENGADLIT_NOT_FOUND);
+    expect("parts nowhere", sengadlit_decompose(world.plan, &world.tables, 0xC0, NULL, &b, NULL), SENGADLIT_ARGUMENT);
+    expect("a part nowhere", sengadlit_decompose(world.plan, &world.tables, 0xC0, &a, NULL, NULL), SENGADLIT_ARGUMENT);
+    expect("no tables", sengadlit_decompose(world.plan, NULL, 0xC0, &a, &b, NULL), SENGADLIT_ARGUMENT);
+    expect("a surrogate", sengadlit_decompose(world.plan, &world.tables, 0xD800, &a, &b, NULL), SENGADLIT_ARGUMENT);
+    expect("no parts", sengadlit_decompose(world.plan, &world.tables, 0xC1, &a, &b, NULL), SENGADLIT_NOT_FOUND);
     world.tables_funcs.decompose = NULL;
-    expect("no function", sengadlit_decompose(world.plan, &world.tables, 0xC0, &a, &b), SENGADLIT_ARGUMENT);
+    expect("no function", sengadlit_decompose(world.plan, &world.tables, 0xC0, &a, &b, NULL), SENGADLIT_ARGUMENT);
     begin_arabic();
-    expect("no hook", sengadlit_decompose(world.plan, NULL, 0xC0, &a, &b), SENGADLIT_ABSENT);
+    expect("no hook", sengadlit_decompose(world.plan, NULL, 0xC0, &a, &b, NULL), SENGADLIT_ABSENT);
     check("nothing is written", a == UNTOUCHED && b == UNTOUCHED);
     begin_indic();
-    expect("parts", sengadlit_decompose(world.plan, &world.tables, 0xC0, &a, &b), SENGADLIT_DONE);
+    expect("parts", sengadlit_decompose(world.plan, &world.tables, 0xC0, &a, &b, NULL), SENGADLIT_DONE);
     check("the parts", a == 0x41 && b == 0x300);
 }
 
@@ -713,6 +740,7 @@ int main(void)
     plans_that_are_none();
     texts_that_are_long();
     fonts_that_are_none();
+    pairs_of_wrong_arguments();
     compositions();
     decompositions();
     places_that_are_none();

@@ -27,8 +27,13 @@ fn ended(buffer: &mut Buffer, ended: Result<(), Error>) -> Status {
 }
 
 #[unsafe(no_mangle)]
-pub extern "C" fn sengadlit_buffer_set_length(buffer: Option<&mut Buffer>, length: c_uint) -> *mut Glyph {
-    let Some(buffer) = buffer else { return null_mut() };
+pub extern "C" fn sengadlit_buffer_set_length(
+    buffer: Option<&mut Buffer>,
+    length: c_uint,
+) -> *mut Glyph {
+    let Some(buffer) = buffer else {
+        return null_mut();
+    };
     match buffer.set_length(length as usize) {
         Ok(()) => buffer.glyphs().as_mut_ptr(),
         Err(_) => {
@@ -39,8 +44,13 @@ pub extern "C" fn sengadlit_buffer_set_length(buffer: Option<&mut Buffer>, lengt
 }
 
 #[unsafe(no_mangle)]
-pub extern "C" fn sengadlit_buffer_get_glyph_infos(buffer: Option<&mut Buffer>, length: Out<'_, c_uint>) -> *mut Glyph {
-    let Some(buffer) = buffer else { return null_mut() };
+pub extern "C" fn sengadlit_buffer_get_glyph_infos(
+    buffer: Option<&mut Buffer>,
+    length: Out<'_, c_uint>,
+) -> *mut Glyph {
+    let Some(buffer) = buffer else {
+        return null_mut();
+    };
     let glyphs = buffer.glyphs();
     put(length, glyphs.len() as c_uint);
     glyphs.as_mut_ptr()
@@ -51,7 +61,9 @@ pub extern "C" fn sengadlit_buffer_get_glyph_positions(
     buffer: Option<&mut Buffer>,
     length: Out<'_, c_uint>,
 ) -> *mut GlyphPosition {
-    let Some(buffer) = buffer else { return null_mut() };
+    let Some(buffer) = buffer else {
+        return null_mut();
+    };
     match buffer.positions() {
         Ok(positions) => {
             put(length, positions.len() as c_uint);
@@ -65,8 +77,13 @@ pub extern "C" fn sengadlit_buffer_get_glyph_positions(
 }
 
 #[unsafe(no_mangle)]
-pub extern "C" fn sengadlit_buffer_set_properties(buffer: Option<&mut Buffer>, properties: Option<&Properties>) -> Status {
-    let Some(buffer) = buffer else { return Status::Argument };
+pub extern "C" fn sengadlit_buffer_set_properties(
+    buffer: Option<&mut Buffer>,
+    properties: Option<&Properties>,
+) -> Status {
+    let Some(buffer) = buffer else {
+        return Status::Argument;
+    };
     let taken = match properties {
         Some(properties) => buffer.set_properties(properties),
         None => Err(Error::argument(Argument::Properties)),
@@ -85,7 +102,9 @@ pub unsafe extern "C" fn sengadlit_buffer_set_context(
     after: *const u32,
     after_length: c_uint,
 ) -> Status {
-    let Some(buffer) = buffer else { return Status::Argument };
+    let Some(buffer) = buffer else {
+        return Status::Argument;
+    };
     // SAFETY: an array of C's with its length.
     let before = unsafe { array(before, before_length) };
     // SAFETY: an array of C's with its length.

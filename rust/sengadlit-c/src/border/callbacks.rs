@@ -13,7 +13,9 @@ use sengadlit::plan::{Category, JoiningType, Position};
 pub struct FontFuncs {
     pub nominal_glyph: Option<unsafe extern "C" fn(UserData, u32, *mut u32) -> Bool>,
     pub glyph_h_advance: Option<unsafe extern "C" fn(UserData, u32) -> i32>,
-    pub would_substitute: Option<unsafe extern "C" fn(UserData, *const u16, c_uint, *const u32, c_uint, Bool) -> Bool>,
+    pub would_substitute: Option<
+        unsafe extern "C" fn(UserData, *const u16, c_uint, *const u32, c_uint, Bool) -> Bool,
+    >,
     pub has_feature: Option<unsafe extern "C" fn(UserData, u32) -> Bool>,
 }
 
@@ -79,7 +81,12 @@ fn bit(is_there: bool, bit: u8) -> u8 {
 }
 
 impl FontFuncs {
-    const NONE: Self = FontFuncs { nominal_glyph: None, glyph_h_advance: None, would_substitute: None, has_feature: None };
+    const NONE: Self = FontFuncs {
+        nominal_glyph: None,
+        glyph_h_advance: None,
+        would_substitute: None,
+        has_feature: None,
+    };
 
     #[inline]
     fn answered(&self) -> u8 {
@@ -119,7 +126,10 @@ impl<'a> Asked<'a, FontFuncs> {
         if asks & !funcs.answered() != 0 {
             return Err(Error::argument(Argument::Font));
         }
-        Ok(Asked { funcs, user_data: font.map_or(core::ptr::null_mut(), |font| font.user_data) })
+        Ok(Asked {
+            funcs,
+            user_data: font.map_or(core::ptr::null_mut(), |font| font.user_data),
+        })
     }
 }
 
@@ -127,11 +137,16 @@ impl<'a> Asked<'a, TablesFuncs> {
     /// The tables, if they answer all that is asked; where nothing is, they may be null.
     #[inline]
     pub fn tables(tables: Option<&Tables<'a>>, asks: u8) -> Result<Self, Error> {
-        let funcs = tables.and_then(|tables| tables.funcs).unwrap_or(&TablesFuncs::NONE);
+        let funcs = tables
+            .and_then(|tables| tables.funcs)
+            .unwrap_or(&TablesFuncs::NONE);
         if asks & !funcs.answered() != 0 {
             return Err(Error::argument(Argument::Tables));
         }
-        Ok(Asked { funcs, user_data: tables.map_or(core::ptr::null_mut(), |tables| tables.user_data) })
+        Ok(Asked {
+            funcs,
+            user_data: tables.map_or(core::ptr::null_mut(), |tables| tables.user_data),
+        })
     }
 }
 
@@ -145,13 +160,19 @@ impl AnswersFont for Asked<'_, FontFuncs> {
         let mut glyph = 0;
         // SAFETY: a callback of C, with what it is given and room for a glyph.
         let has = unsafe { (self.funcs.nominal_glyph?)(self.user_data, c, &mut glyph) };
-        if has == 0 { None } else { u16::try_from(glyph).ok().map(GlyphId) }
+        if has == 0 {
+            None
+        } else {
+            u16::try_from(glyph).ok().map(GlyphId)
+        }
     }
 
     #[inline]
     fn glyph_h_advance(&self, glyph: GlyphId) -> i32 {
         // SAFETY: a callback of C, with what it is given.
-        self.funcs.glyph_h_advance.map_or(0, |advance| unsafe { advance(self.user_data, u32::from(glyph.0)) })
+        self.funcs.glyph_h_advance.map_or(0, |advance| unsafe {
+            advance(self.user_data, u32::from(glyph.0))
+        })
     }
 
     #[inline]
@@ -161,7 +182,9 @@ impl AnswersFont for Asked<'_, FontFuncs> {
 
     #[inline]
     fn would_apply_any(&self, lookups: &[u16], glyphs: &[GlyphId], zero_context: bool) -> bool {
-        let Some(would) = self.funcs.would_substitute else { return false };
+        let Some(would) = self.funcs.would_substitute else {
+            return false;
+        };
         if lookups.is_empty() {
             return false;
         }
@@ -173,14 +196,23 @@ impl AnswersFont for Asked<'_, FontFuncs> {
         let (lookups, count) = (lookups.as_ptr(), lookups.len() as c_uint);
         // SAFETY: a callback of C, with what it is given, and arrays of the lengths beside them.
         let does = unsafe {
-            would(self.user_data, lookups, count, wide.as_ptr(), wide.len() as c_uint, Bool::from(zero_context))
+            would(
+                self.user_data,
+                lookups,
+                count,
+                wide.as_ptr(),
+                wide.len() as c_uint,
+                Bool::from(zero_context),
+            )
         };
         does != 0
     }
 
     fn has_feature(&self, tag: Tag) -> bool {
         // SAFETY: a callback of C, with what it is given.
-        self.funcs.has_feature.is_some_and(|has| unsafe { has(self.user_data, numbers::tag_number(tag)) } != 0)
+        self.funcs
+            .has_feature
+            .is_some_and(|has| unsafe { has(self.user_data, numbers::tag_number(tag)) } != 0)
     }
 }
 
@@ -188,21 +220,30 @@ impl AnswersTables for Asked<'_, TablesFuncs> {
     #[inline]
     fn joining_type(&self, c: char) -> JoiningType {
         // SAFETY: a callback of C, with what it is given.
-        let number = self.funcs.joining_type.map_or(0, |of| unsafe { of(self.user_data, u32::from(c)) });
+        let number = self
+            .funcs
+            .joining_type
+            .map_or(0, |of| unsafe { of(self.user_data, u32::from(c)) });
         numbers::joining_type(number)
     }
 
     #[inline]
     fn general_category(&self, c: char) -> GeneralCategory {
         // SAFETY: a callback of C, with what it is given.
-        let number = self.funcs.general_category.map_or(u8::MAX, |of| unsafe { of(self.user_data, u32::from(c)) });
+        let number = self
+            .funcs
+            .general_category
+            .map_or(u8::MAX, |of| unsafe { of(self.user_data, u32::from(c)) });
         numbers::general_category(number)
     }
 
     #[inline]
     fn indic_categories(&self, c: u32) -> (Category, Position) {
         // SAFETY: a callback of C, with what it is given.
-        let both = self.funcs.indic_categories.map_or(0, |of| unsafe { of(self.user_data, c) });
+        let both = self
+            .funcs
+            .indic_categories
+            .map_or(0, |of| unsafe { of(self.user_data, c) });
         let [category, position] = both.to_le_bytes();
         (category, position)
     }
@@ -210,20 +251,28 @@ impl AnswersTables for Asked<'_, TablesFuncs> {
     #[inline]
     fn use_category(&self, c: u32) -> Category {
         // SAFETY: a callback of C, with what it is given.
-        self.funcs.use_category.map_or(0, |of| unsafe { of(self.user_data, c) })
+        self.funcs
+            .use_category
+            .map_or(0, |of| unsafe { of(self.user_data, c) })
     }
 
     fn compose(&self, a: char, b: char) -> Option<char> {
         let mut ab = 0;
         // SAFETY: a callback of C, with what it is given and room for a character.
-        let does = unsafe { (self.funcs.compose?)(self.user_data, u32::from(a), u32::from(b), &mut ab) };
+        let does =
+            unsafe { (self.funcs.compose?)(self.user_data, u32::from(a), u32::from(b), &mut ab) };
         if does == 0 { None } else { char::from_u32(ab) }
     }
 
     fn decompose(&self, ab: char) -> Option<(char, char)> {
         let (mut a, mut b) = (0, 0);
         // SAFETY: a callback of C, with what it is given and room for two characters.
-        let does = unsafe { (self.funcs.decompose?)(self.user_data, u32::from(ab), &mut a, &mut b) };
-        if does == 0 { None } else { Some((char::from_u32(a)?, char::from_u32(b)?)) }
+        let does =
+            unsafe { (self.funcs.decompose?)(self.user_data, u32::from(ab), &mut a, &mut b) };
+        if does == 0 {
+            None
+        } else {
+            Some((char::from_u32(a)?, char::from_u32(b)?))
+        }
     }
 }

@@ -16,7 +16,9 @@ fn on_buffer(
     buffer: Option<&mut Buffer>,
     hook: impl FnOnce(&Plan, &mut Buffer) -> Result<Status, Error>,
 ) -> Status {
-    let Some(buffer) = buffer else { return Status::Argument };
+    let Some(buffer) = buffer else {
+        return Status::Argument;
+    };
     let ended = match plan {
         Some(plan) => guarded(|| hook(plan, buffer)),
         None => Err(Error::argument(Argument::Plan)),
@@ -47,6 +49,27 @@ pub extern "C" fn sengadlit_preprocess_text(
     })
 }
 
+// What composition or decomposition returns; what it found is written by `write`.
+#[inline]
+fn ended<A>(
+    found: Result<Option<Option<A>>, Error>,
+    error: Out<'_, Error>,
+    write: impl FnOnce(A),
+) -> Status {
+    match found {
+        Ok(Some(Some(found))) => {
+            write(found);
+            Status::Done
+        }
+        Ok(Some(None)) => Status::NotFound,
+        Ok(None) => Status::Absent,
+        Err(why) => {
+            put(error, why);
+            why.status
+        }
+    }
+}
+
 #[unsafe(no_mangle)]
 pub extern "C" fn sengadlit_decompose(
     plan: Option<&Plan>,
@@ -54,18 +77,17 @@ pub extern "C" fn sengadlit_decompose(
     ab: u32,
     a: Out<'_, u32>,
     b: Out<'_, u32>,
+    error: Out<'_, Error>,
 ) -> Status {
-    let (Some(plan), Some(a), Some(b)) = (plan, a, b) else { return Status::Argument };
-    match guarded(|| hooks::decompose(plan, tables, ab)) {
-        Ok(Some(Some((first, second)))) => {
-            a.write(first);
-            b.write(second);
-            Status::Done
-        }
-        Ok(Some(None)) => Status::NotFound,
-        Ok(None) => Status::Absent,
-        Err(error) => error.status,
-    }
+    let found = match (plan, &a, &b) {
+        (Some(plan), Some(_), Some(_)) => guarded(|| hooks::decompose(plan, tables, ab)),
+        (None, _, _) => Err(Error::argument(Argument::Plan)),
+        _ => Err(Error::argument(Argument::Result)),
+    };
+    ended(found, error, |(first, second)| {
+        put(a, first);
+        put(b, second);
+    })
 }
 
 #[unsafe(no_mangle)]
@@ -75,17 +97,14 @@ pub extern "C" fn sengadlit_compose(
     a: u32,
     b: u32,
     ab: Out<'_, u32>,
+    error: Out<'_, Error>,
 ) -> Status {
-    let (Some(plan), Some(ab)) = (plan, ab) else { return Status::Argument };
-    match guarded(|| hooks::compose(plan, tables, a, b)) {
-        Ok(Some(Some(composed))) => {
-            ab.write(composed);
-            Status::Done
-        }
-        Ok(Some(None)) => Status::NotFound,
-        Ok(None) => Status::Absent,
-        Err(error) => error.status,
-    }
+    let found = match (plan, &ab) {
+        (Some(plan), Some(_)) => guarded(|| hooks::compose(plan, tables, a, b)),
+        (None, _) => Err(Error::argument(Argument::Plan)),
+        (_, None) => Err(Error::argument(Argument::Result)),
+    };
+    ended(found, error, |composed| put(ab, composed))
 }
 
 #[unsafe(no_mangle)]
@@ -95,7 +114,9 @@ pub extern "C" fn sengadlit_reorder_marks(
     start: c_uint,
     end: c_uint,
 ) -> Status {
-    on_buffer(plan, buffer, |plan, buffer| hooks::reorder_marks(plan, buffer, start as usize, end as usize))
+    on_buffer(plan, buffer, |plan, buffer| {
+        hooks::reorder_marks(plan, buffer, start as usize, end as usize)
+    })
 }
 
 #[unsafe(no_mangle)]
@@ -104,7 +125,9 @@ pub extern "C" fn sengadlit_setup_masks(
     tables: Option<&Tables<'_>>,
     buffer: Option<&mut Buffer>,
 ) -> Status {
-    on_buffer(plan, buffer, |plan, buffer| hooks::setup_masks(plan, tables, buffer))
+    on_buffer(plan, buffer, |plan, buffer| {
+        hooks::setup_masks(plan, tables, buffer)
+    })
 }
 
 /// # Safety
@@ -122,7 +145,8 @@ pub unsafe extern "C" fn sengadlit_run_pause(
 ) -> Status {
     on_buffer(plan, buffer, |plan, buffer| {
         // SAFETY: an array of C's with its length.
-        let spans = unsafe { array(spans, spans_length) }.ok_or_else(|| Error::argument(Argument::Spans))?;
+        let spans = unsafe { array(spans, spans_length) }
+            .ok_or_else(|| Error::argument(Argument::Spans))?;
         let are_wanted = hooks::run_pause(plan, pause, font, spans, buffer)?;
         put(circles, Bool::from(are_wanted));
         Ok(Status::Done)
@@ -135,5 +159,7 @@ pub extern "C" fn sengadlit_postprocess_glyphs(
     font: Option<&Font<'_>>,
     buffer: Option<&mut Buffer>,
 ) -> Status {
-    on_buffer(plan, buffer, |plan, buffer| hooks::postprocess_glyphs(plan, font, buffer))
+    on_buffer(plan, buffer, |plan, buffer| {
+        hooks::postprocess_glyphs(plan, font, buffer)
+    })
 }

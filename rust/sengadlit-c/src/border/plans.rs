@@ -15,8 +15,13 @@ use std::process::abort;
 pub type UserData = *mut c_void;
 
 #[unsafe(no_mangle)]
-pub extern "C" fn sengadlit_shaper_get_constants(shaper: u32, constants: Out<'_, Constants>) -> Status {
-    let (Some(shaper), Some(constants)) = (numbers::shaper(shaper), constants) else { return Status::Argument };
+pub extern "C" fn sengadlit_shaper_get_constants(
+    shaper: u32,
+    constants: Out<'_, Constants>,
+) -> Status {
+    let (Some(shaper), Some(constants)) = (numbers::shaper(shaper), constants) else {
+        return Status::Argument;
+    };
     constants.write(Constants {
         hooks: numbers::hooks(shaper),
         gpos_tag: shaper.gpos_tag().map_or(0, numbers::tag_number),
@@ -39,9 +44,14 @@ struct Told {
 impl Told {
     fn of(map: Option<&Map<'_>>) -> Result<Self, Error> {
         let known = map.and_then(|map| match map.funcs? {
-            MapFuncs { add_feature: Some(feature), add_gsub_pause: Some(pause) } => {
-                Some(Told { add_feature: *feature, add_gsub_pause: *pause, user_data: map.user_data })
-            }
+            MapFuncs {
+                add_feature: Some(feature),
+                add_gsub_pause: Some(pause),
+            } => Some(Told {
+                add_feature: *feature,
+                add_gsub_pause: *pause,
+                user_data: map.user_data,
+            }),
             _ => None,
         });
         known.ok_or_else(|| Error::argument(Argument::Map))
@@ -51,7 +61,9 @@ impl Told {
         match *request {
             Request::Feature(tag, flags, value) => {
                 // SAFETY: a callback of C, with what it is given.
-                unsafe { (self.add_feature)(self.user_data, numbers::tag_number(tag), flags, value) }
+                unsafe {
+                    (self.add_feature)(self.user_data, numbers::tag_number(tag), flags, value)
+                }
             }
             Request::Pause(pause) => {
                 // SAFETY: a callback of C, with what it is given.
@@ -71,8 +83,13 @@ fn tell(
         let map = Told::of(map);
         let planner = wanted()?;
         let map = map?;
-        let Some(planner) = planner else { return Ok(Status::Absent) };
-        planner.requests().iter().for_each(|request| map.tell(request));
+        let Some(planner) = planner else {
+            return Ok(Status::Absent);
+        };
+        planner
+            .requests()
+            .iter()
+            .for_each(|request| map.tell(request));
         Ok(Status::Done)
     });
     told.unwrap_or_else(|why| {
@@ -158,7 +175,11 @@ fn make(shaper: u32, input: &PlanInput) -> Result<Box<Plan>, Error> {
 }
 
 #[unsafe(no_mangle)]
-pub extern "C" fn sengadlit_plan_create(shaper: u32, input: Option<&PlanInput>, error: Out<'_, Error>) -> *mut Plan {
+pub extern "C" fn sengadlit_plan_create(
+    shaper: u32,
+    input: Option<&PlanInput>,
+    error: Out<'_, Error>,
+) -> *mut Plan {
     let made = match input {
         Some(input) => guarded(|| make(shaper, input)),
         None => Err(Error::argument(Argument::Input)),
@@ -191,7 +212,9 @@ pub extern "C" fn sengadlit_plan_reference(plan: Option<&Plan>) -> *mut Plan {
 #[unsafe(no_mangle)]
 pub unsafe extern "C" fn sengadlit_plan_destroy(plan: *mut Plan) {
     // SAFETY: the plan is there as long as somebody has a reference, as the caller has.
-    let Some(references) = (unsafe { plan.as_ref() }).map(|plan| &plan.references) else { return };
+    let Some(references) = (unsafe { plan.as_ref() }).map(|plan| &plan.references) else {
+        return;
+    };
     if references.fetch_sub(1, AcqRel) == 1 {
         // SAFETY: the plan came from `boxed`, and nobody has a reference any more.
         let kept = unsafe { Box::from_raw(plan) }.kept;
@@ -206,7 +229,9 @@ pub extern "C" fn sengadlit_plan_get_user_data(plan: Option<&Plan>) -> UserData 
 
 #[unsafe(no_mangle)]
 pub extern "C" fn sengadlit_plan_get_data(plan: Option<&Plan>, data: Out<'_, Data>) -> Status {
-    let (Some(plan), Some(data)) = (plan, data) else { return Status::Argument };
+    let (Some(plan), Some(data)) = (plan, data) else {
+        return Status::Argument;
+    };
     data.write(plan::data(plan));
     Status::Done
 }
