@@ -157,22 +157,21 @@ const QUESTIONED: usize = 3;
 impl AnswersFont for Asked<'_, FontFuncs> {
     #[inline]
     fn get_nominal_glyph(&self, c: u32) -> Option<GlyphId> {
+        let nominal = self.funcs.nominal_glyph?;
         let mut glyph = 0;
         // SAFETY: a callback of C, with what it is given and room for a glyph.
-        let has = unsafe { (self.funcs.nominal_glyph?)(self.user_data, c, &mut glyph) };
-        if has == 0 {
-            None
-        } else {
-            u16::try_from(glyph).ok().map(GlyphId)
-        }
+        let has = unsafe { nominal(self.user_data, c, &mut glyph) };
+        let glyph = u16::try_from(glyph).ok()?;
+        (has != 0).then_some(GlyphId(glyph))
     }
 
     #[inline]
     fn glyph_h_advance(&self, glyph: GlyphId) -> i32 {
+        let Some(advance) = self.funcs.glyph_h_advance else {
+            return 0;
+        };
         // SAFETY: a callback of C, with what it is given.
-        self.funcs.glyph_h_advance.map_or(0, |advance| unsafe {
-            advance(self.user_data, u32::from(glyph.0))
-        })
+        unsafe { advance(self.user_data, u32::from(glyph.0)) }
     }
 
     #[inline]
@@ -193,82 +192,85 @@ impl AnswersFont for Asked<'_, FontFuncs> {
         for (to, glyph) in wide.iter_mut().zip(glyphs) {
             *to = u32::from(glyph.0);
         }
-        let (lookups, count) = (lookups.as_ptr(), lookups.len() as c_uint);
+        let (lookups, lookups_length) = (lookups.as_ptr(), lookups.len() as c_uint);
+        let (glyphs, glyphs_length) = (wide.as_ptr(), wide.len() as c_uint);
+        let (user_data, zero_context) = (self.user_data, Bool::from(zero_context));
         // SAFETY: a callback of C, with what it is given, and arrays of the lengths beside them.
         let does = unsafe {
             would(
-                self.user_data,
+                user_data,
                 lookups,
-                count,
-                wide.as_ptr(),
-                wide.len() as c_uint,
-                Bool::from(zero_context),
+                lookups_length,
+                glyphs,
+                glyphs_length,
+                zero_context,
             )
         };
         does != 0
     }
 
     fn has_feature(&self, tag: Tag) -> bool {
+        let Some(has) = self.funcs.has_feature else {
+            return false;
+        };
         // SAFETY: a callback of C, with what it is given.
-        self.funcs
-            .has_feature
-            .is_some_and(|has| unsafe { has(self.user_data, numbers::tag_number(tag)) } != 0)
+        let has = unsafe { has(self.user_data, numbers::tag_number(tag)) };
+        has != 0
     }
 }
 
 impl AnswersTables for Asked<'_, TablesFuncs> {
     #[inline]
     fn joining_type(&self, c: char) -> JoiningType {
+        let Some(of) = self.funcs.joining_type else {
+            return JoiningType::U;
+        };
         // SAFETY: a callback of C, with what it is given.
-        let number = self
-            .funcs
-            .joining_type
-            .map_or(0, |of| unsafe { of(self.user_data, u32::from(c)) });
-        numbers::joining_type(number)
+        numbers::joining_type(unsafe { of(self.user_data, u32::from(c)) })
     }
 
     #[inline]
     fn general_category(&self, c: char) -> GeneralCategory {
+        let Some(of) = self.funcs.general_category else {
+            return GeneralCategory::Cn;
+        };
         // SAFETY: a callback of C, with what it is given.
-        let number = self
-            .funcs
-            .general_category
-            .map_or(u8::MAX, |of| unsafe { of(self.user_data, u32::from(c)) });
-        numbers::general_category(number)
+        numbers::general_category(unsafe { of(self.user_data, u32::from(c)) })
     }
 
     #[inline]
     fn indic_categories(&self, c: u32) -> (Category, Position) {
+        let Some(of) = self.funcs.indic_categories else {
+            return (0, 0);
+        };
         // SAFETY: a callback of C, with what it is given.
-        let both = self
-            .funcs
-            .indic_categories
-            .map_or(0, |of| unsafe { of(self.user_data, c) });
+        let both = unsafe { of(self.user_data, c) };
         let [category, position] = both.to_le_bytes();
         (category, position)
     }
 
     #[inline]
     fn use_category(&self, c: u32) -> Category {
+        let Some(of) = self.funcs.use_category else {
+            return 0;
+        };
         // SAFETY: a callback of C, with what it is given.
-        self.funcs
-            .use_category
-            .map_or(0, |of| unsafe { of(self.user_data, c) })
+        unsafe { of(self.user_data, c) }
     }
 
     fn compose(&self, a: char, b: char) -> Option<char> {
+        let compose = self.funcs.compose?;
         let mut ab = 0;
         // SAFETY: a callback of C, with what it is given and room for a character.
-        let does =
-            unsafe { (self.funcs.compose?)(self.user_data, u32::from(a), u32::from(b), &mut ab) };
+        let does = unsafe { compose(self.user_data, u32::from(a), u32::from(b), &mut ab) };
         if does == 0 { None } else { char::from_u32(ab) }
     }
 
     fn decompose(&self, ab: char) -> Option<(char, char)> {
+        let decompose = self.funcs.decompose?;
         let (mut a, mut b) = (0, 0);
         // SAFETY: a callback of C, with what it is given and room for two characters.
-        let does =
-            unsafe { (self.funcs.decompose?)(self.user_data, u32::from(ab), &mut a, &mut b) };
+        let does = unsafe { decompose(self.user_data, u32::from(ab), &mut a, &mut b) };
         if does == 0 {
             None
         } else {
