@@ -79,6 +79,7 @@ impl GlyphWalk for BaseWalk {
 
     ghost walks = { λ v w gs hs. Settles v.rules v.script v.start v.end w.based.base w.based.tries_pref gs hs };
 
+    #[inline]
     fn walk(&mut self, glyphs: &mut [hb_glyph_info_t]) {
         self.based = find_base(&self.rules, self.script, &mut glyphs[self.start..self.end]);
     }

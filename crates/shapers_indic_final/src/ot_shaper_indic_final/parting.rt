@@ -269,6 +269,7 @@ impl GlyphChange for PutInCluster {
 
     ghost changed = { λ change g. in_cluster change.cluster g };
 
+    #[inline]
     fn change(&self, glyph: &mut hb_glyph_info_t) {
         if glyph.cluster != self.cluster {
             glyph.cluster = self.cluster;

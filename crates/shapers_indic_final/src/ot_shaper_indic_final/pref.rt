@@ -28,6 +28,7 @@ pub(super) fn pref_place(pref: u32, base: usize, glyphs: &[hb_glyph_info_t]) -> 
 }
 
 // That glyph, if it is formed.
+#[inline]
 pub(super) fn formed_pref(pref: u32, base: usize, glyphs: &[hb_glyph_info_t]) -> Option<usize>
     requires in_range { base ≤ length glyphs.now }
     ensures place { result ≡ formed_pref pref base glyphs.now }
@@ -41,6 +42,7 @@ pub(super) fn formed_pref(pref: u32, base: usize, glyphs: &[hb_glyph_info_t]) ->
 }
 
 // Where a formed glyph goes.
+#[inline]
 pub(super) fn pref_target(script: Option<Script>, base: usize, glyphs: &[hb_glyph_info_t]) -> usize
     requires in_range { base < length glyphs.now }
     ensures target { result ≡ pref_target script base glyphs.now }

@@ -1,0 +1,171 @@
+//! A source file as tokens that can be cut, and the extent of its items.
+
+use crate::token::{Token, is_part, tokens};
+use std::collections::{BTreeMap, BTreeSet};
+use std::iter::{once, successors};
+use std::ops::RangeInclusive;
+
+/// A source file: what is left of it, and what its imports and code that is gone named.
+pub struct File {
+    /// The crate that it belongs to.
+    pub krate: String,
+    /// Its path, from the top of the repository.
+    pub path: String,
+    /// Its tokens; the last one is empty.
+    pub tokens: Vec<Token>,
+    /// The words of the code that is gone, contracts apart.
+    pub erased: BTreeSet<String>,
+    /// The names that contracts import from the specifications, each with its file.
+    pub definitions: BTreeMap<String, String>,
+}
+
+impl File {
+    /// Reads a file of a crate. Returns an error where a comment, a string or a bracket has no end.
+    pub fn new(krate: &str, path: &str, text: &str) -> Result<Self, String> {
+        let tokens = tokens(text).map_err(|(line, message)| format!("{path}:{line}: {message}"))?;
+        let (krate, path) = (krate.to_string(), path.to_string());
+        let (erased, definitions) = (BTreeSet::new(), BTreeMap::new());
+        let file = File { krate, path, tokens, erased, definitions };
+        let is_open = |i: &usize| {
+            let both = [file.text(*i), file.text(file.partner(*i))];
+            "()[]{}".contains(both[0])
+                && !["()", "[]", "{}", ")(", "][", "}{", ""].contains(&both.concat().as_str())
+        };
+        match (0..file.tokens.len()).find(is_open) {
+            Some(i) => Err(file.fault(i, &format!("unbalanced `{}`", file.text(i)))),
+            None => Ok(file),
+        }
+    }
+
+    /// An error at a token.
+    pub fn fault(&self, i: usize, message: &str) -> String {
+        format!("{}:{}: {message}", self.path, self.tokens[i].line)
+    }
+
+    /// The characters of a token; none outside of the file.
+    pub fn text(&self, i: usize) -> &str {
+        self.tokens.get(i).map_or("", |token| &token.text)
+    }
+
+    /// The characters of the token before.
+    pub fn before(&self, i: usize) -> &str {
+        self.text(i.wrapping_sub(1))
+    }
+
+    /// The characters of some tokens, with a space around `as`.
+    pub fn joined(&self, range: RangeInclusive<usize>) -> String {
+        let tokens = self.tokens.get(range).unwrap_or_default();
+        tokens.iter().map(|token| if token.text == "as" { " as " } else { &token.text }).collect()
+    }
+
+    /// The places of a word, the last one first, so that what is cut there moves none to come.
+    pub fn places(&self, word: &str) -> Vec<usize> {
+        (0..self.tokens.len()).rev().filter(|i| self.text(*i) == word).collect()
+    }
+
+    /// The nearest place before with one of these texts.
+    pub fn nearest(&self, i: usize, texts: &[&str]) -> Option<usize> {
+        (0..i).rev().find(|j| texts.contains(&self.text(*j)))
+    }
+
+    /// The partner of a bracket; another token's own place.
+    pub fn partner(&self, i: usize) -> usize {
+        let mut depth = 0;
+        let mut is_partner = |j: &usize| {
+            match self.text(*j) {
+                "(" | "[" | "{" => depth += 1,
+                ")" | "]" | "}" => depth -= 1,
+                _ => {}
+            }
+            depth == 0
+        };
+        let found = match self.text(i) {
+            "(" | "[" | "{" => (i..self.tokens.len()).find(is_partner),
+            _ => (0..=i).rev().find(|j| is_partner(j)),
+        };
+        found.unwrap_or(i)
+    }
+
+    // The tokens from a place on, without those in brackets.
+    fn outer(&self, i: usize) -> impl Iterator<Item = usize> + '_ {
+        let next = |j: &usize| Some(self.partner(*j).max(*j) + 1);
+        successors(Some(i), next).take_while(|j| *j < self.tokens.len())
+    }
+
+    /// The first token of the item with its keyword at `i`: an attribute, `pub`, or the keyword.
+    pub fn start(&self, i: usize) -> usize {
+        let open = if i > 0 { self.partner(i - 1) } else { return i };
+        match (self.text(i - 1), self.before(open)) {
+            ("pub" | "const" | "unsafe", _) => self.start(i - 1),
+            (")", "pub") | ("]", "#") => self.start(open - 1),
+            _ => i,
+        }
+    }
+
+    /// The last token of the item or statement with its keyword at `i`: a semicolon, or the closing
+    /// brace of its body.
+    pub fn end(&self, i: usize) -> Result<usize, String> {
+        let has_body = !matches!(self.text(i), "use" | "const" | "static" | "type" | "let");
+        let is_end = |j: &usize| self.text(*j) == ";" || has_body && self.text(*j) == "{";
+        let end = self.outer(i).find(is_end).map(|j| self.partner(j));
+        end.ok_or_else(|| self.fault(i, "an item without an end"))
+    }
+
+    /// The elements of the list between a bracket and its partner, the last one first.
+    pub fn listed(&self, open: usize) -> Vec<RangeInclusive<usize>> {
+        let close = self.partner(open);
+        let inner = self.outer(open + 1).take_while(|i| *i < close);
+        let commas = inner.filter(|i| self.text(*i) == ",");
+        let borders: Vec<usize> = once(open).chain(commas).chain(once(close)).collect();
+        let elements = borders.windows(2).rev().map(|pair| pair[0] + 1..=pair[1] - 1);
+        elements.filter(|element| !element.is_empty()).collect()
+    }
+
+    /// Whether a token is part of an import.
+    pub fn is_import(&self, i: usize) -> bool {
+        self.nearest(i + 1, &["use", ";"]).is_some_and(|start| self.text(start) == "use")
+    }
+
+    /// Cuts tokens out; the comments before them stay.
+    pub fn cut(&mut self, range: RangeInclusive<usize>) {
+        let lead = self.tokens[*range.start()].lead.clone();
+        let behind = &mut self.tokens[*range.end() + 1].lead;
+        *behind = if behind.trim().is_empty() { lead } else { lead + behind };
+        let words = self.tokens.drain(range).map(|token| token.text);
+        self.erased.extend(words.filter(|word| word.starts_with(is_part)));
+    }
+
+    /// Cuts an item or a statement out, with the comments that stand directly on it.
+    pub fn cut_item(&mut self, range: RangeInclusive<usize>) {
+        let lead = &self.tokens[*range.start()].lead;
+        let inner = lead.rfind("//!").map(|i| i + lead[i..].find('\n').unwrap_or(0));
+        let trailing = lead.find('\n').filter(|_| *range.start() > 0);
+        let kept = lead.rfind("\n\n").max(inner).max(trailing).map_or(0, |i| i + 1);
+        let kept = lead[..kept].trim_start_matches(['\n', ' ']).to_string();
+        let (start, lead) = (*range.start(), kept + &self.tokens[range.end() + 1].lead);
+        self.cut(range);
+        self.tokens[start].lead = lead;
+    }
+
+    /// Cuts an element of a list out, with the comma behind it or, if there is none, before it.
+    pub fn cut_listed(&mut self, range: RangeInclusive<usize>) {
+        let (first, last) = range.into_inner();
+        match (self.before(first), self.text(last + 1)) {
+            (_, ",") => self.cut_item(first..=last + 1),
+            (",", _) => self.cut_item(first - 1..=last),
+            _ => self.cut_item(first..=last),
+        }
+    }
+
+    /// Cuts out the whole item with its keyword at `i`.
+    pub fn cut_whole(&mut self, i: usize) -> Result<(), String> {
+        self.cut_item(self.start(i)..=self.end(i)?);
+        Ok(())
+    }
+
+    /// The path of the file of a module that this file declares.
+    pub fn path_of_module(&self, name: &str) -> String {
+        let folder = self.path.trim_end_matches(".rt").trim_end_matches("/lib");
+        format!("{folder}/{name}.rt")
+    }
+}

@@ -1,0 +1,151 @@
+//! Generated from crates/hbhook_draw/src/drawing.rt by rust/erase; edit the source.
+//!
+//! The walk over the lines: which rows the page has.
+
+use crate::generated::hbhook_draw::boxes::draw_boxes;
+use crate::generated::hbhook_draw::origins::{Origins, Traced};
+use crate::generated::hbhook_draw::page::{
+    FOOT, HEAD, Line, shortened, write_answers, write_fault, write_lines, write_note, write_text,
+};
+use crate::generated::hbhook_draw::row::Row;
+use crate::generated::hbhook_draw::scale::draw_positions;
+use crate::generated::hbhook_lines::{LineFault, LineKind, Session, kind_of_line};
+use crate::support::alloc::{AllocError, Global};
+use crate::support::prelude::*;
+use sengadlit::buffer::GlyphInfo;
+
+/// A page in the making.
+pub(crate) struct Drawing {
+    alloc: Global,
+    session: Session,
+    page: String,
+    // The lines that wrote to the buffer since the last row, and the text that they set.
+    written: Vec<Line>,
+    text: String,
+}
+
+impl Drawing {
+    /// A page without a row.
+    pub(crate) fn new(alloc: Global) -> Result<Self, AllocError> {
+        Ok(Drawing {
+            alloc,
+            session: Session::new(alloc),
+            page: String::from_str(alloc, HEAD)?,
+            written: Vec::new(alloc),
+            text: String::new(alloc),
+        })
+    }
+
+    /// Carries out a line, and draws what it did, if it is one of a hook. What other lines write to
+    /// the buffer is drawn before the next hook, or the next text.
+    pub(crate) fn draw(&mut self, number: usize, line: &[u8]) -> Result<(), LineFault> {
+        match kind_of_line(self.alloc, line)? {
+            LineKind::Setting => self.session.carry_out(line),
+            LineKind::Glyphs => self.write(number, line),
+            LineKind::Text => {
+                self.draw_written()?;
+                self.write(number, line)?;
+                self.text = text_of(self.alloc, self.session.buffer.glyphs())?;
+                Ok(())
+            }
+            LineKind::Run => {
+                self.draw_written()?;
+                self.draw_hook(number, line)
+            }
+        }
+    }
+
+    /// Draws what ended the run, below what lines have written.
+    pub(crate) fn draw_fault(
+        &mut self,
+        number: usize,
+        line: &[u8],
+        fault: LineFault,
+    ) -> Result<(), AllocError> {
+        self.draw_written()?;
+        let line = Line::new(self.alloc, number, line)?;
+        write_fault(&mut self.page, &line, fault)
+    }
+
+    /// The page, whole.
+    pub(crate) fn finished(mut self) -> Result<String, AllocError> {
+        self.draw_written()?;
+        self.page.push_str(FOOT)?;
+        Ok(self.page)
+    }
+
+    // Carries out a line that writes to the buffer.
+    fn write(&mut self, number: usize, line: &[u8]) -> Result<(), LineFault> {
+        self.session.carry_out(line)?;
+        self.keep(number, line)?;
+        Ok(())
+    }
+
+    // Keeps a line for the head of the next row.
+    fn keep(&mut self, number: usize, line: &[u8]) -> Result<(), AllocError> {
+        self.written.push(Line::new(self.alloc, number, line)?)?;
+        Ok(())
+    }
+
+    // Draws the buffer as lines have written it, if some did since the last row.
+    fn draw_written(&mut self) -> Result<(), AllocError> {
+        if self.written.is_empty() {
+            return Ok(());
+        }
+        write_lines(&mut self.page, self.written.as_slice())?;
+        if !self.text.is_empty() {
+            write_text(&mut self.page, self.text.as_str())?;
+        }
+        self.written.clear();
+        self.text.clear();
+        let origins = Origins::none(&self.session);
+        draw_row(&mut self.page, &self.session, &origins)
+    }
+
+    // Carries out the line of a hook, and draws what the hook answered and left.
+    fn draw_hook(&mut self, number: usize, line: &[u8]) -> Result<(), LineFault> {
+        let traced = Traced::new(&mut self.session, line)?;
+        self.session.carry_out(line)?;
+        let origins = traced.origins(self.session.buffer.glyphs())?;
+        let answers = self.session.take_answers();
+        write_lines(&mut self.page, &[Line::new(self.alloc, number, line)?])?;
+        write_answers(&mut self.page, answers.as_str())?;
+        draw_row(&mut self.page, &self.session, &origins)?;
+        Ok(())
+    }
+}
+
+// Draws the buffer, with lines to its glyphs from where they stood.
+fn draw_row<'a>(
+    page: &mut String,
+    session: &'a Session,
+    origins: &'a Origins,
+) -> Result<(), AllocError> {
+    let mut row = Row {
+        alloc: session.buffer.alloc(),
+        glyphs: session.buffer.glyphs(),
+        positions: session.buffer.positions(),
+        before: origins.before.as_slice(),
+        origins: origins.places.as_slice(),
+        shaper: session.shaper(),
+        features: session.features(),
+    };
+    if row.glyphs.is_empty() {
+        return write_note(page, "The buffer is empty.");
+    }
+    if !row.origins.is_empty() && !row.has_changed() {
+        write_note(page, "Each glyph stands where it stood.")?;
+        row.origins = &[];
+    }
+    draw_boxes(page, &row)?;
+    draw_positions(page, &row, session)
+}
+
+// The characters of a text, as the buffer has them.
+fn text_of(alloc: Global, glyphs: &[GlyphInfo]) -> Result<String, AllocError> {
+    let characters = glyphs
+        .iter()
+        .filter_map(|glyph| char::from_u32(glyph.glyph_id));
+    let text: String = characters.collect_in(alloc)?;
+    shortened(alloc, text.as_str())
+}

@@ -1,0 +1,76 @@
+//! Generated from crates/hbhook_draw/src/lib.rt by rust/erase; edit the source.
+//!
+//! Draws what hooks do: carries out the lines of the program, and writes a page of HTML with a row
+//! of boxes, a box a glyph, for the text and after each hook.
+
+mod boxes;
+mod drawing;
+mod escaped;
+mod label;
+mod marks;
+mod names;
+mod origins;
+mod page;
+mod pieces;
+mod row;
+mod scale;
+mod shown;
+
+use crate::generated::hbhook_lines::{Fault, lines_of, read_input, report, write_text};
+use crate::support::alloc::{AllocError, Global};
+use crate::support::io::{Read, Write};
+use drawing::Drawing;
+
+/// Carries out the lines of the input and writes a page that shows the buffer before and after each
+/// hook. A refusal or a fault ends the run: the page then shows it below all that came before it,
+/// and the faults tell it. The answer is the status to end with: 0, 1 for a refusal, and 2 for a
+/// line that doesn't read, and without a message for a reader or a writer that fails.
+///
+/// <details><summary>Contract</summary>
+///
+/// # Contract
+///
+/// ```text
+/// ensures { result ≤ 2 }
+/// ```
+///
+/// </details>
+pub fn draw_lines<I, O, F>(alloc: Global, input: I, output: O, faults: F) -> u8
+where
+    I: Read,
+    O: Write,
+    F: Write,
+{
+    match draw(alloc, input, output) {
+        Ok(()) => 0,
+        Err(fault) => report(faults, fault),
+    }
+}
+
+fn draw<I, O>(alloc: Global, input: I, output: O) -> Result<(), Fault>
+where
+    I: Read,
+    O: Write,
+{
+    let bytes = read_input(alloc, input)?;
+    let lines = lines_of(alloc, &bytes)?;
+    let mut drawing = Drawing::new(alloc)?;
+    let fault = draw_each(&mut drawing, lines.as_slice())?;
+    let page = drawing.finished()?;
+    write_text(output, page.as_str())?;
+    match fault {
+        None => Ok(()),
+        Some(fault) => Err(fault),
+    }
+}
+
+// Draws the lines in order, to the first fault, which is the answer.
+fn draw_each(drawing: &mut Drawing, lines: &[&[u8]]) -> Result<Option<Fault>, AllocError> {
+    for (i, line) in lines.iter().enumerate() {
+        if let Err(fault) = drawing.draw(i + 1, line) {
+            drawing.draw_fault(i + 1, line, fault)?;
+            return Ok(Some(Fault::on_line(fault, i + 1)));
+        }
+    }
+    Ok(None)
+}

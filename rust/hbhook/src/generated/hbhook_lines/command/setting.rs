@@ -1,0 +1,115 @@
+//! Generated from crates/hbhook_lines/src/command/setting.rt by rust/erase; edit the source.
+//!
+//! The lines `set K V`.
+
+use super::fields::{decimal, four_characters, hexadecimal, yes_or_no};
+use crate::generated::hbhook_lines::expected::{COUNT, Expected};
+use crate::generated::hbhook_lines::fault::LineFault;
+use crate::support::bitflags::Flags;
+use sengadlit::buffer::{BufferClusterLevel, BufferFlags, Direction, Script, Tag};
+use sengadlit::plan::StretchStart;
+use sengadlit::shaper::{
+    ARABIC_SHAPER, HANGUL_SHAPER, HEBREW_SHAPER, INDIC_SHAPER, KHMER_SHAPER, MYANMAR_SHAPER,
+    MYANMAR_ZAWGYI_SHAPER, Shaper, THAI_SHAPER, UNIVERSAL_SHAPER,
+};
+
+// The names of the settings.
+const KEYS: &str = "shaper, script, chosen, found, gposmark, direction, level, flags, maxlen, \
+    global, positions, stretch";
+
+// The names of the shapers.
+const SHAPERS: &str = "arabic, hangul, hebrew, indic, khmer, myanmar, zawgyi, thai, universal";
+
+// The levels of clusters.
+const LEVEL: Expected = Expected::Number(2);
+
+/// A setting and its value.
+#[derive(Clone, Copy)]
+pub(crate) enum Setting {
+    Shaper(Shaper),
+    /// The script of the plan and of the buffer.
+    Script(Script),
+    /// The script chosen in the font.
+    Chosen(Tag),
+    /// Whether the font has the script.
+    Found(bool),
+    /// Whether the font positions marks.
+    GposMark(bool),
+    Direction(Direction),
+    Level(BufferClusterLevel),
+    Flags(BufferFlags),
+    MaxLen(usize),
+    /// The mask of the features that are on everywhere.
+    Global(u32),
+    /// Whether the buffer has positions.
+    Positions(bool),
+    /// Where the tiles of a stretched mark begin.
+    Stretch(StretchStart),
+}
+
+impl Setting {
+    /// The setting of this name, with its value.
+    pub(super) fn parse(key: &str, value: &str) -> Result<Setting, LineFault> {
+        match key {
+            "shaper" => Ok(Setting::Shaper(named_shaper(value)?)),
+            "script" => Ok(Setting::Script(Script(four_characters(value)?))),
+            "chosen" => Ok(Setting::Chosen(Tag(four_characters(value)?))),
+            "found" => Ok(Setting::Found(yes_or_no(value)?)),
+            "gposmark" => Ok(Setting::GposMark(yes_or_no(value)?)),
+            "direction" => Ok(Setting::Direction(direction(value)?)),
+            "level" => Ok(Setting::Level(cluster_level(value)?)),
+            "flags" => Ok(Setting::Flags(buffer_flags(value)?)),
+            "maxlen" => Ok(Setting::MaxLen(decimal(value, COUNT)?)),
+            "global" => Ok(Setting::Global(hexadecimal(value)?)),
+            "positions" => Ok(Setting::Positions(yes_or_no(value)?)),
+            "stretch" => Ok(Setting::Stretch(stretch_start(value)?)),
+            _ => Err(LineFault::Unreadable(Expected::Word(KEYS))),
+        }
+    }
+}
+
+fn named_shaper(name: &str) -> Result<Shaper, LineFault> {
+    match name {
+        "arabic" => Ok(ARABIC_SHAPER),
+        "hangul" => Ok(HANGUL_SHAPER),
+        "hebrew" => Ok(HEBREW_SHAPER),
+        "indic" => Ok(INDIC_SHAPER),
+        "khmer" => Ok(KHMER_SHAPER),
+        "myanmar" => Ok(MYANMAR_SHAPER),
+        "zawgyi" => Ok(MYANMAR_ZAWGYI_SHAPER),
+        "thai" => Ok(THAI_SHAPER),
+        "universal" => Ok(UNIVERSAL_SHAPER),
+        _ => Err(LineFault::Unreadable(Expected::Word(SHAPERS))),
+    }
+}
+
+fn direction(name: &str) -> Result<Direction, LineFault> {
+    match name {
+        "ltr" => Ok(Direction::LeftToRight),
+        "rtl" => Ok(Direction::RightToLeft),
+        _ => Err(LineFault::Unreadable(Expected::Word("ltr, rtl"))),
+    }
+}
+
+fn cluster_level(number: &str) -> Result<BufferClusterLevel, LineFault> {
+    match decimal(number, LEVEL)? {
+        0 => Ok(BufferClusterLevel::MonotoneGraphemes),
+        1 => Ok(BufferClusterLevel::MonotoneCharacters),
+        2 => Ok(BufferClusterLevel::Characters),
+        _ => Err(LineFault::Unreadable(LEVEL)),
+    }
+}
+
+// Flags of a buffer; an unknown bit doesn't read.
+fn buffer_flags(bits: &str) -> Result<BufferFlags, LineFault> {
+    let expected = Expected::Condition("no bits but 20, 40 and 80");
+    BufferFlags::from_bits(hexadecimal(bits)?).ok_or(LineFault::Unreadable(expected))
+}
+
+fn stretch_start(name: &str) -> Result<StretchStart, LineFault> {
+    match name {
+        "code" => Ok(StretchStart::AsCode),
+        "centred" => Ok(StretchStart::Centred),
+        _ => Err(LineFault::Unreadable(Expected::Word("code, centred"))),
+    }
+}

@@ -1,0 +1,494 @@
+//! Generated from crates/rustybuzz_shapers/src/shaper.rt by rust/erase; edit the source.
+//!
+//! The shapers behind one enum, a method a hook. Where a shaper lacks a hook, its method answers
+//! None and changes nothing.
+
+use crate::generated::shapers_base::buffer::{Buffer, ShaperError, Tag};
+use crate::generated::shapers_base::font::{Font, Tables};
+use crate::generated::shapers_base::plan::{Plan, Planner};
+
+mod conditions;
+mod pauses;
+
+use crate::generated::shapers_arabic::ot_shaper_arabic;
+pub use crate::generated::shapers_base::plan::{
+    NormalizationMode, Pause, PlanData, Preprocess, ZeroWidthMarks,
+};
+use crate::generated::shapers_hangul::ot_shaper_hangul;
+use crate::generated::shapers_indic::ot_shaper_indic;
+use crate::generated::shapers_khmer::ot_shaper_khmer;
+use crate::generated::shapers_myanmar::ot_shaper_myanmar;
+use crate::generated::shapers_stretch::ot_shaper_arabic_stretch;
+use crate::generated::shapers_text::{ot_shaper_hebrew, ot_shaper_thai};
+use crate::generated::shapers_universal::ot_shaper_use;
+pub use conditions::pause_fits;
+pub use pauses::run_pause;
+
+/// A script shaper.
+#[derive(Clone, Copy, Debug, PartialEq, Eq)]
+pub enum Shaper {
+    /// Arabic, Syriac and the scripts that join like them.
+    Arabic,
+    /// Korean.
+    Hangul,
+    /// Hebrew.
+    Hebrew,
+    /// The scripts of India that OpenType has specifications of their own for.
+    Indic,
+    /// Khmer.
+    Khmer,
+    /// Myanmar.
+    Myanmar,
+    /// Myanmar in the encoding of Zawgyi, which needs no shaping.
+    MyanmarZawgyi,
+    /// Thai and Lao.
+    Thai,
+    /// The scripts that the Universal Shaping Engine is for.
+    Universal,
+}
+
+/// The shaper of Arabic and the scripts that join like it.
+pub const ARABIC_SHAPER: Shaper = Shaper::Arabic;
+
+/// The shaper of Korean.
+pub const HANGUL_SHAPER: Shaper = Shaper::Hangul;
+
+/// The shaper of Hebrew.
+pub const HEBREW_SHAPER: Shaper = Shaper::Hebrew;
+
+/// The shaper of the Indic scripts.
+pub const INDIC_SHAPER: Shaper = Shaper::Indic;
+
+/// The shaper of Khmer.
+pub const KHMER_SHAPER: Shaper = Shaper::Khmer;
+
+/// The shaper of Myanmar.
+pub const MYANMAR_SHAPER: Shaper = Shaper::Myanmar;
+
+/// The shaper of Myanmar in the encoding of Zawgyi.
+pub const MYANMAR_ZAWGYI_SHAPER: Shaper = Shaper::MyanmarZawgyi;
+
+/// The shaper of Thai and Lao.
+pub const THAI_SHAPER: Shaper = Shaper::Thai;
+
+/// The universal shaper.
+pub const UNIVERSAL_SHAPER: Shaper = Shaper::Universal;
+
+impl Shaper {
+    /// How the text is normalized before the font's mapping.
+    ///
+    /// <details><summary>Contract</summary>
+    ///
+    /// # Contract
+    ///
+    /// ```text
+    /// ensures { result ≡ normalizes self }
+    /// ```
+    ///
+    /// - `normalizes`: crates/rustybuzz_shapers/specs/Records.antt
+    ///
+    /// </details>
+    pub fn normalization_preference(self) -> NormalizationMode {
+        match self {
+            Self::Hangul | Self::MyanmarZawgyi => NormalizationMode::NONE,
+            Self::Arabic | Self::Hebrew | Self::Thai => NormalizationMode::AUTO,
+            Self::Indic | Self::Khmer | Self::Myanmar | Self::Universal => NormalizationMode::CD,
+        }
+    }
+
+    /// The script that GPOS has to have chosen, so that the shaper trusts it to place marks.
+    ///
+    /// <details><summary>Contract</summary>
+    ///
+    /// # Contract
+    ///
+    /// ```text
+    /// ensures { result ≡ wants_gpos_script self }
+    /// ```
+    ///
+    /// - `wants_gpos_script`: crates/rustybuzz_shapers/specs/Records.antt
+    ///
+    /// </details>
+    pub fn gpos_tag(self) -> Option<Tag> {
+        match self {
+            Self::Hebrew => Some(Tag(*b"hebr")),
+            _ => None,
+        }
+    }
+
+    /// When the advances of marks become zero.
+    ///
+    /// <details><summary>Contract</summary>
+    ///
+    /// # Contract
+    ///
+    /// ```text
+    /// ensures { result ≡ zeroes_marks self }
+    /// ```
+    ///
+    /// - `zeroes_marks`: crates/rustybuzz_shapers/specs/Records.antt
+    ///
+    /// </details>
+    pub fn zero_width_marks(self) -> ZeroWidthMarks {
+        match self {
+            Self::Hangul | Self::Indic | Self::Khmer | Self::MyanmarZawgyi => ZeroWidthMarks::NONE,
+            Self::Myanmar | Self::Universal => ZeroWidthMarks::GDEF_EARLY,
+            Self::Arabic | Self::Hebrew | Self::Thai => ZeroWidthMarks::GDEF_LATE,
+        }
+    }
+
+    /// Whether marks are placed by their classes where the font doesn't place them.
+    ///
+    /// <details><summary>Contract</summary>
+    ///
+    /// # Contract
+    ///
+    /// ```text
+    /// ensures { result ≡ places_marks self }
+    /// ```
+    ///
+    /// - `places_marks`: crates/rustybuzz_shapers/specs/Records.antt
+    ///
+    /// </details>
+    pub fn fallback_position(self) -> bool {
+        matches!(self, Self::Arabic | Self::Hebrew)
+    }
+
+    /// Asks for the features of the shaper's scripts: all of the list, or nothing where memory is
+    /// refused. Arabic's list depends on the planner's script and on the font.
+    ///
+    /// <details><summary>Contract</summary>
+    ///
+    /// # Contract
+    ///
+    /// ```text
+    /// ensures answer { let there = (standing self).collect_features in
+    ///     IfOk result (λ answer. is_some answer ≡ there) }
+    /// ensures ok { let has_rclt = (F.font face.now).offers rclt in
+    ///     let list = collected self planner.old.script has_rclt in
+    ///     OnOk result (planner.new ≡ asked list planner.old) }
+    /// ensures refusal { IsOkUnless result Memory }
+    /// ensures err { OnErr result (planner.new ≡ planner.old) }
+    /// ensures absent { (standing self).collect_features ≡ false → IsOk result }
+    /// ```
+    ///
+    /// - `asked`, `collected`: crates/rustybuzz_shapers/specs/Records.antt
+    /// - `standing`: crates/rustybuzz_shapers/specs/Standing.antt
+    /// - `rclt`: crates/shapers_arabic/specs/Requests.antt
+    ///
+    /// </details>
+    pub fn collect_features<F: Font>(
+        self,
+        face: &F,
+        planner: &mut Planner,
+    ) -> Result<Option<()>, ShaperError> {
+        match self {
+            Self::Arabic => Ok(Some(ot_shaper_arabic::collect_features(face, planner)?)),
+            Self::Hangul => Ok(Some(ot_shaper_hangul::collect_features(planner)?)),
+            Self::Indic => Ok(Some(ot_shaper_indic::collect_features(planner)?)),
+            Self::Khmer => Ok(Some(ot_shaper_khmer::collect_features(planner)?)),
+            Self::Myanmar => Ok(Some(ot_shaper_myanmar::collect_features(planner)?)),
+            Self::Universal => Ok(Some(ot_shaper_use::collect_features(planner)?)),
+            Self::Hebrew | Self::MyanmarZawgyi | Self::Thai => Ok(None),
+        }
+    }
+
+    /// Asks for what stands after the features of all shapers: all of it, or nothing where memory
+    /// is refused.
+    ///
+    /// <details><summary>Contract</summary>
+    ///
+    /// # Contract
+    ///
+    /// ```text
+    /// ensures answer { let there = (standing self).override_features in
+    ///     IfOk result (λ answer. is_some answer ≡ there) }
+    /// ensures ok { OnOk result (planner.new ≡ asked (overridden self) planner.old) }
+    /// ensures refusal { IsOkUnless result Memory }
+    /// ensures err { OnErr result (planner.new ≡ planner.old) }
+    /// ensures absent { (standing self).override_features ≡ false → IsOk result }
+    /// ```
+    ///
+    /// - `asked`, `overridden`: crates/rustybuzz_shapers/specs/Records.antt
+    /// - `standing`: crates/rustybuzz_shapers/specs/Standing.antt
+    ///
+    /// </details>
+    pub fn override_features(self, planner: &mut Planner) -> Result<Option<()>, ShaperError> {
+        match self {
+            Self::Hangul => Ok(Some(ot_shaper_hangul::override_features(planner)?)),
+            Self::Indic => Ok(Some(ot_shaper_indic::override_features(planner)?)),
+            Self::Khmer => Ok(Some(ot_shaper_khmer::override_features(planner)?)),
+            _ => Ok(None),
+        }
+    }
+
+    /// What the shaper keeps in the plan.
+    ///
+    /// <details><summary>Contract</summary>
+    ///
+    /// # Contract
+    ///
+    /// ```text
+    /// ensures data { result ≡ data_created self plan.now }
+    /// ensures answer { is_some result ≡ (standing self).create_data }
+    /// ```
+    ///
+    /// - `data_created`: crates/rustybuzz_shapers/specs/Hooks.antt
+    /// - `standing`: crates/rustybuzz_shapers/specs/Standing.antt
+    ///
+    /// </details>
+    pub fn create_data(self, plan: &Plan) -> Option<PlanData> {
+        match self {
+            Self::Arabic => Some(ot_shaper_arabic::create_data(plan)),
+            Self::Hangul => Some(ot_shaper_hangul::create_data(plan)),
+            Self::Indic => Some(ot_shaper_indic::create_data(plan)),
+            Self::Khmer => Some(ot_shaper_khmer::create_data(plan)),
+            Self::Universal => Some(ot_shaper_use::create_data(plan)),
+            Self::Hebrew | Self::Myanmar | Self::MyanmarZawgyi | Self::Thai => None,
+        }
+    }
+
+    /// Rewrites a text before its characters become glyphs. Thai puts each SARA AM in two, and
+    /// then, where GSUB doesn't have the script Thai, gives marks and bases their private use
+    /// forms. Hangul composes jamo, or takes syllables apart, as the font has them, and puts tones
+    /// before their syllables. Both refuse as a growth does. For Indic and the universal shaper the
+    /// caller runs the vowel constraints.
+    ///
+    /// <details><summary>Contract</summary>
+    ///
+    /// # Contract
+    ///
+    /// ```text
+    /// requires without_positions { buffer.old.positions ≡ [] }
+    /// ensures answer { IfOk result (λ answer. answer ≡ preprocess_answer self) }
+    /// ensures there { is_some (preprocess_answer self) ≡ (standing self).preprocess_text }
+    /// ensures ok { let font = F.font face.now in
+    ///     OnOk result (Preprocessed self plan.now font buffer.old buffer.new) }
+    /// ensures laws { let font = F.font face.now in
+    ///     OnOk result (PreprocessKeeps self plan.now font buffer.old buffer.new) }
+    /// ensures refusal { RefusesPreprocess self (F.font face.now) buffer.old result }
+    /// ensures err { OnErr result (buffer.new ≡ buffer.old) }
+    /// ```
+    ///
+    /// - `PreprocessKeeps`, `Preprocessed`, `RefusesPreprocess`, `preprocess_answer`: crates/rustybuzz_shapers/specs/Hooks.antt
+    /// - `standing`: crates/rustybuzz_shapers/specs/Standing.antt
+    ///
+    /// </details>
+    pub fn preprocess_text<F: Font>(
+        self,
+        plan: &Plan,
+        face: &F,
+        buffer: &mut Buffer,
+    ) -> Result<Option<Preprocess>, ShaperError> {
+        match self {
+            Self::Thai => {
+                ot_shaper_thai::preprocess_text(plan, face, buffer)?;
+                Ok(Some(Preprocess::Done))
+            }
+            Self::Hangul => {
+                ot_shaper_hangul::preprocess_text(plan, face, buffer)?;
+                Ok(Some(Preprocess::Done))
+            }
+            Self::Indic | Self::Universal => Ok(Some(Preprocess::CallerRunsVowelConstraints)),
+            Self::Arabic | Self::Hebrew | Self::Khmer | Self::Myanmar | Self::MyanmarZawgyi => {
+                Ok(None)
+            }
+        }
+    }
+
+    /// Rewrites the glyphs after positioning: for Arabic, marks stretch over the words before them,
+    /// by the widths of `stretches_cover_law`.
+    ///
+    /// <details><summary>Contract</summary>
+    ///
+    /// # Contract
+    ///
+    /// ```text
+    /// requires with_positions { length buffer.old.positions ≡ length buffer.old.glyphs }
+    /// requires fits { PostprocessFits self plan.now buffer.old.glyphs }
+    /// ensures answer { let there = (standing self).postprocess_glyphs in
+    ///     IfOk result (λ answer. is_some answer ≡ there) }
+    /// ensures ok { let font = F.font face.now in
+    ///     OnOk result (Postprocessed self plan.now font buffer.old buffer.new) }
+    /// ensures longer { let added = glyphs_added self (F.font face.now) buffer.old in
+    ///     OnOk result (length buffer.new.glyphs ≡ length buffer.old.glyphs + added) }
+    /// ensures refusal { RefusesPostprocess self plan.now (F.font face.now) buffer.old result }
+    /// ensures err { OnErr result (buffer.new ≡ buffer.old) }
+    /// ```
+    ///
+    /// - `PostprocessFits`, `Postprocessed`, `RefusesPostprocess`: crates/rustybuzz_shapers/specs/Hooks.antt
+    /// - `standing`: crates/rustybuzz_shapers/specs/Standing.antt
+    /// - `glyphs_added`: crates/rustybuzz_shapers/specs/Stretched.antt
+    ///
+    /// </details>
+    pub fn postprocess_glyphs<F: Font>(
+        self,
+        plan: &Plan,
+        face: &F,
+        buffer: &mut Buffer,
+    ) -> Result<Option<()>, ShaperError> {
+        match self {
+            Self::Arabic => {
+                ot_shaper_arabic_stretch::postprocess_glyphs(plan, face, buffer)?;
+                Ok(Some(()))
+            }
+            Self::Hangul
+            | Self::Hebrew
+            | Self::Indic
+            | Self::Khmer
+            | Self::Myanmar
+            | Self::MyanmarZawgyi
+            | Self::Thai
+            | Self::Universal => Ok(None),
+        }
+    }
+
+    /// The character that two characters compose to for this shaper: for Hebrew also, where GPOS
+    /// places no marks, the form of a letter and a point; for Indic, Khmer and the universal shaper
+    /// none behind a mark, and for Indic also YA with its nukta.
+    ///
+    /// <details><summary>Contract</summary>
+    ///
+    /// # Contract
+    ///
+    /// ```text
+    /// ensures pair { Composed self plan.now (T.tables tables.now) a b result }
+    /// ensures answer { is_some result ≡ (standing self).compose }
+    /// ```
+    ///
+    /// - `Composed`: crates/rustybuzz_shapers/specs/Hooks.antt
+    /// - `standing`: crates/rustybuzz_shapers/specs/Standing.antt
+    ///
+    /// </details>
+    pub fn compose<T: Tables>(
+        self,
+        plan: &Plan,
+        tables: &T,
+        a: char,
+        b: char,
+    ) -> Option<Option<char>> {
+        match self {
+            Self::Hebrew => Some(ot_shaper_hebrew::compose(plan, tables, a, b)),
+            Self::Indic => Some(ot_shaper_indic::compose(tables, a, b)),
+            Self::Khmer => Some(ot_shaper_khmer::compose(tables, a, b)),
+            Self::Universal => Some(ot_shaper_use::compose(tables, a, b)),
+            Self::Arabic | Self::Hangul | Self::Myanmar | Self::MyanmarZawgyi | Self::Thai => None,
+        }
+    }
+
+    /// The two characters that a character decomposes to for this shaper: for Indic not of letters
+    /// that fonts know whole, for Khmer also of split vowels.
+    ///
+    /// <details><summary>Contract</summary>
+    ///
+    /// # Contract
+    ///
+    /// ```text
+    /// ensures parts { Decomposed self plan.now (T.tables tables.now) ab result }
+    /// ensures answer { is_some result ≡ (standing self).decompose }
+    /// ```
+    ///
+    /// - `Decomposed`: crates/rustybuzz_shapers/specs/Hooks.antt
+    /// - `standing`: crates/rustybuzz_shapers/specs/Standing.antt
+    ///
+    /// </details>
+    pub fn decompose<T: Tables>(
+        self,
+        plan: &Plan,
+        tables: &T,
+        ab: char,
+    ) -> Option<Option<(char, char)>> {
+        match self {
+            Self::Indic => Some(ot_shaper_indic::decompose(tables, ab)),
+            Self::Khmer => Some(ot_shaper_khmer::decompose(tables, ab)),
+            Self::Arabic
+            | Self::Hangul
+            | Self::Hebrew
+            | Self::Myanmar
+            | Self::MyanmarZawgyi
+            | Self::Thai
+            | Self::Universal => None,
+        }
+    }
+
+    /// Sets the masks of the glyphs: for Arabic, the form that each letter takes between its
+    /// neighbours, and the form's mask; for Hangul those of marked jamo; for Indic, Khmer and
+    /// Myanmar categories alone, for the universal shaper these and, where letters join, Arabic's
+    /// forms. It can't refuse and takes no memory.
+    ///
+    /// <details><summary>Contract</summary>
+    ///
+    /// # Contract
+    ///
+    /// ```text
+    /// requires without_positions { buffer.old.positions ≡ [] }
+    /// requires data { PlanFits self plan.now }
+    /// requires glyphs { GlyphsFit self plan.now buffer.old.glyphs }
+    /// ensures answer { is_some result ≡ (standing self).setup_masks }
+    /// ensures masks { MasksSet self plan.now (T.tables tables.now) buffer.old buffer.new }
+    /// ```
+    ///
+    /// - `GlyphsFit`, `MasksSet`, `PlanFits`: crates/rustybuzz_shapers/specs/Hooks.antt
+    /// - `standing`: crates/rustybuzz_shapers/specs/Standing.antt
+    ///
+    /// </details>
+    pub fn setup_masks<F: Font, T: Tables>(
+        self,
+        plan: &Plan,
+        face: &F,
+        tables: &T,
+        buffer: &mut Buffer,
+    ) -> Option<()> {
+        match self {
+            Self::Arabic => Some(ot_shaper_arabic::setup_masks(plan, tables, buffer)),
+            Self::Hangul => Some(ot_shaper_hangul::setup_masks(plan, buffer)),
+            Self::Indic => Some(ot_shaper_indic::setup_masks(tables, buffer)),
+            Self::Khmer => Some(ot_shaper_khmer::setup_masks(tables, buffer)),
+            Self::Myanmar => Some(ot_shaper_myanmar::setup_masks(tables, buffer)),
+            Self::Universal => Some(ot_shaper_use::setup_masks(plan, tables, buffer)),
+            Self::Hebrew | Self::MyanmarZawgyi | Self::Thai => None,
+        }
+    }
+
+    /// Reorders the marks from `start` to `end`: for Hebrew, at the first three neighbours of its
+    /// classes, the last two merge and change places; for Arabic, over at most 32 places, marks
+    /// that modify a letter come to the front. It can't refuse and takes no memory.
+    ///
+    /// <details><summary>Contract</summary>
+    ///
+    /// # Contract
+    ///
+    /// ```text
+    /// requires without_positions { buffer.old.positions ≡ [] }
+    /// requires in_order { start ≤ end }
+    /// requires in_range { end ≤ length buffer.old.glyphs }
+    /// requires few { MarksFit self start end }
+    /// ensures answer { is_some result ≡ (standing self).reorder_marks }
+    /// ensures marks { MarksReordered self start end buffer.old buffer.new }
+    /// ensures laws { MarksKeep self start end buffer.old buffer.new }
+    /// ```
+    ///
+    /// - `MarksFit`, `MarksKeep`, `MarksReordered`: crates/rustybuzz_shapers/specs/Hooks.antt
+    /// - `standing`: crates/rustybuzz_shapers/specs/Standing.antt
+    ///
+    /// </details>
+    pub fn reorder_marks(
+        self,
+        plan: &Plan,
+        buffer: &mut Buffer,
+        start: usize,
+        end: usize,
+    ) -> Option<()> {
+        match self {
+            Self::Arabic => Some(ot_shaper_arabic::reorder_marks(plan, buffer, start, end)),
+            Self::Hebrew => Some(ot_shaper_hebrew::reorder_marks(plan, buffer, start, end)),
+            Self::Hangul
+            | Self::Indic
+            | Self::Khmer
+            | Self::Myanmar
+            | Self::MyanmarZawgyi
+            | Self::Thai
+            | Self::Universal => None,
+        }
+    }
+}

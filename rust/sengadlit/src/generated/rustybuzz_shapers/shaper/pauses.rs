@@ -1,0 +1,79 @@
+//! Generated from crates/rustybuzz_shapers/src/shaper/pauses.rt by rust/erase; edit the source.
+//!
+//! The pauses behind one dispatcher.
+
+use crate::generated::shapers_base::buffer::{Buffer, ShaperError, Span};
+use crate::generated::shapers_base::font::Font;
+use crate::generated::shapers_base::plan::{Pause, Plan};
+use crate::generated::shapers_indic_final::ot_shaper_indic_final;
+use crate::generated::shapers_indic_initial::ot_shaper_indic_initial;
+use crate::generated::shapers_khmer::ot_shaper_khmer;
+use crate::generated::shapers_myanmar::ot_shaper_myanmar;
+use crate::generated::shapers_stretch::ot_shaper_arabic_stretch;
+use crate::generated::shapers_syllabic::ot_shaper_syllabic::{
+    clear_substitution_flags, clear_syllables, indic_syllable, khmer_syllable, myanmar_syllable,
+    set_up_syllables,
+};
+use crate::generated::shapers_universal::ot_shaper_use;
+
+/// Does what a shaper does between two stages of substitution, and answers whether dotted circles
+/// were wanted. Spans are read by the pauses that set syllables alone: those refuse with
+/// `SpansDontCover` where a span is empty or they don't add up. Reorderings refuse unknown kinds of
+/// syllables, but for the universal shaper's, and then as circles do. A refused pause leaves the
+/// buffer as it was.
+///
+/// <details><summary>Contract</summary>
+///
+/// # Contract
+///
+/// ```text
+/// requires without_positions { buffer.old.positions ≡ [] }
+/// requires kinds { All (λ span. span.kind ≤ 15) spans.now }
+/// requires data { PauseFits pause plan.now }
+/// ensures answer { let circles = circles_of pause plan.now (F.font face.now) buffer.old in
+///     IfOk result (λ answer. answer ≡ is_some circles) }
+/// ensures ok { let font = F.font face.now in
+///     OnOk result (Paused pause plan.now font spans.now buffer.old buffer.new) }
+/// ensures laws { let font = F.font face.now in
+///     OnOk result (PauseKeeps pause plan.now font spans.now buffer.old buffer.new) }
+/// ensures refusal { RefusesPause pause (F.font face.now) spans.now buffer.old result }
+/// ensures err { OnErr result (buffer.new ≡ buffer.old) }
+/// ```
+///
+/// - `PauseFits`, `PauseKeeps`, `Paused`, `RefusesPause`, `circles_of`: crates/rustybuzz_shapers/specs/Pauses.antt
+///
+/// </details>
+pub fn run_pause<F: Font>(
+    pause: Pause,
+    plan: &Plan,
+    face: &F,
+    spans: &[Span],
+    buffer: &mut Buffer,
+) -> Result<bool, ShaperError> {
+    match pause {
+        Pause::SetupSyllablesIndic => {
+            set_up_syllables(spans, indic_syllable::BROKEN_CLUSTER, buffer)?;
+        }
+        Pause::SetupSyllablesKhmer => {
+            set_up_syllables(spans, khmer_syllable::BROKEN_CLUSTER, buffer)?;
+        }
+        Pause::SetupSyllablesMyanmar => {
+            set_up_syllables(spans, myanmar_syllable::BROKEN_CLUSTER, buffer)?;
+        }
+        Pause::SetupSyllablesUse => ot_shaper_use::setup_syllables_use(plan, spans, buffer)?,
+        Pause::InitialReordering => {
+            return ot_shaper_indic_initial::initial_reordering(plan, face, buffer);
+        }
+        Pause::ReorderKhmer => return ot_shaper_khmer::reorder_khmer(plan, face, buffer),
+        Pause::ReorderMyanmar => return ot_shaper_myanmar::reorder_myanmar(face, buffer),
+        Pause::ReorderUse => return ot_shaper_use::reorder_use(face, buffer),
+        Pause::FinalReordering => ot_shaper_indic_final::final_reordering(plan, face, buffer),
+        Pause::RecordStch => ot_shaper_arabic_stretch::record_stch(plan, buffer),
+        Pause::RecordRphf => ot_shaper_use::record_rphf(plan, buffer),
+        Pause::RecordPref => ot_shaper_use::record_pref(buffer),
+        Pause::SyllabicClearVar => clear_syllables(buffer),
+        Pause::ClearSubstitutionFlags => clear_substitution_flags(buffer),
+        Pause::ArabicFallbackShape => {}
+    }
+    Ok(false)
+}

@@ -1,0 +1,57 @@
+//! Generated from crates/shapers_arabic/src/ot_shaper_arabic/data.rt by rust/erase; edit the source.
+//!
+//! What the shaper keeps in the plan.
+
+use crate::generated::shapers_base::buffer::Tag;
+use crate::generated::shapers_base::plan::{ArabicPlan, Plan, PlanData};
+
+/// What the shaper keeps in the plan: the masks of the joining forms, which touch no glyph flag
+/// bit, whether marks stretch, and where these begin.
+///
+/// <details><summary>Contract</summary>
+///
+/// # Contract
+///
+/// ```text
+/// ensures data { result ≡ arabic_plan plan.now.stretch_start plan.now.ot_map }
+/// ensures off_flags { AllByRecursion (λ mask. mask % 8 ≡ 0) result.mask_array }
+/// ```
+///
+/// - `arabic_plan`: crates/shapers_arabic/specs/PlanData.antt
+///
+/// </details>
+pub fn data_create_arabic(plan: &Plan) -> ArabicPlan {
+    let map = &plan.ot_map;
+    ArabicPlan {
+        mask_array: [
+            map.get_1_mask(Tag(*b"isol")),
+            map.get_1_mask(Tag(*b"fina")),
+            map.get_1_mask(Tag(*b"fin2")),
+            map.get_1_mask(Tag(*b"fin3")),
+            map.get_1_mask(Tag(*b"medi")),
+            map.get_1_mask(Tag(*b"med2")),
+            map.get_1_mask(Tag(*b"init")),
+            0,
+        ],
+        has_stch: map.get_1_mask(Tag(*b"stch")) != 0,
+        stretch_start: plan.stretch_start,
+    }
+}
+
+/// What the shaper keeps in the plan. It can't refuse and takes no memory.
+///
+/// <details><summary>Contract</summary>
+///
+/// # Contract
+///
+/// ```text
+/// ensures data { result ≡ PlanData.Arabic (arabic_plan plan.now.stretch_start plan.now.ot_map) }
+/// ensures off_flags { AllByRecursion (λ mask. mask % 8 ≡ 0) (masks_of result) }
+/// ```
+///
+/// - `arabic_plan`, `masks_of`: crates/shapers_arabic/specs/PlanData.antt
+///
+/// </details>
+pub fn create_data(plan: &Plan) -> PlanData {
+    PlanData::Arabic(data_create_arabic(plan))
+}

@@ -1,0 +1,186 @@
+//! Generated from crates/shapers_arabic/src/ot_shaper_arabic/marks.rt by rust/erase; edit the source.
+//!
+//! The order of Arabic marks: those that modify a letter come first. (Unicode Technical Report 53.)
+
+use crate::generated::shapers_base::buffer::modified_combining_class::{BELOW, CCC22, CCC26};
+use crate::generated::shapers_base::buffer::{
+    Buffer, BufferClusterLevel, GlyphInfo, GlyphWalk, merge_clusters_in,
+};
+use crate::generated::shapers_base::plan::Plan;
+
+/// The marks that modify a letter.
+const MODIFIERS: [u32; 14] = [
+    0x0654, 0x0655, 0x0658, 0x06DC, 0x06E3, 0x06E7, 0x06E8, 0x08CA, 0x08CB, 0x08CD, 0x08CE, 0x08CF,
+    0x08D3, 0x08F3,
+];
+
+/// The class of marks above.
+const ABOVE: u8 = 230;
+
+/// Among the marks from `start` to `end`, brings those that modify a letter to the front, in
+/// classes of their own: first the ones below it, then the ones above it. What they pass merges
+/// with them. It can't refuse and takes no memory. (Unicode Technical Report 53.)
+///
+/// <details><summary>Contract</summary>
+///
+/// # Contract
+///
+/// ```text
+/// requires in_order { start ≤ end }
+/// requires in_range { end ≤ length buffer.old.glyphs }
+/// requires at_most_32 { end ≤ start + 32 }
+/// ensures marks { let merged = marks_merged buffer.old.level start end buffer.old.glyphs in
+///     buffer.new ≡ record buffer.old { glyphs = marks_reordered start end merged } }
+/// ensures order { let view = order_view buffer.old.glyphs in
+///     order_view buffer.new.glyphs ≡ marks_reordered start end view }
+/// ensures laws { MarksReordered start end buffer.old buffer.new }
+/// ```
+///
+/// - `MarksReordered`, `marks_merged`, `marks_reordered`: crates/shapers_arabic/specs/Marks.antt
+/// - `order_view`: crates/shapers_buffer/specs/Glyph.antt
+///
+/// </details>
+#[inline]
+pub fn reorder_marks(_plan: &Plan, buffer: &mut Buffer, start: usize, end: usize) {
+    let level = buffer.cluster_level();
+    buffer.walk(&mut MarkOrder { level, start, end });
+}
+
+// Where the marks stand, and whether clusters merge.
+struct MarkOrder {
+    level: BufferClusterLevel,
+    start: usize,
+    end: usize,
+}
+
+impl GlyphWalk for MarkOrder {
+    #[inline]
+    fn walk(&mut self, glyphs: &mut [GlyphInfo]) {
+        reorder_marks_in(self.level, glyphs, self.start, self.end);
+    }
+}
+
+/// The same in a slice whose clusters merge at this level.
+///
+/// <details><summary>Contract</summary>
+///
+/// # Contract
+///
+/// ```text
+/// requires in_order { start ≤ end }
+/// requires in_range { end ≤ length glyphs.old }
+/// ensures { glyphs.new ≡ marks_reordered start end (marks_merged level start end glyphs.old) }
+/// ```
+///
+/// - `marks_merged`, `marks_reordered`: crates/shapers_arabic/specs/Marks.antt
+///
+/// </details>
+pub fn reorder_marks_in(
+    level: BufferClusterLevel,
+    glyphs: &mut [GlyphInfo],
+    start: usize,
+    end: usize,
+) {
+    let parts = parts_of(&glyphs[start..end]);
+    merge_passed(level, glyphs, start, parts);
+    bring_forward(&mut glyphs[start..end], parts);
+}
+
+// How many marks stand in the first four of the five parts.
+#[derive(Clone, Copy)]
+struct Parts {
+    low: usize,
+    modifiers_below: usize,
+    middle: usize,
+    modifiers_above: usize,
+}
+
+// The lengths of the parts of these marks.
+fn parts_of(marks: &[GlyphInfo]) -> Parts {
+    let low = count_below(BELOW, marks);
+    let second = &marks[low..];
+    let modifiers_below = count_modifiers(BELOW, second);
+    let third = &second[modifiers_below..];
+    let middle = count_below(ABOVE, third);
+    let modifiers_above = count_modifiers(ABOVE, &third[middle..]);
+    Parts {
+        low,
+        modifiers_below,
+        middle,
+        modifiers_above,
+    }
+}
+
+// How many marks in front are of classes below this one.
+fn count_below(class: u8, marks: &[GlyphInfo]) -> usize {
+    marks
+        .iter()
+        .take_while(|mark| mark.modified_combining_class < class)
+        .count()
+}
+
+// How many marks in front are of this class and modify a letter.
+fn count_modifiers(class: u8, marks: &[GlyphInfo]) -> usize {
+    marks
+        .iter()
+        .take_while(|mark| is_modifier_of(class, mark))
+        .count()
+}
+
+// Whether a mark is of this class and modifies a letter.
+fn is_modifier_of(class: u8, mark: &GlyphInfo) -> bool {
+    mark.modified_combining_class == class && modifies(mark.glyph_id)
+}
+
+// Whether this mark modifies a letter.
+fn modifies(character: u32) -> bool {
+    MODIFIERS.contains(&character)
+}
+
+// Merges what the modifiers pass with them.
+fn merge_passed(level: BufferClusterLevel, glyphs: &mut [GlyphInfo], start: usize, parts: Parts) {
+    let second = start + parts.modifiers_below;
+    let third = start + parts.low + parts.modifiers_below;
+    merge_for(level, glyphs, parts.modifiers_below, start, third);
+    let last = third + parts.middle + parts.modifiers_above;
+    merge_for(level, glyphs, parts.modifiers_above, second, last);
+}
+
+// Merges the glyphs from `s` to `e`, unless no marks move.
+fn merge_for(
+    level: BufferClusterLevel,
+    glyphs: &mut [GlyphInfo],
+    moved: usize,
+    s: usize,
+    e: usize,
+) {
+    if moved == 0 {
+        return;
+    }
+    merge_clusters_in(level, glyphs, s, e);
+}
+
+// Brings the modifiers to the front, those below first.
+fn bring_forward(marks: &mut [GlyphInfo], parts: Parts) {
+    let first = parts.modifiers_below;
+    let passed = parts.low + parts.modifiers_below;
+    bring_last(&mut marks[..passed], first, CCC22);
+    let last = passed + parts.middle + parts.modifiers_above;
+    bring_last(&mut marks[first..last], parts.modifiers_above, CCC26);
+}
+
+// Brings the last `count` marks before the others, and gives them a class.
+fn bring_last(marks: &mut [GlyphInfo], count: usize, class: u8) {
+    if count == 0 {
+        return;
+    }
+    marks.rotate_right(count);
+    set_class(&mut marks[..count], class);
+}
+
+// Gives all these marks a class.
+fn set_class(marks: &mut [GlyphInfo], class: u8) {
+    for mark in marks.iter_mut() {
+        mark.modified_combining_class = class;
+    }
+}

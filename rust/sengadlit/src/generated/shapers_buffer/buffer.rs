@@ -1,0 +1,307 @@
+//! Generated from crates/shapers_buffer/src/buffer.rt by rust/erase; edit the source.
+//!
+//! The buffer of glyphs: what the shapers read and rewrite.
+
+use crate::support::alloc::Global;
+use crate::support::arrayvec::ArrayVec;
+use crate::support::prelude::*;
+use placement::{copy_places, make_room};
+
+mod category;
+mod cluster_runs;
+mod exchanging;
+mod fields;
+mod flags;
+mod glyph;
+mod glyph_flags;
+mod glyph_marks;
+mod level;
+mod merging;
+pub mod modified_combining_class;
+mod placement;
+mod refusal;
+mod replacing;
+mod reversing;
+mod settings;
+mod syllables;
+mod tag;
+mod walking;
+
+pub use category::GeneralCategory;
+pub use cluster_runs::{ClusterRun, merge_run_in, write_run_in};
+pub use flags::BufferFlags;
+pub use glyph::{GlyphInfo, GlyphPosition};
+pub use glyph_flags::{
+    glyph_flag, safe_to_insert_tatweel_in, unsafe_to_break_in, unsafe_to_concat_in,
+};
+pub use glyph_marks::GlyphMarks;
+pub use level::{BufferClusterLevel, Direction};
+pub use merging::{least_cluster, merge_clusters_in};
+pub use refusal::ShaperError;
+pub use settings::{BufferSettings, context_characters};
+pub use syllables::{Span, first_syllable_len, has_span_of_kind, set_syllable, spans_cover};
+pub use tag::{Script, Tag};
+pub use walking::{GlyphChange, GlyphWalk, PositionedWalk, change_each_in};
+
+/// How many characters of context a buffer keeps on each side.
+pub const CONTEXT_LENGTH: usize = 5;
+
+/// A list of glyphs, with positions or without, its settings, the text on both sides and marks
+/// that one hook leaves for a later one. Its length never passes `max_len`.
+#[derive(Debug)]
+pub struct Buffer {
+    info: Vec<GlyphInfo>,
+    pos: Vec<GlyphPosition>,
+    direction: Direction,
+    script: Option<Script>,
+    cluster_level: BufferClusterLevel,
+    flags: BufferFlags,
+    pre_context: ArrayVec<char, CONTEXT_LENGTH>,
+    post_context: ArrayVec<char, CONTEXT_LENGTH>,
+    has_broken_syllable: bool,
+    has_stch: bool,
+    max_len: usize,
+    // room for a place and for a glyph a glyph, so that a reordering takes no memory; it is written
+    // as far as reorderings came
+    places: Vec<usize>,
+    spare: Vec<GlyphInfo>,
+}
+
+impl Buffer {
+    /// An empty buffer, whose text runs from left to right. It takes no memory.
+    ///
+    /// <details><summary>Contract</summary>
+    ///
+    /// # Contract
+    ///
+    /// ```text
+    /// ensures { result ≡ new_buffer max_len }
+    /// ```
+    ///
+    /// - `new_buffer`: crates/shapers_buffer/specs/Buffer.antt
+    ///
+    /// </details>
+    pub fn new(alloc: Global, max_len: usize) -> Self {
+        Buffer {
+            info: Vec::new(alloc),
+            pos: Vec::new(alloc),
+            direction: Direction::LeftToRight,
+            script: None,
+            cluster_level: BufferClusterLevel::MonotoneGraphemes,
+            flags: BufferFlags(0),
+            pre_context: ArrayVec::new(),
+            post_context: ArrayVec::new(),
+            has_broken_syllable: false,
+            has_stch: false,
+            max_len,
+            places: Vec::new(alloc),
+            spare: Vec::new(alloc),
+        }
+    }
+
+    /// The allocator that the buffer was made with.
+    #[inline]
+    pub fn alloc(&self) -> Global {
+        *self.info.allocator()
+    }
+
+    /// The number of glyphs.
+    ///
+    /// <details><summary>Contract</summary>
+    ///
+    /// # Contract
+    ///
+    /// ```text
+    /// ensures length { result ≡ length self.now.glyphs }
+    /// ensures fits { length self.now.glyphs ≤ self.now.max_len }
+    /// ```
+    ///
+    /// </details>
+    #[inline]
+    pub fn len(&self) -> usize {
+        self.info.len()
+    }
+
+    /// Whether there is no glyph.
+    ///
+    /// <details><summary>Contract</summary>
+    ///
+    /// # Contract
+    ///
+    /// ```text
+    /// ensures { result ≡ (length self.now.glyphs == 0) }
+    /// ```
+    ///
+    /// </details>
+    #[inline]
+    pub fn is_empty(&self) -> bool {
+        self.info.is_empty()
+    }
+
+    /// The glyphs, from the first to the last.
+    ///
+    /// <details><summary>Contract</summary>
+    ///
+    /// # Contract
+    ///
+    /// ```text
+    /// ensures { result.now ≡ self.now.glyphs }
+    /// ```
+    ///
+    /// </details>
+    #[inline]
+    pub fn glyphs(&self) -> &[GlyphInfo] {
+        self.info.as_slice()
+    }
+
+    /// The glyph at place `i`.
+    ///
+    /// <details><summary>Contract</summary>
+    ///
+    /// # Contract
+    ///
+    /// ```text
+    /// requires { i < length self.now.glyphs }
+    /// ensures { result ≡ slice_index_or self.now.glyphs i result }
+    /// ```
+    ///
+    /// </details>
+    #[inline]
+    pub fn get(&self, i: usize) -> GlyphInfo {
+        self.info[i]
+    }
+
+    /// Puts a glyph at place `i`.
+    ///
+    /// <details><summary>Contract</summary>
+    ///
+    /// # Contract
+    ///
+    /// ```text
+    /// requires { i < length self.old.glyphs }
+    /// ensures { self.new ≡ record self.old { glyphs = slice_set self.old.glyphs i glyph } }
+    /// ```
+    ///
+    /// </details>
+    #[inline]
+    pub fn set(&mut self, i: usize, glyph: GlyphInfo) {
+        self.info[i] = glyph;
+    }
+
+    /// Adds a glyph at the end of a buffer without positions.
+    ///
+    /// <details><summary>Contract</summary>
+    ///
+    /// # Contract
+    ///
+    /// ```text
+    /// requires { self.old.positions ≡ [] }
+    /// ensures ok { OnOk result (self.new ≡
+    ///     record self.old { glyphs = self.old.glyphs ++ glyph ∷ [] }) }
+    /// ensures length { RefusesLength self.old.max_len (length self.old.glyphs + 1) result }
+    /// ensures err { OnErr result (self.new ≡ self.old) }
+    /// ```
+    ///
+    /// - `RefusesLength`: crates/shapers_buffer/specs/Refusals.antt
+    ///
+    /// </details>
+    #[inline]
+    pub fn push(&mut self, glyph: GlyphInfo) -> Result<(), ShaperError> {
+        if self.info.len() == self.max_len {
+            return Err(ShaperError::TooLong);
+        }
+        make_room(&mut self.places, &mut self.spare, self.info.len() + 1)?;
+        self.info.push(glyph).map_err(|_| ShaperError::Memory)?;
+        Ok(())
+    }
+
+    /// Adds `n` default glyphs at the end and, unless there are no positions, `n` zero positions.
+    ///
+    /// <details><summary>Contract</summary>
+    ///
+    /// # Contract
+    ///
+    /// ```text
+    /// ensures ok { OnOk result (self.new ≡ grown n self.old) }
+    /// ensures length { RefusesLength self.old.max_len (length self.old.glyphs + n) result }
+    /// ensures err { OnErr result (self.new ≡ self.old) }
+    /// ```
+    ///
+    /// - `grown`: crates/shapers_buffer/specs/Buffer.antt
+    /// - `RefusesLength`: crates/shapers_buffer/specs/Refusals.antt
+    ///
+    /// </details>
+    pub fn grow(&mut self, n: usize) -> Result<(), ShaperError> {
+        if self.max_len - self.info.len() < n {
+            return Err(ShaperError::TooLong);
+        }
+        let len = self.info.len() + n;
+        make_room(&mut self.places, &mut self.spare, len)?;
+        self.info.reserve(n)?;
+        if !self.pos.is_empty() {
+            self.pos.resize(len, GlyphPosition::ZERO)?;
+        }
+        self.info.resize(len, GlyphInfo::DEFAULT).unwrap();
+        Ok(())
+    }
+
+    /// Keeps the first `n` glyphs, with their positions.
+    ///
+    /// <details><summary>Contract</summary>
+    ///
+    /// # Contract
+    ///
+    /// ```text
+    /// requires { n ≤ length self.old.glyphs }
+    /// ensures { self.new ≡ record self.old {
+    ///   glyphs = take n self.old.glyphs;
+    ///   positions = take n self.old.positions;
+    /// } }
+    /// ```
+    ///
+    /// </details>
+    #[inline]
+    pub fn truncate(&mut self, n: usize) {
+        self.info.truncate(n);
+        self.pos.truncate(n);
+    }
+
+    /// An equal buffer.
+    ///
+    /// <details><summary>Contract</summary>
+    ///
+    /// # Contract
+    ///
+    /// ```text
+    /// ensures ok { IfOk result (λ copy. copy ≡ self.now) }
+    /// ensures err { IfErr result (λ e. e ≡ Memory) }
+    /// ```
+    ///
+    /// </details>
+    pub fn copy(&self) -> Result<Self, ShaperError> {
+        let alloc = self.alloc();
+        Ok(Buffer {
+            info: Vec::from_slice(alloc, self.info.as_slice())?,
+            pos: Vec::from_slice(alloc, self.pos.as_slice())?,
+            direction: self.direction,
+            script: self.script,
+            cluster_level: self.cluster_level,
+            flags: self.flags,
+            pre_context: context(self.pre_context.as_slice()),
+            post_context: context(self.post_context.as_slice()),
+            has_broken_syllable: self.has_broken_syllable,
+            has_stch: self.has_stch,
+            max_len: self.max_len,
+            places: copy_places(alloc, self.places.as_slice(), self.info.len())?,
+            spare: Vec::with_capacity(alloc, self.info.len())?,
+        })
+    }
+}
+
+// The five nearest of these characters, which are nearest first.
+fn context(chars: &[char]) -> ArrayVec<char, CONTEXT_LENGTH> {
+    let nearest = &chars[..chars.len().min(CONTEXT_LENGTH)];
+    let mut context = ArrayVec::new();
+    context.try_extend_from_slice(nearest).unwrap();
+    context
+}

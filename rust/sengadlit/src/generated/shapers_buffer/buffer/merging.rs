@@ -1,0 +1,137 @@
+//! Generated from crates/shapers_buffer/src/buffer/merging.rt by rust/erase; edit the source.
+//!
+//! The merge rule over slices of glyphs.
+
+use super::glyph::GlyphInfo;
+use super::{Buffer, BufferClusterLevel};
+
+impl Buffer {
+    /// Gives the glyphs from `s` to `e` their least cluster, and with them the neighbours on both
+    /// sides that share the cluster of its ends. A glyph whose cluster changes loses its glyph
+    /// flags. Nothing for fewer than two places, and nothing at level Characters.
+    ///
+    /// <details><summary>Contract</summary>
+    ///
+    /// # Contract
+    ///
+    /// ```text
+    /// requires in_order { s ≤ e }
+    /// requires in_range { e ≤ length self.old.glyphs }
+    /// ensures { self.new ≡ record self.old { glyphs = merge self.old.level s e self.old.glyphs } }
+    /// ```
+    ///
+    /// - `merge`: crates/shapers_buffer/specs/Clusters.antt
+    ///
+    /// </details>
+    #[inline]
+    pub fn merge_clusters(&mut self, s: usize, e: usize) {
+        merge_clusters_in(self.cluster_level, &mut self.info, s, e);
+    }
+}
+
+/// The merge rule over glyphs in a slice, as `Buffer::merge_clusters`.
+///
+/// <details><summary>Contract</summary>
+///
+/// # Contract
+///
+/// ```text
+/// requires in_order { s ≤ e }
+/// requires in_range { e ≤ length glyphs.old }
+/// ensures { glyphs.new ≡ merge level s e glyphs.old }
+/// ```
+///
+/// - `merge`: crates/shapers_buffer/specs/Clusters.antt
+///
+/// </details>
+#[inline]
+pub fn merge_clusters_in(level: BufferClusterLevel, glyphs: &mut [GlyphInfo], s: usize, e: usize) {
+    if merges(level) && e - s >= 2 {
+        merge_stretch(glyphs, s, e);
+    }
+}
+
+// Whether clusters merge at a level.
+#[inline]
+pub(super) fn merges(level: BufferClusterLevel) -> bool {
+    match level {
+        BufferClusterLevel::MonotoneGraphemes | BufferClusterLevel::MonotoneCharacters => true,
+        BufferClusterLevel::Characters => false,
+    }
+}
+
+// Merges the stretch from `s` to `e`, of at least two places.
+fn merge_stretch(info: &mut [GlyphInfo], s: usize, e: usize) {
+    let (before, rest) = info.split_at_mut(s);
+    let (stretch, after) = rest.split_at_mut(e - s);
+    let first = stretch[0].cluster;
+    let last = stretch[stretch.len() - 1].cluster;
+    let least = least_cluster(stretch);
+    set_cluster(stretch, least);
+    flood_after(after, last, least);
+    flood_before(before, first, least);
+}
+
+/// The least cluster of a stretch that isn't empty.
+///
+/// <details><summary>Contract</summary>
+///
+/// # Contract
+///
+/// ```text
+/// requires { 0 < length stretch.now }
+/// ensures { result ≡ least (clusters stretch.now) }
+/// ```
+///
+/// - `least`: crates/shapers_buffer/specs/Clusters.antt
+/// - `clusters`: crates/shapers_buffer/specs/Glyph.antt
+///
+/// </details>
+pub fn least_cluster(stretch: &[GlyphInfo]) -> u32 {
+    let mut least = stretch[0].cluster;
+    for glyph in stretch {
+        least = least.min(glyph.cluster);
+    }
+    least
+}
+
+// Puts a glyph into a cluster; if that is another one, its glyph flags go.
+fn move_to_cluster(glyph: &mut GlyphInfo, cluster: u32) {
+    if glyph.cluster != cluster {
+        glyph.cluster = cluster;
+        glyph.mask &= !7;
+    }
+}
+
+// Puts all these glyphs into a cluster.
+pub(super) fn set_cluster(stretch: &mut [GlyphInfo], cluster: u32) {
+    for glyph in stretch.iter_mut() {
+        move_to_cluster(glyph, cluster);
+    }
+}
+
+// Puts the glyphs of cluster `from` that open the list into cluster `to`.
+fn flood_after(glyphs: &mut [GlyphInfo], from: u32, to: u32) {
+    if from == to {
+        return;
+    }
+    for glyph in glyphs.iter_mut() {
+        if glyph.cluster != from {
+            break;
+        }
+        move_to_cluster(glyph, to);
+    }
+}
+
+// Puts the glyphs of cluster `from` that end the list into cluster `to`.
+fn flood_before(glyphs: &mut [GlyphInfo], from: u32, to: u32) {
+    if from == to {
+        return;
+    }
+    for i in (0..glyphs.len()).rev() {
+        if glyphs[i].cluster != from {
+            break;
+        }
+        move_to_cluster(&mut glyphs[i], to);
+    }
+}

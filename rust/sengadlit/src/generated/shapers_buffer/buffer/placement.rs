@@ -1,0 +1,142 @@
+//! Generated from crates/shapers_buffer/src/buffer/placement.rt by rust/erase; edit the source.
+//!
+//! The placement list: a reordering lists for each place of a syllable the place whose glyph comes
+//! there, and then the syllable is written once. Its room grows with the buffer, so that a
+//! reordering takes no memory; what was never listed is never written.
+
+use super::Buffer;
+use super::glyph::GlyphInfo;
+use super::refusal::ShaperError;
+use crate::support::alloc::Global;
+use crate::support::prelude::*;
+
+impl Buffer {
+    /// The place whose glyph is listed to come to `i`.
+    ///
+    /// <details><summary>Contract</summary>
+    ///
+    /// # Contract
+    ///
+    /// ```text
+    /// requires { i < length self.now.glyphs }
+    /// ensures { result ≡ place_at self.now.places i }
+    /// ```
+    ///
+    /// - `place_at`: crates/shapers_buffer/specs/Places.antt
+    ///
+    /// </details>
+    #[inline]
+    pub fn place(&self, i: usize) -> usize {
+        self.places.get(i).copied().unwrap_or(0)
+    }
+
+    /// Lists that the glyph of place `place` is to come to `i`.
+    ///
+    /// <details><summary>Contract</summary>
+    ///
+    /// # Contract
+    ///
+    /// ```text
+    /// requires { i < length self.old.glyphs }
+    /// ensures { self.new ≡ record self.old { places = with_place i place self.old.places } }
+    /// ```
+    ///
+    /// - `with_place`: crates/shapers_buffer/specs/Places.antt
+    ///
+    /// </details>
+    #[inline]
+    pub fn set_place(&mut self, i: usize, place: usize) {
+        open_places(&mut self.places, i + 1);
+        self.places[i] = place;
+    }
+
+    /// Gives each place from `start` to `end` the glyph of the place listed for it; each place from
+    /// `start` to `end` is listed once. Positions stay. It takes no memory.
+    ///
+    /// <details><summary>Contract</summary>
+    ///
+    /// # Contract
+    ///
+    /// ```text
+    /// requires in_order { start ≤ end }
+    /// requires in_range { end ≤ length self.old.glyphs }
+    /// requires permutes { ListsEachOnce start end self.old.places }
+    /// ensures { let moved = placed start end self.old.places self.old.glyphs in
+    ///     self.new ≡ record self.old { glyphs = moved } }
+    /// ```
+    ///
+    /// - `ListsEachOnce`, `placed`: crates/shapers_buffer/specs/Places.antt
+    ///
+    /// </details>
+    #[inline]
+    pub fn apply(&mut self, start: usize, end: usize) {
+        open_places(&mut self.places, end);
+        open_spare(&mut self.spare, end - start);
+        reorder(&mut self.info, &self.places, &mut self.spare, start, end);
+    }
+}
+
+// Gives each place from `start` to `end` the glyph of the place listed for it.
+fn reorder(
+    glyphs: &mut [GlyphInfo],
+    places: &[usize],
+    spare: &mut [GlyphInfo],
+    start: usize,
+    end: usize,
+) {
+    let spare = &mut spare[..end - start];
+    gather(glyphs, &places[start..end], spare);
+    glyphs[start..end].copy_from_slice(spare);
+}
+
+// Writes the glyphs of these places, in the order of the places.
+fn gather(glyphs: &[GlyphInfo], places: &[usize], to: &mut [GlyphInfo]) {
+    for (i, place) in places.iter().enumerate() {
+        to[i] = glyphs[*place];
+    }
+}
+
+// How many places are opened at once.
+const OPENED: usize = 64;
+
+// Opens the first `n` places of the room that is there, and some more. What is opened reads 0, as
+// it did.
+fn open_places(places: &mut Vec<usize>, n: usize) {
+    if places.len() < n {
+        let ahead = n.max(places.capacity().min(n.saturating_add(OPENED)));
+        places.resize(ahead, 0).unwrap();
+    }
+}
+
+// Opens the first `n` glyphs of the room that is there.
+fn open_spare(spare: &mut Vec<GlyphInfo>, n: usize) {
+    if spare.len() < n {
+        spare.resize(n, GlyphInfo::DEFAULT).unwrap();
+    }
+}
+
+// Makes room for `n` places and glyphs, and writes nothing there.
+pub(super) fn make_room(
+    places: &mut Vec<usize>,
+    spare: &mut Vec<GlyphInfo>,
+    n: usize,
+) -> Result<(), ShaperError> {
+    if places.capacity() < n {
+        places.reserve(n - places.len())?;
+    }
+    if spare.capacity() < n {
+        spare.reserve(n - spare.len())?;
+    }
+    Ok(())
+}
+
+// These places, with room for `n`.
+pub(super) fn copy_places(
+    alloc: Global,
+    places: &[usize],
+    n: usize,
+) -> Result<Vec<usize>, ShaperError> {
+    let mut copy = Vec::with_capacity(alloc, n.max(places.len()))?;
+    copy.extend_from_slice(places)?;
+    Ok(copy)
+}

@@ -1,0 +1,60 @@
+//! Generated from crates/shapers_buffer/src/buffer/replacing.rt by rust/erase; edit the source.
+//!
+//! Other glyphs for the buffer's, and glyphs copied with their positions.
+
+use super::Buffer;
+use super::glyph::GlyphInfo;
+use super::placement::make_room;
+use super::refusal::ShaperError;
+use crate::support::prelude::*;
+
+impl Buffer {
+    /// Puts these glyphs in the place of the buffer's, which has no positions. Refuses by their
+    /// number, whatever the buffer held.
+    ///
+    /// <details><summary>Contract</summary>
+    ///
+    /// # Contract
+    ///
+    /// ```text
+    /// requires { self.old.positions ≡ [] }
+    /// ensures ok { OnOk result (self.new ≡ record self.old { glyphs = glyphs.items }) }
+    /// ensures length { RefusesLength self.old.max_len (length glyphs.items) result }
+    /// ensures err { OnErr result (self.new ≡ self.old) }
+    /// ```
+    ///
+    /// - `RefusesLength`: crates/shapers_buffer/specs/Refusals.antt
+    ///
+    /// </details>
+    pub fn replace_glyphs(&mut self, glyphs: Vec<GlyphInfo>) -> Result<(), ShaperError> {
+        if glyphs.len() > self.max_len {
+            return Err(ShaperError::TooLong);
+        }
+        make_room(&mut self.places, &mut self.spare, glyphs.len())?;
+        self.info = glyphs;
+        Ok(())
+    }
+
+    /// Copies the glyph at `from`, with its position, to `to`.
+    ///
+    /// <details><summary>Contract</summary>
+    ///
+    /// # Contract
+    ///
+    /// ```text
+    /// requires from_in_range { from < length self.old.glyphs }
+    /// requires to_in_range { to < length self.old.glyphs }
+    /// ensures { self.new ≡ copied_to from to self.old }
+    /// ```
+    ///
+    /// - `copied_to`: crates/shapers_buffer/specs/Buffer.antt
+    ///
+    /// </details>
+    #[inline]
+    pub fn copy_glyph(&mut self, from: usize, to: usize) {
+        self.info[to] = self.info[from];
+        if !self.pos.is_empty() {
+            self.pos[to] = self.pos[from];
+        }
+    }
+}

@@ -1,0 +1,53 @@
+//! Generated from crates/shapers_buffer/src/buffer/reversing.rt by rust/erase; edit the source.
+//!
+//! The buffer backwards.
+
+use super::Buffer;
+
+impl Buffer {
+    /// Turns the glyphs round, with their positions.
+    ///
+    /// <details><summary>Contract</summary>
+    ///
+    /// # Contract
+    ///
+    /// ```text
+    /// ensures { self.new ≡ record self.old {
+    ///   glyphs = reverse self.old.glyphs;
+    ///   positions = reverse self.old.positions;
+    /// } }
+    /// ```
+    ///
+    /// </details>
+    #[inline]
+    pub fn reverse(&mut self) {
+        self.info.reverse();
+        self.pos.reverse();
+    }
+
+    /// Turns the glyphs from `s` to `e` round, with their positions.
+    ///
+    /// <details><summary>Contract</summary>
+    ///
+    /// # Contract
+    ///
+    /// ```text
+    /// requires in_order { s ≤ e }
+    /// requires in_range { e ≤ length self.old.glyphs }
+    /// ensures { self.new ≡ record self.old {
+    ///   glyphs = with_stretch s e reverse self.old.glyphs;
+    ///   positions = with_stretch s e reverse self.old.positions;
+    /// } }
+    /// ```
+    ///
+    /// - `with_stretch`: crates/shapers_buffer/specs/Clusters.antt
+    ///
+    /// </details>
+    #[inline]
+    pub fn reverse_range(&mut self, s: usize, e: usize) {
+        self.info[s..e].reverse();
+        if !self.pos.is_empty() {
+            self.pos[s..e].reverse();
+        }
+    }
+}

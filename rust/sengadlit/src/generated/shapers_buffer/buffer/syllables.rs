@@ -1,0 +1,200 @@
+//! Generated from crates/shapers_buffer/src/buffer/syllables.rt by rust/erase; edit the source.
+//!
+//! Syllables in the buffer: longest runs of glyphs of equal syllable bytes.
+
+use super::glyph::GlyphInfo;
+use super::{Buffer, ShaperError};
+
+/// A syllable as the script's grammar found it: its number of glyphs, and its kind, at most 15. C's
+/// layout.
+#[repr(C)]
+#[derive(Clone, Copy, Debug, PartialEq, Eq)]
+pub struct Span {
+    /// How many glyphs it covers.
+    pub len: usize,
+    /// The kind that the grammar gave it, at most 15.
+    pub kind: u8,
+}
+
+impl Buffer {
+    /// Where the syllable ends that place `s` stands in: behind the longest run of its byte from
+    /// `s` on.
+    ///
+    /// <details><summary>Contract</summary>
+    ///
+    /// # Contract
+    ///
+    /// ```text
+    /// requires { s < length self.now.glyphs }
+    /// ensures end { result ≡ s + first_syllable_len (drop s self.now.glyphs) }
+    /// ensures within { result ≤ length self.now.glyphs }
+    /// ensures further { s < result }
+    /// ```
+    ///
+    /// - `first_syllable_len`: crates/shapers_buffer/specs/Syllables.antt
+    ///
+    /// </details>
+    #[inline]
+    pub fn next_syllable(&self, s: usize) -> usize {
+        s + first_syllable_len(&self.info[s..])
+    }
+
+    /// The first place of the first syllable whose kind is above `last_kind`: one of unknown kind.
+    ///
+    /// <details><summary>Contract</summary>
+    ///
+    /// # Contract
+    ///
+    /// ```text
+    /// ensures { result ≡ unknown_syllable last_kind self.now.glyphs }
+    /// ```
+    ///
+    /// - `unknown_syllable`: crates/shapers_buffer/specs/Syllables.antt
+    ///
+    /// </details>
+    #[inline]
+    pub fn unknown_syllable(&self, last_kind: u8) -> Option<usize> {
+        first_above(&self.info, last_kind)
+    }
+
+    /// Gives each place the syllable byte of the span that covers it, and sets the mark of a broken
+    /// syllable where a span is of the broken kind. Refuses with `SpansDontCover` where a span is
+    /// empty or the lengths don't add up to the buffer's. It takes no memory.
+    ///
+    /// <details><summary>Contract</summary>
+    ///
+    /// # Contract
+    ///
+    /// ```text
+    /// requires { All (λ span. span.kind ≤ 15) spans.now }
+    /// ensures refusal { RefusesInput (spans_refusal spans.now self.old) result }
+    /// ensures ok { OnOk result (self.new ≡ with_spans spans.now broken_kind self.old) }
+    /// ensures err { OnErr result (self.new ≡ self.old) }
+    /// ```
+    ///
+    /// - `RefusesInput`: crates/shapers_buffer/specs/Refusals.antt
+    /// - `spans_refusal`, `with_spans`: crates/shapers_buffer/specs/Syllables.antt
+    ///
+    /// </details>
+    pub fn set_spans(&mut self, spans: &[Span], broken_kind: u8) -> Result<(), ShaperError> {
+        if !spans_cover(self.info.len(), spans) {
+            return Err(ShaperError::SpansDontCover);
+        }
+        set_bytes(&mut self.info, spans);
+        if has_span_of_kind(spans, broken_kind) {
+            self.has_broken_syllable = true;
+        }
+        Ok(())
+    }
+}
+
+/// How long the syllable is that opens the text: the longest run of its first byte.
+///
+/// <details><summary>Contract</summary>
+///
+/// # Contract
+///
+/// ```text
+/// requires { 0 < length glyphs.now }
+/// ensures len { result ≡ first_syllable_len glyphs.now }
+/// ensures some { 0 < result }
+/// ensures within { result ≤ length glyphs.now }
+/// ```
+///
+/// - `first_syllable_len`: crates/shapers_buffer/specs/Syllables.antt
+///
+/// </details>
+#[inline]
+pub fn first_syllable_len(glyphs: &[GlyphInfo]) -> usize {
+    1 + syllable_run_len(&glyphs[1..], glyphs[0].syllable)
+}
+
+// How many glyphs at the front have this syllable byte.
+fn syllable_run_len(glyphs: &[GlyphInfo], byte: u8) -> usize {
+    glyphs
+        .iter()
+        .take_while(|glyph| glyph.syllable == byte)
+        .count()
+}
+
+// The first place whose kind is above this one.
+fn first_above(glyphs: &[GlyphInfo], last_kind: u8) -> Option<usize> {
+    glyphs
+        .iter()
+        .position(|glyph| glyph.syllable % 16 > last_kind)
+}
+
+/// Whether a span is of this kind.
+///
+/// <details><summary>Contract</summary>
+///
+/// # Contract
+///
+/// ```text
+/// ensures { result ≡ list_any (λ span. span.kind == kind) spans.now }
+/// ```
+///
+/// </details>
+#[inline]
+pub fn has_span_of_kind(spans: &[Span], kind: u8) -> bool {
+    spans.iter().any(|span| span.kind == kind)
+}
+
+/// Whether no span is empty and the lengths add up to `len`.
+///
+/// <details><summary>Contract</summary>
+///
+/// # Contract
+///
+/// ```text
+/// ensures { result ≡ spans_cover len spans.now }
+/// ```
+///
+/// - `spans_cover`: crates/shapers_buffer/specs/Syllables.antt
+///
+/// </details>
+pub fn spans_cover(len: usize, spans: &[Span]) -> bool {
+    let mut rest = len;
+    for span in spans {
+        if span.len == 0 || span.len > rest {
+            return false;
+        }
+        rest -= span.len;
+    }
+    rest == 0
+}
+
+// Gives each place the byte of the span that covers it.
+fn set_bytes(glyphs: &mut [GlyphInfo], spans: &[Span]) {
+    let mut start = 0;
+    for (i, span) in spans.iter().enumerate() {
+        let serial = (i % 15 + 1) as u8;
+        let end = start + span.len;
+        set_syllable_in(glyphs, start, end, serial * 16 + span.kind);
+        start = end;
+    }
+}
+
+// Gives the glyphs from `s` to `e` one syllable byte.
+fn set_syllable_in(glyphs: &mut [GlyphInfo], s: usize, e: usize, byte: u8) {
+    set_syllable(&mut glyphs[s..e], byte);
+}
+
+/// Gives all these glyphs one syllable byte.
+///
+/// <details><summary>Contract</summary>
+///
+/// # Contract
+///
+/// ```text
+/// ensures { glyphs.new ≡ map (in_syllable byte) glyphs.old }
+/// ```
+///
+/// - `in_syllable`: crates/shapers_buffer/specs/Syllables.antt
+///
+/// </details>
+pub fn set_syllable(glyphs: &mut [GlyphInfo], byte: u8) {
+    for glyph in glyphs.iter_mut() {
+        glyph.syllable = byte;
+    }
+}

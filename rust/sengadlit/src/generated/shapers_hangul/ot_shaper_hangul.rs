@@ -1,0 +1,166 @@
+//! Generated from crates/shapers_hangul/src/ot_shaper_hangul.rt by rust/erase; edit the source.
+//!
+//! The shaper of Hangul.
+
+use crate::generated::shapers_base::buffer::{Buffer, GlyphChange, GlyphInfo, Tag};
+use crate::generated::shapers_base::font::Font;
+use crate::generated::shapers_base::map::{F_GLOBAL, F_NONE};
+use crate::generated::shapers_base::plan::{
+    HangulPlan, Plan, PlanData, Planner, Request, ShaperError,
+};
+use rewriting::rewrite;
+
+mod item;
+mod jamo;
+mod rewriting;
+
+// The forms of leading consonants, vowels and trailing consonants.
+const REQUESTS: [Request; 3] = [
+    Request::Feature(Tag(*b"ljmo"), F_NONE, 1),
+    Request::Feature(Tag(*b"vjmo"), F_NONE, 1),
+    Request::Feature(Tag(*b"tjmo"), F_NONE, 1),
+];
+
+// Some fonts put all jamo forms into `calt` as well, so it stays off.
+const OVERRIDES: [Request; 1] = [Request::Feature(Tag(*b"calt"), F_GLOBAL, 0)];
+
+/// Asks for the forms of jamo.
+/// The only refusal is `Memory`, which leaves the planner as it was.
+///
+/// <details><summary>Contract</summary>
+///
+/// # Contract
+///
+/// ```text
+/// ensures ok { OnOk result (planner.new ≡ with_requests hangul_list planner.old) }
+/// ensures refusal { IsOkUnless result Memory }
+/// ensures err { OnErr result (planner.new ≡ planner.old) }
+/// ```
+///
+/// - `with_requests`: crates/shapers_base/specs/Planner.antt
+/// - `hangul_list`: crates/shapers_hangul/specs/Requests.antt
+///
+/// </details>
+pub fn collect_features(planner: &mut Planner) -> Result<(), ShaperError> {
+    planner.add_requests(&REQUESTS)
+}
+
+/// Turns off what fonts mix up with the forms of jamo.
+/// The only refusal is `Memory`, which leaves the planner as it was.
+///
+/// <details><summary>Contract</summary>
+///
+/// # Contract
+///
+/// ```text
+/// ensures ok { OnOk result (planner.new ≡ with_requests hangul_overrides planner.old) }
+/// ensures refusal { IsOkUnless result Memory }
+/// ensures err { OnErr result (planner.new ≡ planner.old) }
+/// ```
+///
+/// - `with_requests`: crates/shapers_base/specs/Planner.antt
+/// - `hangul_overrides`: crates/shapers_hangul/specs/Requests.antt
+///
+/// </details>
+pub fn override_features(planner: &mut Planner) -> Result<(), ShaperError> {
+    planner.add_requests(&OVERRIDES)
+}
+
+/// Rewrites a Hangul text before its characters become glyphs, unit by unit: jamo that combine
+/// become one syllable character where the font has it, else they are marked for the features of
+/// jamo; so are the jamo of a syllable character that the font lacks. A tone moves before the
+/// syllable that it follows, unless it has advance 0; without one it gets a dotted circle. What a
+/// break would tear apart is flagged. Refuses as a growth to the length of the result does. (The
+/// Unicode Standard, "Conjoining Jamo Behavior"; OpenType's notes on Hangul.)
+///
+/// <details><summary>Contract</summary>
+///
+/// # Contract
+///
+/// ```text
+/// requires { buffer.old.positions ≡ [] }
+/// ensures ok { OnOk result (buffer.new ≡ rewritten (F.font face.now) buffer.old) }
+/// ensures clusters { OnOk result (KeepsClusters (F.font face.now) buffer.old buffer.new) }
+/// ensures spelling { OnOk result (SpellsSame buffer.old buffer.new) }
+/// ensures length { let text = (rewritten (F.font face.now) buffer.old).glyphs in
+///     RefusesLength buffer.old.max_len (length text) result }
+/// ensures err { OnErr result (buffer.new ≡ buffer.old) }
+/// ```
+///
+/// - `RefusesLength`: crates/shapers_buffer/specs/Refusals.antt
+/// - `rewritten`: crates/shapers_hangul/specs/Hangul.antt
+/// - `KeepsClusters`, `SpellsSame`: crates/shapers_hangul/specs/HangulLaws.antt
+///
+/// </details>
+pub fn preprocess_text<F: Font>(
+    _plan: &Plan,
+    face: &F,
+    buffer: &mut Buffer,
+) -> Result<(), ShaperError> {
+    rewrite(face, buffer)
+}
+
+/// Keeps the masks of the features of jamo in the plan. None of them touches a glyph flag bit.
+///
+/// <details><summary>Contract</summary>
+///
+/// # Contract
+///
+/// ```text
+/// ensures masks { result ≡ Hangul (record { mask_array = jamo_masks plan.now.ot_map }) }
+/// ensures off_flags { All (λ mask. mask % 8 ≡ 0) (masks_in result) }
+/// ```
+///
+/// - `jamo_masks`, `masks_in`: crates/shapers_hangul/specs/Masks.antt
+///
+/// </details>
+pub fn create_data(plan: &Plan) -> PlanData {
+    PlanData::Hangul(HangulPlan {
+        mask_array: [
+            0,
+            plan.ot_map.get_1_mask(Tag(*b"ljmo")),
+            plan.ot_map.get_1_mask(Tag(*b"vjmo")),
+            plan.ot_map.get_1_mask(Tag(*b"tjmo")),
+        ],
+    })
+}
+
+// The masks of jamo, by their auxiliary bytes.
+struct JamoMasks {
+    masks: [u32; 4],
+}
+
+impl GlyphChange for JamoMasks {
+    #[inline]
+    fn change(&self, glyph: &mut GlyphInfo) {
+        let feature = usize::from(glyph.auxiliary);
+        glyph.mask |= self.masks.get(feature).copied().unwrap_or(0);
+    }
+}
+
+/// Gives each glyph, besides its own mask, the one of the feature in its auxiliary byte: none for
+/// 0, then those of leading, vowel and trailing jamo. It takes no memory.
+///
+/// <details><summary>Contract</summary>
+///
+/// # Contract
+///
+/// ```text
+/// requires { is_hangul_data plan.now.plan_data ≡ true }
+/// ensures { buffer.new ≡ with_jamo_masks plan.now.plan_data buffer.old }
+/// ```
+///
+/// - `is_hangul_data`, `with_jamo_masks`: crates/shapers_hangul/specs/Masks.antt
+///
+/// </details>
+pub fn setup_masks(plan: &Plan, buffer: &mut Buffer) {
+    match &plan.plan_data {
+        PlanData::Hangul(data) => {
+            let masks = JamoMasks {
+                masks: data.mask_array,
+            };
+            buffer.change_each(0, buffer.len(), &masks);
+        }
+        _ => unreachable!(),
+    }
+}

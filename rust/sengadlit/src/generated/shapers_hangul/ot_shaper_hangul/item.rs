@@ -1,0 +1,481 @@
+//! Generated from crates/shapers_hangul/src/ot_shaper_hangul/item.rt by rust/erase; edit the source.
+//!
+//! The units of a Hangul text, and the tones that join them.
+
+use super::jamo::{
+    compose_three, compose_two, decompose, follows, is_combined_s, is_combining_l, is_combining_t,
+    is_combining_v, is_hangul_tone, is_l, is_lv, is_t, is_v,
+};
+use crate::generated::shapers_base::buffer::{
+    BufferClusterLevel, GlyphInfo, ShaperError, merge_clusters_in, unsafe_to_break_in,
+};
+use crate::generated::shapers_base::font::Font;
+use crate::support::prelude::*;
+
+// The features of leading, vowel and trailing jamo.
+const LJMO: u8 = 1;
+
+const VJMO: u8 = 2;
+
+const TJMO: u8 = 3;
+
+// The character of the dotted circle.
+const DOTTED_CIRCLE: u32 = 0x25CC;
+
+// What a unit of the text becomes.
+#[derive(Clone, Copy)]
+pub(super) enum Unit {
+    // Two characters: this syllable character.
+    ComposedTwo(u32),
+    // Three characters: this syllable character.
+    ComposedThree(u32),
+    // L V, marked.
+    JamoTwo,
+    // L V T, marked.
+    JamoThree,
+    // A syllable character: these L V, marked.
+    PartsTwo(u32, u32),
+    // A syllable character: these L V T, marked.
+    PartsThree(u32, u32, u32),
+    // LV and T: these L V, and T, marked.
+    PartsBeforeT(u32, u32),
+    // A syllable character: itself.
+    Syllable,
+    // A tone: itself and a circle.
+    ToneCircle,
+    // A tone: a circle and itself.
+    CircleTone,
+    // Any other character: itself, no syllable.
+    Other,
+}
+
+// The tone directly after a syllable.
+#[derive(Clone, Copy)]
+pub(super) enum JoinedTone {
+    // There is none.
+    Absent,
+    // It moves before the syllable.
+    Before,
+    // It strikes over the syllable, and stays.
+    Behind,
+}
+
+// A unit with its tone, and how many characters from its first on a break would tear apart.
+#[derive(Clone, Copy)]
+pub(super) struct Item {
+    unit: Unit,
+    tone: JoinedTone,
+    unsafe_len: usize,
+}
+
+// The character at place `i`, 0 where the text ends.
+#[inline]
+fn character_at(glyphs: &[GlyphInfo], i: usize) -> u32 {
+    match glyphs.get(i) {
+        Some(glyph) => glyph.glyph_id,
+        None => 0,
+    }
+}
+
+// Whether the font has the character with advance 0.
+fn is_zero_width_char<F: Font>(face: &F, u: u32) -> bool {
+    match face.get_nominal_glyph(u) {
+        Some(glyph) => face.glyph_h_advance(glyph) == 0,
+        None => false,
+    }
+}
+
+// A tone without a syllable before it.
+fn lone_tone<F: Font>(face: &F, circles: bool, u: u32) -> Unit {
+    if !circles || !face.has_glyph(DOTTED_CIRCLE) {
+        return Unit::Other;
+    }
+    if is_zero_width_char(face, u) {
+        return Unit::CircleTone;
+    }
+    Unit::ToneCircle
+}
+
+// L V.
+fn jamo_two<F: Font>(face: &F, l: u32, v: u32) -> Unit {
+    if is_combining_l(l) && is_combining_v(v) {
+        let lv = compose_two(l, v);
+        if face.has_glyph(lv) {
+            return Unit::ComposedTwo(lv);
+        }
+    }
+    Unit::JamoTwo
+}
+
+// L V T.
+fn jamo_three<F: Font>(face: &F, l: u32, v: u32, t: u32) -> Unit {
+    if is_combining_l(l) && is_combining_v(v) && is_combining_t(t) {
+        let lvt = compose_three(compose_two(l, v), t);
+        if face.has_glyph(lvt) {
+            return Unit::ComposedThree(lvt);
+        }
+    }
+    Unit::JamoThree
+}
+
+// Whether the font has the jamo of a syllable character.
+fn has_jamo_of<F: Font>(face: &F, s: u32) -> bool {
+    let [l, v, t] = decompose(s);
+    face.has_glyph(l) && face.has_glyph(v) && (is_lv(s) || face.has_glyph(t))
+}
+
+// A syllable character by its jamo.
+#[inline]
+fn parts(s: u32) -> Unit {
+    let [l, v, t] = decompose(s);
+    if is_lv(s) {
+        return Unit::PartsTwo(l, v);
+    }
+    Unit::PartsThree(l, v, t)
+}
+
+// A syllable character before `v`.
+fn syllable_unit<F: Font>(face: &F, s: u32, v: u32) -> Unit {
+    if is_lv(s) && is_combining_t(v) {
+        let composed = compose_three(s, v);
+        if face.has_glyph(composed) {
+            return Unit::ComposedTwo(composed);
+        }
+    }
+    let has_glyph = face.has_glyph(s);
+    if !has_glyph && has_jamo_of(face, s) {
+        return parts(s);
+    }
+    if is_lv(s) && is_t(v) && has_jamo_of(face, s) {
+        let [l, v, _] = decompose(s);
+        return Unit::PartsBeforeT(l, v);
+    }
+    if has_glyph {
+        return Unit::Syllable;
+    }
+    Unit::Other
+}
+
+// L V, and L V T.
+fn jamo_unit<F: Font>(face: &F, l: u32, v: u32, t: u32) -> Unit {
+    if is_t(t) {
+        return jamo_three(face, l, v, t);
+    }
+    jamo_two(face, l, v)
+}
+
+// The unit of a character that no jamo follows.
+fn lone_unit<F: Font>(face: &F, circles: bool, u: u32) -> Unit {
+    if is_combined_s(u) {
+        if face.has_glyph(u) {
+            return Unit::Syllable;
+        }
+        if has_jamo_of(face, u) {
+            return parts(u);
+        }
+        return Unit::Other;
+    }
+    if is_hangul_tone(u) {
+        return lone_tone(face, circles, u);
+    }
+    Unit::Other
+}
+
+// The unit that the character `u` and the next two open.
+fn first_unit<F: Font>(face: &F, circles: bool, u: u32, v: u32, t: u32) -> Unit {
+    if is_hangul_tone(u) {
+        return lone_tone(face, circles, u);
+    }
+    if is_l(u) && is_v(v) {
+        return jamo_unit(face, u, v, t);
+    }
+    if is_combined_s(u) {
+        return syllable_unit(face, u, v);
+    }
+    Unit::Other
+}
+
+// The tone `w` after a unit.
+fn joined_tone<F: Font>(face: &F, unit: Unit, w: u32) -> JoinedTone {
+    if !unit.is_syllable() || !is_hangul_tone(w) {
+        return JoinedTone::Absent;
+    }
+    if is_zero_width_char(face, w) {
+        return JoinedTone::Behind;
+    }
+    JoinedTone::Before
+}
+
+// Whether the font can't join LV and the T `v` behind it, nor, where T doesn't combine, part LV.
+fn is_split<F: Font>(face: &F, s: u32, v: u32) -> bool {
+    if !is_lv(s) || !is_t(v) {
+        return false;
+    }
+    if is_combining_t(v) {
+        return !face.has_glyph(compose_three(s, v));
+    }
+    !has_jamo_of(face, s)
+}
+
+// How many characters from `u` on are unsafe to break inside, `v` being the second.
+fn unsafe_len<F: Font>(face: &F, unit: Unit, tone: JoinedTone, u: u32, v: u32) -> usize {
+    if is_l(u) && is_v(v) {
+        return unit.taken();
+    }
+    if unit.is_marked() && tone.len() == 1 {
+        return unit.taken();
+    }
+    if is_split(face, u, v) {
+        return 2;
+    }
+    0
+}
+
+// The item that opens the text. A character that jamo or a tone doesn't follow is told by itself.
+fn read_item<F: Font>(face: &F, circles: bool, glyphs: &[GlyphInfo]) -> Item {
+    let u = character_at(glyphs, 0);
+    let v = character_at(glyphs, 1);
+    if is_l(u) && is_v(v) {
+        let unit = jamo_unit(face, u, v, character_at(glyphs, 2));
+        let tone = joined_tone(face, unit, character_at(glyphs, unit.taken()));
+        return Item {
+            unit,
+            tone,
+            unsafe_len: unit.taken(),
+        };
+    }
+    if !follows(v) {
+        return Item {
+            unit: lone_unit(face, circles, u),
+            tone: JoinedTone::Absent,
+            unsafe_len: 0,
+        };
+    }
+    let unit = first_unit(face, circles, u, v, character_at(glyphs, 2));
+    let tone = joined_tone(face, unit, character_at(glyphs, unit.taken()));
+    Item {
+        unit,
+        tone,
+        unsafe_len: unsafe_len(face, unit, tone, u, v),
+    }
+}
+
+// Whether the character that opens the text stays as it is, as far as it and the next one tell.
+#[inline]
+pub(super) fn stays_alone<F: Font>(face: &F, glyphs: &[GlyphInfo]) -> bool {
+    let u = character_at(glyphs, 0);
+    if follows(character_at(glyphs, 1)) {
+        return false;
+    }
+    if is_combined_s(u) {
+        return face.has_glyph(u);
+    }
+    !is_hangul_tone(u)
+}
+
+// The item that opens the text, which stands within it.
+#[inline]
+pub(super) fn first_item<F: Font>(face: &F, circles: bool, glyphs: &[GlyphInfo]) -> Item {
+    read_item(face, circles, glyphs)
+}
+
+impl JoinedTone {
+    // How many characters it takes.
+    #[inline]
+    fn len(self) -> usize {
+        match self {
+            JoinedTone::Absent => 0,
+            JoinedTone::Before | JoinedTone::Behind => 1,
+        }
+    }
+}
+
+impl Unit {
+    // How many characters it takes.
+    fn taken(self) -> usize {
+        match self {
+            Unit::ComposedThree(_) | Unit::JamoThree => 3,
+            Unit::ComposedTwo(_) | Unit::JamoTwo | Unit::PartsBeforeT(..) => 2,
+            Unit::PartsTwo(..)
+            | Unit::PartsThree(..)
+            | Unit::Syllable
+            | Unit::ToneCircle
+            | Unit::CircleTone
+            | Unit::Other => 1,
+        }
+    }
+
+    // How many glyphs it becomes.
+    fn output_len(self) -> usize {
+        match self {
+            Unit::ComposedTwo(_) | Unit::ComposedThree(_) | Unit::Syllable | Unit::Other => 1,
+            Unit::JamoTwo | Unit::PartsTwo(..) | Unit::ToneCircle | Unit::CircleTone => 2,
+            Unit::JamoThree | Unit::PartsThree(..) | Unit::PartsBeforeT(..) => 3,
+        }
+    }
+
+    // Whether it is a syllable.
+    #[inline]
+    fn is_syllable(self) -> bool {
+        !matches!(self, Unit::ToneCircle | Unit::CircleTone | Unit::Other)
+    }
+
+    // Whether its glyphs are marked as jamo.
+    #[inline]
+    fn is_marked(self) -> bool {
+        matches!(
+            self,
+            Unit::JamoTwo
+                | Unit::JamoThree
+                | Unit::PartsTwo(..)
+                | Unit::PartsThree(..)
+                | Unit::PartsBeforeT(..)
+        )
+    }
+}
+
+// The glyph as another character.
+fn as_character(glyph: GlyphInfo, u: u32) -> GlyphInfo {
+    GlyphInfo {
+        glyph_id: u,
+        ..glyph
+    }
+}
+
+// The glyph marked as jamo.
+fn as_jamo(glyph: GlyphInfo, feature: u8) -> GlyphInfo {
+    GlyphInfo {
+        auxiliary: feature,
+        ..glyph
+    }
+}
+
+// A copy of the glyph as another character, marked as jamo.
+fn jamo_from(glyph: GlyphInfo, u: u32, feature: u8) -> GlyphInfo {
+    as_jamo(as_character(glyph, u), feature)
+}
+
+// Adds a glyph.
+fn put(list: &mut Vec<GlyphInfo>, glyph: GlyphInfo) -> Result<(), ShaperError> {
+    list.push(glyph).map_err(|_| ShaperError::Memory)
+}
+
+// Adds the tone at place `i`, where it stands on this side.
+fn put_tone(
+    is_here: bool,
+    glyphs: &[GlyphInfo],
+    i: usize,
+    list: &mut Vec<GlyphInfo>,
+) -> Result<(), ShaperError> {
+    if is_here {
+        return put(list, glyphs[i]);
+    }
+    Ok(())
+}
+
+impl Unit {
+    // Adds what the unit that opens the text becomes.
+    fn write(self, glyphs: &[GlyphInfo], list: &mut Vec<GlyphInfo>) -> Result<(), ShaperError> {
+        match self {
+            Unit::ComposedTwo(s) | Unit::ComposedThree(s) => {
+                put(list, as_character(glyphs[0], s))?;
+            }
+            Unit::JamoTwo => {
+                put(list, as_jamo(glyphs[0], LJMO))?;
+                put(list, as_jamo(glyphs[1], VJMO))?;
+            }
+            Unit::JamoThree => {
+                put(list, as_jamo(glyphs[0], LJMO))?;
+                put(list, as_jamo(glyphs[1], VJMO))?;
+                put(list, as_jamo(glyphs[2], TJMO))?;
+            }
+            Unit::PartsTwo(l, v) => {
+                put(list, jamo_from(glyphs[0], l, LJMO))?;
+                put(list, jamo_from(glyphs[0], v, VJMO))?;
+            }
+            Unit::PartsThree(l, v, t) => {
+                put(list, jamo_from(glyphs[0], l, LJMO))?;
+                put(list, jamo_from(glyphs[0], v, VJMO))?;
+                put(list, jamo_from(glyphs[0], t, TJMO))?;
+            }
+            Unit::PartsBeforeT(l, v) => {
+                put(list, jamo_from(glyphs[0], l, LJMO))?;
+                put(list, jamo_from(glyphs[0], v, VJMO))?;
+                put(list, as_jamo(glyphs[1], TJMO))?;
+            }
+            Unit::ToneCircle => {
+                put(list, glyphs[0])?;
+                put(list, as_character(glyphs[0], DOTTED_CIRCLE))?;
+            }
+            Unit::CircleTone => {
+                put(list, as_character(glyphs[0], DOTTED_CIRCLE))?;
+                put(list, glyphs[0])?;
+            }
+            Unit::Syllable | Unit::Other => {
+                put(list, glyphs[0])?;
+            }
+        }
+        Ok(())
+    }
+
+    // Whether all that it takes merges at this level.
+    fn is_merged(self, level: BufferClusterLevel) -> bool {
+        match level {
+            BufferClusterLevel::MonotoneGraphemes => true,
+            BufferClusterLevel::MonotoneCharacters => !self.is_marked(),
+            BufferClusterLevel::Characters => false,
+        }
+    }
+}
+
+impl Item {
+    // How many characters it takes.
+    #[inline]
+    pub(super) fn len(self) -> usize {
+        self.unit.taken() + self.tone.len()
+    }
+
+    // How many glyphs it becomes.
+    #[inline]
+    pub(super) fn output_len(self) -> usize {
+        self.unit.output_len() + self.tone.len()
+    }
+
+    // Whether it is one glyph that stays as it is.
+    #[inline]
+    pub(super) fn is_kept(self) -> bool {
+        matches!(self.unit, Unit::Syllable | Unit::Other)
+            && matches!(self.tone, JoinedTone::Absent)
+            && self.unsafe_len == 0
+    }
+
+    // Flags what would be torn apart by a break in the item at `place`, and merges what it merges.
+    pub(super) fn join(self, level: BufferClusterLevel, glyphs: &mut [GlyphInfo], place: usize) {
+        let taken = self.unit.taken();
+        let end = place + taken;
+        let merged = self.unit.is_merged(level);
+        if !merged || self.unsafe_len > taken {
+            unsafe_to_break_in(glyphs, place, place + self.unsafe_len);
+        }
+        if merged {
+            merge_clusters_in(level, glyphs, place, end);
+        }
+        match self.tone {
+            JoinedTone::Before => merge_clusters_in(level, glyphs, place, end + 1),
+            JoinedTone::Absent | JoinedTone::Behind => {}
+        }
+    }
+
+    // Adds what the item that opens the text becomes.
+    #[inline]
+    pub(super) fn write(
+        self,
+        glyphs: &[GlyphInfo],
+        list: &mut Vec<GlyphInfo>,
+    ) -> Result<(), ShaperError> {
+        let end = self.unit.taken();
+        put_tone(matches!(self.tone, JoinedTone::Before), glyphs, end, list)?;
+        self.unit.write(glyphs, list)?;
+        put_tone(matches!(self.tone, JoinedTone::Behind), glyphs, end, list)
+    }
+}

@@ -1,0 +1,181 @@
+//! Generated from crates/shapers_hangul/src/ot_shaper_hangul/rewriting.rt by rust/erase; edit the source.
+//!
+//! The text rewritten, item after item.
+
+use super::item::{Item, first_item, stays_alone};
+use crate::generated::shapers_base::buffer::{
+    Buffer, BufferClusterLevel, BufferFlags, GlyphInfo, ShaperError,
+};
+use crate::generated::shapers_base::font::Font;
+use crate::support::alloc::Global;
+use crate::support::bitflags::Flags;
+use crate::support::prelude::*;
+
+// The item at a place of the text.
+fn item_at<F: Font>(face: &F, circles: bool, glyphs: &[GlyphInfo], place: usize) -> Item {
+    first_item(face, circles, rest_from(glyphs, place))
+}
+
+// The text from a place on.
+#[inline]
+fn rest_from(glyphs: &[GlyphInfo], place: usize) -> &[GlyphInfo] {
+    &glyphs[place..]
+}
+
+// Whether the item at a place of the text is one character that stays as it is.
+fn stays_at<F: Font>(face: &F, circles: bool, glyphs: &[GlyphInfo], place: usize) -> bool {
+    let rest = rest_from(glyphs, place);
+    stays_alone(face, rest) || first_item(face, circles, rest).is_kept()
+}
+
+// How far the text stays as it is: the place of the first item that changes it, or its end.
+fn kept_len<F: Font>(face: &F, circles: bool, glyphs: &[GlyphInfo]) -> usize {
+    let mut place = 0;
+    while place < glyphs.len() {
+        if !stays_at(face, circles, glyphs, place) {
+            return place;
+        }
+        place += 1;
+    }
+    place
+}
+
+// The items that change a text from a place on, each with the place of its first character, as long
+// as memory was found.
+struct Cut {
+    items: Vec<(usize, Item)>,
+    is_whole: bool,
+}
+
+impl Cut {
+    // None so far.
+    fn new(alloc: Global) -> Self {
+        Cut {
+            items: Vec::new(alloc),
+            is_whole: true,
+        }
+    }
+
+    // One more, unless it stays as it is.
+    #[inline]
+    fn add(&mut self, place: usize, item: Item) {
+        if !item.is_kept() && self.items.push((place, item)).is_err() {
+            self.is_whole = false;
+        }
+    }
+}
+
+// The length of the result, where the text stays up to the place `kept`, and the items that change
+// it from there on. Refuses where the result would be longer than `limit`, and for nothing else.
+fn measure<F: Font>(
+    face: &F,
+    circles: bool,
+    glyphs: &[GlyphInfo],
+    kept: usize,
+    limit: usize,
+    cut: &mut Cut,
+) -> Result<usize, ShaperError> {
+    let mut room = limit - kept;
+    let mut place = kept;
+    while place < glyphs.len() {
+        let item = item_at(face, circles, glyphs, place);
+        if room < item.output_len() {
+            return Err(ShaperError::TooLong);
+        }
+        room -= item.output_len();
+        cut.add(place, item);
+        place += item.len();
+    }
+    Ok(limit - room)
+}
+
+// Flags and merges what the items flag and merge, one after another.
+fn join_items(cut: &[(usize, Item)], level: BufferClusterLevel, glyphs: &mut [GlyphInfo]) {
+    for entry in cut {
+        entry.1.join(level, glyphs, entry.0);
+    }
+}
+
+// Adds the text from one place to another.
+fn write_stretch(
+    glyphs: &[GlyphInfo],
+    place: usize,
+    end: usize,
+    list: &mut Vec<GlyphInfo>,
+) -> Result<(), ShaperError> {
+    if place == end {
+        return Ok(());
+    }
+    list.extend_from_slice(&glyphs[place..end])
+        .map_err(|_| ShaperError::Memory)
+}
+
+// Adds the text from a place on up to an item, and what the item becomes.
+fn write_change(
+    entry: &(usize, Item),
+    glyphs: &[GlyphInfo],
+    place: usize,
+    list: &mut Vec<GlyphInfo>,
+) -> Result<(), ShaperError> {
+    write_stretch(glyphs, place, entry.0, list)?;
+    entry.1.write(rest_from(glyphs, entry.0), list)
+}
+
+// Adds the text from a place on, in which these items become what they become.
+fn write_changes(
+    cut: &[(usize, Item)],
+    glyphs: &[GlyphInfo],
+    start: usize,
+    list: &mut Vec<GlyphInfo>,
+) -> Result<(), ShaperError> {
+    let mut place = start;
+    for entry in cut {
+        write_change(entry, glyphs, place, list)?;
+        place = entry.0 + entry.1.len();
+    }
+    list.extend_from_slice(rest_from(glyphs, place))
+        .map_err(|_| ShaperError::Memory)
+}
+
+// The text rewritten, to a length that is known: what its items flag and merge, on the old places,
+// and then what they become, behind what stays.
+fn rewritten(
+    cut: &[(usize, Item)],
+    level: BufferClusterLevel,
+    glyphs: &[GlyphInfo],
+    kept: usize,
+    len: usize,
+    alloc: Global,
+) -> Result<Vec<GlyphInfo>, ShaperError> {
+    let mut joined = Vec::from_slice(alloc, glyphs)?;
+    join_items(cut, level, &mut joined);
+    let mut list = Vec::with_capacity(alloc, len)?;
+    list.extend_from_slice(&joined[..kept])?;
+    write_changes(cut, joined.as_slice(), kept, &mut list)?;
+    Ok(list)
+}
+
+// Whether the caller lets circles be inserted.
+fn wants_circles(buffer: &Buffer) -> bool {
+    !buffer
+        .flags()
+        .contains(BufferFlags::DO_NOT_INSERT_DOTTED_CIRCLE)
+}
+
+// Rewrites the text.
+pub(super) fn rewrite<F: Font>(face: &F, buffer: &mut Buffer) -> Result<(), ShaperError> {
+    let circles = wants_circles(buffer);
+    let (level, alloc) = (buffer.cluster_level(), buffer.alloc());
+    let glyphs = buffer.glyphs();
+    let kept = kept_len(face, circles, glyphs);
+    if kept == buffer.len() {
+        return Ok(());
+    }
+    let mut cut = Cut::new(alloc);
+    let len = measure(face, circles, glyphs, kept, buffer.max_len(), &mut cut)?;
+    if !cut.is_whole {
+        return Err(ShaperError::Memory);
+    }
+    let list = rewritten(cut.items.as_slice(), level, glyphs, kept, len, alloc)?;
+    buffer.replace_glyphs(list)
+}

@@ -1,0 +1,233 @@
+//! Generated from crates/shapers_indic/src/ot_shaper_indic/data.rt by rust/erase; edit the source.
+//!
+//! What the shaper keeps in the plan.
+
+use crate::generated::shapers_base::buffer::{Script, Tag};
+use crate::generated::shapers_base::font::{Font, GlyphId};
+use crate::generated::shapers_base::map::{Map, TableIndex};
+use crate::generated::shapers_base::plan::{
+    BlwfMode, IndicConfig, IndicPlan, IndicWouldSubstituteFeature, Plan, PlanData, RephMode,
+    RephPosition,
+};
+use BlwfMode::{PostOnly, PreAndPost};
+use RephMode::{Explicit, Implicit, LogRepha};
+use RephPosition::{AfterMain, AfterPost, AfterSub, BeforePost, BeforeSub};
+
+const MALAYALAM: Script = Script(*b"Mlym");
+
+// Any other script.
+const DEFAULT: IndicConfig = IndicConfig {
+    script: None,
+    has_old_spec: false,
+    virama: 0,
+    reph_pos: BeforePost,
+    reph_mode: Implicit,
+    blwf_mode: PreAndPost,
+};
+
+// Script, whether there is an older specification, virama, where a reph goes, how it is written,
+// and where below-base forms apply. (OpenType, development of Indic scripts.)
+static INDIC_CONFIGS: [IndicConfig; 10] = [
+    IndicConfig {
+        script: Some(Script(*b"Deva")),
+        has_old_spec: true,
+        virama: 0x094D,
+        reph_pos: BeforePost,
+        reph_mode: Implicit,
+        blwf_mode: PreAndPost,
+    },
+    IndicConfig {
+        script: Some(Script(*b"Beng")),
+        has_old_spec: true,
+        virama: 0x09CD,
+        reph_pos: AfterSub,
+        reph_mode: Implicit,
+        blwf_mode: PreAndPost,
+    },
+    IndicConfig {
+        script: Some(Script(*b"Guru")),
+        has_old_spec: true,
+        virama: 0x0A4D,
+        reph_pos: BeforeSub,
+        reph_mode: Implicit,
+        blwf_mode: PreAndPost,
+    },
+    IndicConfig {
+        script: Some(Script(*b"Gujr")),
+        has_old_spec: true,
+        virama: 0x0ACD,
+        reph_pos: BeforePost,
+        reph_mode: Implicit,
+        blwf_mode: PreAndPost,
+    },
+    IndicConfig {
+        script: Some(Script(*b"Orya")),
+        has_old_spec: true,
+        virama: 0x0B4D,
+        reph_pos: AfterMain,
+        reph_mode: Implicit,
+        blwf_mode: PreAndPost,
+    },
+    IndicConfig {
+        script: Some(Script(*b"Taml")),
+        has_old_spec: true,
+        virama: 0x0BCD,
+        reph_pos: AfterPost,
+        reph_mode: Implicit,
+        blwf_mode: PreAndPost,
+    },
+    IndicConfig {
+        script: Some(Script(*b"Telu")),
+        has_old_spec: true,
+        virama: 0x0C4D,
+        reph_pos: AfterPost,
+        reph_mode: Explicit,
+        blwf_mode: PostOnly,
+    },
+    IndicConfig {
+        script: Some(Script(*b"Knda")),
+        has_old_spec: true,
+        virama: 0x0CCD,
+        reph_pos: AfterPost,
+        reph_mode: Implicit,
+        blwf_mode: PostOnly,
+    },
+    IndicConfig {
+        script: Some(Script(*b"Mlym")),
+        has_old_spec: true,
+        virama: 0x0D4D,
+        reph_pos: AfterMain,
+        reph_mode: LogRepha,
+        blwf_mode: PreAndPost,
+    },
+    IndicConfig {
+        script: Some(Script(*b"Sinh")),
+        has_old_spec: false,
+        virama: 0x0DCA,
+        reph_pos: AfterPost,
+        reph_mode: Explicit,
+        blwf_mode: PreAndPost,
+    },
+];
+
+// What a script asks for.
+fn config_of(script: Option<Script>) -> IndicConfig {
+    listed_config(script).unwrap_or(DEFAULT)
+}
+
+// The row of a script in the table, if there is one.
+fn listed_config(script: Option<Script>) -> Option<IndicConfig> {
+    INDIC_CONFIGS
+        .iter()
+        .copied()
+        .find(|config| config.script == script)
+}
+
+// Whether a font's script isn't one of the newer specification, whose tags end in 2; so is none.
+fn is_old_script(chosen: Option<Tag>) -> bool {
+    match chosen {
+        Some(tag) => tag.0[3] != b'2',
+        None => true,
+    }
+}
+
+// The masks of the features by `indic_feature`: none for those that hold for the whole text.
+fn masks_of(map: &Map) -> [u32; 17] {
+    [
+        0,
+        0,
+        map.get_1_mask(Tag(*b"rphf")),
+        0,
+        map.get_1_mask(Tag(*b"pref")),
+        map.get_1_mask(Tag(*b"blwf")),
+        map.get_1_mask(Tag(*b"abvf")),
+        map.get_1_mask(Tag(*b"half")),
+        map.get_1_mask(Tag(*b"pstf")),
+        0,
+        0,
+        map.get_1_mask(Tag(*b"init")),
+        0,
+        0,
+        0,
+        0,
+        0,
+    ]
+}
+
+/// What the shaper keeps in the plan: the script's row of the table, whether the font follows the
+/// older specification, its questions to the font, and the masks of its features. Questions leave
+/// contexts out in the older specification, but for Malayalam. No mask touches a glyph flag bit. It
+/// can't refuse and takes no memory.
+///
+/// <details><summary>Contract</summary>
+///
+/// # Contract
+///
+/// ```text
+/// ensures data { result ≡ Indic (indic_plan plan.now.script plan.now.ot_map) }
+/// ensures off_flags { AllByRecursion (λ mask. mask % 8 ≡ 0) (masks_in result) }
+/// ```
+///
+/// - `indic_plan`, `masks_in`: crates/shapers_indic/specs/Plan.antt
+///
+/// </details>
+pub fn create_data(plan: &Plan) -> PlanData {
+    let map = &plan.ot_map;
+    let config = config_of(plan.script);
+    let is_old_spec = config.has_old_spec && is_old_script(map.chosen_script(TableIndex::GSUB));
+    let zero_context = is_old_spec && plan.script != Some(MALAYALAM);
+    let question = |tag: [u8; 4]| IndicWouldSubstituteFeature::new(map, Tag(tag), zero_context);
+    PlanData::Indic(IndicPlan {
+        config,
+        is_old_spec,
+        rphf: question(*b"rphf"),
+        pref: question(*b"pref"),
+        blwf: question(*b"blwf"),
+        pstf: question(*b"pstf"),
+        vatu: question(*b"vatu"),
+        mask_array: masks_of(map),
+    })
+}
+
+/// What the plan keeps for Indic.
+///
+/// <details><summary>Contract</summary>
+///
+/// # Contract
+///
+/// ```text
+/// requires { is_indic_data plan.now.plan_data ≡ true }
+/// ensures { result.now ≡ indic_in plan.now }
+/// ```
+///
+/// - `indic_in`, `is_indic_data`: crates/shapers_indic/specs/Plan.antt
+///
+/// </details>
+#[inline]
+pub fn indic_in(plan: &Plan) -> &IndicPlan {
+    match &plan.plan_data {
+        PlanData::Indic(kept) => kept,
+        _ => unreachable!(),
+    }
+}
+
+/// The font's glyph for the script's virama.
+///
+/// <details><summary>Contract</summary>
+///
+/// # Contract
+///
+/// ```text
+/// ensures { result ≡ virama_glyph (F.font face.now) plan.now }
+/// ```
+///
+/// - `virama_glyph`: crates/shapers_indic/specs/Plan.antt
+///
+/// </details>
+#[inline]
+pub fn virama_glyph<F: Font>(plan: &IndicPlan, face: &F) -> Option<GlyphId> {
+    if plan.config.virama == 0 {
+        return None;
+    }
+    face.get_nominal_glyph(plan.config.virama)
+}

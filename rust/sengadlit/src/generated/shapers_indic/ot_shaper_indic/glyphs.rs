@@ -1,0 +1,61 @@
+//! Generated from crates/shapers_indic/src/ot_shaper_indic/glyphs.rt by rust/erase; edit the source.
+//!
+//! What both reorderings ask of a glyph.
+
+use crate::generated::shapers_base::buffer::GlyphInfo;
+use crate::generated::shapers_base::font::GlyphId;
+use crate::generated::shapers_base::plan::ot_category_t::{OT_M, OT_MPst, OT_ZWJ, OT_ZWNJ};
+
+/// A glyph as fonts are asked about it.
+///
+/// <details><summary>Contract</summary>
+///
+/// # Contract
+///
+/// ```text
+/// ensures { result ≡ number glyph.now }
+/// ```
+///
+/// - `number`: crates/shapers_indic/specs/Glyphs.antt
+///
+/// </details>
+#[inline]
+pub fn number(glyph: &GlyphInfo) -> GlyphId {
+    GlyphId((glyph.glyph_id % 65536) as u16)
+}
+
+/// Whether a glyph is a joiner, and no lookup put it in for several.
+///
+/// <details><summary>Contract</summary>
+///
+/// # Contract
+///
+/// ```text
+/// ensures { result ≡ is_joiner glyph.now }
+/// ```
+///
+/// - `is_joiner`: crates/shapers_indic/specs/Glyphs.antt
+///
+/// </details>
+#[inline]
+pub fn is_joiner(glyph: &GlyphInfo) -> bool {
+    !glyph.marks.is_ligated() && matches!(glyph.category, OT_ZWJ | OT_ZWNJ)
+}
+
+/// Whether a glyph is a vowel sign.
+///
+/// <details><summary>Contract</summary>
+///
+/// # Contract
+///
+/// ```text
+/// ensures { result ≡ is_matra glyph.now }
+/// ```
+///
+/// - `is_matra`: crates/shapers_indic/specs/Glyphs.antt
+///
+/// </details>
+#[inline]
+pub fn is_matra(glyph: &GlyphInfo) -> bool {
+    matches!(glyph.category, OT_M | OT_MPst)
+}

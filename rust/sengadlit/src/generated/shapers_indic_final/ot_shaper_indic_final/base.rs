@@ -1,0 +1,246 @@
+//! Generated from crates/shapers_indic_final/src/ot_shaper_indic_final/base.rt by rust/erase; edit the source.
+//!
+//! The base of a syllable after substitutions. (OpenType, development of Indic scripts: "Final
+//! reordering".)
+
+use super::glyphs::{is_formed, is_halant};
+use super::pref::pref_place;
+use super::rules::{Rules, is_malayalam};
+use crate::generated::shapers_base::buffer::{Buffer, GlyphInfo, GlyphWalk, Script};
+use crate::generated::shapers_base::plan::ot_category_t::{OT_H, OT_N, OT_ZWJ};
+use crate::generated::shapers_base::plan::ot_position_t::{POS_BASE_C, POS_BELOW_C};
+use crate::generated::shapers_indic::ot_shaper_indic::glyphs::is_joiner;
+use crate::generated::shapers_syllabic::ot_shaper_syllabic::is_consonant;
+
+/// Where the base of a syllable stands, or the syllable's length, and whether a formed `pref` glyph
+/// may go before it.
+#[derive(Clone, Copy)]
+pub(super) struct Based {
+    pub(super) base: usize,
+    pub(super) tries_pref: bool,
+}
+
+// Finds the base of the syllable from `start` to `end`, and gives the glyphs that become it the
+// base's position.
+pub(super) fn settle_base(
+    rules: &Rules,
+    script: Option<Script>,
+    buffer: &mut Buffer,
+    start: usize,
+    end: usize,
+) -> Based {
+    let mut walk = BaseWalk {
+        rules: *rules,
+        script,
+        start,
+        end,
+        based: Based {
+            base: 0,
+            tries_pref: false,
+        },
+    };
+    buffer.walk(&mut walk);
+    walk.based
+}
+
+// The syllable whose base is looked for, and what was found.
+#[derive(Clone, Copy)]
+struct BaseWalk {
+    rules: Rules,
+    script: Option<Script>,
+    start: usize,
+    end: usize,
+    based: Based,
+}
+
+impl GlyphWalk for BaseWalk {
+    #[inline]
+    fn walk(&mut self, glyphs: &mut [GlyphInfo]) {
+        self.based = find_base(&self.rules, self.script, &mut glyphs[self.start..self.end]);
+    }
+}
+
+// Finds the base of a syllable, and gives the glyphs that become it the base's position.
+fn find_base(rules: &Rules, script: Option<Script>, glyphs: &mut [GlyphInfo]) -> Based {
+    let first = first_base(glyphs);
+    let unformed = unformed_pref(rules.pref, first, glyphs);
+    let by_pref = set_pref_base(rules.pref, first, glyphs);
+    let by_links = set_links(script, by_pref, glyphs);
+    Based {
+        base: settled_base(stepped_back(by_links, glyphs), glyphs),
+        tries_pref: rules.pref != 0 && unformed.is_none(),
+    }
+}
+
+// The first glyph whose position is the base's or one after it, else the end.
+fn first_base(glyphs: &[GlyphInfo]) -> usize {
+    for i in 0..glyphs.len() {
+        if is_from_base_on(&glyphs[i]) {
+            return i;
+        }
+    }
+    glyphs.len()
+}
+
+// Whether a glyph has the base's position or one after it.
+fn is_from_base_on(glyph: &GlyphInfo) -> bool {
+    glyph.auxiliary >= POS_BASE_C
+}
+
+// The first glyph after the base with the mask of `pref`, if it is not substituted and formed.
+fn unformed_pref(pref: u32, base: usize, glyphs: &[GlyphInfo]) -> Option<usize> {
+    match pref_place(pref, base, glyphs) {
+        Some(i) => {
+            if is_unformed(&glyphs[i]) {
+                Some(i)
+            } else {
+                None
+            }
+        }
+        None => None,
+    }
+}
+
+// Whether a glyph is not both substituted and formed.
+fn is_unformed(glyph: &GlyphInfo) -> bool {
+    !(glyph.marks.is_substituted() && is_formed(glyph))
+}
+
+// The base by `pref`, which gets the base's position.
+fn set_pref_base(pref: u32, base: usize, glyphs: &mut [GlyphInfo]) -> usize {
+    match unformed_pref(pref, base, glyphs) {
+        Some(i) => {
+            let by_pref = behind_halants(glyphs, i);
+            set_base_at(by_pref, glyphs);
+            by_pref
+        }
+        None => base,
+    }
+}
+
+// The first glyph from a place on that is no halant, else the end.
+fn behind_halants(glyphs: &[GlyphInfo], i: usize) -> usize {
+    i + halants_len(&glyphs[i..])
+}
+
+// How many halants stand in front.
+fn halants_len(glyphs: &[GlyphInfo]) -> usize {
+    glyphs.iter().take_while(|glyph| is_halant(glyph)).count()
+}
+
+// Gives the glyph of a place, if there is one, the base's position.
+fn set_base_at(i: usize, glyphs: &mut [GlyphInfo]) {
+    if i < glyphs.len() {
+        set_base(&mut glyphs[i..i + 1]);
+    }
+}
+
+// Gives these glyphs the base's position.
+fn set_base(glyphs: &mut [GlyphInfo]) {
+    for glyph in glyphs.iter_mut() {
+        glyph.auxiliary = POS_BASE_C;
+    }
+}
+
+// What stands before the base, where the base's position is one after the base's.
+fn stepped_back(base: usize, glyphs: &[GlyphInfo]) -> usize {
+    if base < glyphs.len() && is_behind_base(&glyphs[base]) {
+        base.saturating_sub(1)
+    } else {
+        base
+    }
+}
+
+// Whether a glyph has a position after the base's.
+fn is_behind_base(glyph: &GlyphInfo) -> bool {
+    glyph.auxiliary > POS_BASE_C
+}
+
+// Where the base settles: before a joiner at the end, and before nuktas and halants.
+fn settled_base(base: usize, glyphs: &[GlyphInfo]) -> usize {
+    before_halants(before_joiner(base, glyphs), glyphs)
+}
+
+// From the end back over a ZWJ there.
+fn before_joiner(base: usize, glyphs: &[GlyphInfo]) -> usize {
+    if base == glyphs.len() && base > 0 && is_zwj(&glyphs[base - 1]) {
+        base - 1
+    } else {
+        base
+    }
+}
+
+// Whether a glyph is a ZWJ, and no lookup put it in for several.
+fn is_zwj(glyph: &GlyphInfo) -> bool {
+    !glyph.marks.is_ligated() && glyph.category == OT_ZWJ
+}
+
+// Back to the nearest glyph that is neither a nukta nor a halant, else to the start.
+fn before_halants(base: usize, glyphs: &[GlyphInfo]) -> usize {
+    if base == glyphs.len() {
+        base
+    } else {
+        nearest_settled(base, glyphs)
+    }
+}
+
+// The nearest glyph from the base leftwards that is neither a nukta nor a halant, else the start.
+fn nearest_settled(base: usize, glyphs: &[GlyphInfo]) -> usize {
+    for i in (1..base + 1).rev() {
+        if may_be_settled(&glyphs[i]) {
+            return i;
+        }
+    }
+    0
+}
+
+// Whether a glyph is neither a nukta nor a halant.
+fn may_be_settled(glyph: &GlyphInfo) -> bool {
+    glyph.marks.is_ligated() || !matches!(glyph.category, OT_N | OT_H)
+}
+
+// The base by links, in Malayalam; the last glyphs of links that become it get the base's position.
+fn set_links(script: Option<Script>, base: usize, glyphs: &mut [GlyphInfo]) -> usize {
+    if is_malayalam(script) {
+        set_along_links(base, glyphs)
+    } else {
+        base
+    }
+}
+
+// The same in Malayalam.
+fn set_along_links(base: usize, glyphs: &mut [GlyphInfo]) -> usize {
+    let mut last = base;
+    let mut halant = false;
+    for i in base + 1..glyphs.len() {
+        if is_joiner(&glyphs[i]) {
+            continue;
+        }
+        if halant {
+            last = set_link(&mut glyphs[i], i, last);
+            halant = false;
+            continue;
+        }
+        if !is_halant(&glyphs[i]) {
+            return last;
+        }
+        halant = true;
+    }
+    last
+}
+
+// Gives the last glyph of a link, of place `i`, the base's position, if its below-base form was not
+// made. Answers the base then, which was `last` before.
+fn set_link(glyph: &mut GlyphInfo, i: usize, last: usize) -> usize {
+    if is_unformed_below(glyph) {
+        glyph.auxiliary = POS_BASE_C;
+        i
+    } else {
+        last
+    }
+}
+
+// Whether a glyph is a consonant whose below-base form was not made.
+fn is_unformed_below(glyph: &GlyphInfo) -> bool {
+    is_consonant(glyph) && glyph.auxiliary == POS_BELOW_C
+}

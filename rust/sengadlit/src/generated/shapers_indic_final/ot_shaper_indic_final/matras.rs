@@ -1,0 +1,89 @@
+//! Generated from crates/shapers_indic_final/src/ot_shaper_indic_final/matras.rt by rust/erase; edit the source.
+//!
+//! Where the left matras of a syllable go. (OpenType, development of Indic scripts: "Reorder matras".)
+
+use super::glyphs::{is_halant, is_matra_or_halant};
+use super::rules::has_no_half_forms;
+use crate::generated::shapers_base::buffer::{GlyphInfo, Script};
+use crate::generated::shapers_base::plan::ot_category_t::OT_ZWJ;
+use crate::generated::shapers_base::plan::ot_position_t::POS_PRE_M;
+
+// Whether a glyph is a left matra.
+#[inline]
+pub(super) fn is_left(glyph: &GlyphInfo) -> bool {
+    glyph.auxiliary == POS_PRE_M
+}
+
+// Whether left matras go to a place: one past the start, where none stands.
+#[inline]
+pub(super) fn matras_go(p: usize, glyphs: &[GlyphInfo]) -> bool {
+    p > 0 && !is_left(&glyphs[p])
+}
+
+// Whether there may be left matras before a base.
+#[inline]
+pub(super) fn has_room(base: usize, glyphs: &[GlyphInfo]) -> bool {
+    glyphs.len() > 1 && base > 0
+}
+
+// The end of what merges with a left matra: the base with it, if there is one.
+#[inline]
+pub(super) fn end_of_base(base: usize, glyphs: &[GlyphInfo]) -> usize {
+    if base < glyphs.len() {
+        base + 1
+    } else {
+        glyphs.len()
+    }
+}
+
+// The first left matra before the base.
+pub(super) fn first_left(base: usize, glyphs: &[GlyphInfo]) -> Option<usize> {
+    for i in 0..base {
+        if is_left(&glyphs[i]) {
+            return Some(i);
+        }
+    }
+    None
+}
+
+// The place that left matras go to, the start if they stay.
+pub(super) fn matra_target(script: Option<Script>, base: usize, glyphs: &[GlyphInfo]) -> usize {
+    let before = if base == glyphs.len() {
+        base - 2
+    } else {
+        base - 1
+    };
+    if has_no_half_forms(script) {
+        before
+    } else {
+        nearest_halant(before, glyphs)
+    }
+}
+
+// The halant that left matras go behind: the nearest from a place leftwards, if nothing ends the
+// search before it; else the start.
+fn nearest_halant(p: usize, glyphs: &[GlyphInfo]) -> usize {
+    let end = search_end(p, glyphs);
+    if is_free_halant(&glyphs[end]) { end } else { 0 }
+}
+
+// Where the search for a halant ends, else the start.
+fn search_end(p: usize, glyphs: &[GlyphInfo]) -> usize {
+    for i in (0..p + 1).rev() {
+        if ends_search(glyphs, i) {
+            return i;
+        }
+    }
+    0
+}
+
+// Whether the glyph at place `i` ends the search for a halant.
+fn ends_search(glyphs: &[GlyphInfo], i: usize) -> bool {
+    is_matra_or_halant(&glyphs[i])
+        && !(is_free_halant(&glyphs[i]) && glyphs[i + 1].category == OT_ZWJ)
+}
+
+// Whether a glyph is a halant that belongs to no left matra.
+fn is_free_halant(glyph: &GlyphInfo) -> bool {
+    is_halant(glyph) && !is_left(glyph)
+}

@@ -1,0 +1,56 @@
+//! Generated from crates/shapers_indic_final/src/ot_shaper_indic_final/moves.rt by rust/erase; edit the source.
+//!
+//! One glyph moved to the other end of a stretch, by the placement list.
+
+use crate::generated::shapers_base::buffer::Buffer;
+
+// Merges the syllable from `s` to `e` up to its place `j`, and moves its first glyph, the reph, there.
+#[inline]
+pub(super) fn move_reph(buffer: &mut Buffer, s: usize, e: usize, j: usize) {
+    buffer.merge_clusters(s, s + j + 1);
+    move_first_last(buffer, s, s + j + 1);
+}
+
+// Merges the syllable from `s` to `e` from its place `j` up to its place `i`, and moves the glyph
+// of place `i`, which `pref` formed, to `j`.
+#[inline]
+pub(super) fn move_pref(buffer: &mut Buffer, s: usize, e: usize, j: usize, i: usize) {
+    buffer.merge_clusters(s + j, s + i + 1);
+    move_last_first(buffer, s + j, s + i + 1);
+}
+
+// Moves the glyph of place `i` of the syllable from `s` to `e`, a left matra, to its place `j`, and
+// merges from there up to its place `b`.
+#[inline]
+pub(super) fn move_matra(buffer: &mut Buffer, s: usize, e: usize, b: usize, i: usize, j: usize) {
+    move_first_last(buffer, s + i, s + j + 1);
+    buffer.merge_clusters(s + j, s + b);
+}
+
+// Moves the first glyph of the stretch from `s` to `e` behind the others.
+fn move_first_last(buffer: &mut Buffer, s: usize, e: usize) {
+    list_first_last(buffer, s, e);
+    buffer.apply(s, e);
+}
+
+// Moves the last glyph of the stretch from `s` to `e` before the others.
+fn move_last_first(buffer: &mut Buffer, s: usize, e: usize) {
+    list_last_first(buffer, s, e);
+    buffer.apply(s, e);
+}
+
+// Lists the first place of the stretch from `s` to `e` behind the others.
+fn list_first_last(buffer: &mut Buffer, s: usize, e: usize) {
+    for i in s..e - 1 {
+        buffer.set_place(i, i + 1);
+    }
+    buffer.set_place(e - 1, s);
+}
+
+// Lists the last place of the stretch from `s` to `e` before the others.
+fn list_last_first(buffer: &mut Buffer, s: usize, e: usize) {
+    buffer.set_place(s, e - 1);
+    for i in s..e - 1 {
+        buffer.set_place(i + 1, i);
+    }
+}

@@ -1,0 +1,60 @@
+//! Generated from crates/shapers_indic_final/src/ot_shaper_indic_final/opening.rt by rust/erase; edit the source.
+//!
+//! The opening of a syllable: a left matra gets the mask of `init` at the start of a word, and inside a
+//! word a break before it is unsafe.
+
+use super::matras::is_left;
+use crate::generated::shapers_base::buffer::{Buffer, GeneralCategory, GlyphChange, GlyphInfo};
+
+// Opens the syllable at place `s`.
+#[inline]
+pub(super) fn open_syllable(init: u32, buffer: &mut Buffer, s: usize) {
+    if !is_left(&buffer.glyphs()[s]) {
+        return;
+    }
+    if goes_on(buffer.glyphs(), s) {
+        buffer.unsafe_to_break(s.saturating_sub(1), s + 1);
+        return;
+    }
+    buffer.change_each(s, s + 1, &AddInit { init });
+}
+
+// Whether a word goes on behind what stands before a place.
+fn goes_on(glyphs: &[GlyphInfo], s: usize) -> bool {
+    if s == 0 {
+        return false;
+    }
+    continues_word(glyphs[s - 1].general_category)
+}
+
+// The mask of `init` to be added.
+#[derive(Clone, Copy)]
+struct AddInit {
+    init: u32,
+}
+
+impl GlyphChange for AddInit {
+    #[inline]
+    fn change(&self, glyph: &mut GlyphInfo) {
+        glyph.mask |= self.init;
+    }
+}
+
+// Whether a word goes on behind a glyph of this category.
+fn continues_word(category: GeneralCategory) -> bool {
+    matches!(
+        category,
+        GeneralCategory::Cf
+            | GeneralCategory::Cn
+            | GeneralCategory::Co
+            | GeneralCategory::Cs
+            | GeneralCategory::Ll
+            | GeneralCategory::Lm
+            | GeneralCategory::Lo
+            | GeneralCategory::Lt
+            | GeneralCategory::Lu
+            | GeneralCategory::Mc
+            | GeneralCategory::Me
+            | GeneralCategory::Mn
+    )
+}

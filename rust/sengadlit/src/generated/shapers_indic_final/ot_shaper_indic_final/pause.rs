@@ -1,0 +1,41 @@
+//! Generated from crates/shapers_indic_final/src/ot_shaper_indic_final/pause.rt by rust/erase; edit the source.
+//!
+//! The pause of the final reordering.
+
+use super::reordering::reorder_text;
+use super::rules::Rules;
+use crate::generated::shapers_base::buffer::Buffer;
+use crate::generated::shapers_base::font::Font;
+use crate::generated::shapers_base::plan::Plan;
+use crate::generated::shapers_indic::ot_shaper_indic::indic_in;
+
+/// Reorders each syllable again, now that the basic features formed its glyphs: its base, its left
+/// matras, its reph and a glyph that `pref` formed; and gives a left matra at the start of a word
+/// `init`. Every cluster afterwards is one that the text had. It refuses nothing and takes no memory.
+/// (OpenType, development of Indic scripts: "Final reordering".)
+///
+/// <details><summary>Contract</summary>
+///
+/// # Contract
+///
+/// ```text
+/// requires kept { is_indic_data plan.now.plan_data ≡ true }
+/// ensures reordered { let rules = rules_of (F.font face.now) (indic_in plan.now) in
+///     FinallyReordered rules buffer.old buffer.new }
+/// ensures laws { let rules = rules_of (F.font face.now) (indic_in plan.now) in
+///     FinallyKept rules buffer.old buffer.new }
+/// ensures clusters { NoNewCluster buffer.old.glyphs buffer.new.glyphs }
+/// ```
+///
+/// - `indic_in`, `is_indic_data`: crates/shapers_indic/specs/Plan.antt
+/// - `FinallyKept`: crates/shapers_indic_final/specs/FinalLaws.antt
+/// - `FinallyReordered`: crates/shapers_indic_final/specs/FinalOpening.antt
+/// - `rules_of`: crates/shapers_indic_final/specs/FinalRules.antt
+/// - `NoNewCluster`: crates/shapers_syllabic/specs/CircleLaws.antt
+///
+/// </details>
+pub fn final_reordering<F: Font>(plan: &Plan, face: &F, buffer: &mut Buffer) {
+    let rules = Rules::new(indic_in(plan), face);
+    let script = buffer.script();
+    reorder_text(&rules, script, buffer);
+}

@@ -1,0 +1,69 @@
+//! Generated from crates/shapers_indic_final/src/ot_shaper_indic_final/pref.rt by rust/erase; edit the source.
+//!
+//! Where a glyph formed by `pref` goes. (OpenType, development of Indic scripts: "Reorder
+//! pre-base-reordering consonants".)
+
+use super::glyphs::{has_mask, is_formed, is_halant, is_matra_or_halant};
+use super::rules::has_no_half_forms;
+use crate::generated::shapers_base::buffer::{GlyphInfo, Script};
+use crate::generated::shapers_indic::ot_shaper_indic::glyphs::is_joiner;
+
+// The first glyph after the base with the mask of `pref`.
+pub(super) fn pref_place(pref: u32, base: usize, glyphs: &[GlyphInfo]) -> Option<usize> {
+    for i in base + 1..glyphs.len() {
+        if has_mask(pref, &glyphs[i]) {
+            return Some(i);
+        }
+    }
+    None
+}
+
+// That glyph, if it is formed.
+#[inline]
+pub(super) fn formed_pref(pref: u32, base: usize, glyphs: &[GlyphInfo]) -> Option<usize> {
+    match pref_place(pref, base, glyphs) {
+        Some(i) => {
+            if is_formed(&glyphs[i]) {
+                Some(i)
+            } else {
+                None
+            }
+        }
+        None => None,
+    }
+}
+
+// Where a formed glyph goes.
+#[inline]
+pub(super) fn pref_target(script: Option<Script>, base: usize, glyphs: &[GlyphInfo]) -> usize {
+    let place = place_before_base(script, base, glyphs);
+    if is_joiner_behind_halant(glyphs, place) {
+        place + 1
+    } else {
+        place
+    }
+}
+
+// The place behind the nearest vowel sign or halant before the base; the base without half forms.
+fn place_before_base(script: Option<Script>, base: usize, glyphs: &[GlyphInfo]) -> usize {
+    if has_no_half_forms(script) {
+        base
+    } else {
+        behind_sign(base, glyphs)
+    }
+}
+
+// The place behind the nearest vowel sign or halant before the base, else the start.
+fn behind_sign(base: usize, glyphs: &[GlyphInfo]) -> usize {
+    for i in (0..base).rev() {
+        if is_matra_or_halant(&glyphs[i]) {
+            return i + 1;
+        }
+    }
+    0
+}
+
+// Whether a joiner stands at a place, and a halant before it.
+fn is_joiner_behind_halant(glyphs: &[GlyphInfo], i: usize) -> bool {
+    i > 0 && is_halant(&glyphs[i - 1]) && is_joiner(&glyphs[i])
+}

@@ -1,0 +1,126 @@
+//! Generated from crates/shapers_indic_final/src/ot_shaper_indic_final/reph.rt by rust/erase; edit the source.
+//!
+//! Where the reph of a syllable goes. (OpenType, development of Indic scripts: "Reorder reph".)
+
+use super::glyphs::{is_formed, is_halant};
+use crate::generated::shapers_base::buffer::GlyphInfo;
+use crate::generated::shapers_base::plan::RephPosition;
+use crate::generated::shapers_base::plan::ot_category_t::OT_Repha;
+use crate::generated::shapers_base::plan::ot_position_t::{
+    POS_AFTER_MAIN, POS_AFTER_POST, POS_POST_C, POS_RA_TO_BECOME_REPH, POS_SMVD,
+};
+use crate::generated::shapers_indic::ot_shaper_indic::glyphs::{is_joiner, is_matra};
+
+// Whether a reph that moves opens a syllable of two or more.
+#[inline]
+pub(super) fn opens_with_reph(glyphs: &[GlyphInfo]) -> bool {
+    match glyphs {
+        [first, _, ..] => is_moving_reph(first),
+        _ => false,
+    }
+}
+
+// Whether a glyph is a reph that moves: a formed one, or a character of its own that is not formed.
+fn is_moving_reph(glyph: &GlyphInfo) -> bool {
+    glyph.auxiliary == POS_RA_TO_BECOME_REPH && (glyph.category == OT_Repha) != is_formed(glyph)
+}
+
+// Where the reph goes: behind the first halant before the base, else by the script.
+#[inline]
+pub(super) fn reph_target(position: RephPosition, base: usize, glyphs: &[GlyphInfo]) -> usize {
+    match halant_after_start(base, glyphs) {
+        Some(halant) => with_joiner(base, glyphs, halant),
+        None => behind_base(position, base, glyphs),
+    }
+}
+
+// Where the base stands once the reph has gone to `target`: one place before, if the reph crossed it.
+#[inline]
+pub(super) fn base_after_reph(base: usize, target: usize) -> usize {
+    if base > 0 && base <= target {
+        base - 1
+    } else {
+        base
+    }
+}
+
+// The first halant between the start and the base.
+fn halant_after_start(base: usize, glyphs: &[GlyphInfo]) -> Option<usize> {
+    for i in 1..base {
+        if is_halant(&glyphs[i]) {
+            return Some(i);
+        }
+    }
+    None
+}
+
+// A halant, or a joiner behind it that stands before the base.
+fn with_joiner(base: usize, glyphs: &[GlyphInfo], halant: usize) -> usize {
+    if halant + 1 < base && is_joiner(&glyphs[halant + 1]) {
+        halant + 1
+    } else {
+        halant
+    }
+}
+
+// Where the reph goes without a halant before the base.
+fn behind_base(position: RephPosition, base: usize, glyphs: &[GlyphInfo]) -> usize {
+    if base == glyphs.len() {
+        return at_end(base, glyphs);
+    }
+    match position {
+        RephPosition::AfterMain => base + with_main_len(&glyphs[base + 1..]),
+        RephPosition::AfterSub => base + with_sub_len(&glyphs[base + 1..]),
+        RephPosition::BeforeSub | RephPosition::BeforePost | RephPosition::AfterPost => {
+            at_end(base, glyphs)
+        }
+    }
+}
+
+// How many glyphs in front stand directly after the main consonant.
+fn with_main_len(glyphs: &[GlyphInfo]) -> usize {
+    glyphs
+        .iter()
+        .take_while(|glyph| glyph.auxiliary <= POS_AFTER_MAIN)
+        .count()
+}
+
+// How many glyphs in front stand before post-base forms and signs.
+fn with_sub_len(glyphs: &[GlyphInfo]) -> usize {
+    glyphs.iter().take_while(|glyph| is_with_sub(glyph)).count()
+}
+
+// Whether a glyph stands before post-base forms and signs.
+fn is_with_sub(glyph: &GlyphInfo) -> bool {
+    !matches!(glyph.auxiliary, POS_POST_C | POS_AFTER_POST | POS_SMVD)
+}
+
+// The last glyph that is no sign; where it is a halant, less the vowel signs between the base and it.
+fn at_end(base: usize, glyphs: &[GlyphInfo]) -> usize {
+    let last = last_but_signs(glyphs);
+    if is_halant(&glyphs[last]) && base < last {
+        last - count_matras(&glyphs[base + 1..last])
+    } else {
+        last
+    }
+}
+
+// The last glyph that is no sign, else the start.
+fn last_but_signs(glyphs: &[GlyphInfo]) -> usize {
+    for i in (0..glyphs.len()).rev() {
+        if !is_sign(&glyphs[i]) {
+            return i;
+        }
+    }
+    0
+}
+
+// Whether a glyph is a sign at the end of the syllable.
+fn is_sign(glyph: &GlyphInfo) -> bool {
+    glyph.auxiliary == POS_SMVD
+}
+
+// How many vowel signs there are.
+fn count_matras(glyphs: &[GlyphInfo]) -> usize {
+    glyphs.iter().filter(|glyph| is_matra(glyph)).count()
+}

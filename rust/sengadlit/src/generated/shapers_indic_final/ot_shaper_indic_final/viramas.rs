@@ -1,0 +1,41 @@
+//! Generated from crates/shapers_indic_final/src/ot_shaper_indic_final/viramas.rt by rust/erase; edit the source.
+//!
+//! Viramas that lookups put in for several glyphs and then took apart become halants again.
+
+use crate::generated::shapers_base::buffer::{Buffer, GlyphChange, GlyphInfo};
+use crate::generated::shapers_base::font::GlyphId;
+use crate::generated::shapers_base::plan::ot_category_t::OT_H;
+
+// Recovers the viramas of the syllable from `s` to `e`.
+pub(super) fn recover_viramas(virama: Option<GlyphId>, buffer: &mut Buffer, s: usize, e: usize) {
+    buffer.change_each(s, e, &Recover { virama });
+}
+
+// The virama to be recovered, if there is one.
+#[derive(Clone, Copy)]
+struct Recover {
+    virama: Option<GlyphId>,
+}
+
+impl GlyphChange for Recover {
+    #[inline]
+    fn change(&self, glyph: &mut GlyphInfo) {
+        if is_lost_virama(self.virama, glyph) {
+            glyph.category = OT_H;
+            glyph.marks.set_ligated(false);
+            glyph.marks.set_multiplied(false);
+        }
+    }
+}
+
+// Whether a glyph is the virama's, and lookups put it in for several and then took it apart.
+fn is_lost_virama(virama: Option<GlyphId>, glyph: &GlyphInfo) -> bool {
+    match virama {
+        Some(virama) => {
+            glyph.glyph_id == virama.0 as u32
+                && glyph.marks.is_ligated()
+                && glyph.marks.is_multiplied()
+        }
+        None => false,
+    }
+}

@@ -1,0 +1,113 @@
+//! Generated from crates/shapers_indic_initial/src/ot_shaper_indic_initial/base.rt by rust/erase; edit the source.
+//!
+//! The base consonant of a syllable, and whether it has a reph. (OpenType, development of Indic
+//! scripts: "Find base consonant".)
+
+use super::reph::{limit, reph_len};
+use crate::generated::shapers_base::buffer::GlyphInfo;
+use crate::generated::shapers_base::font::Font;
+use crate::generated::shapers_base::map::Map;
+use crate::generated::shapers_base::plan::IndicPlan;
+use crate::generated::shapers_base::plan::ot_category_t::{
+    OT_C, OT_CS, OT_DOTTEDCIRCLE, OT_H, OT_PLACEHOLDER, OT_Ra, OT_V, OT_ZWJ,
+};
+use crate::generated::shapers_base::plan::ot_position_t::{POS_BELOW_C, POS_POST_C};
+
+/// Where the base of a syllable stands, the syllable's length if it has none, and whether there is
+/// a reph.
+#[derive(Clone, Copy)]
+pub(super) struct Base {
+    pub(super) place: usize,
+    pub(super) has_reph: bool,
+}
+
+/// Finds the base of a syllable and its reph.
+pub(super) fn find_base<F: Font>(
+    plan: &IndicPlan,
+    map: &Map,
+    face: &F,
+    glyphs: &[GlyphInfo],
+) -> Base {
+    let reph = reph_len(plan, map, face, glyphs);
+    let limit = limit(reph, glyphs);
+    let otherwise = if reph == 0 { glyphs.len() } else { 0 };
+    let place =
+        last_or_first(limit.min(glyphs.len().saturating_sub(1)), glyphs).unwrap_or(otherwise);
+    Base {
+        place,
+        has_reph: reph != 0 && !(place == 0 && limit <= 2),
+    }
+}
+
+// The base from place `lo` on, or behind what stops the search: the last consonant without a
+// below-base or post-base form, else the first consonant.
+#[inline]
+fn last_or_first(lo: usize, glyphs: &[GlyphInfo]) -> Option<usize> {
+    if let Some(base) = last_base(lo, glyphs) {
+        return Some(base);
+    }
+    first_candidate(search_from(lo, glyphs), glyphs)
+}
+
+// The last consonant without a below-base or post-base form from place `lo` on, or behind what
+// stops the search.
+fn last_base(lo: usize, glyphs: &[GlyphInfo]) -> Option<usize> {
+    let mut below = false;
+    for i in (lo..glyphs.len()).rev() {
+        if stops_search(glyphs, i) {
+            return None;
+        }
+        if is_base(&glyphs[i], below) {
+            return Some(i);
+        }
+        below = is_below(&glyphs[i]) || below;
+    }
+    None
+}
+
+// Whether the search may end with a glyph: a consonant that has no below-base form, nor a post-base
+// one unless a consonant with a below-base form follows.
+fn is_base(glyph: &GlyphInfo, below: bool) -> bool {
+    is_base_candidate(glyph)
+        && glyph.auxiliary != POS_BELOW_C
+        && (glyph.auxiliary != POS_POST_C || below)
+}
+
+// Whether a glyph is a consonant with a below-base form.
+fn is_below(glyph: &GlyphInfo) -> bool {
+    is_base_candidate(glyph) && glyph.auxiliary == POS_BELOW_C
+}
+
+// Where the search ends: behind the last glyph that stops it, or at place `lo`.
+fn search_from(lo: usize, glyphs: &[GlyphInfo]) -> usize {
+    for i in (lo..glyphs.len()).rev() {
+        if stops_search(glyphs, i) {
+            return i + 1;
+        }
+    }
+    lo
+}
+
+// The first consonant that may be the base from place `start` on.
+fn first_candidate(start: usize, glyphs: &[GlyphInfo]) -> Option<usize> {
+    for i in start..glyphs.len() {
+        if is_base_candidate(&glyphs[i]) {
+            return Some(i);
+        }
+    }
+    None
+}
+
+// Whether the glyph at place `i` stops the search: a ZWJ behind an H.
+fn stops_search(glyphs: &[GlyphInfo], i: usize) -> bool {
+    i > 0 && glyphs[i].category == OT_ZWJ && glyphs[i - 1].category == OT_H
+}
+
+// Whether a glyph is a consonant that may be the base.
+fn is_base_candidate(glyph: &GlyphInfo) -> bool {
+    !glyph.marks.is_ligated()
+        && matches!(
+            glyph.category,
+            OT_C | OT_CS | OT_Ra | OT_V | OT_PLACEHOLDER | OT_DOTTEDCIRCLE
+        )
+}

@@ -1,0 +1,129 @@
+//! Generated from crates/shapers_indic_initial/src/ot_shaper_indic_initial/font_positions.rt by rust/erase; edit the source.
+//!
+//! Positions by the font: consonants that it has below-base or post-base forms of.
+
+use crate::generated::shapers_base::buffer::{Buffer, GlyphInfo, GlyphWalk};
+use crate::generated::shapers_base::font::{Font, GlyphId};
+use crate::generated::shapers_base::map::Map;
+use crate::generated::shapers_base::plan::ot_position_t::{POS_BASE_C, POS_BELOW_C, POS_POST_C};
+use crate::generated::shapers_base::plan::{IndicPlan, IndicWouldSubstituteFeature, Position};
+use crate::generated::shapers_indic::ot_shaper_indic::glyphs::number;
+
+/// Gives consonants of position BASE_C for which the font has a below-base or a post-base form, by
+/// its glyph for the script's virama, that form's position. It takes no memory.
+pub(super) fn update_consonant_positions<F: Font>(
+    plan: &IndicPlan,
+    map: &Map,
+    face: &F,
+    virama: Option<GlyphId>,
+    buffer: &mut Buffer,
+) {
+    match virama {
+        None => {}
+        Some(virama) => {
+            let mut by_virama = ByVirama {
+                plan,
+                map,
+                face,
+                virama,
+            };
+            buffer.walk(&mut by_virama);
+        }
+    }
+}
+
+// How many consonants are known at once.
+const KNOWN: usize = 32;
+
+// A consonant and its position by the font. It is known so that the font isn't asked again.
+#[derive(Clone, Copy)]
+struct Known {
+    consonant: GlyphId,
+    position: Position,
+}
+
+// Positions by the forms that consonants have with a virama.
+struct ByVirama<'a, F: Font> {
+    plan: &'a IndicPlan,
+    map: &'a Map,
+    face: &'a F,
+    virama: GlyphId,
+}
+
+impl<'a, F: Font> ByVirama<'a, F> {
+    // The position of a consonant.
+    fn consonant_position_from_face(&self, consonant: GlyphId) -> Position {
+        let plan = self.plan;
+        if self.joins(&plan.blwf, consonant) || self.joins(&plan.vatu, consonant) {
+            return POS_BELOW_C;
+        }
+        if self.joins(&plan.pstf, consonant) || self.joins(&plan.pref, consonant) {
+            return POS_POST_C;
+        }
+        POS_BASE_C
+    }
+
+    // A consonant with its position.
+    fn asked(&self, consonant: GlyphId) -> Known {
+        Known {
+            consonant,
+            position: self.consonant_position_from_face(consonant),
+        }
+    }
+
+    // The position of a consonant, for which the font is asked only where it isn't known.
+    fn position_of(&self, known: &mut [Known; KNOWN], consonant: GlyphId) -> Position {
+        let slot = usize::from(consonant.0) % KNOWN;
+        let kept = known[slot];
+        if kept.consonant.0 == consonant.0 {
+            return kept.position;
+        }
+        let asked = self.asked(consonant);
+        known[slot] = asked;
+        asked.position
+    }
+
+    // Gives a glyph its position, if it is a consonant of position BASE_C.
+    fn position_one(&self, known: &mut [Known; KNOWN], glyph: &mut GlyphInfo) {
+        if glyph.auxiliary == POS_BASE_C {
+            glyph.auxiliary = self.position_of(known, number(glyph));
+        }
+    }
+
+    // Gives all consonants of position BASE_C their positions, where that of one is known.
+    fn position_each(&self, first: Known, glyphs: &mut [GlyphInfo]) {
+        let mut known = [first; KNOWN];
+        for glyph in glyphs.iter_mut() {
+            self.position_one(&mut known, glyph);
+        }
+    }
+
+    // Gives all consonants of position BASE_C their positions.
+    fn position_all(&self, glyphs: &mut [GlyphInfo]) {
+        if let Some(first) = first_consonant(glyphs) {
+            self.position_each(self.asked(number(&first)), glyphs);
+        }
+    }
+
+    // Whether a feature would substitute the virama and a consonant, in either order.
+    #[inline(always)]
+    fn joins(&self, feature: &IndicWouldSubstituteFeature, consonant: GlyphId) -> bool {
+        feature.would_substitute(self.map, self.face, &[self.virama, consonant])
+            || feature.would_substitute(self.map, self.face, &[consonant, self.virama])
+    }
+}
+
+impl<'a, F: Font> GlyphWalk for ByVirama<'a, F> {
+    #[inline]
+    fn walk(&mut self, glyphs: &mut [GlyphInfo]) {
+        self.position_all(glyphs);
+    }
+}
+
+// The first consonant of position BASE_C.
+fn first_consonant(glyphs: &[GlyphInfo]) -> Option<GlyphInfo> {
+    glyphs
+        .iter()
+        .copied()
+        .find(|glyph| glyph.auxiliary == POS_BASE_C)
+}

@@ -1,0 +1,215 @@
+//! Generated from crates/shapers_indic_initial/src/ot_shaper_indic_initial/masks.rt by rust/erase; edit the source.
+//!
+//! The masks of a syllable in its new order. (OpenType, development of Indic scripts: which
+//! features apply where.)
+
+use crate::generated::shapers_base::buffer::{GlyphInfo, Script};
+use crate::generated::shapers_base::font::Font;
+use crate::generated::shapers_base::map::Map;
+use crate::generated::shapers_base::plan::ot_category_t::{OT_H, OT_Ra, OT_ZWJ, OT_ZWNJ};
+use crate::generated::shapers_base::plan::ot_position_t::POS_RA_TO_BECOME_REPH;
+use crate::generated::shapers_base::plan::{BlwfMode, Category, IndicPlan};
+use crate::generated::shapers_indic::ot_shaper_indic::glyphs::number;
+use crate::generated::shapers_indic::ot_shaper_indic::indic_feature::{
+    ABVF, BLWF, HALF, PREF, PSTF, RPHF,
+};
+use crate::generated::shapers_syllabic::ot_shaper_syllabic::is_consonant;
+
+const DEVANAGARI: Script = Script(*b"Deva");
+
+/// Gives the glyphs of an ordered syllable with its base at this place the masks of the basic
+/// features, which touch no glyph flag.
+#[inline]
+pub(super) fn set_masks<F: Font>(
+    plan: &IndicPlan,
+    map: &Map,
+    face: &F,
+    script: Option<Script>,
+    base: usize,
+    glyphs: &mut [GlyphInfo],
+) {
+    set_reph_bits(bits_of(plan, RPHF), glyphs);
+    set_bits_around(bits_before_base(plan), bits_after_base(plan), base, glyphs);
+    set_eyelash_mask(plan, script, base, glyphs);
+    set_pref_mask(plan, map, face, base, glyphs);
+    clear_half(bits_of(plan, HALF), glyphs);
+}
+
+// The bits that a feature gives: its mask, but for the glyph flags.
+#[inline]
+fn bits_of(plan: &IndicPlan, feature: usize) -> u32 {
+    plan.mask_array[feature] & !7
+}
+
+// Gives all these glyphs mask bits.
+fn add_bits(bits: u32, glyphs: &mut [GlyphInfo]) {
+    for glyph in glyphs.iter_mut() {
+        glyph.mask |= bits;
+    }
+}
+
+// Gives the glyphs of a reph that opens the syllable mask bits.
+fn set_reph_bits(bits: u32, glyphs: &mut [GlyphInfo]) {
+    let len = reph_run_len(glyphs);
+    add_bits(bits, &mut glyphs[..len]);
+}
+
+// How many glyphs of the reph's position stand in front.
+fn reph_run_len(glyphs: &[GlyphInfo]) -> usize {
+    glyphs
+        .iter()
+        .take_while(|glyph| glyph.auxiliary == POS_RA_TO_BECOME_REPH)
+        .count()
+}
+
+// Gives the glyphs before the base some mask bits, and those after it others.
+fn set_bits_around(before: u32, after: u32, base: usize, glyphs: &mut [GlyphInfo]) {
+    add_bits(before, &mut glyphs[..base]);
+    if base < glyphs.len() {
+        add_bits(after, &mut glyphs[base + 1..]);
+    }
+}
+
+// The bits before the base.
+#[inline]
+fn bits_before_base(plan: &IndicPlan) -> u32 {
+    let half = bits_of(plan, HALF);
+    if !plan.is_old_spec && applies_before_base(plan.config.blwf_mode) {
+        half | bits_of(plan, BLWF)
+    } else {
+        half
+    }
+}
+
+// Whether below-base forms stand before the base, too.
+fn applies_before_base(mode: BlwfMode) -> bool {
+    match mode {
+        BlwfMode::PreAndPost => true,
+        BlwfMode::PostOnly => false,
+    }
+}
+
+// The bits after the base.
+#[inline]
+fn bits_after_base(plan: &IndicPlan) -> u32 {
+    bits_of(plan, BLWF) | bits_of(plan, ABVF) | bits_of(plan, PSTF)
+}
+
+// Gives each Ra and H of an eyelash Ra the mask of below-base forms, where they have one.
+fn set_eyelash_mask(
+    plan: &IndicPlan,
+    script: Option<Script>,
+    base: usize,
+    glyphs: &mut [GlyphInfo],
+) {
+    if has_eyelash(plan, script) {
+        set_eyelash_bits(bits_of(plan, BLWF), base, glyphs);
+    }
+}
+
+// Whether Ra and H before the base get the mask of below-base forms: in the older specification of
+// Devanagari.
+fn has_eyelash(plan: &IndicPlan, script: Option<Script>) -> bool {
+    plan.is_old_spec && script == Some(DEVANAGARI)
+}
+
+// Gives each Ra and H of an eyelash Ra mask bits.
+fn set_eyelash_bits(bits: u32, base: usize, glyphs: &mut [GlyphInfo]) {
+    for i in 0..glyphs.len() {
+        if is_in_eyelash(base, glyphs, i) {
+            glyphs[i].mask |= bits;
+        }
+    }
+}
+
+// Whether the glyph at `i` belongs to an eyelash Ra.
+fn is_in_eyelash(base: usize, glyphs: &[GlyphInfo], i: usize) -> bool {
+    opens_eyelash(base, glyphs, i) || (0 < i && opens_eyelash(base, glyphs, i - 1))
+}
+
+// Whether an eyelash Ra stands at `i`: Ra and H before the base, and no ZWJ behind them before it.
+fn opens_eyelash(base: usize, glyphs: &[GlyphInfo], i: usize) -> bool {
+    i + 1 < base
+        && is_of_category(glyphs, i, OT_Ra)
+        && is_of_category(glyphs, i + 1, OT_H)
+        && !(i + 2 < base && is_of_category(glyphs, i + 2, OT_ZWJ))
+}
+
+// Whether there is a glyph of this category at `i`.
+fn is_of_category(glyphs: &[GlyphInfo], i: usize, category: Category) -> bool {
+    match glyphs.get(i) {
+        Some(glyph) => glyph.category == category,
+        None => false,
+    }
+}
+
+// Gives the first two neighbours after the base that pref would substitute its mask.
+fn set_pref_mask<F: Font>(
+    plan: &IndicPlan,
+    map: &Map,
+    face: &F,
+    base: usize,
+    glyphs: &mut [GlyphInfo],
+) {
+    if let Some(pair) = pref_pair(plan, map, face, base, glyphs) {
+        add_bits(bits_of(plan, PREF), &mut glyphs[pair..pair + 2]);
+    }
+}
+
+// The place of the first two neighbours after the base that pref would substitute.
+fn pref_pair<F: Font>(
+    plan: &IndicPlan,
+    map: &Map,
+    face: &F,
+    base: usize,
+    glyphs: &[GlyphInfo],
+) -> Option<usize> {
+    if plan.mask_array[PREF] == 0 || base + 2 >= glyphs.len() {
+        return None;
+    }
+    for i in base + 1..glyphs.len() - 1 {
+        let pair = [number(&glyphs[i]), number(&glyphs[i + 1])];
+        if plan.pref.would_substitute(map, face, &pair) {
+            return Some(i);
+        }
+    }
+    None
+}
+
+// A ZWNJ takes mask bits from the glyphs before it back to the nearest consonant, that one
+// included. Most syllables have none.
+fn clear_half(bits: u32, glyphs: &mut [GlyphInfo]) {
+    if has_non_joiner(glyphs) {
+        clear_half_each(bits, glyphs);
+    }
+}
+
+// Whether there is a ZWNJ.
+fn has_non_joiner(glyphs: &[GlyphInfo]) -> bool {
+    glyphs.iter().any(|glyph| is_non_joiner(glyph))
+}
+
+// The same, glyph by glyph, from the last one on.
+fn clear_half_each(bits: u32, glyphs: &mut [GlyphInfo]) {
+    let mut loses = false;
+    for i in (0..glyphs.len()).rev() {
+        let glyph = &mut glyphs[i];
+        if loses {
+            glyph.mask &= !bits;
+        }
+        loses = keeps_losing(glyph, loses);
+    }
+}
+
+// Whether the glyph before this one loses half, where this one does so or doesn't.
+fn keeps_losing(glyph: &GlyphInfo, loses: bool) -> bool {
+    if loses {
+        return !is_consonant(glyph);
+    }
+    is_non_joiner(glyph)
+}
+
+// Whether a glyph is a ZWNJ, and no lookup put it in for several.
+fn is_non_joiner(glyph: &GlyphInfo) -> bool {
+    glyph.category == OT_ZWNJ && !glyph.marks.is_ligated()
+}

@@ -1,0 +1,102 @@
+//! Generated from crates/shapers_indic_initial/src/ot_shaper_indic_initial/opening.rt by rust/erase; edit the source.
+//!
+//! What comes before the order of a syllable: its positions, and the moves of single glyphs.
+//! (OpenType, development of Indic scripts: "Reorder characters".)
+
+use super::base::{Base, find_base};
+use super::halant::{halant_move, joiner_comes_first};
+use super::positions::{attach_marks, own, set_positions_by_base};
+use crate::generated::shapers_base::buffer::{Buffer, GlyphInfo, GlyphWalk, Script};
+use crate::generated::shapers_base::font::Font;
+use crate::generated::shapers_base::map::Map;
+use crate::generated::shapers_base::plan::IndicPlan;
+
+/// Gives the glyphs of the syllable from `start` to `end` their positions. Kannada's opening Ra, H,
+/// ZWJ becomes Ra, ZWJ, H, and by the older specification the H after the base goes behind the last
+/// consonant. It takes no memory.
+#[inline]
+pub(super) fn set_positions<F: Font>(
+    plan: &IndicPlan,
+    map: &Map,
+    face: &F,
+    buffer: &mut Buffer,
+    start: usize,
+    end: usize,
+) {
+    let script = buffer.script();
+    put_joiner_first(script, buffer, start, end);
+    let base = find_base(plan, map, face, &buffer.glyphs()[start..end]);
+    buffer.walk(&mut PositionsByBase { base, start, end });
+    move_halant(plan.is_old_spec, script, base.place, buffer, start, end);
+    let base = base.place;
+    buffer.walk(&mut PositionsOfMarks { base, start, end });
+}
+
+// Merges an H and the ZWJ behind it and lets them change places, where Kannada has it so.
+fn put_joiner_first(script: Option<Script>, buffer: &mut Buffer, start: usize, end: usize) {
+    if joiner_comes_first(script, &buffer.glyphs()[start..end]) {
+        buffer.merge_clusters(start + 1, start + 3);
+        move_to_end(buffer, start + 1, start + 3);
+    }
+}
+
+// Moves the H after the base, by the older specification.
+fn move_halant(
+    is_old_spec: bool,
+    script: Option<Script>,
+    base: usize,
+    buffer: &mut Buffer,
+    start: usize,
+    end: usize,
+) {
+    if !is_old_spec {
+        return;
+    }
+    if let Some((halant, last)) = halant_move(script, base, &buffer.glyphs()[start..end]) {
+        move_to_end(buffer, start + halant, start + last + 1);
+    }
+}
+
+// Moves the glyph at place `from` behind all others up to `end`.
+fn move_to_end(buffer: &mut Buffer, from: usize, end: usize) {
+    let last = end - 1;
+    for i in from..last {
+        buffer.set_place(i, i + 1);
+    }
+    buffer.set_place(last, from);
+    buffer.apply(from, end);
+}
+
+// Where a syllable stands whose glyphs get their positions by its base.
+struct PositionsByBase {
+    base: Base,
+    start: usize,
+    end: usize,
+}
+
+impl GlyphWalk for PositionsByBase {
+    #[inline]
+    fn walk(&mut self, glyphs: &mut [GlyphInfo]) {
+        set_positions_by_base(self.base, &mut glyphs[self.start..self.end]);
+    }
+}
+
+// Where a syllable with a base stands whose other glyphs get their positions by what they go with.
+struct PositionsOfMarks {
+    base: usize,
+    start: usize,
+    end: usize,
+}
+
+impl GlyphWalk for PositionsOfMarks {
+    #[inline]
+    fn walk(&mut self, glyphs: &mut [GlyphInfo]) {
+        set_positions_of_marks(self.base, &mut glyphs[self.start..self.end]);
+    }
+}
+
+// Sets the positions of a syllable with this base by what its glyphs go with.
+fn set_positions_of_marks(base: usize, syllable: &mut [GlyphInfo]) {
+    attach_marks(syllable);
+    own(base, syllable);
+}

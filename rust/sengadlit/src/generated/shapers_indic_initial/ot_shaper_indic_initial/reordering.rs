@@ -1,0 +1,82 @@
+//! Generated from crates/shapers_indic_initial/src/ot_shaper_indic_initial/reordering.rt by rust/erase; edit the source.
+//!
+//! The initial reordering of one syllable.
+
+use super::masks::set_masks;
+use super::opening::set_positions;
+use super::order::order_syllable;
+use super::ordered_base::ordered_base;
+use crate::generated::shapers_base::buffer::{Buffer, GlyphInfo, GlyphWalk, Script, ShaperError};
+use crate::generated::shapers_base::font::Font;
+use crate::generated::shapers_base::map::Map;
+use crate::generated::shapers_base::plan::IndicPlan;
+use crate::generated::shapers_syllabic::ot_shaper_syllabic::Reorder;
+use crate::generated::shapers_syllabic::ot_shaper_syllabic::indic_syllable::{
+    BROKEN_CLUSTER, CONSONANT_SYLLABLE, STANDALONE_CLUSTER, VOWEL_SYLLABLE,
+};
+
+/// The initial reordering of a syllable that has positions by the font: its order, and its masks.
+pub(super) struct InitialOrder<'a, F: Font> {
+    pub(super) plan: &'a IndicPlan,
+    pub(super) map: &'a Map,
+    pub(super) face: &'a F,
+}
+
+impl<'a, F: Font> Reorder for InitialOrder<'a, F> {
+    #[inline]
+    fn reorder(&self, buffer: &mut Buffer, start: usize, end: usize) -> Result<(), ShaperError> {
+        let (plan, map, face) = (self.plan, self.map, self.face);
+        if is_reordered(&buffer.glyphs()[start..end]) {
+            set_positions(plan, map, face, buffer, start, end);
+            order_syllable(buffer, start, end, plan.is_old_spec);
+            self.mask_syllable(buffer, start, end);
+        }
+        Ok(())
+    }
+}
+
+impl<'a, F: Font> InitialOrder<'a, F> {
+    // Gives the glyphs of an ordered syllable their masks.
+    fn mask_syllable(&self, buffer: &mut Buffer, start: usize, end: usize) {
+        let mut masks = Masks {
+            plan: self.plan,
+            map: self.map,
+            face: self.face,
+            script: buffer.script(),
+            start,
+            end,
+        };
+        buffer.walk(&mut masks);
+    }
+}
+
+// Where a syllable stands whose glyphs get their masks.
+struct Masks<'a, F: Font> {
+    plan: &'a IndicPlan,
+    map: &'a Map,
+    face: &'a F,
+    script: Option<Script>,
+    start: usize,
+    end: usize,
+}
+
+impl<'a, F: Font> GlyphWalk for Masks<'a, F> {
+    #[inline]
+    fn walk(&mut self, glyphs: &mut [GlyphInfo]) {
+        let syllable = &mut glyphs[self.start..self.end];
+        let base = ordered_base(syllable);
+        set_masks(self.plan, self.map, self.face, self.script, base, syllable);
+    }
+}
+
+// Whether a syllable is reordered.
+#[inline]
+fn is_reordered(syllable: &[GlyphInfo]) -> bool {
+    match syllable {
+        [] => false,
+        [first, ..] => matches!(
+            first.syllable % 16,
+            CONSONANT_SYLLABLE | VOWEL_SYLLABLE | STANDALONE_CLUSTER | BROKEN_CLUSTER
+        ),
+    }
+}

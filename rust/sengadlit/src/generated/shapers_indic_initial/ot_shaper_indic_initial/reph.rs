@@ -1,0 +1,82 @@
+//! Generated from crates/shapers_indic_initial/src/ot_shaper_indic_initial/reph.rt by rust/erase; edit the source.
+//!
+//! The reph that opens a syllable, and the limit of the search for its base. (OpenType, development
+//! of Indic scripts.)
+
+use crate::generated::shapers_base::buffer::GlyphInfo;
+use crate::generated::shapers_base::font::Font;
+use crate::generated::shapers_base::map::Map;
+use crate::generated::shapers_base::plan::ot_category_t::{OT_Repha, OT_ZWJ};
+use crate::generated::shapers_base::plan::{IndicPlan, RephMode};
+use crate::generated::shapers_indic::ot_shaper_indic::glyphs::{is_joiner, number};
+use crate::generated::shapers_indic::ot_shaper_indic::indic_feature::RPHF;
+
+/// How many glyphs the reph that opens a syllable has, without joiners behind it; 0 if there is
+/// none.
+pub(crate) fn reph_len<F: Font>(
+    plan: &IndicPlan,
+    map: &Map,
+    face: &F,
+    glyphs: &[GlyphInfo],
+) -> usize {
+    if plan.mask_array[RPHF] != 0 && third_lets_reph(plan.config.reph_mode, glyphs) {
+        return if is_formed(plan, map, face, glyphs) {
+            2
+        } else {
+            0
+        };
+    }
+    if opens_with_repha(plan.config.reph_mode, glyphs) {
+        1
+    } else {
+        0
+    }
+}
+
+/// Where the search for the base ends, if no ZWJ ends it before: behind the reph and the joiners
+/// that follow it, or at the start.
+#[inline]
+pub(crate) fn limit(reph_len: usize, glyphs: &[GlyphInfo]) -> usize {
+    if reph_len == 0 {
+        return 0;
+    }
+    reph_len + joiners_len(&glyphs[reph_len..])
+}
+
+// How many joiners stand in front.
+fn joiners_len(glyphs: &[GlyphInfo]) -> usize {
+    glyphs.iter().take_while(|glyph| is_joiner(glyph)).count()
+}
+
+// Whether the third glyph lets the first two be a reph.
+#[inline]
+fn third_lets_reph(mode: RephMode, glyphs: &[GlyphInfo]) -> bool {
+    match (glyphs, mode) {
+        ([_, _, third, ..], RephMode::Implicit) => !is_joiner(third),
+        ([_, _, third, ..], RephMode::Explicit) => third.category == OT_ZWJ,
+        _ => false,
+    }
+}
+
+// Whether the font forms a reph of what opens the syllable.
+fn is_formed<F: Font>(plan: &IndicPlan, map: &Map, face: &F, glyphs: &[GlyphInfo]) -> bool {
+    let opening = [number(&glyphs[0]), number(&glyphs[1]), number(&glyphs[2])];
+    match plan.config.reph_mode {
+        RephMode::Implicit => plan.rphf.would_substitute(map, face, &opening[..2]),
+        RephMode::Explicit => {
+            plan.rphf.would_substitute(map, face, &opening[..2])
+                || plan.rphf.would_substitute(map, face, &opening)
+        }
+        RephMode::LogRepha => false,
+    }
+}
+
+// Whether the syllable opens with a reph that is a character of its own, in a script that writes it
+// so.
+#[inline]
+fn opens_with_repha(mode: RephMode, glyphs: &[GlyphInfo]) -> bool {
+    match (glyphs, mode) {
+        ([first, ..], RephMode::LogRepha) => first.category == OT_Repha,
+        _ => false,
+    }
+}

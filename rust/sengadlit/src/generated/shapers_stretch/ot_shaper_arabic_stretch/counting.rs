@@ -1,0 +1,170 @@
+//! Generated from crates/shapers_stretch/src/ot_shaper_arabic_stretch/counting.rt by rust/erase; edit the source.
+//!
+//! The first pass over a text whose marks stretch: whether all its numbers fit, and how many cells
+//! it gains. A run takes a turn for each of its tiles, and none for a copy.
+
+use super::measuring::{Lay, advance_of, fits_i32, lay_of, measure};
+use super::parts::{last_part, repeats};
+use crate::generated::shapers_base::buffer::{GlyphInfo, GlyphPosition};
+use crate::generated::shapers_base::font::Font;
+use crate::generated::shapers_base::plan::StretchStart;
+
+/// How many cells a text has more when it is stretched, unless one of its numbers doesn't fit 32
+/// bits.
+pub(super) fn count_added<F: Font>(
+    face: &F,
+    choice: StretchStart,
+    right_to_left: bool,
+    glyphs: &[GlyphInfo],
+    positions: &[GlyphPosition],
+) -> Option<u128> {
+    let mut added = 0;
+    let mut end = glyphs.len();
+    while 0 < end {
+        let last = count_last(
+            face,
+            choice,
+            right_to_left,
+            &glyphs[..end],
+            &positions[..end],
+        )?;
+        added += last.added as u128;
+        end = last.start;
+    }
+    Some(added)
+}
+
+// Where the last part of a text begins, and how many cells it gains.
+#[derive(Clone, Copy)]
+struct Counted {
+    start: usize,
+    added: usize,
+}
+
+// Counts the last part of a text, unless one of its numbers doesn't fit 32 bits.
+fn count_last<F: Font>(
+    face: &F,
+    choice: StretchStart,
+    right_to_left: bool,
+    glyphs: &[GlyphInfo],
+    positions: &[GlyphPosition],
+) -> Option<Counted> {
+    let part = last_part(glyphs);
+    let start = part.start;
+    let tiles = &glyphs[part.tiles..];
+    if tiles.is_empty() {
+        return Some(Counted { start, added: 0 });
+    }
+    let word = &positions[part.word..part.tiles];
+    let added = count_run(face, choice, right_to_left, word, tiles)?;
+    Some(Counted { start, added })
+}
+
+// How many copies a run adds, unless one of its numbers doesn't fit 32 bits.
+fn count_run<F: Font>(
+    face: &F,
+    choice: StretchStart,
+    right_to_left: bool,
+    word: &[GlyphPosition],
+    tiles: &[GlyphInfo],
+) -> Option<usize> {
+    let run = measure(face, word, tiles);
+    let lay = lay_of(choice, right_to_left, run)?;
+    if offsets_fit(face, right_to_left, lay, tiles) {
+        Some(lay.added * run.repeaters)
+    } else {
+        None
+    }
+}
+
+// Whether the offsets of all copies of a run fit 32 bits.
+fn offsets_fit<F: Font>(face: &F, right_to_left: bool, lay: Lay, tiles: &[GlyphInfo]) -> bool {
+    let mut pen = lay.start;
+    let mut left = tiles.len();
+    while 0 < left {
+        left -= 1;
+        match behind_tile(face, right_to_left, lay, pen, &tiles[left]) {
+            Some(behind) => pen = behind,
+            None => return false,
+        }
+    }
+    true
+}
+
+// Where the pen is behind the copies of a tile, unless an offset of theirs doesn't fit 32 bits.
+fn behind_tile<F: Font>(
+    face: &F,
+    right_to_left: bool,
+    lay: Lay,
+    pen: i128,
+    tile: &GlyphInfo,
+) -> Option<i128> {
+    let width = advance_of(face, tile);
+    let behind = behind_copy(right_to_left, pen, i128::from(width))?;
+    if !repeats(tile) {
+        return Some(behind);
+    }
+    behind_copies(right_to_left, behind, step_of(width, lay), lay.added)
+}
+
+// How far each added copy of a tile moves the pen.
+#[inline]
+fn step_of(width: i32, lay: Lay) -> i128 {
+    i128::from(width) - lay.overlap
+}
+
+// Where the pen is behind a copy that moves it so far, unless the copy's offset doesn't fit 32
+// bits.
+#[inline]
+fn behind_copy(right_to_left: bool, pen: i128, step: i128) -> Option<i128> {
+    if fits_i32(first_offset(right_to_left, pen, step)) {
+        Some(moved(right_to_left, pen, step))
+    } else {
+        None
+    }
+}
+
+// The same behind so many copies that each move the pen so far: they stand at equal distances, so
+// that the first and the last tell.
+fn behind_copies(right_to_left: bool, pen: i128, step: i128, count: usize) -> Option<i128> {
+    if count == 0 {
+        return Some(pen);
+    }
+    let behind = moved(right_to_left, pen, product(count, step));
+    if ends_fit(right_to_left, pen, behind, step) {
+        Some(behind)
+    } else {
+        None
+    }
+}
+
+// Whether the offsets of the first and the last of copies at equal distances fit 32 bits.
+fn ends_fit(right_to_left: bool, pen: i128, behind: i128, step: i128) -> bool {
+    fits_i32(first_offset(right_to_left, pen, step))
+        && fits_i32(last_offset(right_to_left, behind, step))
+}
+
+// The offset of the first of such copies.
+fn first_offset(right_to_left: bool, pen: i128, step: i128) -> i128 {
+    if right_to_left { pen - step } else { pen }
+}
+
+// The offset of the last of them.
+fn last_offset(right_to_left: bool, behind: i128, step: i128) -> i128 {
+    if right_to_left { behind } else { behind - step }
+}
+
+// How far so many copies move the pen.
+fn product(count: usize, step: i128) -> i128 {
+    count as i128 * step
+}
+
+/// Where the pen is when it has moved so far.
+#[inline]
+pub(super) fn moved(right_to_left: bool, pen: i128, move_by: i128) -> i128 {
+    if right_to_left {
+        pen - move_by
+    } else {
+        pen + move_by
+    }
+}

@@ -1,0 +1,249 @@
+//! Generated from crates/shapers_stretch/src/ot_shaper_arabic_stretch/laying.rt by rust/erase; edit the source.
+//!
+//! The second pass over a text whose marks stretch: from behind, in place, each run is laid over
+//! its word. The writer never overtakes the reader.
+
+use super::counting::moved;
+use super::measuring::{Lay, Run, advance_of, lay_of, measure};
+use super::parts::{LastPart, last_part, repeats};
+use crate::generated::shapers_base::buffer::{
+    GlyphInfo, GlyphPosition, PositionedWalk, unsafe_to_break_in,
+};
+use crate::generated::shapers_base::font::Font;
+use crate::generated::shapers_base::plan::StretchStart;
+
+/// How the tiles of a text are laid, over slices whose first `len` cells are the text in working
+/// order, and which are just as long as the stretched text.
+#[derive(Clone, Copy)]
+pub(super) struct TileLaying<'a, F> {
+    pub(super) face: &'a F,
+    pub(super) choice: StretchStart,
+    pub(super) right_to_left: bool,
+    pub(super) len: usize,
+}
+
+impl<'a, F: Font> PositionedWalk for TileLaying<'a, F> {
+    #[inline]
+    fn walk(&self, glyphs: &mut [GlyphInfo], positions: &mut [GlyphPosition]) {
+        lay_all(
+            self.face,
+            self.choice,
+            self.right_to_left,
+            glyphs,
+            positions,
+            self.len,
+        );
+    }
+}
+
+/// Stretches the text of the first `len` cells over the whole slices.
+pub(super) fn lay_all<F: Font>(
+    face: &F,
+    choice: StretchStart,
+    right_to_left: bool,
+    glyphs: &mut [GlyphInfo],
+    positions: &mut [GlyphPosition],
+    len: usize,
+) {
+    let mut unlaid = Unlaid {
+        end: len,
+        place: glyphs.len(),
+    };
+    while 0 < unlaid.end {
+        unlaid = lay_last(face, choice, right_to_left, glyphs, positions, unlaid);
+    }
+}
+
+// What is still to be laid: what the text before `end` becomes, over the places before `place`.
+#[derive(Clone, Copy)]
+struct Unlaid {
+    end: usize,
+    place: usize,
+}
+
+// Lays the last part of the unlaid text: its run first, then what stands before it moves up.
+fn lay_last<F: Font>(
+    face: &F,
+    choice: StretchStart,
+    right_to_left: bool,
+    glyphs: &mut [GlyphInfo],
+    positions: &mut [GlyphPosition],
+    unlaid: Unlaid,
+) -> Unlaid {
+    let part = last_part(&glyphs[..unlaid.end]);
+    if part.tiles == unlaid.end {
+        move_up(glyphs, positions, part.start, part.tiles, unlaid.place);
+        return Unlaid {
+            end: part.start,
+            place: unlaid.place - (part.tiles - part.start),
+        };
+    }
+    let place = lay_run(face, choice, right_to_left, glyphs, positions, part, unlaid);
+    move_up(glyphs, positions, part.start, part.tiles, place);
+    Unlaid {
+        end: part.start,
+        place: place - (part.tiles - part.start),
+    }
+}
+
+// Moves the cells from `start` to `end` up, so that they end at `place`.
+#[inline]
+fn move_up(
+    glyphs: &mut [GlyphInfo],
+    positions: &mut [GlyphPosition],
+    start: usize,
+    end: usize,
+    place: usize,
+) {
+    if end < place {
+        let to = place - (end - start);
+        glyphs.copy_within(start..end, to);
+        positions.copy_within(start..end, to);
+    }
+}
+
+// Lays the run of the last part, and flags it and its word; where it then begins.
+fn lay_run<F: Font>(
+    face: &F,
+    choice: StretchStart,
+    right_to_left: bool,
+    glyphs: &mut [GlyphInfo],
+    positions: &mut [GlyphPosition],
+    part: LastPart,
+    unlaid: Unlaid,
+) -> usize {
+    let run = measure(
+        face,
+        &positions[part.word..part.tiles],
+        &glyphs[part.tiles..unlaid.end],
+    );
+    unsafe_to_break_in(glyphs, part.word, unlaid.end);
+    match lay_of(choice, right_to_left, run) {
+        Some(lay) => {
+            let pen = Pen {
+                at: lay.start,
+                place: unlaid.place,
+            };
+            let tiles = part.tiles;
+            let end = unlaid.end;
+            lay_tiles(
+                face,
+                right_to_left,
+                run,
+                lay,
+                glyphs,
+                positions,
+                tiles,
+                end,
+                pen,
+            )
+            .place
+        }
+        None => unreachable!(),
+    }
+}
+
+// Where the pen is, and the place before which the next copy is laid.
+#[derive(Clone, Copy)]
+struct Pen {
+    at: i128,
+    place: usize,
+}
+
+// A tile with its position.
+#[derive(Clone, Copy)]
+struct Tile {
+    glyph: GlyphInfo,
+    position: GlyphPosition,
+}
+
+// Lays the tiles from `tiles` to `end`, the last one first.
+fn lay_tiles<F: Font>(
+    face: &F,
+    right_to_left: bool,
+    run: Run,
+    lay: Lay,
+    glyphs: &mut [GlyphInfo],
+    positions: &mut [GlyphPosition],
+    tiles: usize,
+    end: usize,
+    pen: Pen,
+) -> Pen {
+    let mut pen = pen;
+    for i in (tiles..end).rev() {
+        let tile = Tile {
+            glyph: glyphs[i],
+            position: positions[i],
+        };
+        pen = lay_tile(face, right_to_left, run, lay, glyphs, positions, tile, pen);
+    }
+    pen
+}
+
+// Lays a tile, and where it repeats the added copies of it.
+fn lay_tile<F: Font>(
+    face: &F,
+    right_to_left: bool,
+    run: Run,
+    lay: Lay,
+    glyphs: &mut [GlyphInfo],
+    positions: &mut [GlyphPosition],
+    tile: Tile,
+    pen: Pen,
+) -> Pen {
+    let width = i128::from(advance_of(face, &tile.glyph));
+    let pen = lay_copies(right_to_left, width, 1, glyphs, positions, tile, pen);
+    if !repeats(&tile.glyph) {
+        return pen;
+    }
+    let step = width - lay.overlap;
+    let added = lay.added;
+    lay_copies(right_to_left, step, added, glyphs, positions, tile, pen)
+}
+
+// Lays so many copies of a tile that each move the pen so far.
+fn lay_copies(
+    right_to_left: bool,
+    step: i128,
+    count: usize,
+    glyphs: &mut [GlyphInfo],
+    positions: &mut [GlyphPosition],
+    tile: Tile,
+    pen: Pen,
+) -> Pen {
+    let mut pen = pen;
+    for _ in 0..count {
+        pen = lay_copy(right_to_left, step, glyphs, positions, tile, pen);
+    }
+    pen
+}
+
+// Lays one copy of a tile.
+fn lay_copy(
+    right_to_left: bool,
+    step: i128,
+    glyphs: &mut [GlyphInfo],
+    positions: &mut [GlyphPosition],
+    tile: Tile,
+    pen: Pen,
+) -> Pen {
+    let place = pen.place - 1;
+    glyphs[place] = tile.glyph;
+    let mut position = tile.position;
+    position.x_advance = 0;
+    position.x_offset = offset_of(right_to_left, pen.at, step);
+    positions[place] = position;
+    Pen {
+        at: moved(right_to_left, pen.at, step),
+        place,
+    }
+}
+
+// Where a copy stands.
+fn offset_of(right_to_left: bool, at: i128, step: i128) -> i32 {
+    if right_to_left {
+        (at - step) as i32
+    } else {
+        at as i32
+    }
+}

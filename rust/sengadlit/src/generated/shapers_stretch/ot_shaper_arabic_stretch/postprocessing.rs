@@ -1,0 +1,115 @@
+//! Generated from crates/shapers_stretch/src/ot_shaper_arabic_stretch/postprocessing.rt by rust/erase; edit the source.
+//!
+//! The hook behind positioning: marks stretch over the words before them.
+
+use super::counting::count_added;
+use super::laying::TileLaying;
+use crate::generated::shapers_base::buffer::{Buffer, Direction, ShaperError};
+use crate::generated::shapers_base::font::Font;
+use crate::generated::shapers_base::plan::{Plan, PlanData, StretchStart};
+
+/// Stretches marks: where the buffer is marked to have some, the tiles of each run of them are
+/// laid, and laid again, over the word before it, and no break is left inside. Refuses with
+/// `StretchOverflow` where a number of a run doesn't fit 32 bits, and then as a growth to the
+/// length of the result does: longer by the copies that are added. What is laid is as wide as
+/// `widths_law` says. (OpenType `stch`.)
+///
+/// <details><summary>Contract</summary>
+///
+/// # Contract
+///
+/// ```text
+/// requires kind { IsArabic plan.now.plan_data }
+/// requires positions { length buffer.old.positions ≡ length buffer.old.glyphs }
+/// requires numbers { All (λ g. g.glyph_id ≤ 65535) buffer.old.glyphs }
+/// ensures ok { OnOk result (buffer.new ≡ marks_stretched (F.font face.now)
+///     (start_of plan.now.plan_data) buffer.old) }
+/// ensures refusal { let choice = start_of plan.now.plan_data in
+///     let after = marks_stretched (F.font face.now) choice buffer.old in
+///     Refuses (stretch_refusal (F.font face.now) choice buffer.old) buffer.old.max_len
+///     (length after.glyphs) result }
+/// ensures longer { let added = copies_in (F.font face.now) buffer.old in
+///     OnOk result (length buffer.new.glyphs ≡ length buffer.old.glyphs + added) }
+/// ensures err { OnErr result (buffer.new ≡ buffer.old) }
+/// ensures unmarked { buffer.old.stch ≡ false → IsOk result }
+/// ```
+///
+/// - `IsArabic`: crates/shapers_arabic/specs/PlanData.antt
+/// - `Refuses`: crates/shapers_buffer/specs/Refusals.antt
+/// - `start_of`: crates/shapers_stretch/specs/Recorded.antt
+/// - `copies_in`, `marks_stretched`, `stretch_refusal`: crates/shapers_stretch/specs/Stretch.antt
+///
+/// </details>
+pub fn postprocess_glyphs<F: Font>(
+    plan: &Plan,
+    face: &F,
+    buffer: &mut Buffer,
+) -> Result<(), ShaperError> {
+    match &plan.plan_data {
+        PlanData::Arabic(arabic_plan) => stretch_marks(face, arabic_plan.stretch_start, buffer),
+        _ => unreachable!(),
+    }
+}
+
+// The same, where stretches begin so.
+fn stretch_marks<F: Font>(
+    face: &F,
+    choice: StretchStart,
+    buffer: &mut Buffer,
+) -> Result<(), ShaperError> {
+    if !buffer.has_stch() {
+        return Ok(());
+    }
+    match buffer.direction() {
+        Direction::RightToLeft => stretch_text(face, choice, true, buffer),
+        _ => stretch_backwards(face, choice, buffer),
+    }
+}
+
+// Stretches a text that is in working order backwards.
+fn stretch_backwards<F: Font>(
+    face: &F,
+    choice: StretchStart,
+    buffer: &mut Buffer,
+) -> Result<(), ShaperError> {
+    buffer.reverse();
+    let result = stretch_text(face, choice, false, buffer);
+    buffer.reverse();
+    result
+}
+
+// Stretches a text that stands in working order: all room is made before anything is written.
+fn stretch_text<F: Font>(
+    face: &F,
+    choice: StretchStart,
+    right_to_left: bool,
+    buffer: &mut Buffer,
+) -> Result<(), ShaperError> {
+    let len = buffer.len();
+    let glyphs = buffer.glyphs();
+    let positions = buffer.positions();
+    let Some(added) = count_added(face, choice, right_to_left, glyphs, positions) else {
+        return Err(ShaperError::StretchOverflow);
+    };
+    match make_room(buffer, added) {
+        Ok(()) => {
+            buffer.walk_positioned(&TileLaying {
+                face,
+                choice,
+                right_to_left,
+                len,
+            });
+            Ok(())
+        }
+        Err(refusal) => Err(refusal),
+    }
+}
+
+// Makes room for so many glyphs more.
+fn make_room(buffer: &mut Buffer, added: u128) -> Result<(), ShaperError> {
+    let room = buffer.max_len() - buffer.len();
+    if (room as u128) < added {
+        return Err(ShaperError::TooLong);
+    }
+    buffer.grow(added as usize)
+}

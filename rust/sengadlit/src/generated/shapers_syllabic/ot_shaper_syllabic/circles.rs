@@ -1,0 +1,274 @@
+//! Generated from crates/shapers_syllabic/src/ot_shaper_syllabic/circles.rt by rust/erase; edit the source.
+//!
+//! Dotted circles: what a broken syllable stands on.
+
+use crate::generated::shapers_base::buffer::{
+    Buffer, BufferFlags, GlyphInfo, GlyphWalk, ShaperError, first_syllable_len,
+};
+use crate::generated::shapers_base::font::Font;
+use crate::support::bitflags::Flags;
+
+// The character of the dotted circle.
+const DOTTED_CIRCLE: u32 = 0x25CC;
+
+/// What circles look like, and where they stand.
+#[derive(Clone, Copy, Debug)]
+pub struct DottedCircles {
+    /// The kind of the syllables that get one.
+    pub broken_kind: u8,
+    /// The circle, but for cluster, mask and syllable.
+    pub circle: GlyphInfo,
+    /// The category of glyphs that stay in front of it.
+    pub repha: Option<u8>,
+}
+
+// Where a syllable stands: its first place, and the one behind it.
+#[derive(Clone, Copy)]
+struct Places {
+    start: usize,
+    end: usize,
+}
+
+/// Gives each broken syllable a dotted circle, behind its leading glyphs of the repha category
+/// where one is given, else in front. Answers false, with nothing changed, where no syllable is
+/// broken, the caller forbids circles or the font has none. Refuses with `TooLong` where the text
+/// would be longer than `max_len`, and with `Memory`; where no circle opens it takes none.
+///
+/// <details><summary>Contract</summary>
+///
+/// # Contract
+///
+/// ```text
+/// requires { buffer.old.positions ≡ [] }
+/// ensures answer { let circles = circles_for ((F.font face.now).nominal dotted_circle)
+///     broken_syllable_type dottedcircle_category
+///     repha_category dottedcircle_position buffer.old in
+///     IfOk result (λ answer. answer ≡ is_some circles) }
+/// ensures ok { let circles = circles_for ((F.font face.now).nominal dotted_circle)
+///     broken_syllable_type dottedcircle_category
+///     repha_category dottedcircle_position buffer.old in
+///     OnOk result (buffer.new ≡
+///     record buffer.old { glyphs = circled circles buffer.old.glyphs }) }
+/// ensures length { let circles = circles_for ((F.font face.now).nominal dotted_circle)
+///     broken_syllable_type dottedcircle_category
+///     repha_category dottedcircle_position buffer.old in
+///     RefusesLength buffer.old.max_len (length (circled circles buffer.old.glyphs)) result }
+/// ensures err { OnErr result (buffer.new ≡ buffer.old) }
+/// ensures without_memory { let circles = circles_for ((F.font face.now).nominal dotted_circle)
+///     broken_syllable_type dottedcircle_category
+///     repha_category dottedcircle_position buffer.old in
+///     circled circles buffer.old.glyphs ≡ buffer.old.glyphs → IsOk result }
+/// ```
+///
+/// - `dotted_circle`: crates/shapers_base/specs/Font.antt
+/// - `RefusesLength`: crates/shapers_buffer/specs/Refusals.antt
+/// - `circled`, `circles_for`: crates/shapers_syllabic/specs/Circles.antt
+///
+/// </details>
+pub fn insert_dotted_circles<F: Font>(
+    face: &F,
+    buffer: &mut Buffer,
+    broken_syllable_type: u8,
+    dottedcircle_category: u8,
+    repha_category: Option<u8>,
+    dottedcircle_position: Option<u8>,
+) -> Result<bool, ShaperError> {
+    let circles = circles_for(
+        face,
+        buffer,
+        broken_syllable_type,
+        dottedcircle_category,
+        repha_category,
+        dottedcircle_position,
+    );
+    match circles {
+        None => Ok(false),
+        Some(circles) => {
+            circles.insert(buffer)?;
+            Ok(true)
+        }
+    }
+}
+
+// The circles that a buffer gets.
+fn circles_for<F: Font>(
+    face: &F,
+    buffer: &Buffer,
+    broken_kind: u8,
+    category: u8,
+    repha: Option<u8>,
+    auxiliary: Option<u8>,
+) -> Option<DottedCircles> {
+    let forbidden = buffer
+        .flags()
+        .contains(BufferFlags::DO_NOT_INSERT_DOTTED_CIRCLE);
+    if forbidden || !buffer.has_broken_syllable() {
+        return None;
+    }
+    match face.get_nominal_glyph(DOTTED_CIRCLE) {
+        None => None,
+        Some(glyph) => {
+            let circle = GlyphInfo {
+                glyph_id: u32::from(glyph.0),
+                category,
+                auxiliary: auxiliary.unwrap_or(0),
+                ..GlyphInfo::DEFAULT
+            };
+            Some(DottedCircles {
+                broken_kind,
+                circle,
+                repha,
+            })
+        }
+    }
+}
+
+impl DottedCircles {
+    // Puts the circles into the text.
+    fn insert(&self, buffer: &mut Buffer) -> Result<(), ShaperError> {
+        let len = buffer.len();
+        let count = self.count(buffer.glyphs());
+        if count == 0 {
+            return Ok(());
+        }
+        buffer.grow(count)?;
+        buffer.walk(&mut CircleWalk {
+            circles: *self,
+            len,
+        });
+        Ok(())
+    }
+
+    // How many circles the text gets.
+    fn count(&self, text: &[GlyphInfo]) -> usize {
+        let mut count = 0;
+        let mut rest = text;
+        while let Some(broken) = self.first_broken(rest) {
+            count += 1;
+            rest = &rest[broken.end..];
+        }
+        count
+    }
+
+    // Opens each broken syllable of the text, of `len` glyphs, behind which stands room for as many
+    // circles. The text is written from behind, so that nothing is written over before it is read.
+    fn open_all(&self, glyphs: &mut [GlyphInfo], len: usize) {
+        let mut read = len;
+        let mut left = glyphs.len() - len;
+        while left > 0 {
+            read = self.open_last(glyphs, read, left);
+            left -= 1;
+        }
+    }
+
+    // Opens the last broken syllable of the first `read` glyphs, which move up, from it on, by as
+    // many places as they have broken syllables. Answers where it starts.
+    fn open_last(&self, glyphs: &mut [GlyphInfo], read: usize, left: usize) -> usize {
+        let broken = self.last_broken(&glyphs[..read]);
+        move_up(glyphs, broken.end, read, left);
+        self.open(glyphs, broken, left);
+        broken.start
+    }
+
+    // Where the last broken syllable of a text stands.
+    fn last_broken(&self, text: &[GlyphInfo]) -> Places {
+        let end = text.len() - unbroken_end(text, self.broken_kind);
+        let byte = text[end - 1].syllable;
+        let start = end - syllable_end(&text[..end], byte);
+        Places { start, end }
+    }
+
+    // Moves a syllable up by `left` places, and puts its circle into it, which takes one of them.
+    fn open(&self, glyphs: &mut [GlyphInfo], broken: Places, left: usize) {
+        let syllable = &glyphs[broken.start..broken.end];
+        let circle = circle_in(syllable, self.circle);
+        let place = broken.start + self.rephas_len(syllable);
+        move_up(glyphs, place, broken.end, left);
+        glyphs[place + left - 1] = circle;
+        move_up(glyphs, broken.start, place, left - 1);
+    }
+
+    // Where the first broken syllable of a text stands.
+    fn first_broken(&self, text: &[GlyphInfo]) -> Option<Places> {
+        let start = unbroken_len(text, self.broken_kind);
+        if start == text.len() {
+            return None;
+        }
+        let end = start + first_syllable_len(&text[start..]);
+        Some(Places { start, end })
+    }
+
+    // How many glyphs of a syllable stand in front of its circle.
+    fn rephas_len(&self, syllable: &[GlyphInfo]) -> usize {
+        match self.repha {
+            None => 0,
+            Some(repha) => category_len(syllable, repha),
+        }
+    }
+}
+
+// The walk that opens the broken syllables of a text of `len` glyphs.
+struct CircleWalk {
+    circles: DottedCircles,
+    len: usize,
+}
+
+impl GlyphWalk for CircleWalk {
+    #[inline]
+    fn walk(&mut self, glyphs: &mut [GlyphInfo]) {
+        self.circles.open_all(glyphs, self.len);
+    }
+}
+
+// Copies the glyphs from `from` to `to` to as many places `by` further up.
+fn move_up(glyphs: &mut [GlyphInfo], from: usize, to: usize, by: usize) {
+    glyphs.copy_within(from..to, from + by);
+}
+
+// How many glyphs at the end are in a syllable of another kind.
+fn unbroken_end(glyphs: &[GlyphInfo], kind: u8) -> usize {
+    for i in (0..glyphs.len()).rev() {
+        if glyphs[i].syllable % 16 == kind {
+            return glyphs.len() - 1 - i;
+        }
+    }
+    glyphs.len()
+}
+
+// How many glyphs at the end have this byte of a syllable.
+fn syllable_end(glyphs: &[GlyphInfo], byte: u8) -> usize {
+    glyphs
+        .iter()
+        .rev()
+        .take_while(|glyph| glyph.syllable == byte)
+        .count()
+}
+
+// How many glyphs at the front have this category.
+fn category_len(glyphs: &[GlyphInfo], category: u8) -> usize {
+    glyphs
+        .iter()
+        .take_while(|glyph| glyph.category == category)
+        .count()
+}
+
+// How many glyphs at the front are in a syllable of another kind.
+fn unbroken_len(glyphs: &[GlyphInfo], kind: u8) -> usize {
+    for (i, glyph) in glyphs.iter().enumerate() {
+        if glyph.syllable % 16 == kind {
+            return i;
+        }
+    }
+    glyphs.len()
+}
+
+// The circle of a syllable, which takes cluster, mask and syllable byte from the first glyph.
+fn circle_in(syllable: &[GlyphInfo], circle: GlyphInfo) -> GlyphInfo {
+    let first = syllable[0];
+    GlyphInfo {
+        cluster: first.cluster,
+        mask: first.mask,
+        syllable: first.syllable,
+        ..circle
+    }
+}

@@ -1,0 +1,95 @@
+//! Generated from crates/shapers_syllabic/src/ot_shaper_syllabic/pause.rt by rust/erase; edit the source.
+//!
+//! A reordering pause: dotted circles, and then the order of each syllable.
+
+use super::circles::insert_dotted_circles;
+use super::reordering::{Reorder, reorder_syllables};
+use crate::generated::shapers_base::buffer::{Buffer, ShaperError};
+use crate::generated::shapers_base::font::Font;
+
+/// The dotted circles of a shaper: in syllables of the broken kind, with a category and a position,
+/// behind the leading glyphs of the repha category where there is one.
+#[derive(Clone, Copy, Debug, PartialEq, Eq)]
+pub struct ScriptCircles {
+    /// The kind of the syllables that get one.
+    pub broken_kind: u8,
+    /// The category of the circle.
+    pub category: u8,
+    /// The category of glyphs that stay in front of it.
+    pub repha: Option<u8>,
+    /// The circle's position, in its auxiliary byte, or none for 0.
+    pub position: Option<u8>,
+}
+
+/// Gives broken syllables their dotted circles and then reorders each syllable. Answers whether
+/// circles were wanted. Refuses with `UnknownSyllable` where a kind is above the last known one, if
+/// there is one; with `TooLong`; and with `Memory`, but not where no circle opens. The order itself
+/// never refuses. Every cluster afterwards is one that the text had before its circles.
+///
+/// <details><summary>Contract</summary>
+///
+/// # Contract
+///
+/// ```text
+/// requires without_positions { buffer.old.positions ≡ [] }
+/// requires laws { ReorderLaws
+///     (R.meaning order.now buffer.old.script) (R.steps order.now buffer.old.script) }
+/// ensures answer { let circles = script_circles script.now (F.font face.now) buffer.old in
+///     IfOk result (λ answer. answer ≡ is_some circles) }
+/// ensures ok { let circles = script_circles script.now (F.font face.now) buffer.old in
+///     OnOk result (PauseReordered circles
+///     (R.meaning order.now buffer.old.script) (R.steps order.now buffer.old.script)
+///     buffer.old buffer.new) }
+/// ensures cut { let circles = script_circles script.now (F.font face.now) buffer.old in
+///     OnOk result (PauseCutsAtBorders circles
+///     (R.meaning order.now buffer.old.script) (R.steps order.now buffer.old.script)
+///     buffer.old buffer.new) }
+/// ensures laws { let circles = script_circles script.now (F.font face.now) buffer.old in
+///     let opened = record buffer.old { glyphs = circled circles buffer.old.glyphs } in
+///     OnOk result (TextReordered (R.steps order.now buffer.old.script) opened buffer.new) }
+/// ensures clusters { OnOk result (NoNewCluster buffer.old.glyphs buffer.new.glyphs) }
+/// ensures refusal { let circles = script_circles script.now (F.font face.now) buffer.old in
+///     Refuses (kind_refusal last_kind buffer.old.glyphs)
+///     buffer.old.max_len (length (circled circles buffer.old.glyphs)) result }
+/// ensures err { OnErr result (buffer.new ≡ buffer.old) }
+/// ensures without_memory { let circles = script_circles script.now (F.font face.now) buffer.old in
+///     kind_refusal last_kind buffer.old.glyphs ≡ None →
+///     circled circles buffer.old.glyphs ≡ buffer.old.glyphs → IsOk result }
+/// ```
+///
+/// - `Refuses`: crates/shapers_buffer/specs/Refusals.antt
+/// - `NoNewCluster`: crates/shapers_syllabic/specs/CircleLaws.antt
+/// - `circled`: crates/shapers_syllabic/specs/Circles.antt
+/// - `PauseReordered`, `kind_refusal`, `script_circles`: crates/shapers_syllabic/specs/Reordering.antt
+/// - `PauseCutsAtBorders`, `ReorderLaws`, `TextReordered`: crates/shapers_syllabic/specs/ReorderingLaws.antt
+///
+/// </details>
+pub fn reorder_pause<F: Font, R: Reorder>(
+    face: &F,
+    order: &R,
+    script: &ScriptCircles,
+    last_kind: Option<u8>,
+    buffer: &mut Buffer,
+) -> Result<bool, ShaperError> {
+    if let Some(place) = first_unknown(buffer, last_kind) {
+        return Err(ShaperError::UnknownSyllable(place));
+    }
+    let circles = insert_dotted_circles(
+        face,
+        buffer,
+        script.broken_kind,
+        script.category,
+        script.repha,
+        script.position,
+    )?;
+    reorder_syllables(order, buffer)?;
+    Ok(circles)
+}
+
+// The first place of the first syllable of unknown kind, where there is a last known one.
+fn first_unknown(buffer: &Buffer, last_kind: Option<u8>) -> Option<usize> {
+    match last_kind {
+        None => None,
+        Some(last_kind) => buffer.unknown_syllable(last_kind),
+    }
+}

@@ -1,0 +1,98 @@
+//! Generated from crates/shapers_syllabic/src/ot_shaper_syllabic/set_up.rt by rust/erase; edit the source.
+//!
+//! Cutting a text into syllables.
+
+use crate::generated::shapers_base::buffer::glyph_flag::{UNSAFE_TO_BREAK, UNSAFE_TO_CONCAT};
+use crate::generated::shapers_base::buffer::{
+    Buffer, GlyphInfo, GlyphWalk, ShaperError, Span, has_span_of_kind, least_cluster, spans_cover,
+};
+
+/// Cuts the text into the syllables of these spans, marks whether one is of the broken kind, and
+/// flags the inside of each syllable as unsafe to break. Refuses with `SpansDontCover` where a span
+/// is empty or the lengths don't add up to the buffer's. It takes no memory and leaves the clusters
+/// as they are.
+///
+/// <details><summary>Contract</summary>
+///
+/// # Contract
+///
+/// ```text
+/// requires { All (λ span. span.kind ≤ 15) spans.now }
+/// ensures refusal { RefusesInput (spans_refusal spans.now buffer.old) result }
+/// ensures ok { let cut = with_spans spans.now broken_kind buffer.old in
+///     OnOk result (buffer.new ≡ with_unsafe_syllables cut) }
+/// ensures cut { OnOk result
+///     (SetUpCutsAtSpans spans.now broken_kind buffer.old buffer.new) }
+/// ensures clusters { clusters buffer.new.glyphs ≡ clusters buffer.old.glyphs }
+/// ensures err { OnErr result (buffer.new ≡ buffer.old) }
+/// ```
+///
+/// - `clusters`: crates/shapers_buffer/specs/Glyph.antt
+/// - `RefusesInput`: crates/shapers_buffer/specs/Refusals.antt
+/// - `spans_refusal`, `with_spans`: crates/shapers_buffer/specs/Syllables.antt
+/// - `SetUpCutsAtSpans`: crates/shapers_syllabic/specs/Borders.antt
+/// - `with_unsafe_syllables`: crates/shapers_syllabic/specs/Syllabic.antt
+///
+/// </details>
+pub fn set_up_syllables(
+    spans: &[Span],
+    broken_kind: u8,
+    buffer: &mut Buffer,
+) -> Result<(), ShaperError> {
+    if !spans_cover(buffer.len(), spans) {
+        return Err(ShaperError::SpansDontCover);
+    }
+    buffer.walk(&mut SetUp { spans });
+    if has_span_of_kind(spans, broken_kind) {
+        buffer.set_has_broken_syllable(true);
+    }
+    Ok(())
+}
+
+// The spans that a text is cut into.
+#[derive(Clone, Copy)]
+struct SetUp<'a> {
+    spans: &'a [Span],
+}
+
+impl<'a> GlyphWalk for SetUp<'a> {
+    #[inline]
+    fn walk(&mut self, glyphs: &mut [GlyphInfo]) {
+        set_up_spans(glyphs, self.spans);
+    }
+}
+
+// Gives each place the byte of the span that covers it, and flags the inside of each span.
+fn set_up_spans(glyphs: &mut [GlyphInfo], spans: &[Span]) {
+    let mut start = 0;
+    for (i, span) in spans.iter().enumerate() {
+        let serial = (i % 15 + 1) as u8;
+        let end = start + span.len;
+        set_up_span_in(glyphs, start, end, serial * 16 + span.kind);
+        start = end;
+    }
+}
+
+// Makes one syllable of the glyphs from `s` to `e`.
+fn set_up_span_in(glyphs: &mut [GlyphInfo], s: usize, e: usize, byte: u8) {
+    set_up_span(&mut glyphs[s..e], byte);
+}
+
+// Makes one syllable of these glyphs: gives them this byte, and flags its inside.
+fn set_up_span(glyphs: &mut [GlyphInfo], byte: u8) {
+    if glyphs.is_empty() {
+        return;
+    }
+    let least = least_cluster(glyphs);
+    set_up_each(glyphs, byte, least);
+}
+
+// Gives these glyphs this byte, and flags those outside the least cluster.
+fn set_up_each(glyphs: &mut [GlyphInfo], byte: u8, least: u32) {
+    for glyph in glyphs.iter_mut() {
+        glyph.syllable = byte;
+        if glyph.cluster != least {
+            glyph.mask |= UNSAFE_TO_BREAK | UNSAFE_TO_CONCAT;
+        }
+    }
+}

@@ -1,0 +1,292 @@
+//! Generated from crates/shapers_text/src/ot_shaper_thai/forms.rt by rust/erase; edit the source.
+//!
+//! The private use forms of Thai, for fonts whose GSUB table doesn't know the script: marks that
+//! would touch are shifted, and a descender that is in the way is left out. (The Thai note.)
+
+use crate::generated::shapers_base::buffer::{Buffer, GlyphInfo, GlyphWalk, unsafe_to_break_in};
+use crate::generated::shapers_base::font::Font;
+
+/// The type of a consonant.
+#[derive(Clone, Copy)]
+enum Consonant {
+    /// No ascender and no descender.
+    NC,
+    /// Ascending.
+    AC,
+    /// With a descender that a font may leave out.
+    RC,
+    /// With a descender that stays.
+    DC,
+    /// Another character.
+    NotConsonant,
+}
+
+/// The type of a mark.
+#[derive(Clone, Copy)]
+enum Mark {
+    /// A vowel above.
+    AV,
+    /// A vowel below.
+    BV,
+    /// A tone, above.
+    T,
+    /// Another character.
+    NotMark,
+}
+
+/// What a mark does.
+#[derive(Clone, Copy)]
+enum Action {
+    /// Nothing.
+    NOP,
+    /// It is shifted down.
+    SD,
+    /// It is shifted left.
+    SL,
+    /// It is shifted down and left.
+    SDL,
+    /// It takes the descender from its base.
+    RD,
+}
+
+/// A character, its form by Windows, and its form by Macintosh.
+#[derive(Clone, Copy)]
+struct PuaMapping(u32, u32, u32);
+
+static SD_MAPPINGS: [PuaMapping; 8] = [
+    PuaMapping(0x0E48, 0xF70A, 0xF88B),
+    PuaMapping(0x0E49, 0xF70B, 0xF88E),
+    PuaMapping(0x0E4A, 0xF70C, 0xF891),
+    PuaMapping(0x0E4B, 0xF70D, 0xF894),
+    PuaMapping(0x0E4C, 0xF70E, 0xF897),
+    PuaMapping(0x0E38, 0xF718, 0xF89B),
+    PuaMapping(0x0E39, 0xF719, 0xF89C),
+    PuaMapping(0x0E3A, 0xF71A, 0xF89D),
+];
+
+static SDL_MAPPINGS: [PuaMapping; 5] = [
+    PuaMapping(0x0E48, 0xF705, 0xF88C),
+    PuaMapping(0x0E49, 0xF706, 0xF88F),
+    PuaMapping(0x0E4A, 0xF707, 0xF892),
+    PuaMapping(0x0E4B, 0xF708, 0xF895),
+    PuaMapping(0x0E4C, 0xF709, 0xF898),
+];
+
+static SL_MAPPINGS: [PuaMapping; 12] = [
+    PuaMapping(0x0E48, 0xF713, 0xF88A),
+    PuaMapping(0x0E49, 0xF714, 0xF88D),
+    PuaMapping(0x0E4A, 0xF715, 0xF890),
+    PuaMapping(0x0E4B, 0xF716, 0xF893),
+    PuaMapping(0x0E4C, 0xF717, 0xF896),
+    PuaMapping(0x0E31, 0xF710, 0xF884),
+    PuaMapping(0x0E34, 0xF701, 0xF885),
+    PuaMapping(0x0E35, 0xF702, 0xF886),
+    PuaMapping(0x0E36, 0xF703, 0xF887),
+    PuaMapping(0x0E37, 0xF704, 0xF888),
+    PuaMapping(0x0E47, 0xF712, 0xF889),
+    PuaMapping(0x0E4D, 0xF711, 0xF899),
+];
+
+static RD_MAPPINGS: [PuaMapping; 2] = [
+    PuaMapping(0x0E0D, 0xF70F, 0xF89A),
+    PuaMapping(0x0E10, 0xF700, 0xF89E),
+];
+
+/// The types of a character, as a consonant and as a mark.
+#[derive(Clone, Copy)]
+struct Types(Consonant, Mark);
+
+const NC: Types = Types(Consonant::NC, Mark::NotMark);
+
+const AC: Types = Types(Consonant::AC, Mark::NotMark);
+
+const RC: Types = Types(Consonant::RC, Mark::NotMark);
+
+const DC: Types = Types(Consonant::DC, Mark::NotMark);
+
+const AV: Types = Types(Consonant::NotConsonant, Mark::AV);
+
+const BV: Types = Types(Consonant::NotConsonant, Mark::BV);
+
+const T: Types = Types(Consonant::NotConsonant, Mark::T);
+
+const NO: Types = Types(Consonant::NotConsonant, Mark::NotMark);
+
+/// The types of the characters from 0E00 to 0E5F, sixteen in a row.
+static TYPES: [Types; 96] = [
+    NO, NC, NC, NC, NC, NC, NC, NC, NC, NC, NC, NC, NC, RC, DC, DC, RC, NC, NC, NC, NC, NC, NC, NC,
+    NC, NC, NC, AC, NC, AC, NC, AC, NC, NC, NC, NC, NC, NC, NC, NC, NC, NC, NC, NC, NC, NC, NC, NO,
+    NO, AV, NO, NO, AV, AV, AV, AV, BV, BV, BV, NO, NO, NO, NO, NO, NO, NO, NO, NO, NO, NO, NO, AV,
+    T, T, T, T, T, AV, AV, NO, NO, NO, NO, NO, NO, NO, NO, NO, NO, NO, NO, NO, NO, NO, NO, NO,
+];
+
+// The types of a character. Outside the block of Thai it is neither.
+#[inline]
+fn types_of(u: u32) -> Types {
+    let i = u.wrapping_sub(0x0E00);
+    if i < 96 { TYPES[i as usize] } else { NO }
+}
+
+// What a mark does by the types of its base and itself, with so many marks above and below since
+// the base.
+fn get_action(base: Consonant, mark: Mark, above: usize, below: usize) -> Action {
+    match (base, mark) {
+        (Consonant::RC, Mark::BV) if below == 0 => Action::RD,
+        (Consonant::NC | Consonant::AC, Mark::BV) if below == 0 => Action::NOP,
+        (_, Mark::BV) => Action::SD,
+        (Consonant::AC, Mark::AV) if above == 0 => Action::SL,
+        (Consonant::AC, Mark::T) if above == 0 => Action::SDL,
+        (Consonant::AC, Mark::T) if above == 1 => Action::SL,
+        (Consonant::NC | Consonant::RC | Consonant::DC, Mark::T) if above == 0 => Action::SD,
+        _ => Action::NOP,
+    }
+}
+
+// The forms for what a mark does.
+fn get_mappings<'a>(action: Action) -> &'a [PuaMapping] {
+    match action {
+        Action::NOP => &[],
+        Action::SD => &SD_MAPPINGS,
+        Action::SL => &SL_MAPPINGS,
+        Action::SDL => &SDL_MAPPINGS,
+        Action::RD => &RD_MAPPINGS,
+    }
+}
+
+// The forms of a character.
+fn find_mapping(mappings: &[PuaMapping], u: u32) -> Option<PuaMapping> {
+    mappings.iter().copied().find(|m| m.0 == u)
+}
+
+// The first form of a character that the font has, else the character itself.
+fn pua_shape<F: Font>(u: u32, action: Action, face: &F) -> u32 {
+    match find_mapping(get_mappings(action), u) {
+        None => u,
+        Some(m) => {
+            if face.has_glyph(m.1) {
+                m.1
+            } else if face.has_glyph(m.2) {
+                m.2
+            } else {
+                u
+            }
+        }
+    }
+}
+
+// Flags the places from a base to its last mark, which `end` stands behind: a break there would
+// change the forms. The stretch to a base's last mark holds those to the others. One mark behind
+// its base flags nothing.
+#[inline]
+fn flag_marks(glyphs: &mut [GlyphInfo], base: usize, end: usize) {
+    if end - base > 2 {
+        unsafe_to_break_in(glyphs, base, end - 1);
+    }
+}
+
+// Gives the glyph at `place` its form.
+fn set_form<F: Font>(face: &F, glyphs: &mut [GlyphInfo], place: usize, action: Action) {
+    glyphs[place].glyph_id = pua_shape(glyphs[place].glyph_id, action, face);
+}
+
+/// The base of the marks that come next, and how many marks stand above and below it so far.
+#[derive(Clone, Copy)]
+struct Base {
+    place: usize,
+    consonant: Consonant,
+    above: usize,
+    below: usize,
+}
+
+impl Base {
+    // Before any base.
+    const NONE: Base = Base {
+        place: 0,
+        consonant: Consonant::NotConsonant,
+        above: 0,
+        below: 0,
+    };
+
+    // Does what the mark at place `i` does: to itself, or to its base.
+    fn act<F: Font>(self, face: &F, glyphs: &mut [GlyphInfo], i: usize, mark: Mark) {
+        let action = get_action(self.consonant, mark, self.above, self.below);
+        match action {
+            Action::NOP => {}
+            Action::RD => set_form(face, glyphs, self.place, action),
+            Action::SD | Action::SL | Action::SDL => set_form(face, glyphs, i, action),
+        }
+    }
+
+    // Does what the character at place `i` does, and gives the base of what follows: a mark does
+    // its action, and another character flags the marks before it.
+    fn pass<F: Font>(self, face: &F, glyphs: &mut [GlyphInfo], i: usize, u: u32) -> Base {
+        let Types(consonant, mark) = types_of(u);
+        match mark {
+            Mark::NotMark => {
+                flag_marks(glyphs, self.place, i);
+                Base {
+                    place: i,
+                    consonant,
+                    ..Base::NONE
+                }
+            }
+            Mark::AV | Mark::T => {
+                self.act(face, glyphs, i, mark);
+                Base {
+                    above: self.above + 1,
+                    ..self
+                }
+            }
+            Mark::BV => {
+                self.act(face, glyphs, i, mark);
+                Base {
+                    below: self.below + 1,
+                    ..self
+                }
+            }
+        }
+    }
+}
+
+// Gives each mark, or its base, its form, and flags the marks of each base.
+fn shape_marks<F: Font>(face: &F, glyphs: &mut [GlyphInfo]) {
+    let mut base = Base::NONE;
+    for i in 0..glyphs.len() {
+        let u = glyphs[i].glyph_id;
+        base = base.pass(face, glyphs, i, u);
+    }
+    let end = glyphs.len();
+    flag_marks(glyphs, base.place, end);
+}
+
+// The walk over a buffer.
+#[derive(Clone, Copy)]
+struct PuaShaping<'a, F> {
+    face: &'a F,
+}
+
+impl<'a, F: Font> GlyphWalk for PuaShaping<'a, F> {
+    #[inline]
+    fn walk(&mut self, glyphs: &mut [GlyphInfo]) {
+        shape_marks(self.face, glyphs);
+    }
+}
+
+/// Gives the marks of a Thai text, and bases with descenders, their private use forms.
+///
+/// <details><summary>Contract</summary>
+///
+/// # Contract
+///
+/// ```text
+/// ensures { let has = has_nominal (F.font face.now) in
+///     buffer.new ≡ record buffer.old { glyphs = pua_shaped has buffer.old.glyphs } }
+/// ```
+///
+/// - `has_nominal`: crates/shapers_base/specs/Font.antt
+/// - `pua_shaped`: crates/shapers_text/specs/ThaiForms.antt
+///
+/// </details>
+pub fn do_pua_shaping<F: Font>(face: &F, buffer: &mut Buffer) {
+    buffer.walk(&mut PuaShaping { face });
+}

@@ -1,0 +1,189 @@
+//! Generated from crates/shapers_text/src/ot_shaper_thai/sara_am.rt by rust/erase; edit the source.
+//!
+//! SARA AM in two: NIKHAHIT, which goes before the above-base marks, and SARA AA.
+
+use crate::generated::shapers_base::buffer::{
+    Buffer, BufferClusterLevel, ClusterRun, GeneralCategory, GlyphInfo, GlyphWalk, ShaperError,
+    merge_run_in, write_run_in,
+};
+
+// SARA AM, of Thai and of Lao.
+fn is_sara_am(u: u32) -> bool {
+    matches!(u, 0x0E33 | 0x0EB3)
+}
+
+// An above-base mark of Thai, or of Lao, which stands 0x80 higher.
+fn is_above_base_mark(u: u32) -> bool {
+    matches!(u & !0x80, 0x0E31 | 0x0E34..=0x0E37 | 0x0E3B | 0x0E47..=0x0E4E)
+}
+
+// The NIKHAHIT of a SARA AM: a mark that its cluster's first glyph carries on.
+fn nikhahit_from_sara_am(am: GlyphInfo) -> GlyphInfo {
+    let mut marks = am.marks;
+    marks.set_continuation(true);
+    GlyphInfo {
+        glyph_id: am.glyph_id + (0x0E4D - 0x0E33),
+        general_category: GeneralCategory::Mn,
+        marks,
+        ..am
+    }
+}
+
+// The SARA AA of a SARA AM.
+fn sara_aa_from_sara_am(am: GlyphInfo) -> GlyphInfo {
+    GlyphInfo {
+        glyph_id: am.glyph_id - 1,
+        ..am
+    }
+}
+
+// How many SARA AM the text has.
+fn count_sara_am(buffer: &Buffer) -> usize {
+    buffer
+        .glyphs()
+        .iter()
+        .filter(|glyph| is_sara_am(glyph.glyph_id))
+        .count()
+}
+
+// How many above-base marks stand right before `place`.
+fn count_marks_before(glyphs: &[GlyphInfo], place: usize) -> usize {
+    glyphs[..place]
+        .iter()
+        .rev()
+        .take_while(|glyph| is_above_base_mark(glyph.glyph_id))
+        .count()
+}
+
+// Merges what a SARA AM at `place` merges, its marks or, without any, the glyph before it, in the
+// glyphs with a run in its cluster. Answers the run that is to be written then.
+fn merge_sara_am(
+    level: BufferClusterLevel,
+    glyphs: &mut [GlyphInfo],
+    run: ClusterRun,
+    place: usize,
+) -> ClusterRun {
+    let above = count_marks_before(glyphs, place);
+    if above > 0 {
+        return merge_run_in(level, glyphs, run, place - above, place + 1);
+    }
+    match level {
+        BufferClusterLevel::MonotoneGraphemes if place > 0 => {
+            merge_run_in(level, glyphs, run, place - 1, place + 1)
+        }
+        BufferClusterLevel::MonotoneGraphemes
+        | BufferClusterLevel::MonotoneCharacters
+        | BufferClusterLevel::Characters => run,
+    }
+}
+
+// Merges what each SARA AM of the first `len` glyphs merges, from the left.
+fn merge_all_sara_am(level: BufferClusterLevel, glyphs: &mut [GlyphInfo], len: usize) {
+    let mut run = ClusterRun::NONE;
+    for i in 0..len {
+        if is_sara_am(glyphs[i].glyph_id) {
+            run = merge_sara_am(level, glyphs, run, i);
+        }
+    }
+    write_run_in(glyphs, run);
+}
+
+// What is still to be written: what the text before `end` becomes, over the places before `place`.
+struct Unwritten {
+    end: usize,
+    place: usize,
+}
+
+impl Unwritten {
+    // Writes what the last glyph becomes; if it is a SARA AM, with its marks.
+    fn write_last(&mut self, glyphs: &mut [GlyphInfo]) {
+        self.end -= 1;
+        self.place -= 1;
+        if is_sara_am(glyphs[self.end].glyph_id) {
+            let am = glyphs[self.end];
+            glyphs[self.place] = sara_aa_from_sara_am(am);
+            self.write_nikhahit(glyphs, nikhahit_from_sara_am(am));
+        } else {
+            glyphs[self.place] = glyphs[self.end];
+        }
+    }
+
+    // Writes the marks that end the text, and a NIKHAHIT before them.
+    fn write_nikhahit(&mut self, glyphs: &mut [GlyphInfo], nikhahit: GlyphInfo) {
+        let above = count_marks_before(glyphs, self.end);
+        for _ in 0..above {
+            self.end -= 1;
+            self.place -= 1;
+            glyphs[self.place] = glyphs[self.end];
+        }
+        self.place -= 1;
+        glyphs[self.place] = nikhahit;
+    }
+}
+
+// Writes the first `len` glyphs with each SARA AM in two over a slice that has just the room for
+// it.
+fn write_in_two(glyphs: &mut [GlyphInfo], len: usize) {
+    let mut unwritten = Unwritten {
+        end: len,
+        place: glyphs.len(),
+    };
+    while unwritten.end < unwritten.place {
+        unwritten.write_last(glyphs);
+    }
+}
+
+// The walk over a grown buffer, whose text is its first `len` glyphs.
+#[derive(Clone, Copy)]
+struct Rewriting {
+    level: BufferClusterLevel,
+    len: usize,
+}
+
+impl GlyphWalk for Rewriting {
+    #[inline]
+    fn walk(&mut self, glyphs: &mut [GlyphInfo]) {
+        merge_all_sara_am(self.level, glyphs, self.len);
+        write_in_two(glyphs, self.len);
+    }
+}
+
+/// Puts each SARA AM in two: NIKHAHIT, before the above-base marks that stand before it, and SARA
+/// AA.
+/// A SARA AM merges with its marks or, at level MonotoneGraphemes, with the glyph before it.
+/// Refuses as a growth does. (OpenType's Thai and Lao notes; rustybuzz's comment on the rule.)
+///
+/// <details><summary>Contract</summary>
+///
+/// # Contract
+///
+/// ```text
+/// requires { buffer.old.positions ≡ [] }
+/// ensures ok { let gs = buffer.old.glyphs in
+///     let stretches = sara_am_stretches buffer.old.level (characters gs) in
+///     let merged = merge_all buffer.old.level stretches gs in
+///     OnOk result (buffer.new ≡ record buffer.old { glyphs = glyphs_in_two merged }) }
+/// ensures length { let wanted = length (glyphs_in_two buffer.old.glyphs) in
+///     RefusesLength buffer.old.max_len wanted result }
+/// ensures err { OnErr result (buffer.new ≡ buffer.old) }
+/// ensures without { let some = list_any (λ g. is_sara_am g.glyph_id) buffer.old.glyphs in
+///     some ≡ false → IsOk result }
+/// ```
+///
+/// - `merge_all`: crates/shapers_buffer/specs/Clusters.antt
+/// - `characters`: crates/shapers_buffer/specs/Glyph.antt
+/// - `RefusesLength`: crates/shapers_buffer/specs/Refusals.antt
+/// - `glyphs_in_two`, `is_sara_am`, `sara_am_stretches`: crates/shapers_text/specs/Thai.antt
+///
+/// </details>
+pub fn rewrite_sara_am(buffer: &mut Buffer) -> Result<(), ShaperError> {
+    let len = buffer.len();
+    let count = count_sara_am(buffer);
+    if count == 0 {
+        return Ok(());
+    }
+    buffer.grow(count)?;
+    let level = buffer.cluster_level();
+    buffer.walk(&mut Rewriting { level, len });
+    Ok(())
+}

@@ -1,0 +1,116 @@
+//! Generated from crates/shapers_universal/src/ot_shaper_use/forms.rt by rust/erase; edit the source.
+//!
+//! The forms of syllables by their places in runs.
+
+use crate::generated::shapers_base::buffer::{
+    Buffer, GlyphInfo, GlyphWalk, Tag, first_syllable_len,
+};
+use crate::generated::shapers_base::map::Map;
+use crate::generated::shapers_syllabic::ot_shaper_syllabic::use_syllable::{
+    HIEROGLYPH_CLUSTER, NON_CLUSTER,
+};
+
+// The masks of the four forms.
+#[derive(Clone, Copy)]
+pub(super) struct FormMasks {
+    isol: u32,
+    init: u32,
+    medi: u32,
+    fina: u32,
+}
+
+// Gives each syllable the mask of its form: in each unbroken run of syllables that join, a lone one
+// is isolated, the first initial, the last final, the others medial.
+pub(super) fn set_forms(map: &Map, buffer: &mut Buffer) {
+    let mut masks = FormMasks::of(map);
+    if masks.all() != 0 {
+        buffer.walk(&mut masks);
+    }
+}
+
+impl FormMasks {
+    // The masks in a map.
+    fn of(map: &Map) -> Self {
+        FormMasks {
+            isol: form_mask(map, Tag(*b"isol")),
+            init: form_mask(map, Tag(*b"init")),
+            medi: form_mask(map, Tag(*b"medi")),
+            fina: form_mask(map, Tag(*b"fina")),
+        }
+    }
+
+    // The bits of all forms.
+    fn all(self) -> u32 {
+        (self.isol | self.init) | (self.medi | self.fina)
+    }
+
+    // The mask in a run, by whether a syllable of it stands before and whether one stands behind.
+    fn between(self, before: bool, behind: bool) -> u32 {
+        match (before, behind) {
+            (false, false) => self.isol,
+            (false, true) => self.init,
+            (true, true) => self.medi,
+            (true, false) => self.fina,
+        }
+    }
+
+    // Gives each syllable the mask of its form.
+    fn set_in(self, glyphs: &mut [GlyphInfo]) {
+        let mut start = 0;
+        let mut before = false;
+        while start < glyphs.len() {
+            let end = start + first_syllable_len(&glyphs[start..]);
+            let joins = joins_runs(&glyphs[start..end]);
+            self.set_at(glyphs, start, end, before);
+            before = joins;
+            start = end;
+        }
+    }
+
+    // Gives the syllable from `s` to `e` the mask of its form.
+    fn set_at(self, glyphs: &mut [GlyphInfo], s: usize, e: usize, before: bool) {
+        let behind = joins_runs(&glyphs[e..]);
+        self.set(&mut glyphs[s..e], before, behind);
+    }
+
+    // Gives a syllable the mask of its form.
+    fn set(self, syllable: &mut [GlyphInfo], before: bool, behind: bool) {
+        if joins_runs(syllable) {
+            replace_forms(syllable, self.all(), self.between(before, behind));
+        }
+    }
+}
+
+impl GlyphWalk for FormMasks {
+    #[inline]
+    fn walk(&mut self, glyphs: &mut [GlyphInfo]) {
+        self.set_in(glyphs);
+    }
+}
+
+// The mask of the feature of a form, 0 where it holds for the whole text.
+fn form_mask(map: &Map, tag: Tag) -> u32 {
+    let mask = map.get_1_mask(tag);
+    if mask == map.get_global_mask() {
+        return 0;
+    }
+    mask
+}
+
+// Whether the syllable that opens the text stands in runs.
+fn joins_runs(glyphs: &[GlyphInfo]) -> bool {
+    match glyphs.first() {
+        None => false,
+        Some(glyph) => {
+            let kind = glyph.syllable % 16;
+            kind != HIEROGLYPH_CLUSTER && kind != NON_CLUSTER
+        }
+    }
+}
+
+// Gives all these glyphs a mask in place of the bits of all forms.
+fn replace_forms(glyphs: &mut [GlyphInfo], all: u32, mask: u32) {
+    for glyph in glyphs.iter_mut() {
+        glyph.mask = glyph.mask & !all | mask;
+    }
+}

@@ -1,0 +1,136 @@
+//! Generated from crates/shapers_universal/src/ot_shaper_use/records.rt by rust/erase; edit the source.
+//!
+//! What lookups did, kept as categories for the reordering.
+
+use super::category;
+use super::syllable_walk::{EachSyllable, SyllableChange, change_syllables};
+use crate::generated::shapers_base::buffer::{Buffer, GlyphInfo};
+use crate::generated::shapers_base::plan::{Plan, PlanData};
+
+/// Among the leading glyphs of each syllable that have the mask of `rphf`, the first that a lookup
+/// put in becomes a reph. It takes no memory.
+///
+/// <details><summary>Contract</summary>
+///
+/// # Contract
+///
+/// ```text
+/// requires { is_universal plan.now.plan_data ≡ true }
+/// ensures { buffer.new ≡ with_rphf_recorded (rphf_of plan.now.plan_data) buffer.old }
+/// ```
+///
+/// - `is_universal`, `rphf_of`: crates/shapers_universal/specs/PlanData.antt
+/// - `with_rphf_recorded`: crates/shapers_universal/specs/UniversalSyllables.antt
+///
+/// </details>
+pub fn record_rphf(plan: &Plan, buffer: &mut Buffer) {
+    match &plan.plan_data {
+        PlanData::Universal(universal_plan) => {
+            let record = RecordRphf {
+                mask: universal_plan.rphf_mask,
+            };
+            buffer.walk(&mut EachSyllable { change: &record });
+        }
+        _ => unreachable!(),
+    }
+}
+
+/// In each syllable the first glyph that a lookup put in becomes one that stands before the base.
+/// It takes no memory.
+///
+/// <details><summary>Contract</summary>
+///
+/// # Contract
+///
+/// ```text
+/// ensures { buffer.new ≡ with_pref_recorded buffer.old }
+/// ```
+///
+/// - `with_pref_recorded`: crates/shapers_universal/specs/UniversalSyllables.antt
+///
+/// </details>
+pub fn record_pref(buffer: &mut Buffer) {
+    buffer.walk(&mut EachSyllable {
+        change: &RecordPref,
+    });
+}
+
+/// The same for the syllables of a slice, where `mask` is that of `rphf`.
+///
+/// <details><summary>Contract</summary>
+///
+/// # Contract
+///
+/// ```text
+/// ensures { glyphs.new ≡ flat_map (rphf_recorded mask) (syllables glyphs.old) }
+/// ```
+///
+/// - `syllables`: crates/shapers_buffer/specs/Syllables.antt
+/// - `rphf_recorded`: crates/shapers_universal/specs/UniversalSyllables.antt
+///
+/// </details>
+pub fn record_rphf_in(mask: u32, glyphs: &mut [GlyphInfo]) {
+    change_syllables(&RecordRphf { mask }, glyphs);
+}
+
+/// In each syllable of a slice the first glyph that a lookup put in becomes one that stands before
+/// the base.
+///
+/// <details><summary>Contract</summary>
+///
+/// # Contract
+///
+/// ```text
+/// ensures { glyphs.new ≡ flat_map (first_recorded VPre) (syllables glyphs.old) }
+/// ```
+///
+/// - `syllables`: crates/shapers_buffer/specs/Syllables.antt
+/// - `first_recorded`: crates/shapers_universal/specs/UniversalSyllables.antt
+///
+/// </details>
+pub fn record_pref_in(glyphs: &mut [GlyphInfo]) {
+    change_syllables(&RecordPref, glyphs);
+}
+
+// The record of `rphf`.
+#[derive(Clone, Copy)]
+struct RecordRphf {
+    mask: u32,
+}
+
+impl SyllableChange for RecordRphf {
+    #[inline]
+    fn change(&self, syllable: &mut [GlyphInfo]) {
+        let leading = leading_len(syllable, self.mask);
+        record_first(&mut syllable[..leading], category::R);
+    }
+}
+
+// The record of `pref`.
+#[derive(Clone, Copy)]
+struct RecordPref;
+
+impl SyllableChange for RecordPref {
+    #[inline]
+    fn change(&self, syllable: &mut [GlyphInfo]) {
+        record_first(syllable, category::VPre);
+    }
+}
+
+// How many glyphs in front have bits of this mask.
+fn leading_len(glyphs: &[GlyphInfo], mask: u32) -> usize {
+    glyphs
+        .iter()
+        .take_while(|glyph| glyph.mask & mask != 0)
+        .count()
+}
+
+// Gives the first of these glyphs that a lookup put in another category.
+fn record_first(glyphs: &mut [GlyphInfo], category: u8) {
+    for glyph in glyphs.iter_mut() {
+        if glyph.marks.is_substituted() {
+            glyph.category = category;
+            break;
+        }
+    }
+}

@@ -1,0 +1,102 @@
+//! Generated from crates/shapers_universal/src/ot_shaper_use/set_up.rt by rust/erase; edit the source.
+//!
+//! Cutting a text into the syllables of the universal shaper.
+
+use super::category;
+use super::forms::set_forms;
+use super::syllable_walk::{EachSyllable, SyllableChange};
+use crate::generated::shapers_base::buffer::{Buffer, GlyphInfo, ShaperError, Span};
+use crate::generated::shapers_base::plan::{Plan, PlanData};
+use crate::generated::shapers_syllabic::ot_shaper_syllabic::set_up_syllables;
+use crate::generated::shapers_syllabic::ot_shaper_syllabic::use_syllable::BROKEN_CLUSTER;
+
+/// Cuts the text into the syllables of these spans and flags the inside of each as unsafe to break.
+/// Gives the mask of `rphf` to the first glyph of each syllable if it is a reph, else to its first
+/// three, and, where the plan has no plan of Arabic, the masks of forms by the places of syllables.
+/// Refuses with `SpansDontCover` where a span is empty or the lengths don't add up to the buffer's.
+/// It takes no memory and leaves the clusters as they are.
+///
+/// <details><summary>Contract</summary>
+///
+/// # Contract
+///
+/// ```text
+/// requires data { is_universal plan.now.plan_data ≡ true }
+/// requires kinds { All (λ span. span.kind ≤ 15) spans.now }
+/// ensures refusal { RefusesInput (spans_refusal spans.now buffer.old) result }
+/// ensures ok { let kept = plan.now.plan_data in
+///     OnOk result (buffer.new ≡ syllables_set_up kept plan.now.ot_map spans.now buffer.old) }
+/// ensures cut { let kept = plan.now.plan_data in
+///     OnOk result
+///     (UniversalSetUpCutsAtSpans kept plan.now.ot_map spans.now buffer.old buffer.new) }
+/// ensures clusters { clusters buffer.new.glyphs ≡ clusters buffer.old.glyphs }
+/// ensures err { OnErr result (buffer.new ≡ buffer.old) }
+/// ```
+///
+/// - `clusters`: crates/shapers_buffer/specs/Glyph.antt
+/// - `RefusesInput`: crates/shapers_buffer/specs/Refusals.antt
+/// - `spans_refusal`: crates/shapers_buffer/specs/Syllables.antt
+/// - `is_universal`: crates/shapers_universal/specs/PlanData.antt
+/// - `UniversalSetUpCutsAtSpans`: crates/shapers_universal/specs/UniversalCuts.antt
+/// - `syllables_set_up`: crates/shapers_universal/specs/UniversalSyllables.antt
+///
+/// </details>
+pub fn setup_syllables_use(
+    plan: &Plan,
+    spans: &[Span],
+    buffer: &mut Buffer,
+) -> Result<(), ShaperError> {
+    set_up_syllables(spans, BROKEN_CLUSTER, buffer)?;
+    set_masks(plan, buffer);
+    Ok(())
+}
+
+// Gives each syllable its masks.
+fn set_masks(plan: &Plan, buffer: &mut Buffer) {
+    match &plan.plan_data {
+        PlanData::Universal(universal_plan) => {
+            set_rphf(universal_plan.rphf_mask, buffer);
+            if universal_plan.arabic_plan.is_none() {
+                set_forms(&plan.ot_map, buffer);
+            }
+        }
+        _ => unreachable!(),
+    }
+}
+
+// Gives each syllable the mask of `rphf`.
+fn set_rphf(mask: u32, buffer: &mut Buffer) {
+    buffer.walk(&mut EachSyllable {
+        change: &RphfMask { mask },
+    });
+}
+
+// The mask of `rphf`.
+#[derive(Clone, Copy)]
+struct RphfMask {
+    mask: u32,
+}
+
+impl SyllableChange for RphfMask {
+    #[inline]
+    fn change(&self, syllable: &mut [GlyphInfo]) {
+        let len = reph_len(syllable);
+        add_mask(&mut syllable[..len], self.mask);
+    }
+}
+
+// How many glyphs in front get the mask of `rphf`: a reph alone, else three or all.
+fn reph_len(syllable: &[GlyphInfo]) -> usize {
+    match syllable.first() {
+        None => 0,
+        Some(glyph) if glyph.category == category::R => 1,
+        Some(_) => 3.min(syllable.len()),
+    }
+}
+
+// Gives all these glyphs the bits of a mask besides their own.
+fn add_mask(glyphs: &mut [GlyphInfo], mask: u32) {
+    for glyph in glyphs.iter_mut() {
+        glyph.mask |= mask;
+    }
+}

@@ -1,0 +1,3 @@
+//! The shaper of Hebrew.
+
+pub use crate::shaper::HEBREW_SHAPER;
