@@ -22,7 +22,7 @@ fn spend_cycle(buffer: &mut Buffer, start: usize, end: usize, p: usize) -> (usiz
     let mut greatest = p;
     let mut q = old_place(buffer, start, end, p);
     spend_place(buffer, start, end, p);
-    for passed in start..end {
+    for _ in start..end {
         if q == p {
             break;
         }

@@ -186,7 +186,7 @@ fn clear_half(bits: u32, glyphs: &mut [GlyphInfo]) {
 
 // Whether there is a ZWNJ.
 fn has_non_joiner(glyphs: &[GlyphInfo]) -> bool {
-    glyphs.iter().any(|glyph| is_non_joiner(glyph))
+    glyphs.iter().any(is_non_joiner)
 }
 
 // The same, glyph by glyph, from the last one on.
