@@ -3,6 +3,7 @@
 //! The source is read where it is there: in the repository, and not in the package.
 
 use sengadlit::ShaperError;
+use sengadlit::shaper::checked::{CallError, Condition};
 use std::fs;
 use std::path::Path;
 
@@ -38,4 +39,14 @@ fn an_error_is_one_of_rusts() {
     let error: Box<dyn std::error::Error> = Box::new(ShaperError::UnknownSyllable(7));
     assert_eq!(error.to_string(), "UnknownSyllable");
     assert!(error.source().is_none());
+}
+
+#[test]
+fn a_checked_call_says_what_it_refused() {
+    let unmet = CallError::from(Condition::Marks);
+    assert_eq!(unmet.to_string(), "there are more than 32 marks");
+    let refused = CallError::from(ShaperError::TooLong);
+    assert_eq!(refused.to_string(), "TooLong");
+    let error: Box<dyn std::error::Error> = Box::new(Condition::PlanData);
+    assert_eq!(error.to_string(), "the plan hasn't the data that is read");
 }
