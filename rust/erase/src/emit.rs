@@ -51,8 +51,8 @@ fn check(file: &File, i: usize) -> Result<(), String> {
     }
     let is_local =
         |j: &usize| *j != i && matches!(file.before(*j), "mod" | "enum" | "," | "{" | "::");
-    let is_known = matches!(text, "self" | "super") || file.places(text).iter().any(is_local);
-    if before == "use" && !is_known && renamed(file, i)?.is_none() {
+    let is_known = || matches!(text, "self" | "super") || file.places(text).iter().any(is_local);
+    if before == "use" && !is_known() && renamed(file, i)?.is_none() {
         return Err(file.fault(i, &format!("unknown crate `{text}`")));
     }
     Ok(())

@@ -20,7 +20,9 @@ impl File {
         let tokens = tokens(text).map_err(|(line, message)| format!("{path}:{line}: {message}"))?;
         let (erased, definitions) = (BTreeSet::new(), BTreeMap::new());
         let file = File { path: path.to_string(), tokens, erased, definitions };
-        let is_open = |i: &usize| "()[]{}".contains(file.text(*i)) && file.partner(*i) == *i;
+        let kind = |i: usize| "([{)]}".find(file.text(i));
+        let is_open =
+            |i: &usize| kind(*i).is_some_and(|k| kind(file.partner(*i)) != Some((k + 3) % 6));
         match (0..file.tokens.len() - 1).find(is_open) {
             Some(i) => Err(file.fault(i, &format!("unbalanced `{}`", file.text(i)))),
             None => Ok(file),

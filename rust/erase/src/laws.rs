@@ -42,8 +42,8 @@ fn calls(file: &File, i: usize) -> Option<Vec<String>> {
 
 /// Cuts the imports of what is gone, and the modules that are empty then, from all files.
 pub fn erase_imports(files: &mut [File], laws: &BTreeSet<String>) -> Result<(), String> {
+    files.iter_mut().try_for_each(|file| erase_uses(file, laws))?;
     loop {
-        files.iter_mut().try_for_each(|file| erase_uses(file, laws))?;
         let empty = files.iter().filter(|file| file.tokens.len() == 1);
         let empty: BTreeSet<String> = empty.map(|file| file.path.clone()).collect();
         let is_empty =
