@@ -16,10 +16,11 @@ fn read(path: &str) -> Option<String> {
     fs::read_to_string(Path::new(env!("CARGO_MANIFEST_DIR")).join("../..").join(path)).ok()
 }
 
-// A file: its path and its crate, the tokens of its source's code, and its own.
+// A file: its path, crate and text, the tokens of its source's code, and its own.
 struct Case {
     path: String,
     krate: String,
+    text: String,
     source: Vec<String>,
     output: Vec<String>,
 }
@@ -31,6 +32,7 @@ static CASES: LazyLock<Vec<Case>> = LazyLock::new(|| {
         krate: output.source.split('/').nth(1).unwrap().to_string(),
         output: code(&output.text),
         path: output.path,
+        text: output.text,
     };
     erase(&crates, &read).unwrap().into_iter().map(case).collect()
 });
@@ -111,6 +113,19 @@ fn no_old_name_is_left() {
         let is_old = |token: &&String| NAMES.iter().any(|(old, _)| old == token);
         assert_eq!(case.output.iter().find(is_old), None, "{}", case.path);
     }
+}
+
+#[test]
+fn the_specifications_that_the_documentation_names_are_files() {
+    let mut count = 0;
+    for line in CASES.iter().flat_map(|case| case.text.lines()) {
+        let path = line.rsplit(": ").next().filter(|path| path.ends_with(".antt"));
+        if let Some(path) = path.filter(|_| line.starts_with("/// - ")) {
+            assert!(read(path).is_some(), "{path}");
+            count += 1;
+        }
+    }
+    assert!(count > 100, "{count} lines");
 }
 
 // Fails where a planted change of a file is explained.

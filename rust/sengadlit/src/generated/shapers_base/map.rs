@@ -2,8 +2,9 @@
 //!
 //! The map from features to masks and lookups, as far as the shapers read it. It knows GSUB alone.
 
-use crate::generated::shapers_base::buffer::Tag;
 use crate::support::prelude::*;
+
+use crate::generated::shapers_base::buffer::Tag;
 use core::ops::Range;
 
 /// No wish.
