@@ -174,24 +174,22 @@ fn draw_shown(
     glyph: &hb_glyph_info_t,
     place: Place,
 ) -> Result<(), AllocError> {
-    match Shown::of(glyph) {
+    let mut text = String::new(row.alloc);
+    let style = match Shown::of(glyph) {
         Shown::Character(character) => {
-            let text = format!(in row.alloc; "{character}")?;
-            place.draw(page, text.as_str())
+            text.push(character)?;
+            place.style
         }
         Shown::Mark(character) => {
-            let text = format!(in row.alloc; "\u{25CC}{character}")?;
-            place.draw(page, text.as_str())
+            write!(text, "\u{25CC}{character}")?;
+            place.style
         }
         Shown::Unseen | Shown::Private | Shown::Glyph => {
-            let text = format!(in row.alloc; "{:04X}", glyph.glyph_id)?;
-            Place {
-                style: Style::Id,
-                ..place
-            }
-            .draw(page, text.as_str())
+            write!(text, "{:04X}", glyph.glyph_id)?;
+            Style::Id
         }
-    }
+    };
+    Place { style, ..place }.draw(page, text.as_str())
 }
 
 // Draws a line to each glyph of a piece from where it stood before; where that is in another piece,
@@ -208,7 +206,8 @@ fn draw_lines(
             let from = middle(origin.saturating_sub(piece.before.start));
             draw_line(page, glyph.cluster, from, middle(i))?;
         } else {
-            let text = format!(in row.alloc; "from {origin}")?;
+            let mut text = String::new(row.alloc);
+            write!(text, "from {origin}")?;
             let place = Place {
                 x: middle(i),
                 y: 80,
@@ -291,7 +290,8 @@ fn draw_bracket(
         page,
         "<path class=\"bracket k{colour}\" d=\"M{left} {foot}V{top}H{right}V{foot}\"/>"
     )?;
-    let text = format!(in row.alloc; "cluster {cluster}")?;
+    let mut text = String::new(row.alloc);
+    write!(text, "cluster {cluster}")?;
     stretch.draw_label(page, 11, text.as_str())
 }
 
@@ -343,18 +343,19 @@ fn draw_face(
         style: Style::Now,
     };
     draw_shown(page, row, glyph, place)?;
-    let number = match Shown::of(glyph) {
-        Shown::Character(_) | Shown::Mark(_) => format!(in row.alloc; "{:04X}", glyph.glyph_id)?,
-        Shown::Unseen => String::from_str(row.alloc, "unseen")?,
-        Shown::Private => String::from_str(row.alloc, "private")?,
-        Shown::Glyph => String::from_str(row.alloc, "glyph")?,
-    };
+    let mut text = String::new(row.alloc);
+    match Shown::of(glyph) {
+        Shown::Character(_) | Shown::Mark(_) => write!(text, "{:04X}", glyph.glyph_id)?,
+        Shown::Unseen => text.push_str("unseen")?,
+        Shown::Private => text.push_str("private")?,
+        Shown::Glyph => text.push_str("glyph")?,
+    }
     Place {
         y: 62,
         style: Style::Number,
         ..place
     }
-    .draw(page, number.as_str())
+    .draw(page, text.as_str())
 }
 
 // Draws category, masks and the like below the number.
@@ -416,13 +417,13 @@ fn draw_syllable(
         page,
         "<path class=\"{class}\" d=\"M{left} {line}H{right}\"/>"
     )?;
-    let text = format!(in row.alloc; "syllable {serial}")?;
+    let mut text = String::new(row.alloc);
+    write!(text, "syllable {serial}")?;
     stretch.draw_label(page, 22, text.as_str())?;
+    text.clear();
     match name {
-        Some(name) => stretch.draw_label(page, 35, name),
-        None => {
-            let text = format!(in row.alloc; "kind {kind}")?;
-            stretch.draw_label(page, 35, text.as_str())
-        }
+        Some(name) => text.push_str(name)?,
+        None => write!(text, "kind {kind}")?,
     }
+    stretch.draw_label(page, 35, text.as_str())
 }

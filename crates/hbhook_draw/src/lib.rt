@@ -6,6 +6,7 @@ mod boxes;
 mod drawing;
 mod escaped;
 mod label;
+mod marks;
 mod names;
 mod origins;
 mod page;

@@ -16,7 +16,7 @@ use rustybuzz_shapers::buffer::{CONTEXT_LENGTH, Span, hb_tag_t};
 use rustybuzz_shapers::font::GlyphId;
 use rustybuzz_shapers::plan::hb_arabic_joining_type_t;
 pub(crate) use setting::Setting;
-use std::alloc::Global;
+use std::alloc::{AllocError, Global};
 use std::ops::Range;
 
 // The first words of lines.
@@ -118,7 +118,7 @@ fn read_command(alloc: Global, word: &str, fields: &[&str]) -> Result<Command, L
 fn characters(alloc: Global, fields: &[&str]) -> Result<Vec<char>, LineFault> {
     let mut characters = Vec::with_capacity(alloc, fields.len())?;
     for field in fields {
-        characters.push(character(field)?)?;
+        characters.push(character(field)?).map_err(|_| AllocError)?;
     }
     Ok(characters)
 }
@@ -151,7 +151,7 @@ fn applies(alloc: Global, fields: &[&str]) -> Result<Command, LineFault> {
 fn glyph_ids(alloc: Global, fields: &[&str]) -> Result<Vec<GlyphId>, LineFault> {
     let mut glyphs = Vec::with_capacity(alloc, fields.len())?;
     for field in fields {
-        glyphs.push(GlyphId(decimal(field, TWO_BYTES)?))?;
+        glyphs.push(GlyphId(decimal(field, TWO_BYTES)?)).map_err(|_| AllocError)?;
     }
     Ok(glyphs)
 }

@@ -1,7 +1,7 @@
 //! What ends a run before its last line.
 use crate::expected::Expected;
 use rustybuzz_shapers::buffer::ShaperError;
-use std::alloc::{AllocError, AllocFailed};
+use std::alloc::AllocError;
 use thiserror::Error;
 
 /// Why a line can't be carried out.
@@ -31,12 +31,6 @@ impl From<ShaperError> for LineFault {
 
 impl From<AllocError> for LineFault {
     fn from(_error: AllocError) -> Self {
-        LineFault::Refused(ShaperError::Memory)
-    }
-}
-
-impl<T: Drop> From<AllocFailed<T>> for LineFault {
-    fn from(_error: AllocFailed<T>) -> Self {
         LineFault::Refused(ShaperError::Memory)
     }
 }

@@ -7,7 +7,7 @@ use crate::font::LineFont;
 use crate::tables::LineTables;
 use rustybuzz_shapers::buffer::{Script, Span, hb_tag_t};
 use rustybuzz_shapers::map::{feature_map_t, hb_ot_map_t};
-use rustybuzz_shapers::plan::{PlanData, StretchStart, hb_ot_shape_plan_t};
+use rustybuzz_shapers::plan::{StretchStart, hb_ot_shape_plan_t};
 use rustybuzz_shapers::shaper::hb_ot_shaper_t;
 use std::alloc::{AllocError, Global};
 use std::ops::Range;
@@ -65,13 +65,10 @@ impl Settings {
         ensures gpos_mark { IfOk result (λ plan. plan.has_gpos_mark ≡ self.now.gpos_mark) }
         ensures stretch { IfOk result (λ plan. plan.stretch_start ≡ self.now.stretch_start) }
     {
-        Ok(hb_ot_shape_plan_t {
-            script: self.script,
-            ot_map: self.map()?,
-            has_gpos_mark: self.gpos_mark,
-            stretch_start: self.stretch_start,
-            plan_data: PlanData::None,
-        })
+        let mut plan = hb_ot_shape_plan_t::new(self.script, self.map()?);
+        plan.has_gpos_mark = self.gpos_mark;
+        plan.stretch_start = self.stretch_start;
+        Ok(plan)
     }
 
     // The map: the stage of a feature is its place, and place i of the list of lookups is lookup i.
@@ -107,6 +104,12 @@ impl Settings {
     /// The features that have a mask or lookups.
     pub(crate) fn features(&self) -> &[Feature] {
         self.features.as_slice()
+    }
+
+    /// Adds a span.
+    pub(crate) fn add_span(&mut self, span: Span) -> Result<(), AllocError> {
+        self.spans.push(span)?;
+        Ok(())
     }
 
     /// Sets a feature's mask.

@@ -10,7 +10,7 @@ use crate::crossing::{finish, write_back};
 use crate::shapers::shaper_at;
 use rustybuzz_shapers::buffer::hb_buffer_t;
 use rustybuzz_shapers::map::hb_ot_map_t;
-use rustybuzz_shapers::plan::{PlanData, StretchStart, hb_ot_shape_plan_t};
+use rustybuzz_shapers::plan::hb_ot_shape_plan_t;
 use shapers_crossing::glyph::Glyph;
 use shapers_crossing::outcome::{Outcome, Stop};
 use shapers_crossing::text::{Text, read_text};
@@ -21,13 +21,8 @@ fn empty_plan(alloc: Global) -> Option<hb_ot_shape_plan_t>
     ensures { IsTrue (is_some result) }
 {
     let (features, stages, lookups) = (Vec::new(alloc), Vec::new(alloc), Vec::new(alloc));
-    Some(hb_ot_shape_plan_t {
-        script: None,
-        ot_map: hb_ot_map_t::new(features, stages, lookups, 0, None, false)?,
-        has_gpos_mark: false,
-        stretch_start: StretchStart::AsCode,
-        plan_data: PlanData::None,
-    })
+    let ot_map = hb_ot_map_t::new(features, stages, lookups, 0, None, false)?;
+    Some(hb_ot_shape_plan_t::new(None, ot_map))
 }
 
 // Reads the text into an empty buffer, and runs the hook on it.

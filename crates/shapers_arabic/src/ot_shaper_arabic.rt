@@ -3,7 +3,7 @@ ghost use Rattle.std.specs.Prelude.{◌≡◌, ◌+◌, ◌<◌, OnOk, OnErr, Is
 ghost use Rattle.shapers_buffer.specs.declared.buffer.refusal.ShaperError.TheVariants.{Memory};
 ghost use Rattle.shapers_base.specs.Planner.{with_requests};
 ghost use Rattle.shapers_arabic.specs.Requests.{arabic_list, is_arabic, joining_list, rclt};
-ghost use Rattle.shapers_arabic.specs.JoinedText.{AreCharacters, CopiedContextsCut, CopiedContextsShow, CutsAsHalves, joined, look_ups, text_of};
+ghost use Rattle.shapers_arabic.specs.JoinedText.{AreCharacters, CutsAsHalves, joined, look_ups, text_of};
 ghost use Rattle.shapers_arabic.specs.PlanData.{IsArabic, masks_of};
 
 use arrayvec::ArrayVec;
@@ -19,6 +19,7 @@ use std::sync::ledger::{Blank, Ledger};
 pub mod arabic_action_t;
 mod data;
 mod joining;
+mod laws;
 mod look_ups;
 mod marks;
 mod masks;
@@ -26,8 +27,9 @@ mod walk;
 
 pub use data::{create_data, data_create_arabic};
 use joining::nearest_in;
+pub use laws::copied_contexts_law;
 pub use look_ups::LookUps;
-pub use marks::reorder_marks;
+pub use marks::{reorder_marks, reorder_marks_in};
 pub use shapers_base::plan::{arabic_shape_plan_t, hb_arabic_joining_type_t};
 use walk::JoiningWalk;
 
@@ -205,11 +207,3 @@ pub fn setup_masks<T: Tables>(plan: &hb_ot_shape_plan_t, tables: &T, buffer: &mu
         _ => unreachable!(),
     }
 }
-
-/// A law of joining: contexts that are copied from the text show the neighbours, where one of their
-/// at most five characters isn't transparent or the text ends there; so halves with such contexts
-/// act as the whole.
-pub fn copied_contexts_law()
-    ensures shown { CopiedContextsShow }
-    ensures halves { CopiedContextsCut }
-{}

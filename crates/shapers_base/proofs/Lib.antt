@@ -1,4 +1,5 @@
 mod ConstantRows
 pub mod MapLemmas
 mod MapRows
+mod NumberRows
 mod QuestionRows

@@ -2,11 +2,13 @@
 //! has the same answer.
 ghost use Rattle.std.specs.Prelude.{◌≡◌};
 ghost use Rattle.shapers_base.specs.Font.{CharacterTables, Font, has_nominal};
+ghost use Rattle.shapers_base.specs.Map.{would_one};
 
 use crate::buffer::{hb_tag_t, hb_unicode_general_category_t};
 use crate::plan::{Category, Position, hb_arabic_joining_type_t};
 
-/// A glyph of a font, by its number.
+/// A glyph of a font, by its number, in two bytes.
+#[repr(transparent)]
 #[derive(Clone, Copy, Debug, PartialEq, Eq)]
 pub struct GlyphId(pub u16);
 
@@ -19,9 +21,13 @@ pub trait hb_font_t {
     fn get_nominal_glyph(&self, c: u32) -> Option<GlyphId>
         ensures { result ≡ (font self.now).nominal c };
 
-    /// Whether the font has a nominal glyph for a character.
+    /// Whether the font has a nominal glyph for a character: an impl has its own answer where it
+    /// can tell that without making the glyph.
     fn has_glyph(&self, c: u32) -> bool
-        ensures { result ≡ has_nominal (font self.now) c };
+        ensures { result ≡ has_nominal (font self.now) c }
+    {
+        self.get_nominal_glyph(c).is_some()
+    }
 
     /// How far a glyph moves the pen, in font units.
     fn glyph_h_advance(&self, glyph: GlyphId) -> i32
@@ -31,6 +37,17 @@ pub trait hb_font_t {
     /// `zero_context`, only if it asks for no context around them.
     fn would_apply(&self, lookup: u16, glyphs: &[GlyphId], zero_context: bool) -> bool
         ensures { result ≡ (font self.now).applies lookup glyphs.now zero_context };
+
+    /// Whether one of these lookups would apply to exactly these glyphs. This asks `would_apply`
+    /// about each up to the first that would; an impl has its own answer where it can tell that at
+    /// once.
+    fn would_apply_any(&self, lookups: &[u16], glyphs: &[GlyphId], zero_context: bool) -> bool
+        ensures { result ≡ would_one (font self.now).applies lookups.now glyphs.now zero_context }
+    {
+        lookups
+            .iter()
+            .any(|lookup| self.would_apply(*lookup, glyphs, zero_context))
+    }
 
     /// Whether the font has a feature by this tag.
     fn has_feature(&self, tag: hb_tag_t) -> bool

@@ -1,9 +1,11 @@
 //! The map from features to masks and lookups, as far as the shapers read it. It knows GSUB alone.
-ghost use Rattle.std.specs.Prelude.{◌≡◌, ◌≤◌, ◌%◌, ◌==◌, length, None, Some, false, slice_get, find, if◌then◌else◌};
+ghost use Rattle.std.specs.Prelude.{◌≡◌, ◌≤◌, ◌%◌, ◌==◌, length, IfOk, IsOkUnless, None, Some, false, slice_get, find, if◌then◌else◌};
+ghost use Rattle.shapers_buffer.specs.declared.buffer.refusal.ShaperError.TheVariants.{Memory};
 ghost use Rattle.shapers_base.specs.Map.{Map, of_gsub, can_be_map, can_be_stage, is_off_flags, mask_of, stage_of, range_of, no_range, same_tag, lookups_in};
 ghost use Rattle.std.specs.List.{list_all};
 
-use crate::buffer::hb_tag_t;
+use crate::buffer::{ShaperError, hb_tag_t};
+use std::alloc::Global;
 use std::marker::Model;
 use std::ops::Range;
 
@@ -34,6 +36,7 @@ pub enum TableIndex {
 /// A feature of the map.
 #[derive(Clone, Copy, Debug, PartialEq, Eq)]
 pub struct feature_map_t {
+    /// The tag of the feature.
     pub tag: hb_tag_t,
     /// The bits of a glyph's mask that ask for the feature.
     pub mask: u32,
@@ -42,7 +45,7 @@ pub struct feature_map_t {
 }
 
 /// The map that the font's GSUB table and the wanted features make.
-#[derive(Drop)]
+#[derive(Debug, Drop)]
 pub struct hb_ot_map_t {
     features: Vec<feature_map_t>,
     stages: Vec<Range<usize>>,
@@ -111,7 +114,43 @@ impl hb_ot_map_t {
         })
     }
 
+    /// A map of copies of these, by the same rule as `new`. The only refusal is `Memory`, and none
+    /// comes where they can't be a map's.
+    pub fn from_slices(
+        alloc: Global,
+        features: &[feature_map_t],
+        stages: &[Range<usize>],
+        lookups: &[u16],
+        global_mask: u32,
+        chosen_script: Option<hb_tag_t>,
+        found_script: bool,
+    ) -> Result<Option<Self>, ShaperError>
+        ensures answer { let map : Map = record {
+          features = features.now;
+          stages = stages.now;
+          lookups = lookups.now;
+          global = global_mask;
+          chosen = chosen_script;
+          found = found_script;
+        } in
+            IfOk result (λ answer. answer ≡ (if can_be_map map then Some map else None)) }
+        ensures refusal { IsOkUnless result Memory }
+    {
+        if !are_ranges(stages, lookups.len()) || !are_off_flags(features) {
+            return Ok(None);
+        }
+        Ok(Self::new(
+            copied(alloc, features)?,
+            copied_stages(alloc, stages)?,
+            copied(alloc, lookups)?,
+            global_mask,
+            chosen_script,
+            found_script,
+        ))
+    }
+
     /// The mask of the first feature by this tag, or 0. It touches no glyph flag bit.
+    #[inline]
     pub fn get_1_mask(&self, tag: hb_tag_t) -> u32
         ensures first { result ≡ mask_of tag self.now }
         ensures off_flags { result % 8 ≡ 0 }
@@ -123,6 +162,7 @@ impl hb_ot_map_t {
     }
 
     /// The stage of the first feature by this tag.
+    #[inline]
     pub fn get_feature_stage(&self, table_index: TableIndex, tag: hb_tag_t) -> Option<usize>
         ensures { result ≡ of_gsub table_index (stage_of tag self.now) None }
     {
@@ -133,6 +173,7 @@ impl hb_ot_map_t {
     }
 
     /// The places of a stage in the list of lookups: `0..0` if there is no such stage.
+    #[inline]
     pub fn stage_lookup_range(&self, table_index: TableIndex, stage: usize) -> Range<usize>
         ensures range { result ≡ of_gsub table_index (range_of stage self.now) no_range }
         ensures in_order { result.start ≤ result.end }
@@ -146,6 +187,7 @@ impl hb_ot_map_t {
     }
 
     /// The lookups of a range of the list, as far as it goes.
+    #[inline]
     pub fn lookups(&self, range: &Range<usize>) -> &[u16]
         ensures { result.now ≡ lookups_in range.now self.now }
     {
@@ -155,6 +197,7 @@ impl hb_ot_map_t {
     }
 
     /// The lookup at this place of the list.
+    #[inline]
     pub fn lookup(&self, table_index: TableIndex, index: usize) -> Option<u16>
         ensures { result ≡ of_gsub table_index (slice_get self.now.lookups index) None }
     {
@@ -165,6 +208,7 @@ impl hb_ot_map_t {
     }
 
     /// The script of the font that was chosen for the text.
+    #[inline]
     pub fn chosen_script(&self, table_index: TableIndex) -> Option<hb_tag_t>
         ensures { result ≡ of_gsub table_index self.now.chosen None }
     {
@@ -175,6 +219,7 @@ impl hb_ot_map_t {
     }
 
     /// Whether the table has the script that was asked for.
+    #[inline]
     pub fn found_script(&self, table_index: TableIndex) -> bool
         ensures { result ≡ of_gsub table_index self.now.found false }
     {
@@ -185,6 +230,7 @@ impl hb_ot_map_t {
     }
 
     /// The bits of the features that hold for the whole text.
+    #[inline]
     pub fn get_global_mask(&self) -> u32
         ensures { result ≡ self.now.global }
     {
@@ -197,6 +243,30 @@ fn first_feature(features: &[feature_map_t], tag: hb_tag_t) -> Option<feature_ma
     ensures { result ≡ find (λ f. same_tag f.tag tag) features.now }
 {
     features.iter().copied().find(|feature| feature.tag == tag)
+}
+
+// A copy of these.
+fn copied<T: Copy>(alloc: Global, items: &[T]) -> Result<Vec<T>, ShaperError>
+    ensures ok { IfOk result (λ copy. copy.items ≡ items.now) }
+    ensures refusal { IsOkUnless result Memory }
+{
+    let mut copy = Vec::new(alloc);
+    copy.extend_from_slice(items)?;
+    Ok(copy)
+}
+
+// A copy of these stages.
+fn copied_stages(alloc: Global, stages: &[Range<usize>]) -> Result<Vec<Range<usize>>, ShaperError>
+    ensures ok { IfOk result (λ copy. copy.items ≡ stages.now) }
+    ensures refusal { IsOkUnless result Memory }
+{
+    let mut copy = Vec::new(alloc);
+    copy.reserve(stages.len())?;
+    for stage in stages {
+        copy.push(stage.start..stage.end)
+            .map_err(|_| ShaperError::Memory)?;
+    }
+    Ok(copy)
 }
 
 // Whether each stage is a range of a list of this length.

@@ -1,5 +1,9 @@
 //! The planner and the plan: what the shapers ask of a font, and what they decided for one script
 //! and font before they see a text. With them what two shapers or more name.
+ghost use Rattle.std.specs.Prelude.{◌≡◌};
+ghost use Rattle.std.specs.Option.{option_copied};
+ghost use Rattle.shapers_base.specs.Plan.{as_arabic, as_hangul, as_indic, as_khmer, as_universal, new_plan};
+
 use crate::buffer::Script;
 pub use crate::buffer::ShaperError;
 use crate::map::hb_ot_map_t;
@@ -35,7 +39,7 @@ pub type Category = u8;
 pub type Position = u8;
 
 /// What a shaper does to a text of one script.
-#[derive(Drop)]
+#[derive(Debug, Drop)]
 pub struct hb_ot_shape_plan_t {
     /// The script of the text, where it is known.
     pub script: Option<Script>,
@@ -47,6 +51,22 @@ pub struct hb_ot_shape_plan_t {
     pub stretch_start: StretchStart,
     /// What the shaper itself keeps.
     pub plan_data: PlanData,
+}
+
+impl hb_ot_shape_plan_t {
+    /// A plan whose shaper keeps nothing yet, for a font whose GPOS places no marks; tiles begin as
+    /// the code of HarfBuzz has it.
+    pub fn new(script: Option<Script>, ot_map: hb_ot_map_t) -> Self
+        ensures { result ≡ new_plan script ot_map }
+    {
+        hb_ot_shape_plan_t {
+            script,
+            ot_map,
+            has_gpos_mark: false,
+            stretch_start: StretchStart::AsCode,
+            plan_data: PlanData::None,
+        }
+    }
 }
 
 /// What a shaper keeps in the plan.
@@ -64,6 +84,58 @@ pub enum PlanData {
     Khmer(khmer_shape_plan_t),
     /// What the shaper of the Indic scripts keeps.
     Indic(indic_shape_plan_t),
+}
+
+impl PlanData {
+    /// What Arabic keeps, if these are its data.
+    pub fn arabic(&self) -> Option<&arabic_shape_plan_t>
+        ensures { option_copied result ≡ as_arabic self.now }
+    {
+        match self {
+            PlanData::Arabic(kept) => Some(kept),
+            _ => None,
+        }
+    }
+
+    /// What Hangul keeps, if these are its data.
+    pub fn hangul(&self) -> Option<&hangul_shape_plan_t>
+        ensures { option_copied result ≡ as_hangul self.now }
+    {
+        match self {
+            PlanData::Hangul(kept) => Some(kept),
+            _ => None,
+        }
+    }
+
+    /// What the universal shaper keeps, if these are its data.
+    pub fn universal(&self) -> Option<&use_shape_plan_t>
+        ensures { option_copied result ≡ as_universal self.now }
+    {
+        match self {
+            PlanData::Universal(kept) => Some(kept),
+            _ => None,
+        }
+    }
+
+    /// What Khmer keeps, if these are its data.
+    pub fn khmer(&self) -> Option<&khmer_shape_plan_t>
+        ensures { option_copied result ≡ as_khmer self.now }
+    {
+        match self {
+            PlanData::Khmer(kept) => Some(kept),
+            _ => None,
+        }
+    }
+
+    /// What the shaper of the Indic scripts keeps, if these are its data.
+    pub fn indic(&self) -> Option<&indic_shape_plan_t>
+        ensures { option_copied result ≡ as_indic self.now }
+    {
+        match self {
+            PlanData::Indic(kept) => Some(kept),
+            _ => None,
+        }
+    }
 }
 
 /// What `preprocess_text` left to its caller.

@@ -5,7 +5,7 @@ ghost use Rattle.rustybuzz_shapers.specs.Glyph.{clusters};
 use rustybuzz_shapers::buffer::{Script, ShaperError, hb_buffer_t, hb_glyph_info_t};
 use rustybuzz_shapers::font::hb_font_t;
 use rustybuzz_shapers::map::hb_ot_map_t;
-use rustybuzz_shapers::plan::{PlanData, StretchStart, hb_ot_shape_plan_t};
+use rustybuzz_shapers::plan::hb_ot_shape_plan_t;
 use rustybuzz_shapers::shaper::THAI_SHAPER;
 use std::alloc::Global;
 
@@ -35,13 +35,7 @@ pub(crate) fn plain_plan(alloc: Global, script: Script) -> hb_ot_shape_plan_t {
         None,
         false,
     );
-    hb_ot_shape_plan_t {
-        script: Some(script),
-        ot_map: map.unwrap(),
-        has_gpos_mark: false,
-        stretch_start: StretchStart::AsCode,
-        plan_data: PlanData::None,
-    }
+    hb_ot_shape_plan_t::new(Some(script), map.unwrap())
 }
 
 // A buffer with a glyph for each character, whose cluster is the character's place.

@@ -7,7 +7,7 @@ use rustybuzz_shapers::buffer::{Script, ShaperError, hb_buffer_t, hb_glyph_info_
 use rustybuzz_shapers::font::GlyphId;
 use rustybuzz_shapers::map::hb_ot_map_t;
 use rustybuzz_shapers::plan::{
-    Category, Pause, PlanData, Position, StretchStart, hb_ot_shape_plan_t,
+    Category, Pause, Position, hb_ot_shape_plan_t,
 };
 use rustybuzz_shapers::shaper::{INDIC_SHAPER, run_pause};
 use std::alloc::Global;
@@ -25,13 +25,7 @@ fn plan(alloc: Global, script: [u8; 4]) -> Option<hb_ot_shape_plan_t>
 {
     let none = (Vec::new(alloc), Vec::new(alloc), Vec::new(alloc));
     let ot_map = hb_ot_map_t::new(none.0, none.1, none.2, 0, None, false)?;
-    let mut plan = hb_ot_shape_plan_t {
-        script: Some(Script(script)),
-        ot_map,
-        has_gpos_mark: false,
-        stretch_start: StretchStart::AsCode,
-        plan_data: PlanData::None,
-    };
+    let mut plan = hb_ot_shape_plan_t::new(Some(Script(script)), ot_map);
     plan.plan_data = INDIC_SHAPER.create_data(&plan)?;
     Some(plan)
 }

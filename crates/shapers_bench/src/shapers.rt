@@ -5,7 +5,7 @@ use crate::font::Font;
 use rustybuzz_shapers::buffer::{Script, ShaperError, hb_buffer_t, hb_glyph_info_t};
 use rustybuzz_shapers::font::GlyphId;
 use rustybuzz_shapers::map::hb_ot_map_t;
-use rustybuzz_shapers::plan::{PlanData, StretchStart, hb_ot_shape_plan_t};
+use rustybuzz_shapers::plan::hb_ot_shape_plan_t;
 use rustybuzz_shapers::shaper::THAI_SHAPER;
 use std::alloc::Global;
 use std::test::Fail;
@@ -14,13 +14,7 @@ use std::test::Fail;
 fn plan(alloc: Global, script: [u8; 4]) -> Option<hb_ot_shape_plan_t> {
     let none = (Vec::new(alloc), Vec::new(alloc), Vec::new(alloc));
     let ot_map = hb_ot_map_t::new(none.0, none.1, none.2, 0, None, true)?;
-    Some(hb_ot_shape_plan_t {
-        script: Some(Script(script)),
-        ot_map,
-        has_gpos_mark: false,
-        stretch_start: StretchStart::AsCode,
-        plan_data: PlanData::None,
-    })
+    Some(hb_ot_shape_plan_t::new(Some(Script(script)), ot_map))
 }
 
 // A buffer of one character so many times.

@@ -10,11 +10,13 @@ pub mod MappedLists
 pub mod MarkLemmas
 mod MarkRows
 pub mod MaskBits
+mod NumberRows
 pub mod PieceLaws
 pub mod PlaceLaws
 mod PlaceRows
 mod Rows
 pub mod RunLemmas
+mod SettingsRows
 pub mod SyllableLaws
 pub mod SyllableLemmas
 mod SyllableRows

@@ -7,8 +7,10 @@ pub mod GlyphFlags
 pub mod ListingWalk
 pub mod Lists
 pub mod Marks
+pub mod Numbers
 pub mod Places
 pub mod Refusals
+pub mod Settings
 pub mod RunWalk
 pub mod SyllableLaws
 pub mod Syllables

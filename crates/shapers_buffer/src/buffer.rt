@@ -11,11 +11,13 @@ use std::marker::Model;
 
 mod category;
 mod cluster_runs;
+mod exchanging;
 mod fields;
 mod flags;
 mod glyph;
 mod glyph_flags;
 mod glyph_marks;
+mod laws;
 mod level;
 mod merging;
 pub mod modified_combining_class;
@@ -23,6 +25,7 @@ mod placement;
 mod refusal;
 mod replacing;
 mod reversing;
+mod settings;
 mod syllables;
 mod tag;
 mod walking;
@@ -34,22 +37,22 @@ pub use glyph::{GlyphPosition, hb_glyph_info_t};
 pub use glyph_flags::{
     glyph_flag, safe_to_insert_tatweel_in, unsafe_to_break_in, unsafe_to_concat_in,
 };
-pub use glyph_marks::{GlyphMarks, marks_are_set_alone};
+pub use glyph_marks::GlyphMarks;
+pub use laws::{marks_are_set_alone, places_are_written, syllables_are_runs};
 pub use level::{BufferClusterLevel, Direction};
 pub use merging::{least_cluster, merge_clusters_in};
 pub use refusal::ShaperError;
-pub use syllables::{
-    Span, first_syllable_len, has_span_of_kind, set_syllable, spans_cover, syllables_are_runs,
-};
+pub use settings::{BufferSettings, context_characters};
+pub use syllables::{Span, first_syllable_len, has_span_of_kind, set_syllable, spans_cover};
 pub use tag::{Script, hb_tag_t};
-pub use walking::{GlyphChange, GlyphWalk, PositionedWalk};
+pub use walking::{GlyphChange, GlyphWalk, PositionedWalk, change_each_in};
 
 /// How many characters of context a buffer keeps on each side.
 pub const CONTEXT_LENGTH: usize = 5;
 
 /// A list of glyphs, with positions or without, its settings, the text on both sides and marks
 /// that one hook leaves for a later one. Its length never passes `max_len`.
-#[derive(Drop)]
+#[derive(Debug, Drop)]
 pub struct hb_buffer_t {
     info: Vec<hb_glyph_info_t>,
     pos: Vec<GlyphPosition>,
@@ -129,11 +132,13 @@ impl hb_buffer_t {
     }
 
     /// The allocator that the buffer was made with.
+    #[inline]
     pub fn alloc(&self) -> Global {
         *self.info.allocator()
     }
 
     /// The number of glyphs.
+    #[inline]
     pub fn len(&self) -> usize
         ensures length { result ≡ length self.now.glyphs }
         ensures fits { length self.now.glyphs ≤ self.now.max_len }
@@ -142,6 +147,7 @@ impl hb_buffer_t {
     }
 
     /// Whether there is no glyph.
+    #[inline]
     pub fn is_empty(&self) -> bool
         ensures { result ≡ (length self.now.glyphs == 0) }
     {
@@ -149,6 +155,7 @@ impl hb_buffer_t {
     }
 
     /// The glyphs, from the first to the last.
+    #[inline]
     pub fn glyphs(&self) -> &[hb_glyph_info_t]
         ensures { result.now ≡ self.now.glyphs }
     {
@@ -156,6 +163,7 @@ impl hb_buffer_t {
     }
 
     /// The glyph at place `i`.
+    #[inline]
     pub fn get(&self, i: usize) -> hb_glyph_info_t
         requires { i < length self.now.glyphs }
         ensures { result ≡ slice_index_or self.now.glyphs i result }
@@ -164,6 +172,7 @@ impl hb_buffer_t {
     }
 
     /// Puts a glyph at place `i`.
+    #[inline]
     pub fn set(&mut self, i: usize, glyph: hb_glyph_info_t)
         requires { i < length self.old.glyphs }
         ensures { self.new ≡ record self.old { glyphs = slice_set self.old.glyphs i glyph } }
@@ -172,6 +181,7 @@ impl hb_buffer_t {
     }
 
     /// Adds a glyph at the end of a buffer without positions.
+    #[inline]
     pub fn push(&mut self, glyph: hb_glyph_info_t) -> Result<(), ShaperError>
         requires { self.old.positions ≡ [] }
         ensures ok { OnOk result (self.new ≡
@@ -207,6 +217,7 @@ impl hb_buffer_t {
     }
 
     /// Keeps the first `n` glyphs, with their positions.
+    #[inline]
     pub fn truncate(&mut self, n: usize)
         requires { n ≤ length self.old.glyphs }
         ensures { self.new ≡ record self.old {

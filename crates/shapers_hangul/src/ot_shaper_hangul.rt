@@ -6,10 +6,11 @@ ghost use Rattle.std.specs.List.{All};
 ghost use Rattle.shapers_base.specs.declared.plan.PlanData.TheVariants.{Hangul};
 ghost use Rattle.shapers_buffer.specs.Refusals.{RefusesLength};
 ghost use Rattle.shapers_hangul.specs.Hangul.{rewritten};
-ghost use Rattle.shapers_hangul.specs.HangulLaws.{KeepsClusters, RewrittenLaw, SpellingLaw, SpellsSame};
+ghost use Rattle.shapers_hangul.specs.HangulLaws.{KeepsClusters, SpellsSame};
 ghost use Rattle.shapers_hangul.specs.Masks.{jamo_masks, is_hangul_data, masks_in, with_jamo_masks};
 ghost use Rattle.shapers_hangul.specs.Requests.{hangul_list, hangul_overrides};
 
+pub use laws::{rewriting_law, spelling_law};
 use rewriting::rewrite;
 use shapers_base::buffer::{GlyphChange, hb_buffer_t, hb_glyph_info_t, hb_tag_t};
 use shapers_base::font::hb_font_t;
@@ -20,6 +21,7 @@ use shapers_base::plan::{
 
 mod item;
 mod jamo;
+mod laws;
 mod rewriting;
 
 // The forms of leading consonants, vowels and trailing consonants.
@@ -59,7 +61,7 @@ pub fn override_features(planner: &mut hb_ot_shape_planner_t) -> Result<(), Shap
 /// break would tear apart is flagged. Refuses as a growth to the length of the result does. (The
 /// Unicode Standard, "Conjoining Jamo Behavior"; OpenType's notes on Hangul.)
 pub fn preprocess_text<F: hb_font_t>(
-    plan: &hb_ot_shape_plan_t,
+    _plan: &hb_ot_shape_plan_t,
     face: &F,
     buffer: &mut hb_buffer_t,
 ) -> Result<(), ShaperError>
@@ -73,18 +75,6 @@ pub fn preprocess_text<F: hb_font_t>(
 {
     rewrite(face, buffer)
 }
-
-/// What the rewriting makes of clusters: each glyph is its source where that stood, joined with
-/// what belongs to it; no cluster rises, none is new; the cluster law of tones, and exact cuts.
-pub fn rewriting_law()
-    ensures { RewrittenLaw }
-{}
-
-/// What a unit becomes spells what it takes, syllable characters by their jamo; so the result
-/// spells the text, tones and circles apart.
-pub fn spelling_law()
-    ensures { SpellingLaw }
-{}
 
 /// Keeps the masks of the features of jamo in the plan. None of them touches a glyph flag bit.
 pub fn create_data(plan: &hb_ot_shape_plan_t) -> PlanData
@@ -115,6 +105,7 @@ impl GlyphChange for JamoMasks {
 
     ghost changed = { λ m g. with_jamo_mask m.masks g };
 
+    #[inline]
     fn change(&self, glyph: &mut hb_glyph_info_t) {
         let feature = usize::from(glyph.auxiliary);
         glyph.mask |= self.masks.get(feature).copied().unwrap_or(0);

@@ -90,6 +90,7 @@ pub fn override_features(planner: &mut hb_ot_shape_planner_t) -> Result<(), Shap
 /// The composition of two characters: Bengali YYA, which Unicode excludes from composition, else
 /// the table's. A mark composes with nothing behind it, so that a split vowel isn't put together
 /// again.
+#[inline]
 pub fn compose<T: Tables>(tables: &T, a: char, b: char) -> Option<char>
     ensures { result ≡ composed_in_indic (T.tables tables.now) a b }
 {
@@ -100,6 +101,7 @@ pub fn compose<T: Tables>(tables: &T, a: char, b: char) -> Option<char>
 }
 
 /// The decomposition of a character by the table, but for four letters that stay whole.
+#[inline]
 pub fn decompose<T: Tables>(tables: &T, ab: char) -> Option<(char, char)>
     ensures { result ≡ decomposed_in_indic (T.tables tables.now) ab }
 {

@@ -97,6 +97,7 @@ pub fn create_data(plan: &hb_ot_shape_plan_t) -> PlanData
 
 /// The composition of two characters by the table; a mark composes with nothing behind it, so that
 /// a split vowel isn't put together again.
+#[inline]
 pub fn compose<T: Tables>(tables: &T, a: char, b: char) -> Option<char>
     ensures { result ≡ composed_behind (T.tables tables.now) a b }
 {
@@ -105,6 +106,7 @@ pub fn compose<T: Tables>(tables: &T, a: char, b: char) -> Option<char>
 
 /// The decomposition of a character: a split vowel into the part that stands before its base and
 /// itself, else the table's.
+#[inline]
 pub fn decompose<T: Tables>(tables: &T, ab: char) -> Option<(char, char)>
     ensures { result ≡ decomposed_in_khmer (T.tables tables.now) ab }
 {

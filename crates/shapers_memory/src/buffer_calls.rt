@@ -12,7 +12,7 @@ use rustybuzz_shapers::map::hb_ot_map_t;
 use rustybuzz_shapers::ot_shaper_syllabic::{
     indic_syllable, khmer_syllable, myanmar_syllable, use_syllable,
 };
-use rustybuzz_shapers::plan::{Pause, PlanData, StretchStart, hb_ot_shape_plan_t};
+use rustybuzz_shapers::plan::{Pause, hb_ot_shape_plan_t};
 use rustybuzz_shapers::shaper::{hb_ot_shaper_t, pause_fits, run_pause};
 use std::alloc::Global;
 
@@ -216,13 +216,8 @@ fn check_no_positions(buffer: &hb_buffer_t) -> Result<(), Fault>
 fn plan(alloc: Global, shaper: hb_ot_shaper_t) -> Result<hb_ot_shape_plan_t, Fault> {
     let none = (Vec::new(alloc), Vec::new(alloc), Vec::new(alloc));
     let ot_map = hb_ot_map_t::new(none.0, none.1, none.2, 0, None, false).ok_or(Fault::Unfit)?;
-    Ok(shaper.with_data(hb_ot_shape_plan_t {
-        script: Some(Script(*b"Thai")),
-        ot_map,
-        has_gpos_mark: false,
-        stretch_start: StretchStart::AsCode,
-        plan_data: PlanData::None,
-    }))
+    let plan = hb_ot_shape_plan_t::new(Some(Script(*b"Thai")), ot_map);
+    Ok(shaper.with_data(plan))
 }
 
 // Whether two buffers are equal: glyphs, positions, settings, contexts, marks and listed places.

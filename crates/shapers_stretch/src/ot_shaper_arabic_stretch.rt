@@ -1,23 +1,14 @@
 //! Marks that stretch: their tiles are laid, and laid again, over the word before them. (OpenType
 //! `stch`.)
-ghost use Rattle.shapers_stretch.specs.StretchLaws.{WidthsHold};
 
 mod counting;
+mod laws;
 mod laying;
 mod measuring;
 mod parts;
 mod postprocessing;
 mod recording;
 
+pub use laws::widths_law;
 pub use postprocessing::postprocess_glyphs;
-pub use recording::record_stch;
-
-/// The law of widths, of what `postprocess_glyphs` makes of a text: it is the parts of the text
-/// before, one after another, each with its run laid. The laid copies have no advance, and stand
-/// where their moves lead, each by the font's advance, an added one by the overlap less. These moves
-/// together are the width that the numbers of the run say; and where its repeating tiles have a
-/// width and fit into what the fixed ones leave of the word, that is the width of the word, or more
-/// by less than one unit for each added copy.
-pub fn widths_law()
-    ensures { WidthsHold }
-{}
+pub use recording::{record_stch, record_stch_in};

@@ -5,20 +5,26 @@ mod circles;
 mod clearing;
 mod consonants;
 mod kinds;
+mod laws;
 mod pause;
 mod reordering;
 mod set_up;
 
-pub use characters::{compose, set_categories, set_categories_and_positions};
-pub use circles::{
-    DottedCircles, circles_can_be_erased, circles_keep_clusters, insert_dotted_circles,
+pub use characters::{
+    compose, set_categories, set_categories_and_positions, set_categories_and_positions_in,
+    set_categories_in,
 };
-pub use clearing::{clear_substitution_flags, clear_syllables};
+pub use circles::{DottedCircles, insert_dotted_circles};
+pub use clearing::{
+    clear_substitution_flags, clear_substitution_flags_in, clear_syllables, clear_syllables_in,
+};
 pub use consonants::is_consonant;
 pub use kinds::{indic_syllable, khmer_syllable, myanmar_syllable, use_syllable};
-pub use pause::{ScriptCircles, pauses_cut_between_spans, pauses_cut_law, reorder_pause};
-pub use reordering::{
-    Reorder, reorder_syllables, reordering_cuts_at_borders, reordering_loses_nothing,
-    serials_dont_count, text_reordered_law,
+pub use laws::{
+    circles_can_be_erased, circles_keep_clusters, pauses_cut_between_spans, pauses_cut_law,
+    reordering_cuts_at_borders, reordering_loses_nothing, serials_dont_count, spans_cut_law,
+    text_reordered_law,
 };
-pub use set_up::{set_up_syllables, spans_cut_law};
+pub use pause::{ScriptCircles, reorder_pause};
+pub use reordering::{Reorder, reorder_syllables};
+pub use set_up::set_up_syllables;

@@ -1,6 +1,7 @@
 -- Steps of the search for the first three marks.
-use Rattle.std.proofs.Common.{◌≡◌, ℕ, suc, ◌+◌, ◌-◌, ◌<◌, ◌≤◌, Bool, true, false, List, [], ◌∷◌, length, get_or, take, drop, set, refl, ap, sym, ◌∙◌, arith, Some, None, Option}
+use Rattle.std.proofs.Common.{◌≡◌, ℕ, suc, ◌+◌, ◌-◌, ◌<◌, ◌≤◌, Bool, true, false, List, [], ◌∷◌, length, get_or, take, drop, set, refl, ap, subst, sym, ◌∙◌, arith, Some, None, Option}
 use Rattle.std.specs.Prelude.{option_map, swap, IfSome, if◌then◌else◌}
+use Rattle.std.proofs.lemmas.Bool.{false≢true}
 use Rattle.std.proofs.lemmas.List.{drop_more, get_or_read, take-map, drop-map}
 use Rattle.std.proofs.lemmas.List.Edits.{swap_is}
 use Rattle.shapers_buffer.specs.Glyph.{default_glyph, plain, order_view}
@@ -76,6 +77,38 @@ pub triple_none : (gs : List hb_glyph_info_t) (i end : ℕ) → end ≤ i + 2 �
 triple_none gs i end h =
     let short : length (stretch_of i end gs) < 3 = grind (arith, common_steps) in
     ap (option_map (λ k. i + k + 1)) (few (stretch_of i end gs) short)
+
+-- the first three stand within the text
+three_long : (gs : List hb_glyph_info_t) → opens_triple gs ≡ true → 2 < length gs
+three_long [] h = absurd (false≢true h)
+three_long (a ∷ []) h = absurd (false≢true h)
+three_long (a ∷ (b ∷ [])) h = absurd (false≢true h)
+three_long (a ∷ (b ∷ (c ∷ gs))) h = omega arith
+
+abbrev Within : ℕ → Option ℕ → Type 0
+Within n o = IfSome o (λ k. k + 2 < n)
+
+one_further : (n : ℕ) (o : Option ℕ) → Within n o → Within (suc n) (option_map suc o)
+one_further n None h = tt
+one_further n (Some k) h = omega arith
+
+by_first : (g : hb_glyph_info_t) (gs : List hb_glyph_info_t) (opens : Bool) → opens_triple (g ∷ gs) ≡ opens → Within (length gs) (triple_place gs) → Within (suc (length gs)) (triple_place (g ∷ gs))
+by_first g gs true h _ = subst (Within (suc (length gs))) (sym (triple_place_hit g gs h)) (omega (arith, three_long (g ∷ gs) h))
+by_first g gs false h rest = subst (Within (suc (length gs))) (sym (triple_place_miss g gs h)) (one_further (length gs) (triple_place gs) rest)
+
+triple_within : (gs : List hb_glyph_info_t) → Within (length gs) (triple_place gs)
+triple_within [] = tt
+triple_within (g ∷ gs) = by_first g gs (opens_triple (g ∷ gs)) refl (triple_within gs)
+
+moved_within : (start n total : ℕ) (o : Option ℕ) → start + n ≤ total → Within n o → IfSome (option_map (λ k. start + k + 1) o) (λ k. k + 1 < total)
+moved_within start n total None fits h = tt
+moved_within start n total (Some k) fits h = omega arith
+
+pub second_within : (gs : List hb_glyph_info_t) (start end : ℕ) → start ≤ end → end ≤ length gs → IfSome (second_of_triple start end gs) (λ k. k + 1 < length gs)
+second_within gs start end order within =
+    let xs = stretch_of start end gs in
+    let fits : start + length xs ≤ length gs = grind (arith, common_steps) in
+    moved_within start (length xs) (length gs) (triple_place xs) fits (triple_within xs)
 
 -- three glyphs as they were read
 pub opens_read : (gs : List hb_glyph_info_t) (i : ℕ) (x y z : hb_glyph_info_t) → i + 2 < length gs → x ≡ get_or gs i x → y ≡ get_or gs (i + 1) y → z ≡ get_or gs (i + 2) z → opens_at gs default_glyph i ≡ opens_triple (x ∷ (y ∷ (z ∷ [])))

@@ -7,14 +7,17 @@ ghost use Rattle.shapers_clusters.specs.Steps.{run_step};
 ghost use Rattle.shapers_text.specs.Hebrew.{mark_step, marks_swapped, MarksReordered, second_of_triple, opens_triple, hebrew_form, composed_in_hebrew, lacks_dagesh, is_in_dagesh_row, pairs};
 
 use shapers_base::buffer::modified_combining_class::{BELOW, CCC10, CCC14, CCC17, CCC18, CCC22};
-use shapers_base::buffer::{hb_buffer_t, hb_glyph_info_t};
+use shapers_base::buffer::{
+    BufferClusterLevel, GlyphWalk, hb_buffer_t, hb_glyph_info_t, merge_clusters_in,
+};
 use shapers_base::font::Tables;
 use shapers_base::plan::hb_ot_shape_plan_t;
 
 /// Among the marks from `start` to `end`, at the first three neighbours of the classes (patah or
 /// qamats), (sheva or hiriq), (meteg or below), merges the last two and swaps them: a meteg stands
 /// before the point that it is written left of. It can't refuse and takes no memory.
-pub fn reorder_marks(plan: &hb_ot_shape_plan_t, buffer: &mut hb_buffer_t, start: usize, end: usize)
+#[inline]
+pub fn reorder_marks(_plan: &hb_ot_shape_plan_t, buffer: &mut hb_buffer_t, start: usize, end: usize)
     requires in_order { start ≤ end }
     requires in_range { end ≤ length buffer.old.glyphs }
     ensures step { let step = mark_step start end buffer.old.glyphs in
@@ -24,32 +27,65 @@ pub fn reorder_marks(plan: &hb_ot_shape_plan_t, buffer: &mut hb_buffer_t, start:
         order_view buffer.new.glyphs ≡ marks_swapped start end old }
     ensures laws { MarksReordered start end buffer.old buffer.new }
 {
-    if let Some(i) = find_triple(buffer, start, end) {
-        merge_and_swap(buffer, i);
+    let level = buffer.cluster_level();
+    buffer.walk(&mut MarkOrder { level, start, end });
+}
+
+/// The same in a slice whose clusters merge at this level.
+pub fn reorder_marks_in(
+    level: BufferClusterLevel,
+    glyphs: &mut [hb_glyph_info_t],
+    start: usize,
+    end: usize,
+)
+    requires in_order { start ≤ end }
+    requires in_range { end ≤ length glyphs.old }
+    ensures { glyphs.new ≡ run_step level (mark_step start end glyphs.old) glyphs.old }
+{
+    if let Some(i) = find_triple(glyphs, start, end) {
+        merge_and_swap(level, glyphs, i);
+    }
+}
+
+// Where the marks stand, and whether clusters merge.
+#[derive(Drop)]
+struct MarkOrder {
+    level: BufferClusterLevel,
+    start: usize,
+    end: usize,
+}
+
+impl GlyphWalk for MarkOrder {
+    ghost use Rattle.std.specs.Prelude.{◌≡◌, ◌≤◌, length};
+    ghost use Rattle.shapers_clusters.specs.Steps.{run_step};
+    ghost use Rattle.shapers_text.specs.Hebrew.{mark_step};
+
+    ghost can_walk = { λ w gs. (w.start ≤ w.end) × (w.end ≤ length gs) };
+
+    ghost walks = { λ v w gs hs. hs ≡ run_step v.level (mark_step v.start v.end gs) gs };
+
+    fn walk(&mut self, glyphs: &mut [hb_glyph_info_t]) {
+        reorder_marks_in(self.level, glyphs, self.start, self.end);
     }
 }
 
 // Merges the glyphs at `i` and behind it, and swaps them.
-fn merge_and_swap(buffer: &mut hb_buffer_t, i: usize)
-    requires in_range { i + 1 < length buffer.old.glyphs }
+fn merge_and_swap(level: BufferClusterLevel, glyphs: &mut [hb_glyph_info_t], i: usize)
+    requires in_range { i + 1 < length glyphs.old }
     requires fits { i + 2 < 2 ^ 64 }
-    ensures { let merged = merge buffer.old.level i (i + 2) buffer.old.glyphs in
-        buffer.new ≡ record buffer.old { glyphs = swap merged i (i + 1) } }
+    ensures { glyphs.new ≡ swap (merge level i (i + 2) glyphs.old) i (i + 1) }
 {
-    buffer.merge_clusters(i, i + 2);
-    let (point, meteg) = (buffer.get(i), buffer.get(i + 1));
-    buffer.set(i, meteg);
-    buffer.set(i + 1, point);
+    merge_clusters_in(level, glyphs, i, i + 2);
+    glyphs.swap(i, i + 1);
 }
 
 // The place of the second of the first three such neighbours.
-fn find_triple(buffer: &hb_buffer_t, start: usize, end: usize) -> Option<usize>
+fn find_triple(glyphs: &[hb_glyph_info_t], start: usize, end: usize) -> Option<usize>
     requires in_order { start ≤ end }
-    requires in_range { end ≤ length buffer.now.glyphs }
-    ensures first { result ≡ second_of_triple start end buffer.now.glyphs }
+    requires in_range { end ≤ length glyphs.now }
+    ensures first { result ≡ second_of_triple start end glyphs.now }
     ensures within { IfSome result (λ i. i + 1 < end) }
 {
-    let glyphs = buffer.glyphs();
     for i in start..end.saturating_sub(2) {
         if is_triple(glyphs[i], glyphs[i + 1], glyphs[i + 2]) {
             return Some(i + 1);
@@ -69,6 +105,7 @@ fn is_triple(a: hb_glyph_info_t, b: hb_glyph_info_t, c: hb_glyph_info_t) -> bool
 
 /// The composition of two characters: the table's, or else, where GPOS places no marks, the Hebrew
 /// presentation form of a letter and a point.
+#[inline]
 pub fn compose<T: Tables>(plan: &hb_ot_shape_plan_t, tables: &T, a: char, b: char) -> Option<char>
     ensures { let composed = (T.tables tables.now).composed a b in
         result ≡ composed_in_hebrew composed plan.now.has_gpos_mark a b }
@@ -102,6 +139,7 @@ const PAIRS: [(char, char, char); 14] = [
 const ALEF_WITH_DAGESH: u32 = 0xFB30;
 
 // The presentation form of a letter and a point.
+#[inline]
 fn form_of(a: char, b: char) -> Option<char>
     ensures { result ≡ hebrew_form a b }
 {

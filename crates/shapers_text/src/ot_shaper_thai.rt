@@ -6,7 +6,7 @@ ghost use Rattle.shapers_buffer.specs.Glyph.{clusters, characters};
 ghost use Rattle.shapers_buffer.specs.Refusals.{RefusesLength};
 ghost use Rattle.shapers_text.specs.Thai.{is_sara_am, glyphs_in_two, is_thai};
 ghost use Rattle.shapers_text.specs.ThaiForms.{asks_for_forms, preprocessed_in_thai};
-ghost use Rattle.shapers_text.specs.ThaiLaws.{ClustersInTwo, KeptInTwo, InTwoLaw, FormsLaw};
+ghost use Rattle.shapers_text.specs.ThaiLaws.{ClustersInTwo, KeptInTwo};
 
 use shapers_base::buffer::{Script, ShaperError, hb_buffer_t};
 use shapers_base::font::hb_font_t;
@@ -14,9 +14,11 @@ use shapers_base::map::TableIndex;
 use shapers_base::plan::hb_ot_shape_plan_t;
 
 mod forms;
+mod laws;
 mod sara_am;
 
 use forms::do_pua_shaping;
+pub use laws::{forms_law, in_two_law};
 use sara_am::rewrite_sara_am;
 
 // The script Thai.
@@ -70,14 +72,3 @@ fn is_thai(script: Option<Script>) -> bool
         Some(script) => script == THAI,
     }
 }
-
-/// What the rewriting of SARA AM makes of clusters and glyph flags: flags and old clusters, the
-/// cluster law and exact cuts.
-pub fn in_two_law()
-    ensures { InTwoLaw }
-{}
-
-/// The private use forms change characters and masks alone, so the laws of clusters hold with them.
-pub fn forms_law()
-    ensures { FormsLaw }
-{}

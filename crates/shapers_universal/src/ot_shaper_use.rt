@@ -22,9 +22,9 @@ mod syllable_walk;
 
 pub use data::create_data;
 pub use laws::{universal_cuts_between_spans, universal_reads_no_serials, universal_reorder_laws};
-pub use masks::setup_masks;
+pub use masks::{set_categories_in, setup_masks};
 pub use ordering::UniversalOrder;
-pub use records::{record_pref, record_rphf};
+pub use records::{record_pref, record_pref_in, record_rphf, record_rphf_in};
 pub use reordering::reorder_use;
 pub use set_up::setup_syllables_use;
 pub use shapers_base::plan::use_shape_plan_t;

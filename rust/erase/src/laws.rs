@@ -44,8 +44,11 @@ pub fn erase_count(file: &mut File) -> Result<(), String> {
         return Ok(());
     }
     merge_counted(file)?;
+    let is_other = |file: &File, i: usize| {
+        file.is_import(i) || file.before(i) == "::" || file.text(i + 1) == "("
+    };
     for name in LEDGER {
-        while let Some(i) = file.places(name).into_iter().find(|i| !file.is_import(*i)) {
+        while let Some(i) = file.places(name).into_iter().find(|i| !is_other(file, *i)) {
             file.cut_element(i);
         }
     }

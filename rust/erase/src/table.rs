@@ -60,7 +60,7 @@ pub const PRELUDE: &[&str] = &["Vec", "String", "vec", "format", "collect_in"];
 
 /// The attributes that stay.
 pub const ATTRIBUTES: &[&str] =
-    &["default", "inline", "must_use", "non_exhaustive", "repr", "test"];
+    &["allow", "default", "inline", "must_use", "non_exhaustive", "repr", "test"];
 
 /// The attributes that go.
 pub const ERASED_ATTRIBUTES: &[&str] = &["tactic", "rattlefmt", "error"];

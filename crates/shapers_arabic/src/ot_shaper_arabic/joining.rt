@@ -7,7 +7,7 @@ ghost use Rattle.shapers_arabic.specs.JoinedText.{AreCharacters, context_types, 
 ghost use Rattle.shapers_arabic.specs.JoiningWalk.{FlaggedBy, IsWithin, JoinsTo, SameText, WalksAll, WalksOn, cell, column_of, given_flags, given_last, joined_at, state_at_start, step_flags, unformed, waits, written};
 
 use super::arabic_action_t::{FIN2, FIN3, FINA, INIT, ISOL, MED2, MEDI, NONE};
-use super::look_ups::{LookUps, look_up};
+use super::look_ups::LookUps;
 use shapers_base::buffer::{
     BufferFlags, hb_glyph_info_t, hb_unicode_general_category_t, safe_to_insert_tatweel_in,
     unsafe_to_concat_in,
@@ -104,6 +104,7 @@ fn column(joining_type: hb_arabic_joining_type_t) -> usize
 }
 
 // The cell of a state and a letter.
+#[inline]
 fn transition_of(state: usize, joining_type: hb_arabic_joining_type_t) -> Transition
     requires { state < 7 }
     ensures cell { result ≡ cell state joining_type }
@@ -113,6 +114,7 @@ fn transition_of(state: usize, joining_type: hb_arabic_joining_type_t) -> Transi
 }
 
 // The state before a text, by the nearest letter before it.
+#[inline]
 fn state_at_start(before: Option<hb_arabic_joining_type_t>) -> usize
     ensures state { result ≡ state_at_start before }
     ensures within { result < 7 }
@@ -156,6 +158,7 @@ fn is_passed_over(category: hb_unicode_general_category_t) -> bool
 }
 
 // The joining type, where X is told by the category.
+#[inline]
 fn resolve(
     joining_type: hb_arabic_joining_type_t,
     category: hb_unicode_general_category_t,
@@ -167,6 +170,20 @@ fn resolve(
         hb_arabic_joining_type_t::X => hb_arabic_joining_type_t::U,
         own => own,
     }
+}
+
+// The joining type of a character as the tables have it; no other function asks them for it.
+#[inline]
+fn look_up<T: Tables, L: Ledger>(
+    tables: &T,
+    c: char,
+    count: &mut LookUps<L>,
+) -> hb_arabic_joining_type_t
+    ensures joining_type { result ≡ (T.tables tables.now).joining c }
+    ensures counted { count.new ≡ count.old + 1 }
+{
+    count.add_one();
+    tables.joining_type(c)
 }
 
 // The type of a glyph, by its stored category.
@@ -300,6 +317,7 @@ fn join_letter(
 }
 
 // Gives the glyph at place `i`, which has this type, its form as long as nothing follows.
+#[inline]
 fn join_place(
     flags: BufferFlags,
     glyphs: &mut [hb_glyph_info_t],
@@ -346,6 +364,7 @@ fn join_letters<T: Tables, L: Ledger>(
 }
 
 // Gives each glyph its form, between the nearest letters before and after the text.
+#[inline]
 pub(super) fn join<T: Tables, L: Ledger>(
     flags: BufferFlags,
     glyphs: &mut [hb_glyph_info_t],

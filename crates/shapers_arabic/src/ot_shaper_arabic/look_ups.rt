@@ -1,8 +1,6 @@
 //! How often joining types are looked up.
 ghost use Rattle.std.specs.Prelude.{◌≡◌, ◌+◌, ◌<◌};
 
-use shapers_base::font::Tables;
-use shapers_base::plan::hb_arabic_joining_type_t;
 use std::marker::{Brand, Model};
 use std::sync::ledger::{Blank, Book, Ledger, Share};
 
@@ -36,22 +34,9 @@ impl<L: Ledger> LookUps<L> {
     }
 
     // One more.
-    fn add_one(&mut self)
+    pub(super) fn add_one(&mut self)
         ensures { self.new ≡ self.old + 1 }
     {
         self.book.add(&mut self.share, 1);
     }
-}
-
-// The joining type of a character as the tables have it; no other function asks them for it.
-pub(super) fn look_up<T: Tables, L: Ledger>(
-    tables: &T,
-    c: char,
-    count: &mut LookUps<L>,
-) -> hb_arabic_joining_type_t
-    ensures joining_type { result ≡ (T.tables tables.now).joining c }
-    ensures counted { count.new ≡ count.old + 1 }
-{
-    count.add_one();
-    tables.joining_type(c)
 }

@@ -25,7 +25,8 @@ const ABOVE: u8 = 230;
 /// Among the marks from `start` to `end`, brings those that modify a letter to the front, in
 /// classes of their own: first the ones below it, then the ones above it. What they pass merges
 /// with them. It can't refuse and takes no memory. (Unicode Technical Report 53.)
-pub fn reorder_marks(plan: &hb_ot_shape_plan_t, buffer: &mut hb_buffer_t, start: usize, end: usize)
+#[inline]
+pub fn reorder_marks(_plan: &hb_ot_shape_plan_t, buffer: &mut hb_buffer_t, start: usize, end: usize)
     requires in_order { start ≤ end }
     requires in_range { end ≤ length buffer.old.glyphs }
     requires at_most_32 { end ≤ start + 32 }
@@ -56,13 +57,19 @@ impl GlyphWalk for MarkOrder {
     ghost walks = { λ v w gs hs.
         hs ≡ marks_reordered v.start v.end (marks_merged v.level v.start v.end gs) };
 
+    #[inline]
     fn walk(&mut self, glyphs: &mut [hb_glyph_info_t]) {
-        order_marks(self.level, glyphs, self.start, self.end);
+        reorder_marks_in(self.level, glyphs, self.start, self.end);
     }
 }
 
-// Orders the marks from `start` to `end`.
-fn order_marks(level: BufferClusterLevel, glyphs: &mut [hb_glyph_info_t], start: usize, end: usize)
+/// The same in a slice whose clusters merge at this level.
+pub fn reorder_marks_in(
+    level: BufferClusterLevel,
+    glyphs: &mut [hb_glyph_info_t],
+    start: usize,
+    end: usize,
+)
     requires in_order { start ≤ end }
     requires in_range { end ≤ length glyphs.old }
     ensures { glyphs.new ≡ marks_reordered start end (marks_merged level start end glyphs.old) }
@@ -133,7 +140,7 @@ fn is_modifier_of(class: u8, mark: &hb_glyph_info_t) -> bool
 fn modifies(character: u32) -> bool
     ensures { result ≡ list_any (λ c. c == character) modifiers }
 {
-    MODIFIERS.iter().any(|c| *c == character)
+    MODIFIERS.contains(&character)
 }
 
 // Merges what the modifiers pass with them.

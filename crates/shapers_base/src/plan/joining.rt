@@ -1,3 +1,6 @@
+ghost use Rattle.std.specs.Prelude.{◌≡◌, ◌==◌, find};
+ghost use Rattle.shapers_base.specs.Numbers.{joining_number, joining_types};
+
 /// How a character joins its neighbours, as the Unicode Character Database has it, with the two
 /// groups that Syriac treats on their own. The numbers are those of the joining tables.
 #[derive(Clone, Copy, Debug, PartialEq, Eq, PartialOrd)]
@@ -18,4 +21,42 @@ pub enum hb_arabic_joining_type_t {
     T = 7,
     /// T or U, by the general category.
     X = 8,
+}
+
+impl hb_arabic_joining_type_t {
+    /// Every joining type, in the order of their numbers.
+    pub const ALL: [Self; 8] = [
+        Self::U,
+        Self::L,
+        Self::R,
+        Self::D,
+        Self::GroupAlaph,
+        Self::GroupDalathRish,
+        Self::T,
+        Self::X,
+    ];
+
+    /// The joining type of this number of the joining tables: 0 to 5, 7 or 8.
+    pub fn from_number(number: u8) -> Option<Self>
+        ensures { result ≡ find (λ t. joining_number t == number) joining_types }
+    {
+        match number {
+            0 => Some(Self::U),
+            1 => Some(Self::L),
+            2 => Some(Self::R),
+            3 => Some(Self::D),
+            4 => Some(Self::GroupAlaph),
+            5 => Some(Self::GroupDalathRish),
+            7 => Some(Self::T),
+            8 => Some(Self::X),
+            _ => None,
+        }
+    }
+
+    /// The number of the joining type in the joining tables.
+    pub fn number(self) -> u8
+        ensures { result ≡ joining_number self }
+    {
+        self as u8
+    }
 }

@@ -1,4 +1,8 @@
+ghost use Rattle.std.specs.Prelude.{◌≡◌, Some, slice_get};
+ghost use Rattle.shapers_base.specs.Numbers.{pauses};
+
 /// What a shaper does between two stages of substitution.
+#[repr(u8)]
 #[derive(Clone, Copy, Debug, PartialEq, Eq)]
 pub enum Pause {
     /// Writes the spans of Indic syllables into the glyphs.
@@ -31,4 +35,39 @@ pub enum Pause {
     ClearSubstitutionFlags,
     /// Nothing: there is no fallback shaper for Arabic.
     ArabicFallbackShape,
+}
+
+impl Pause {
+    /// Every pause, in order.
+    pub const ALL: [Self; 15] = [
+        Self::SetupSyllablesIndic,
+        Self::SetupSyllablesKhmer,
+        Self::SetupSyllablesMyanmar,
+        Self::SetupSyllablesUse,
+        Self::InitialReordering,
+        Self::ReorderKhmer,
+        Self::ReorderMyanmar,
+        Self::ReorderUse,
+        Self::FinalReordering,
+        Self::RecordStch,
+        Self::RecordRphf,
+        Self::RecordPref,
+        Self::SyllabicClearVar,
+        Self::ClearSubstitutionFlags,
+        Self::ArabicFallbackShape,
+    ];
+
+    /// The pause of this number, its place in `ALL`.
+    pub fn from_number(number: u8) -> Option<Self>
+        ensures { result ≡ slice_get pauses number }
+    {
+        Self::ALL.as_slice().get(number as usize).copied()
+    }
+
+    /// The number of the pause, its place in `ALL`.
+    pub fn number(self) -> u8
+        ensures { slice_get pauses result ≡ Some self }
+    {
+        self as u8
+    }
 }

@@ -26,13 +26,14 @@ impl Default for Request {
     ghost is_default = { λ r. r ≡ bare_pause };
 
     /// A pause without a function.
+    #[inline]
     fn default() -> Self {
         Request::Pause(None)
     }
 }
 
 /// Collects what a shaper asks of the map for one script.
-#[derive(Drop)]
+#[derive(Debug, Drop)]
 pub struct hb_ot_shape_planner_t {
     script: Option<Script>,
     requests: Vec<Request>,
@@ -48,6 +49,7 @@ impl Model for hb_ot_shape_planner_t {
 
 impl hb_ot_shape_planner_t {
     /// A planner without requests. It takes no memory.
+    #[inline]
     pub fn new(alloc: Global, script: Option<Script>) -> Self
         ensures { result ≡ record { script = script; requests = [] } }
     {
@@ -58,6 +60,7 @@ impl hb_ot_shape_planner_t {
     }
 
     /// The script of the text, where it is known.
+    #[inline]
     pub fn script(&self) -> Option<Script>
         ensures { result ≡ self.now.script }
     {
@@ -65,6 +68,7 @@ impl hb_ot_shape_planner_t {
     }
 
     /// What was asked so far, in order.
+    #[inline]
     pub fn requests(&self) -> &[Request]
         ensures { result.now ≡ self.now.requests }
     {
@@ -72,6 +76,7 @@ impl hb_ot_shape_planner_t {
     }
 
     /// Whether the font has a feature by this tag.
+    #[inline]
     pub fn has_feature<F: hb_font_t>(&self, face: &F, tag: hb_tag_t) -> bool
         ensures { result ≡ (F.font face.now).offers tag }
     {
@@ -79,6 +84,7 @@ impl hb_ot_shape_planner_t {
     }
 
     /// Asks for a feature. The only refusal is `Memory`.
+    #[inline]
     pub fn add_feature(&mut self, tag: hb_tag_t, flags: u32, value: u32) -> Result<(), ShaperError>
         ensures ok { let list = Request.Feature tag flags value ∷ [] in
             OnOk result (self.new ≡ with_requests list self.old) }
@@ -89,6 +95,7 @@ impl hb_ot_shape_planner_t {
     }
 
     /// Asks for a feature that holds for the whole text. The only refusal is `Memory`.
+    #[inline]
     pub fn enable_feature(
         &mut self,
         tag: hb_tag_t,
@@ -104,6 +111,7 @@ impl hb_ot_shape_planner_t {
     }
 
     /// Asks that a feature be off. The only refusal is `Memory`.
+    #[inline]
     pub fn disable_feature(&mut self, tag: hb_tag_t) -> Result<(), ShaperError>
         ensures ok { let list = Request.Feature tag F_GLOBAL 0 ∷ [] in
             OnOk result (self.new ≡ with_requests list self.old) }
@@ -114,6 +122,7 @@ impl hb_ot_shape_planner_t {
     }
 
     /// Asks for a pause between two stages. The only refusal is `Memory`.
+    #[inline]
     pub fn add_gsub_pause(&mut self, pause: Option<Pause>) -> Result<(), ShaperError>
         ensures ok { OnOk result (self.new ≡ with_requests (Request.Pause pause ∷ []) self.old) }
         ensures refusal { IsOkUnless result Memory }

@@ -6,7 +6,7 @@ use rustybuzz_shapers::buffer::{
     hb_unicode_general_category_t,
 };
 use rustybuzz_shapers::map::{feature_map_t, hb_ot_map_t};
-use rustybuzz_shapers::plan::{PlanData, StretchStart, hb_ot_shape_plan_t};
+use rustybuzz_shapers::plan::hb_ot_shape_plan_t;
 use rustybuzz_shapers::shaper::hb_ot_shaper_t;
 use std::alloc::{AllocError, Global};
 
@@ -133,12 +133,6 @@ pub fn plan(
     lookups.push(0)?;
     let map = hb_ot_map_t::new(features, stages, lookups, 0, None, true);
     Ok(map.map(|ot_map| {
-        shaper.with_data(hb_ot_shape_plan_t {
-            script: Some(script),
-            ot_map,
-            has_gpos_mark: false,
-            stretch_start: StretchStart::AsCode,
-            plan_data: PlanData::None,
-        })
+        shaper.with_data(hb_ot_shape_plan_t::new(Some(script), ot_map))
     }))
 }

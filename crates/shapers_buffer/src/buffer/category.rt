@@ -1,38 +1,71 @@
-ghost use Rattle.std.specs.Prelude.{◌≡◌};
+ghost use Rattle.std.specs.Prelude.{◌≡◌, Some, slice_get};
 ghost use Rattle.shapers_buffer.specs.Category.{is_mark};
+ghost use Rattle.shapers_buffer.specs.Numbers.{categories};
 
-/// The general categories of the Unicode Character Database, in their order.
+/// The general categories of the Unicode Character Database, in their order: one byte, from 0 to 29,
+/// as HarfBuzz numbers them.
+#[repr(u8)]
 #[derive(Clone, Copy, Debug, PartialEq, Eq)]
 pub enum hb_unicode_general_category_t {
+    /// Control.
     Cc,
+    /// Format.
     Cf,
+    /// Unassigned.
     Cn,
+    /// Private use.
     Co,
+    /// Surrogate.
     Cs,
+    /// Lowercase letter.
     Ll,
+    /// Modifier letter.
     Lm,
+    /// Other letter.
     Lo,
+    /// Titlecase letter.
     Lt,
+    /// Uppercase letter.
     Lu,
+    /// Spacing mark.
     Mc,
+    /// Enclosing mark.
     Me,
+    /// Nonspacing mark.
     Mn,
+    /// Decimal number.
     Nd,
+    /// Letter number.
     Nl,
+    /// Other number.
     No,
+    /// Connector punctuation.
     Pc,
+    /// Dash punctuation.
     Pd,
+    /// Close punctuation.
     Pe,
+    /// Final punctuation.
     Pf,
+    /// Initial punctuation.
     Pi,
+    /// Other punctuation.
     Po,
+    /// Open punctuation.
     Ps,
+    /// Currency symbol.
     Sc,
+    /// Modifier symbol.
     Sk,
+    /// Math symbol.
     Sm,
+    /// Other symbol.
     So,
+    /// Line separator.
     Zl,
+    /// Paragraph separator.
     Zp,
+    /// Space separator.
     Zs,
 }
 
@@ -71,7 +104,22 @@ impl hb_unicode_general_category_t {
         Self::Zs,
     ];
 
+    /// The category of this number, its place in `ALL`.
+    pub fn from_number(number: u8) -> Option<Self>
+        ensures { result ≡ slice_get categories number }
+    {
+        Self::ALL.as_slice().get(number as usize).copied()
+    }
+
+    /// The number of the category, its place in `ALL`.
+    pub fn number(self) -> u8
+        ensures { slice_get categories result ≡ Some self }
+    {
+        self as u8
+    }
+
     /// Whether a character of this category is a mark: spacing, enclosing or nonspacing.
+    #[inline]
     pub fn is_mark(self) -> bool
         ensures { result ≡ is_mark self }
     {

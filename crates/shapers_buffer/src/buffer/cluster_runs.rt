@@ -12,7 +12,7 @@ use super::{BufferClusterLevel, hb_buffer_t};
 
 /// Glyphs that merges have put into one cluster, which isn't written yet: where they start, the
 /// place behind them, and their cluster.
-#[derive(Clone, Copy)]
+#[derive(Clone, Copy, Debug)]
 pub struct ClusterRun {
     start: usize,
     end: usize,
@@ -32,6 +32,7 @@ impl hb_buffer_t {
     /// Merges the glyphs from `s` to `e`, as `merge_clusters`, of the buffer with a run in its
     /// cluster. Where they start in the run nothing is written and only what is new is read, else
     /// the run is written and another begins. Answers the run that is to be written then.
+    #[inline]
     pub fn merge_run(&mut self, run: ClusterRun, s: usize, e: usize) -> ClusterRun
         requires in_order { s ≤ e }
         requires in_range { e ≤ length self.old.glyphs }
@@ -46,6 +47,7 @@ impl hb_buffer_t {
     }
 
     /// Puts the glyphs of a run into its cluster.
+    #[inline]
     pub fn write_run(&mut self, run: ClusterRun)
         requires { RunFits run self.old.glyphs }
         ensures { self.new ≡ record self.old { glyphs = with_run run self.old.glyphs } }
@@ -55,6 +57,7 @@ impl hb_buffer_t {
 }
 
 /// Merges over glyphs in a slice, as `hb_buffer_t::merge_run`.
+#[inline]
 pub fn merge_run_in(
     level: BufferClusterLevel,
     glyphs: &mut [hb_glyph_info_t],
@@ -76,6 +79,7 @@ pub fn merge_run_in(
 }
 
 /// Puts the glyphs of a run in a slice into its cluster.
+#[inline]
 pub fn write_run_in(glyphs: &mut [hb_glyph_info_t], run: ClusterRun)
     requires { RunFits run glyphs.old }
     ensures { glyphs.new ≡ with_run run glyphs.old }

@@ -8,6 +8,7 @@ use super::{
 
 impl hb_buffer_t {
     /// Where the glyph at place `i` is drawn; `i` is below the number of positions.
+    #[inline]
     pub fn position(&self, i: usize) -> GlyphPosition
         requires { i < length self.now.positions }
         ensures { result ≡ slice_index_or self.now.positions i result }
@@ -16,6 +17,7 @@ impl hb_buffer_t {
     }
 
     /// Sets where the glyph at place `i` is drawn; `i` is below the number of positions.
+    #[inline]
     pub fn set_position(&mut self, i: usize, position: GlyphPosition)
         requires { i < length self.old.positions }
         ensures { self.new ≡
@@ -25,6 +27,7 @@ impl hb_buffer_t {
     }
 
     /// Where the glyphs are drawn: none, or one a glyph.
+    #[inline]
     pub fn positions(&self) -> &[GlyphPosition]
         ensures { result.now ≡ self.now.positions }
     {
@@ -32,6 +35,7 @@ impl hb_buffer_t {
     }
 
     /// How many positions there are: none, or one a glyph.
+    #[inline]
     pub fn positions_len(&self) -> usize
         ensures length { result ≡ length self.now.positions }
         ensures paired { 0 < result → result ≡ length self.now.glyphs }
@@ -41,6 +45,7 @@ impl hb_buffer_t {
 
     /// Takes positions, none or one a glyph, and answers true; for any other number of them nothing
     /// changes.
+    #[inline]
     pub fn set_positions(&mut self, positions: Vec<GlyphPosition>) -> bool
         ensures answer { result ≡ can_be_positions positions.items self.old }
         ensures changed { let taken = record self.old { positions = positions.items } in
@@ -54,6 +59,7 @@ impl hb_buffer_t {
     }
 
     /// The direction of the text.
+    #[inline]
     pub fn direction(&self) -> Direction
         ensures { result ≡ self.now.direction }
     {
@@ -61,6 +67,7 @@ impl hb_buffer_t {
     }
 
     /// Sets the direction of the text.
+    #[inline]
     pub fn set_direction(&mut self, direction: Direction)
         ensures { self.new ≡ record self.old { direction = direction } }
     {
@@ -68,6 +75,7 @@ impl hb_buffer_t {
     }
 
     /// The script of the text, where it is known.
+    #[inline]
     pub fn script(&self) -> Option<Script>
         ensures { result ≡ self.now.script }
     {
@@ -75,6 +83,7 @@ impl hb_buffer_t {
     }
 
     /// Sets the script of the text.
+    #[inline]
     pub fn set_script(&mut self, script: Option<Script>)
         ensures { self.new ≡ record self.old { script = script } }
     {
@@ -82,6 +91,7 @@ impl hb_buffer_t {
     }
 
     /// How clusters merge.
+    #[inline]
     pub fn cluster_level(&self) -> BufferClusterLevel
         ensures { result ≡ self.now.level }
     {
@@ -89,6 +99,7 @@ impl hb_buffer_t {
     }
 
     /// Sets how clusters merge from now on.
+    #[inline]
     pub fn set_cluster_level(&mut self, cluster_level: BufferClusterLevel)
         ensures { self.new ≡ record self.old { level = cluster_level } }
     {
@@ -96,6 +107,7 @@ impl hb_buffer_t {
     }
 
     /// What the caller asks of the shapers.
+    #[inline]
     pub fn flags(&self) -> BufferFlags
         ensures { result ≡ self.now.flags }
     {
@@ -103,6 +115,7 @@ impl hb_buffer_t {
     }
 
     /// Sets what the caller asks of the shapers.
+    #[inline]
     pub fn set_flags(&mut self, flags: BufferFlags)
         ensures { self.new ≡ record self.old { flags = flags } }
     {
@@ -110,6 +123,7 @@ impl hb_buffer_t {
     }
 
     /// The text before the buffer's, nearest character first: at most five.
+    #[inline]
     pub fn pre_context(&self) -> &[char]
         ensures chars { result.now ≡ self.now.before }
         ensures at_most_five { length self.now.before ≤ 5 }
@@ -118,6 +132,7 @@ impl hb_buffer_t {
     }
 
     /// Keeps the five nearest of these characters, which are nearest first, as the text before.
+    #[inline]
     pub fn set_pre_context(&mut self, chars: &[char])
         ensures { self.new ≡ record self.old { before = take 5 chars.now } }
     {
@@ -125,6 +140,7 @@ impl hb_buffer_t {
     }
 
     /// The text after the buffer's, nearest character first: at most five.
+    #[inline]
     pub fn post_context(&self) -> &[char]
         ensures chars { result.now ≡ self.now.after }
         ensures at_most_five { length self.now.after ≤ 5 }
@@ -133,6 +149,7 @@ impl hb_buffer_t {
     }
 
     /// Keeps the five nearest of these characters, which are nearest first, as the text after.
+    #[inline]
     pub fn set_post_context(&mut self, chars: &[char])
         ensures { self.new ≡ record self.old { after = take 5 chars.now } }
     {
@@ -140,6 +157,7 @@ impl hb_buffer_t {
     }
 
     /// Whether some span was of the broken kind.
+    #[inline]
     pub fn has_broken_syllable(&self) -> bool
         ensures { result ≡ self.now.broken }
     {
@@ -147,6 +165,7 @@ impl hb_buffer_t {
     }
 
     /// Sets the mark that some span was of the broken kind.
+    #[inline]
     pub fn set_has_broken_syllable(&mut self, has_broken_syllable: bool)
         ensures { self.new ≡ record self.old { broken = has_broken_syllable } }
     {
@@ -154,6 +173,7 @@ impl hb_buffer_t {
     }
 
     /// Whether some glyph is a piece of a stretched mark.
+    #[inline]
     pub fn has_stch(&self) -> bool
         ensures { result ≡ self.now.stch }
     {
@@ -161,6 +181,7 @@ impl hb_buffer_t {
     }
 
     /// Sets the mark that some glyph is a piece of a stretched mark.
+    #[inline]
     pub fn set_has_stch(&mut self, has_stch: bool)
         ensures { self.new ≡ record self.old { stch = has_stch } }
     {
@@ -168,6 +189,7 @@ impl hb_buffer_t {
     }
 
     /// The greatest length that the buffer may have.
+    #[inline]
     pub fn max_len(&self) -> usize
         ensures limit { result ≡ self.now.max_len }
         ensures fits { length self.now.glyphs ≤ result }
@@ -176,6 +198,7 @@ impl hb_buffer_t {
     }
 
     /// Sets the greatest length that the buffer may have, which is at least its length.
+    #[inline]
     pub fn set_max_len(&mut self, max_len: usize)
         requires { length self.old.glyphs ≤ max_len }
         ensures { self.new ≡ record self.old { max_len = max_len } }

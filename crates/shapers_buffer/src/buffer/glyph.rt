@@ -1,7 +1,9 @@
 use super::category::hb_unicode_general_category_t;
 use super::glyph_marks::GlyphMarks;
 
-/// One glyph of the buffer, or before the font's mapping one character.
+/// One glyph of the buffer, or before the font's mapping one character. C's layout, 24 bytes: four
+/// words of four bytes, then seven single bytes in their order, then one that is unused.
+#[repr(C)]
 #[derive(Clone, Copy, Debug, PartialEq, Eq)]
 pub struct hb_glyph_info_t {
     /// A character before the font's mapping, a glyph number after it.
@@ -18,10 +20,13 @@ pub struct hb_glyph_info_t {
     pub category: u8,
     /// What else its shaper notes of it: an Arabic form, a Hangul jamo's feature, an Indic or Myanmar position.
     pub auxiliary: u8,
+    /// The character's General_Category in the Unicode Character Database.
     pub general_category: hb_unicode_general_category_t,
+    /// The character's canonical combining class, as HarfBuzz renumbers it (`modified_combining_class`).
     pub modified_combining_class: u8,
     /// The component of a ligature that a mark stands on, 0 to 15.
     pub lig_comp: u8,
+    /// What lookups did to the glyph, and what its character is to the shapers.
     pub marks: GlyphMarks,
 }
 
@@ -42,12 +47,17 @@ impl hb_glyph_info_t {
     };
 }
 
-/// Where a glyph is drawn and how far it moves the pen, in font units.
+/// Where a glyph is drawn and how far it moves the pen, in font units. C's layout, 16 bytes.
+#[repr(C)]
 #[derive(Clone, Copy, Debug, PartialEq, Eq)]
 pub struct GlyphPosition {
+    /// How far the pen moves to the right behind the glyph.
     pub x_advance: i32,
+    /// How far the pen moves up behind the glyph.
     pub y_advance: i32,
+    /// How far to the right of the pen the glyph is drawn.
     pub x_offset: i32,
+    /// How far above the pen the glyph is drawn.
     pub y_offset: i32,
 }
 

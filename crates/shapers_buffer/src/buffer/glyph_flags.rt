@@ -24,6 +24,7 @@ use glyph_flag::{SAFE_TO_INSERT_TATWEEL, UNSAFE_TO_BREAK, UNSAFE_TO_CONCAT};
 impl hb_buffer_t {
     /// Flags the places from `s` to `e` whose cluster isn't the least one there: unsafe to break,
     /// and unsafe to concatenate.
+    #[inline]
     pub fn unsafe_to_break(&mut self, s: usize, e: usize)
         requires in_order { s ≤ e }
         requires in_range { e ≤ length self.old.glyphs }
@@ -34,6 +35,7 @@ impl hb_buffer_t {
 
     /// Flags every place from `s` to `e` as unsafe to concatenate, where the buffer asks for that
     /// flag.
+    #[inline]
     pub fn unsafe_to_concat(&mut self, s: usize, e: usize)
         requires in_order { s ≤ e }
         requires in_range { e ≤ length self.old.glyphs }
@@ -46,6 +48,7 @@ impl hb_buffer_t {
 
     /// Flags the places from `s` to `e` whose cluster isn't the least one there: safe to insert a
     /// tatweel, where the buffer asks for that flag, else as `unsafe_to_break`.
+    #[inline]
     pub fn safe_to_insert_tatweel(&mut self, s: usize, e: usize)
         requires in_order { s ≤ e }
         requires in_range { e ≤ length self.old.glyphs }
@@ -57,6 +60,7 @@ impl hb_buffer_t {
 }
 
 /// No break inside the stretch, over glyphs in a slice, as `hb_buffer_t::unsafe_to_break`.
+#[inline]
 pub fn unsafe_to_break_in(glyphs: &mut [hb_glyph_info_t], s: usize, e: usize)
     requires in_order { s ≤ e }
     requires in_range { e ≤ length glyphs.old }
@@ -67,6 +71,7 @@ pub fn unsafe_to_break_in(glyphs: &mut [hb_glyph_info_t], s: usize, e: usize)
 
 /// No concatenation in the stretch, where the flags ask for that, over glyphs in a slice, as
 /// `hb_buffer_t::unsafe_to_concat`.
+#[inline]
 pub fn unsafe_to_concat_in(flags: BufferFlags, glyphs: &mut [hb_glyph_info_t], s: usize, e: usize)
     requires in_order { s ≤ e }
     requires in_range { e ≤ length glyphs.old }
@@ -78,6 +83,7 @@ pub fn unsafe_to_concat_in(flags: BufferFlags, glyphs: &mut [hb_glyph_info_t], s
 }
 
 /// A join inside the stretch, over glyphs in a slice, as `hb_buffer_t::safe_to_insert_tatweel`.
+#[inline]
 pub fn safe_to_insert_tatweel_in(
     flags: BufferFlags,
     glyphs: &mut [hb_glyph_info_t],

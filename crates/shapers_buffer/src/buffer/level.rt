@@ -1,4 +1,8 @@
+ghost use Rattle.std.specs.Prelude.{◌≡◌, ◌==◌, Some, find, slice_get};
+ghost use Rattle.shapers_buffer.specs.Numbers.{direction_number, directions, levels};
+
 /// How glyphs of one grapheme or word share clusters.
+#[repr(u8)]
 #[derive(Clone, Copy, Debug, PartialEq, Eq)]
 pub enum BufferClusterLevel {
     /// Graphemes stay together, and clusters merge.
@@ -9,12 +13,72 @@ pub enum BufferClusterLevel {
     Characters,
 }
 
-/// The direction of the text.
+impl BufferClusterLevel {
+    /// Every level, in order.
+    pub const ALL: [Self; 3] = [
+        Self::MonotoneGraphemes,
+        Self::MonotoneCharacters,
+        Self::Characters,
+    ];
+
+    /// The level of this number, its place in `ALL`, as HarfBuzz numbers them.
+    pub fn from_number(number: u8) -> Option<Self>
+        ensures { result ≡ slice_get levels number }
+    {
+        Self::ALL.as_slice().get(number as usize).copied()
+    }
+
+    /// The number of the level, its place in `ALL`.
+    pub fn number(self) -> u8
+        ensures { slice_get levels result ≡ Some self }
+    {
+        self as u8
+    }
+}
+
+/// The direction of the text. The numbers are HarfBuzz's.
 #[derive(Clone, Copy, Debug, PartialEq, Eq)]
 pub enum Direction {
-    Invalid,
-    LeftToRight,
-    RightToLeft,
-    TopToBottom,
-    BottomToTop,
+    /// Not set.
+    Invalid = 0,
+    /// From left to right, as Thai.
+    LeftToRight = 4,
+    /// From right to left, as Arabic.
+    RightToLeft = 5,
+    /// From top to bottom, as Mongolian.
+    TopToBottom = 6,
+    /// From bottom to top.
+    BottomToTop = 7,
+}
+
+impl Direction {
+    /// Every direction, in order.
+    pub const ALL: [Self; 5] = [
+        Self::Invalid,
+        Self::LeftToRight,
+        Self::RightToLeft,
+        Self::TopToBottom,
+        Self::BottomToTop,
+    ];
+
+    /// The direction of this number of HarfBuzz's: 0, or 4 to 7.
+    pub fn from_number(number: u8) -> Option<Self>
+        ensures { result ≡ find (λ d. direction_number d == number) directions }
+    {
+        match number {
+            0 => Some(Self::Invalid),
+            4 => Some(Self::LeftToRight),
+            5 => Some(Self::RightToLeft),
+            6 => Some(Self::TopToBottom),
+            7 => Some(Self::BottomToTop),
+            _ => None,
+        }
+    }
+
+    /// HarfBuzz's number of the direction.
+    pub fn number(self) -> u8
+        ensures { result ≡ direction_number self }
+    {
+        self as u8
+    }
 }

@@ -3,7 +3,7 @@
 //! reordering takes no memory; what was never listed is never written.
 ghost use Rattle.std.specs.Prelude.{◌≡◌, ◌-◌, ◌<◌, ◌≤◌, All, IfErr, IfOk, IsOkUnless, OnOk, length, vec_capacity};
 ghost use Rattle.shapers_buffer.specs.Clusters.{stretch_of, with_stretch};
-ghost use Rattle.shapers_buffer.specs.Places.{ListsEachOnce, PlacesAreWritten, pick, place_at, placed, with_place, without_last_zeros};
+ghost use Rattle.shapers_buffer.specs.Places.{ListsEachOnce, pick, place_at, placed, with_place, without_last_zeros};
 ghost use Rattle.shapers_buffer.specs.declared.buffer.refusal.ShaperError.TheVariants.{Memory};
 
 use super::glyph::hb_glyph_info_t;
@@ -13,6 +13,7 @@ use std::alloc::Global;
 
 impl hb_buffer_t {
     /// The place whose glyph is listed to come to `i`.
+    #[inline]
     pub fn place(&self, i: usize) -> usize
         requires { i < length self.now.glyphs }
         ensures { result ≡ place_at self.now.places i }
@@ -21,6 +22,7 @@ impl hb_buffer_t {
     }
 
     /// Lists that the glyph of place `place` is to come to `i`.
+    #[inline]
     pub fn set_place(&mut self, i: usize, place: usize)
         requires { i < length self.old.glyphs }
         ensures { self.new ≡ record self.old { places = with_place i place self.old.places } }
@@ -31,6 +33,7 @@ impl hb_buffer_t {
 
     /// Gives each place from `start` to `end` the glyph of the place listed for it; each place from
     /// `start` to `end` is listed once. Positions stay. It takes no memory.
+    #[inline]
     pub fn apply(&mut self, start: usize, end: usize)
         requires in_order { start ≤ end }
         requires in_range { end ≤ length self.old.glyphs }
@@ -43,11 +46,6 @@ impl hb_buffer_t {
         reorder(&mut self.info, &self.places, &mut self.spare, start, end);
     }
 }
-
-/// A place of the placement list reads what was written there last, or 0.
-pub fn places_are_written()
-    ensures { PlacesAreWritten }
-{}
 
 // Gives each place from `start` to `end` the glyph of the place listed for it.
 fn reorder(

@@ -27,6 +27,7 @@ impl From<AllocError> for ShaperError {
 
     ghost from_gives = { λ _ e. e ≡ Memory };
 
+    #[inline]
     fn from(_e: AllocError) -> Self {
         ShaperError::Memory
     }

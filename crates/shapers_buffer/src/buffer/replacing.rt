@@ -26,6 +26,7 @@ impl hb_buffer_t {
     }
 
     /// Copies the glyph at `from`, with its position, to `to`.
+    #[inline]
     pub fn copy_glyph(&mut self, from: usize, to: usize)
         requires from_in_range { from < length self.old.glyphs }
         requires to_in_range { to < length self.old.glyphs }

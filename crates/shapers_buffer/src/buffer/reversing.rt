@@ -6,6 +6,7 @@ use super::hb_buffer_t;
 
 impl hb_buffer_t {
     /// Turns the glyphs round, with their positions.
+    #[inline]
     pub fn reverse(&mut self)
         ensures { self.new ≡ record self.old {
           glyphs = reverse self.old.glyphs;
@@ -17,6 +18,7 @@ impl hb_buffer_t {
     }
 
     /// Turns the glyphs from `s` to `e` round, with their positions.
+    #[inline]
     pub fn reverse_range(&mut self, s: usize, e: usize)
         requires in_order { s ≤ e }
         requires in_range { e ≤ length self.old.glyphs }

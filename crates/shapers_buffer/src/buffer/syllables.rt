@@ -2,23 +2,27 @@
 ghost use Rattle.std.specs.Prelude.{◌≡◌, ◌==◌, ◌+◌, ◌<◌, ◌≤◌, All, OnOk, OnErr, IsTrue, length, drop, map};
 ghost use Rattle.shapers_buffer.specs.Clusters.{with_stretch};
 ghost use Rattle.shapers_buffer.specs.Refusals.{RefusesInput};
-ghost use Rattle.shapers_buffer.specs.SyllableLaws.{SyllablesAreRuns};
 ghost use Rattle.shapers_buffer.specs.Syllables.{first_syllable_len, spans_cover, spans_refusal, with_spans, with_bytes, span_bytes, has_byte, in_syllable, unknown_syllable};
 ghost use Rattle.std.specs.List.{prefix_len, list_any};
 
 use super::glyph::hb_glyph_info_t;
 use super::{ShaperError, hb_buffer_t};
 
-/// A syllable as the script's grammar found it: its number of glyphs, and its kind, at most 15.
+/// A syllable as the script's grammar found it: its number of glyphs, and its kind, at most 15. C's
+/// layout.
+#[repr(C)]
 #[derive(Clone, Copy, Debug, PartialEq, Eq)]
 pub struct Span {
+    /// How many glyphs it covers.
     pub len: usize,
+    /// The kind that the grammar gave it, at most 15.
     pub kind: u8,
 }
 
 impl hb_buffer_t {
     /// Where the syllable ends that place `s` stands in: behind the longest run of its byte from
     /// `s` on.
+    #[inline]
     pub fn next_syllable(&self, s: usize) -> usize
         requires { s < length self.now.glyphs }
         ensures end { result ≡ s + first_syllable_len (drop s self.now.glyphs) }
@@ -29,6 +33,7 @@ impl hb_buffer_t {
     }
 
     /// The first place of the first syllable whose kind is above `last_kind`: one of unknown kind.
+    #[inline]
     pub fn unknown_syllable(&self, last_kind: u8) -> Option<usize>
         ensures { result ≡ unknown_syllable last_kind self.now.glyphs }
     {
@@ -56,6 +61,7 @@ impl hb_buffer_t {
 }
 
 /// How long the syllable is that opens the text: the longest run of its first byte.
+#[inline]
 pub fn first_syllable_len(glyphs: &[hb_glyph_info_t]) -> usize
     requires { 0 < length glyphs.now }
     ensures len { result ≡ first_syllable_len glyphs.now }
@@ -86,6 +92,7 @@ fn first_above(glyphs: &[hb_glyph_info_t], last_kind: u8) -> Option<usize>
 }
 
 /// Whether a span is of this kind.
+#[inline]
 pub fn has_span_of_kind(spans: &[Span], kind: u8) -> bool
     ensures { result ≡ list_any (λ span. span.kind == kind) spans.now }
 {
@@ -138,9 +145,3 @@ pub fn set_syllable(glyphs: &mut [hb_glyph_info_t], byte: u8)
         glyph.syllable = byte;
     }
 }
-
-/// The first syllable of a text is the longest run of its byte, and the others are the syllables of
-/// what follows it.
-pub fn syllables_are_runs()
-    ensures { SyllablesAreRuns }
-{}

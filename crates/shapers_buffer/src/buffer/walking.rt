@@ -1,5 +1,6 @@
 //! Changes and walks of the glyphs in place, over the slice that the buffer keeps them in.
 ghost use Rattle.std.specs.Prelude.{◌≡◌, ◌<◌, ◌≤◌, List, length, map};
+ghost use Rattle.std.specs.Fn.{FnOnceReturnsAtMut};
 ghost use Rattle.shapers_buffer.specs.Clusters.{with_stretch};
 
 use super::glyph::{GlyphPosition, hb_glyph_info_t};
@@ -48,16 +49,18 @@ pub trait PositionedWalk {
 
 impl hb_buffer_t {
     /// Changes each glyph from `s` to `e`. It takes no memory.
+    #[inline]
     pub fn change_each<C: GlyphChange>(&mut self, s: usize, e: usize, change: &C)
         requires in_order { s ≤ e }
         requires in_range { e ≤ length self.old.glyphs }
         ensures { let changed = with_stretch s e (map (C.changed change.now)) self.old.glyphs in
             self.new ≡ record self.old { glyphs = changed } }
     {
-        change_all(&mut self.info[s..e], change);
+        change_each_in(&mut self.info[s..e], change);
     }
 
     /// Walks over all glyphs. It takes no memory.
+    #[inline]
     pub fn walk<W: GlyphWalk>(&mut self, walk: &mut W)
         requires { W.can_walk walk.old self.old.glyphs }
         ensures walked { W.walks walk.old walk.new self.old.glyphs self.new.glyphs }
@@ -67,7 +70,32 @@ impl hb_buffer_t {
         walk.walk(&mut self.info);
     }
 
+    /// Calls `change` with all glyphs, which it may rewrite, and returns what it returned. It takes
+    /// no memory.
+    pub fn with_glyphs_mut<R, F: FnOnce(&mut [hb_glyph_info_t]) -> R>(&mut self, change: F) -> R
+        requires { F.IsAlwaysCallable change }
+        ensures changed { let call = FnOnceReturnsAtMut F.FnOnce change in
+            call self.old.glyphs result self.new.glyphs }
+        ensures same_length { length self.new.glyphs ≡ length self.old.glyphs }
+        ensures others { self.new ≡ record self.old { glyphs = self.new.glyphs } }
+    {
+        change(&mut self.info)
+    }
+
+    /// Calls `change` with all positions, which it may rewrite, and returns what it returned. It
+    /// takes no memory.
+    pub fn with_positions_mut<R, F: FnOnce(&mut [GlyphPosition]) -> R>(&mut self, change: F) -> R
+        requires { F.IsAlwaysCallable change }
+        ensures changed { let call = FnOnceReturnsAtMut F.FnOnce change in
+            call self.old.positions result self.new.positions }
+        ensures same_length { length self.new.positions ≡ length self.old.positions }
+        ensures others { self.new ≡ record self.old { positions = self.new.positions } }
+    {
+        change(&mut self.pos)
+    }
+
     /// Walks over all glyphs and their positions. It takes no memory.
+    #[inline]
     pub fn walk_positioned<W: PositionedWalk>(&mut self, walk: &W)
         requires { W.can_walk walk.now self.old.glyphs self.old.positions }
         ensures walked { W.walks walk.now
@@ -81,8 +109,8 @@ impl hb_buffer_t {
     }
 }
 
-// Changes all these glyphs.
-fn change_all<C: GlyphChange>(glyphs: &mut [hb_glyph_info_t], change: &C)
+/// Changes each of these glyphs.
+pub fn change_each_in<C: GlyphChange>(glyphs: &mut [hb_glyph_info_t], change: &C)
     ensures { glyphs.new ≡ map (C.changed change.now) glyphs.old }
 {
     for glyph in glyphs.iter_mut() {

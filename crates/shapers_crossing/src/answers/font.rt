@@ -161,10 +161,6 @@ impl hb_font_t for AskedFont<'_> {
         u16::try_from(entry.glyph).ok().map(GlyphId)
     }
 
-    fn has_glyph(&self, c: u32) -> bool {
-        self.get_nominal_glyph(c).is_some()
-    }
-
     fn glyph_h_advance(&self, glyph: GlyphId) -> i32 {
         let number = u32::from(glyph.0);
         match look_up(self.answers.advances, Key::of(u64::from(number))) {

@@ -70,6 +70,7 @@ pub(super) struct Item {
 }
 
 // The character at place `i`, 0 where the text ends.
+#[inline]
 fn character_at(glyphs: &[hb_glyph_info_t], i: usize) -> u32
     ensures { result ≡ get_or (characters glyphs.now) i 0 }
 {
@@ -138,6 +139,7 @@ fn has_jamo_of<F: hb_font_t>(face: &F, s: u32) -> bool
 }
 
 // A syllable character by its jamo.
+#[inline]
 fn parts(s: u32) -> Unit
     requires { is_s s ≡ true }
     ensures { result ≡ parts s }
@@ -294,6 +296,7 @@ fn read_item<F: hb_font_t>(face: &F, circles: bool, glyphs: &[hb_glyph_info_t]) 
 }
 
 // Whether the character that opens the text stays as it is, as far as it and the next one tell.
+#[inline]
 pub(super) fn stays_alone<F: hb_font_t>(face: &F, glyphs: &[hb_glyph_info_t]) -> bool
     ensures { (circles : Bool) → let us = characters glyphs.now in
         result ≡ true → is_kept (first_item (F.font face.now) circles us) ≡ true }
@@ -309,6 +312,7 @@ pub(super) fn stays_alone<F: hb_font_t>(face: &F, glyphs: &[hb_glyph_info_t]) ->
 }
 
 // The item that opens the text, which stands within it.
+#[inline]
 pub(super) fn first_item<F: hb_font_t>(face: &F, circles: bool, glyphs: &[hb_glyph_info_t]) -> Item
     requires { 0 < length glyphs.now }
     ensures item { result ≡ first_item (F.font face.now) circles (characters glyphs.now) }
@@ -319,6 +323,7 @@ pub(super) fn first_item<F: hb_font_t>(face: &F, circles: bool, glyphs: &[hb_gly
 
 impl JoinedTone {
     // How many characters it takes.
+    #[inline]
     fn len(self) -> usize
         ensures { result ≡ tone_len self }
     {
@@ -358,6 +363,7 @@ impl Unit {
     }
 
     // Whether it is a syllable.
+    #[inline]
     fn is_syllable(self) -> bool
         ensures { result ≡ is_syllable self }
     {
@@ -365,6 +371,7 @@ impl Unit {
     }
 
     // Whether its glyphs are marked as jamo.
+    #[inline]
     fn is_marked(self) -> bool
         ensures { result ≡ is_marked self }
     {
@@ -500,6 +507,7 @@ impl Unit {
 
 impl Item {
     // How many characters it takes.
+    #[inline]
     pub(super) fn len(self) -> usize
         ensures { result ≡ item_len self }
     {
@@ -507,6 +515,7 @@ impl Item {
     }
 
     // How many glyphs it becomes.
+    #[inline]
     pub(super) fn output_len(self) -> usize
         ensures { result ≡ output_len self.unit + tone_len self.tone }
     {
@@ -514,6 +523,7 @@ impl Item {
     }
 
     // Whether it is one glyph that stays as it is.
+    #[inline]
     pub(super) fn is_kept(self) -> bool
         ensures { result ≡ is_kept self }
     {
@@ -549,6 +559,7 @@ impl Item {
     }
 
     // Adds what the item that opens the text becomes.
+    #[inline]
     pub(super) fn write(
         self,
         glyphs: &[hb_glyph_info_t],

@@ -2,6 +2,8 @@
 ghost use Rattle.std.specs.Prelude.{◌≡◌, ◌≤◌, ◌∷◌, [], true, ◌||◌};
 ghost use Rattle.shapers_hangul.specs.Hangul.{is_l, is_v, is_t, combines_l, combines_v, combines_t, is_s, is_lv, is_tone, with_v, with_t, lead, vowel, trail};
 
+// Where the leading jamo that combine, their vowels and the syllable characters begin, and the
+// place before the trailing jamo.
 const L_BASE: u32 = 0x1100;
 
 const V_BASE: u32 = 0x1161;
@@ -9,12 +11,14 @@ const V_BASE: u32 = 0x1161;
 const T_BASE: u32 = 0x11A7;
 
 const S_BASE: u32 = 0xAC00;
+
 // How many syllable characters there are for one vowel, and for one leading jamo.
 const T_COUNT: u32 = 28;
 
 const N_COUNT: u32 = 588;
 
 // A leading jamo.
+#[inline]
 pub(super) fn is_l(u: u32) -> bool
     ensures { result ≡ is_l u }
 {
@@ -22,6 +26,7 @@ pub(super) fn is_l(u: u32) -> bool
 }
 
 // A vowel jamo.
+#[inline]
 pub(super) fn is_v(u: u32) -> bool
     ensures { result ≡ is_v u }
 {
@@ -29,6 +34,7 @@ pub(super) fn is_v(u: u32) -> bool
 }
 
 // A trailing jamo.
+#[inline]
 pub(super) fn is_t(u: u32) -> bool
     ensures { result ≡ is_t u }
 {
@@ -36,6 +42,7 @@ pub(super) fn is_t(u: u32) -> bool
 }
 
 // A leading jamo that combines.
+#[inline]
 pub(super) fn is_combining_l(u: u32) -> bool
     ensures { result ≡ combines_l u }
 {
@@ -43,6 +50,7 @@ pub(super) fn is_combining_l(u: u32) -> bool
 }
 
 // A vowel jamo that combines.
+#[inline]
 pub(super) fn is_combining_v(u: u32) -> bool
     ensures { result ≡ combines_v u }
 {
@@ -50,6 +58,7 @@ pub(super) fn is_combining_v(u: u32) -> bool
 }
 
 // A trailing jamo that combines.
+#[inline]
 pub(super) fn is_combining_t(u: u32) -> bool
     ensures { result ≡ combines_t u }
 {
@@ -57,6 +66,7 @@ pub(super) fn is_combining_t(u: u32) -> bool
 }
 
 // A syllable character.
+#[inline]
 pub(super) fn is_combined_s(u: u32) -> bool
     ensures { result ≡ is_s u }
 {
@@ -64,6 +74,7 @@ pub(super) fn is_combined_s(u: u32) -> bool
 }
 
 // A syllable character without a trailing jamo.
+#[inline]
 pub(super) fn is_lv(u: u32) -> bool
     ensures { result ≡ is_lv u }
 {
@@ -71,6 +82,7 @@ pub(super) fn is_lv(u: u32) -> bool
 }
 
 // A tone.
+#[inline]
 pub(super) fn is_hangul_tone(u: u32) -> bool
     ensures { result ≡ is_tone u }
 {
@@ -78,6 +90,7 @@ pub(super) fn is_hangul_tone(u: u32) -> bool
 }
 
 // A character that what stands before it may take along: a vowel, a trailing jamo or a tone.
+#[inline]
 pub(super) fn follows(u: u32) -> bool
     ensures { result ≡ (is_v u || (is_t u || is_tone u)) }
 {
@@ -85,6 +98,7 @@ pub(super) fn follows(u: u32) -> bool
 }
 
 // The syllable character of a leading and a vowel jamo.
+#[inline]
 pub(super) fn compose_two(l: u32, v: u32) -> u32
     requires leading { combines_l l ≡ true }
     requires vowel { combines_v v ≡ true }
@@ -95,6 +109,7 @@ pub(super) fn compose_two(l: u32, v: u32) -> u32
 }
 
 // The syllable character of one without a trailing jamo and of that.
+#[inline]
 pub(super) fn compose_three(lv: u32, t: u32) -> u32
     requires small { lv ≤ 0xD7A3 }
     requires trailing { combines_t t ≡ true }
@@ -104,6 +119,7 @@ pub(super) fn compose_three(lv: u32, t: u32) -> u32
 }
 
 // The jamo of a syllable character: leading, vowel, and trailing where it has one.
+#[inline]
 pub(super) fn decompose(s: u32) -> [u32; 3]
     requires { is_s s ≡ true }
     ensures { result ≡ lead s ∷ vowel s ∷ trail s ∷ [] }

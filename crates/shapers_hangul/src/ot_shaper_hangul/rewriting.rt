@@ -26,6 +26,7 @@ fn item_at<F: hb_font_t>(face: &F, circles: bool, glyphs: &[hb_glyph_info_t], pl
 }
 
 // The text from a place on.
+#[inline]
 fn rest_from(glyphs: &[hb_glyph_info_t], place: usize) -> &[hb_glyph_info_t]
     requires { place ≤ length glyphs.now }
     ensures { result.now ≡ drop place glyphs.now }
@@ -77,6 +78,7 @@ impl Cut {
     }
 
     // One more, unless it stays as it is.
+    #[inline]
     fn add(&mut self, place: usize, item: Item)
         ensures whole { self.new.is_whole ≡ true → self.old.is_whole ≡ true }
         ensures added { let one = changes ((place, item) ∷ []) in

@@ -195,6 +195,7 @@ pub fn create_data(plan: &hb_ot_shape_plan_t) -> PlanData
 }
 
 /// What the plan keeps for Indic.
+#[inline]
 pub fn indic_in(plan: &hb_ot_shape_plan_t) -> &indic_shape_plan_t
     requires { is_indic_data plan.now.plan_data ≡ true }
     ensures { result.now ≡ indic_in plan.now }
@@ -206,6 +207,7 @@ pub fn indic_in(plan: &hb_ot_shape_plan_t) -> &indic_shape_plan_t
 }
 
 /// The font's glyph for the script's virama.
+#[inline]
 pub fn virama_glyph<F: hb_font_t>(plan: &indic_shape_plan_t, face: &F) -> Option<GlyphId>
     ensures { result ≡ virama_glyph (F.font face.now) plan.now }
 {

@@ -7,6 +7,7 @@ use shapers_base::font::GlyphId;
 use shapers_base::plan::ot_category_t::{OT_M, OT_MPst, OT_ZWJ, OT_ZWNJ};
 
 /// A glyph as fonts are asked about it.
+#[inline]
 pub fn number(glyph: &hb_glyph_info_t) -> GlyphId
     ensures { result ≡ number glyph.now }
 {
@@ -14,6 +15,7 @@ pub fn number(glyph: &hb_glyph_info_t) -> GlyphId
 }
 
 /// Whether a glyph is a joiner, and no lookup put it in for several.
+#[inline]
 pub fn is_joiner(glyph: &hb_glyph_info_t) -> bool
     ensures { result ≡ is_joiner glyph.now }
 {
@@ -21,6 +23,7 @@ pub fn is_joiner(glyph: &hb_glyph_info_t) -> bool
 }
 
 /// Whether a glyph is a vowel sign.
+#[inline]
 pub fn is_matra(glyph: &hb_glyph_info_t) -> bool
     ensures { result ≡ is_matra glyph.now }
 {

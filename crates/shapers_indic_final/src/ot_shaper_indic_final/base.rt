@@ -79,6 +79,7 @@ impl GlyphWalk for BaseWalk {
 
     ghost walks = { λ v w gs hs. Settles v.rules v.script v.start v.end w.based.base w.based.tries_pref gs hs };
 
+    #[inline]
     fn walk(&mut self, glyphs: &mut [hb_glyph_info_t]) {
         self.based = find_base(&self.rules, self.script, &mut glyphs[self.start..self.end]);
     }
@@ -128,15 +129,11 @@ fn unformed_pref(pref: u32, base: usize, glyphs: &[hb_glyph_info_t]) -> Option<u
     ensures place { result ≡ unformed_pref pref base glyphs.now }
     ensures within { IfSome result (λ i. i < length glyphs.now) }
 {
-    match pref_place(pref, base, glyphs) {
-        Some(i) => {
-            if is_unformed(&glyphs[i]) {
-                Some(i)
-            } else {
-                None
-            }
-        }
-        None => None,
+    let i = pref_place(pref, base, glyphs)?;
+    if is_unformed(&glyphs[i]) {
+        Some(i)
+    } else {
+        None
     }
 }
 

@@ -6,6 +6,7 @@ use shapers_base::buffer::hb_glyph_info_t;
 use shapers_base::plan::ot_category_t::{OT_H, OT_M, OT_MPst};
 
 // Whether a glyph is a halant.
+#[inline]
 pub(super) fn is_halant(glyph: &hb_glyph_info_t) -> bool
     ensures { result ≡ is_halant glyph.now }
 {
@@ -13,6 +14,7 @@ pub(super) fn is_halant(glyph: &hb_glyph_info_t) -> bool
 }
 
 // Whether a glyph is a vowel sign or a halant, and no lookup put it in for several.
+#[inline]
 pub(super) fn is_matra_or_halant(glyph: &hb_glyph_info_t) -> bool
     ensures { result ≡ is_matra_or_halant glyph.now }
 {
@@ -20,6 +22,7 @@ pub(super) fn is_matra_or_halant(glyph: &hb_glyph_info_t) -> bool
 }
 
 // Whether lookups formed one glyph of several, and did not take it apart again.
+#[inline]
 pub(super) fn is_formed(glyph: &hb_glyph_info_t) -> bool
     ensures { result ≡ is_formed glyph.now }
 {
@@ -27,6 +30,7 @@ pub(super) fn is_formed(glyph: &hb_glyph_info_t) -> bool
 }
 
 // Whether a glyph has some bit of a mask.
+#[inline]
 pub(super) fn has_mask(bits: u32, glyph: &hb_glyph_info_t) -> bool
     ensures { result ≡ has_mask bits glyph.now }
 {

@@ -11,6 +11,7 @@ use shapers_base::plan::ot_category_t::OT_ZWJ;
 use shapers_base::plan::ot_position_t::POS_PRE_M;
 
 // Whether a glyph is a left matra.
+#[inline]
 pub(super) fn is_left(glyph: &hb_glyph_info_t) -> bool
     ensures { result ≡ is_left glyph.now }
 {
@@ -18,6 +19,7 @@ pub(super) fn is_left(glyph: &hb_glyph_info_t) -> bool
 }
 
 // Whether left matras go to a place: one past the start, where none stands.
+#[inline]
 pub(super) fn matras_go(p: usize, glyphs: &[hb_glyph_info_t]) -> bool
     requires { p < length glyphs.now }
     ensures { result ≡ matras_go p glyphs.now }
@@ -26,6 +28,7 @@ pub(super) fn matras_go(p: usize, glyphs: &[hb_glyph_info_t]) -> bool
 }
 
 // Whether there may be left matras before a base.
+#[inline]
 pub(super) fn has_room(base: usize, glyphs: &[hb_glyph_info_t]) -> bool
     ensures { result ≡ has_room base glyphs.now }
 {
@@ -33,6 +36,7 @@ pub(super) fn has_room(base: usize, glyphs: &[hb_glyph_info_t]) -> bool
 }
 
 // The end of what merges with a left matra: the base with it, if there is one.
+#[inline]
 pub(super) fn end_of_base(base: usize, glyphs: &[hb_glyph_info_t]) -> usize
     requires { base ≤ length glyphs.now }
     ensures place { result ≡ end_of_base base glyphs.now }

@@ -13,6 +13,7 @@ ghost use Rattle.shapers_indic_final.specs.FinalReph.{reph_step};
 use shapers_base::buffer::hb_buffer_t;
 
 // Merges the syllable from `s` to `e` up to its place `j`, and moves its first glyph, the reph, there.
+#[inline]
 pub(super) fn move_reph(buffer: &mut hb_buffer_t, s: usize, e: usize, j: usize)
     requires in_order { s + j < e }
     requires in_range { e ≤ length buffer.old.glyphs }
@@ -28,6 +29,7 @@ pub(super) fn move_reph(buffer: &mut hb_buffer_t, s: usize, e: usize, j: usize)
 
 // Merges the syllable from `s` to `e` from its place `j` up to its place `i`, and moves the glyph
 // of place `i`, which `pref` formed, to `j`.
+#[inline]
 pub(super) fn move_pref(buffer: &mut hb_buffer_t, s: usize, e: usize, j: usize, i: usize)
     requires before { j ≤ i }
     requires in_order { s + i < e }
@@ -44,6 +46,7 @@ pub(super) fn move_pref(buffer: &mut hb_buffer_t, s: usize, e: usize, j: usize, 
 
 // Moves the glyph of place `i` of the syllable from `s` to `e`, a left matra, to its place `j`, and
 // merges from there up to its place `b`.
+#[inline]
 pub(super) fn move_matra(buffer: &mut hb_buffer_t, s: usize, e: usize, b: usize, i: usize, j: usize)
     requires before { i ≤ j }
     requires base { j ≤ b }

@@ -9,6 +9,7 @@ use shapers_base::buffer::{
 };
 
 // Opens the syllable at place `s`.
+#[inline]
 pub(super) fn open_syllable(init: u32, buffer: &mut hb_buffer_t, s: usize)
     requires { s < length buffer.old.glyphs }
     ensures { buffer.new ≡ record buffer.old { glyphs = opened init s buffer.old.glyphs } }
@@ -45,6 +46,7 @@ impl GlyphChange for AddInit {
 
     ghost changed = { λ change glyph. with_bits change.init glyph };
 
+    #[inline]
     fn change(&self, glyph: &mut hb_glyph_info_t) {
         glyph.mask |= self.init;
     }

@@ -82,7 +82,7 @@ fn part_further(top: usize, p: usize, b: usize, buffer: &mut hb_buffer_t, s: usi
 fn has_left(glyphs: &[hb_glyph_info_t]) -> bool
     ensures { result ≡ list_any is_left glyphs.now }
 {
-    glyphs.iter().any(|glyph| is_left(glyph))
+    glyphs.iter().any(is_left)
 }
 
 // What the merges of the left matras before place `top` of the syllable from `s` on make, as
@@ -269,6 +269,7 @@ impl GlyphChange for PutInCluster {
 
     ghost changed = { λ change g. in_cluster change.cluster g };
 
+    #[inline]
     fn change(&self, glyph: &mut hb_glyph_info_t) {
         if glyph.cluster != self.cluster {
             glyph.cluster = self.cluster;

@@ -15,6 +15,7 @@ use shapers_base::buffer::{Script, hb_buffer_t};
 use shapers_base::plan::RephPosition;
 
 // Puts the reph of the syllable from `s` to `e` in its place, and answers where the base stands then.
+#[inline]
 pub(super) fn place_reph(
     position: RephPosition,
     base: usize,
@@ -44,6 +45,7 @@ pub(super) fn place_reph(
 }
 
 // Puts the glyph of the syllable from `s` to `e` that `pref` formed in its place.
+#[inline]
 pub(super) fn place_pref(
     script: Option<Script>,
     pref: u32,

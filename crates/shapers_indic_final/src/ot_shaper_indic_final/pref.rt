@@ -28,19 +28,19 @@ pub(super) fn pref_place(pref: u32, base: usize, glyphs: &[hb_glyph_info_t]) -> 
 }
 
 // That glyph, if it is formed.
+#[inline]
 pub(super) fn formed_pref(pref: u32, base: usize, glyphs: &[hb_glyph_info_t]) -> Option<usize>
     requires in_range { base ≤ length glyphs.now }
     ensures place { result ≡ formed_pref pref base glyphs.now }
     ensures behind { IfSome result (λ i. base < i) }
     ensures within { IfSome result (λ i. i < length glyphs.now) }
 {
-    match pref_place(pref, base, glyphs) {
-        Some(i) => { if is_formed(&glyphs[i]) { Some(i) } else { None } }
-        None => None,
-    }
+    let i = pref_place(pref, base, glyphs)?;
+    if is_formed(&glyphs[i]) { Some(i) } else { None }
 }
 
 // Where a formed glyph goes.
+#[inline]
 pub(super) fn pref_target(script: Option<Script>, base: usize, glyphs: &[hb_glyph_info_t]) -> usize
     requires in_range { base < length glyphs.now }
     ensures target { result ≡ pref_target script base glyphs.now }

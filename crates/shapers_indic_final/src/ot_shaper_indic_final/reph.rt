@@ -15,6 +15,7 @@ use shapers_base::plan::ot_position_t::{
 use shapers_indic::ot_shaper_indic::glyphs::{is_joiner, is_matra};
 
 // Whether a reph that moves opens a syllable of two or more.
+#[inline]
 pub(super) fn opens_with_reph(glyphs: &[hb_glyph_info_t]) -> bool
     ensures { result ≡ opens_with_reph glyphs.now }
 {
@@ -32,6 +33,7 @@ fn is_moving_reph(glyph: &hb_glyph_info_t) -> bool
 }
 
 // Where the reph goes: behind the first halant before the base, else by the script.
+#[inline]
 pub(super) fn reph_target(position: RephPosition, base: usize, glyphs: &[hb_glyph_info_t]) -> usize
     requires some { 0 < length glyphs.now }
     requires in_range { base ≤ length glyphs.now }
@@ -45,6 +47,7 @@ pub(super) fn reph_target(position: RephPosition, base: usize, glyphs: &[hb_glyp
 }
 
 // Where the base stands once the reph has gone to `target`: one place before, if the reph crossed it.
+#[inline]
 pub(super) fn base_after_reph(base: usize, target: usize) -> usize
     ensures place { result ≡ carried_along base target }
     ensures within { result ≤ base }

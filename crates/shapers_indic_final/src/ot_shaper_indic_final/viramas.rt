@@ -28,6 +28,7 @@ impl GlyphChange for Recover {
 
     ghost changed = { λ change glyph. recovered change.virama glyph };
 
+    #[inline]
     fn change(&self, glyph: &mut hb_glyph_info_t) {
         if is_lost_virama(self.virama, glyph) {
             glyph.category = OT_H;

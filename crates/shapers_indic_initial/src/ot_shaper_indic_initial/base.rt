@@ -49,6 +49,7 @@ pub(super) fn find_base<F: hb_font_t>(
 
 // The base from place `lo` on, or behind what stops the search: the last consonant without a
 // below-base or post-base form, else the first consonant.
+#[inline]
 fn last_or_first(lo: usize, glyphs: &[hb_glyph_info_t]) -> Option<usize>
     requires { lo ≤ length glyphs.now }
     ensures { result ≡ last_or_first (search_from lo glyphs.now) glyphs.now }

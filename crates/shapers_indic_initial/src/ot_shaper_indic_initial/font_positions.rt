@@ -167,6 +167,7 @@ impl<'a, F: hb_font_t> GlyphWalk for ByVirama<'a, F> {
     ghost walks = { λ v w gs hs.
         hs ≡ map (by_virama (F.font v.face.now) v.map.now v.plan.now v.virama) gs };
 
+    #[inline]
     fn walk(&mut self, glyphs: &mut [hb_glyph_info_t]) {
         self.position_all(glyphs);
     }

@@ -13,6 +13,7 @@ const KANNADA: Option<Script> = Some(Script(*b"Knda"));
 
 /// The place of the first H after the base and that of the glyph behind which it goes: the last
 /// consonant after it, in Kannada not over another H. `None` if it stays.
+#[inline]
 pub(super) fn halant_move(
     script: Option<Script>,
     base: usize,
@@ -74,6 +75,7 @@ fn is_passed_by_halant(script: Option<Script>, glyph: &hb_glyph_info_t) -> bool
 }
 
 /// Whether Kannada's opening Ra, H, ZWJ stands for Ra, ZWJ, H.
+#[inline]
 pub(super) fn joiner_comes_first(script: Option<Script>, glyphs: &[hb_glyph_info_t]) -> bool
     ensures { result ≡ joiner_comes_first script glyphs.now }
 {

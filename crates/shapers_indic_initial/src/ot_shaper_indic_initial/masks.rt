@@ -28,6 +28,7 @@ const DEVANAGARI: Script = Script(*b"Deva");
 
 /// Gives the glyphs of an ordered syllable with its base at this place the masks of the basic
 /// features, which touch no glyph flag.
+#[inline]
 pub(super) fn set_masks<F: hb_font_t>(
     plan: &indic_shape_plan_t,
     map: &hb_ot_map_t,
@@ -49,6 +50,7 @@ pub(super) fn set_masks<F: hb_font_t>(
 }
 
 // The bits that a feature gives: its mask, but for the glyph flags.
+#[inline]
 fn bits_of(plan: &indic_shape_plan_t, feature: usize) -> u32
     requires { feature < 17 }
     ensures { result ≡ without_flags (slice_index plan.now.mask_array feature) }
@@ -99,6 +101,7 @@ fn set_bits_around(before: u32, after: u32, base: usize, glyphs: &mut [hb_glyph_
 }
 
 // The bits before the base.
+#[inline]
 fn bits_before_base(plan: &indic_shape_plan_t) -> u32
     ensures { (font : Font) (m : Map) → result ≡ mask_before_base (rules_of font m plan.now) }
 {
@@ -121,6 +124,7 @@ fn applies_before_base(mode: BlwfMode) -> bool
 }
 
 // The bits after the base.
+#[inline]
 fn bits_after_base(plan: &indic_shape_plan_t) -> u32
     ensures { (font : Font) (m : Map) → result ≡ mask_after_base (rules_of font m plan.now) }
 {
@@ -248,7 +252,7 @@ fn clear_half(bits: u32, glyphs: &mut [hb_glyph_info_t])
 fn has_non_joiner(glyphs: &[hb_glyph_info_t]) -> bool
     ensures { result ≡ list_any (is_one_of (OT_ZWNJ ∷ [])) glyphs.now }
 {
-    glyphs.iter().any(|glyph| is_non_joiner(glyph))
+    glyphs.iter().any(is_non_joiner)
 }
 
 // The same, glyph by glyph, from the last one on.

@@ -18,6 +18,7 @@ use shapers_base::plan::indic_shape_plan_t;
 /// Gives the glyphs of the syllable from `start` to `end` their positions. Kannada's opening Ra, H,
 /// ZWJ becomes Ra, ZWJ, H, and by the older specification the H after the base goes behind the last
 /// consonant. It takes no memory.
+#[inline]
 pub(super) fn set_positions<F: hb_font_t>(
     plan: &indic_shape_plan_t,
     map: &hb_ot_map_t,
@@ -116,6 +117,7 @@ impl GlyphWalk for PositionsByBase {
     ghost walks = { λ v w gs hs.
         hs ≡ with_stretch v.start v.end (by_base v.base.place v.base.has_reph) gs };
 
+    #[inline]
     fn walk(&mut self, glyphs: &mut [hb_glyph_info_t]) {
         set_positions_by_base(self.base, &mut glyphs[self.start..self.end]);
     }
@@ -139,6 +141,7 @@ impl GlyphWalk for PositionsOfMarks {
     ghost walks = { λ v w gs hs.
         hs ≡ with_stretch v.start v.end (with_marks_and_owners v.base) gs };
 
+    #[inline]
     fn walk(&mut self, glyphs: &mut [hb_glyph_info_t]) {
         set_positions_of_marks(self.base, &mut glyphs[self.start..self.end]);
     }

@@ -8,6 +8,7 @@ use shapers_base::plan::ot_position_t::POS_BASE_C;
 
 /// The place of the first glyph of position BASE_C in an ordered syllable, or its length.
 #[tactic(auto, using(crate::proofs::OrderedBase::base_is))]
+#[inline]
 pub(super) fn ordered_base(glyphs: &[hb_glyph_info_t]) -> usize
     ensures base { result ≡ ordered_base glyphs.now }
     ensures within { result ≤ length glyphs.now }

@@ -127,6 +127,7 @@ fn next_behind(position: u8, behind: u8) -> u8
 }
 
 /// Gives what stands before a consonant, after the base at this place, the consonant's position.
+#[inline]
 pub(super) fn own(base: usize, glyphs: &mut [hb_glyph_info_t])
     ensures { glyphs.new ≡ with_owners_after base glyphs.old }
 {

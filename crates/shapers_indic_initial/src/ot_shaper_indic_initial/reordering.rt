@@ -35,6 +35,7 @@ impl<'a, F: hb_font_t> Reorder for InitialOrder<'a, F> {
     ghost steps = { λ r script gs.
         initial_steps (rules_of (F.font r.face.now) r.map.now r.plan.now) script gs };
 
+    #[inline]
     fn reorder(
         &self,
         buffer: &mut hb_buffer_t,
@@ -99,6 +100,7 @@ impl<'a, F: hb_font_t> GlyphWalk for Masks<'a, F> {
         (hs ≡ with_stretch v.start v.end (masked_in_order rules v.script) gs)
         × (bits_of rules HALF < 2 ^ 32) };
 
+    #[inline]
     fn walk(&mut self, glyphs: &mut [hb_glyph_info_t]) {
         let syllable = &mut glyphs[self.start..self.end];
         let base = ordered_base(syllable);
@@ -107,6 +109,7 @@ impl<'a, F: hb_font_t> GlyphWalk for Masks<'a, F> {
 }
 
 // Whether a syllable is reordered.
+#[inline]
 fn is_reordered(syllable: &[hb_glyph_info_t]) -> bool
     ensures { result ≡ is_reordered syllable.now }
 {

@@ -41,6 +41,7 @@ pub(crate) fn reph_len<F: hb_font_t>(
 
 /// Where the search for the base ends, if no ZWJ ends it before: behind the reph and the joiners
 /// that follow it, or at the start.
+#[inline]
 pub(crate) fn limit(reph_len: usize, glyphs: &[hb_glyph_info_t]) -> usize
     requires { reph_len ≤ length glyphs.now }
     ensures limit { result ≡ limit_behind reph_len glyphs.now }
@@ -61,6 +62,7 @@ fn joiners_len(glyphs: &[hb_glyph_info_t]) -> usize
 }
 
 // Whether the third glyph lets the first two be a reph.
+#[inline]
 fn third_lets_reph(mode: RephMode, glyphs: &[hb_glyph_info_t]) -> bool
     ensures { result ≡ third_lets_reph mode glyphs.now }
 {
@@ -95,6 +97,7 @@ fn is_formed<F: hb_font_t>(
 
 // Whether the syllable opens with a reph that is a character of its own, in a script that writes it
 // so.
+#[inline]
 fn opens_with_repha(mode: RephMode, glyphs: &[hb_glyph_info_t]) -> bool
     ensures { result ≡ opens_with_repha mode glyphs.now }
 {

@@ -13,6 +13,7 @@ use shapers_base::plan::ot_position_t::{
 use shapers_syllabic::ot_shaper_syllabic::is_consonant;
 
 // Gives each glyph of a syllable its position. The reph is to stand after the main consonant.
+#[inline]
 pub(super) fn set_positions(syllable: &mut [hb_glyph_info_t])
     ensures { syllable.new ≡ with_positions syllable.old }
 {
@@ -66,6 +67,7 @@ fn before_base(glyphs: &[hb_glyph_info_t]) -> usize
 }
 
 // The place of the first consonant.
+#[allow(clippy::redundant_closure)]
 fn first_consonant(glyphs: &[hb_glyph_info_t]) -> Option<usize>
     ensures { result ≡ position is_consonant glyphs.now }
 {

@@ -146,6 +146,7 @@ fn behind_tile<F: hb_font_t>(
 }
 
 // How far each added copy of a tile moves the pen.
+#[inline]
 fn step_of(width: i32, lay: Lay) -> i128
     requires { IsLay lay }
     ensures value { result ≡ width -ℤ lay.overlap }
@@ -157,6 +158,7 @@ fn step_of(width: i32, lay: Lay) -> i128
 
 // Where the pen is behind a copy that moves it so far, unless the copy's offset doesn't fit 32
 // bits.
+#[inline]
 fn behind_copy(right_to_left: bool, pen: i128, step: i128) -> Option<i128>
     requires pen { IsNumber pen }
     requires low { negsuc (2 ^ 67) ≤ℤ step }
@@ -238,6 +240,7 @@ fn product(count: usize, step: i128) -> i128
 }
 
 /// Where the pen is when it has moved so far.
+#[inline]
 pub(super) fn moved(right_to_left: bool, pen: i128, move_by: i128) -> i128
     requires pen { IsNumber pen }
     requires low { negsuc (2 ^ 99) ≤ℤ move_by }

@@ -41,6 +41,7 @@ impl<'a, F: hb_font_t> PositionedWalk for TileLaying<'a, F> {
         let cs = stretched how (text_of w.len gs ps) in
         (hs ≡ glyphs_of cs) × (qs ≡ positions_of cs) };
 
+    #[inline]
     fn walk(&self, glyphs: &mut [hb_glyph_info_t], positions: &mut [GlyphPosition]) {
         lay_all(
             self.face,
@@ -119,6 +120,7 @@ fn lay_last<F: hb_font_t>(
 }
 
 // Moves the cells from `start` to `end` up, so that they end at `place`.
+#[inline]
 fn move_up(
     glyphs: &mut [hb_glyph_info_t],
     positions: &mut [GlyphPosition],

@@ -34,11 +34,12 @@ pub(super) struct Lay {
 }
 
 // Whether a number fits 32 bits with a sign.
+#[inline]
 pub(super) fn fits_i32(x: i128) -> bool
     ensures value { result ≡ fits_i32 x }
     ensures fits { IsTrue result → FitsSigned w32 x }
 {
-    -0x8000_0000 <= x && x < 0x8000_0000
+    (-0x8000_0000..0x8000_0000).contains(&x)
 }
 
 /// What tiles and the word before them measure.
@@ -72,6 +73,7 @@ pub(super) fn measure<F: hb_font_t>(
 }
 
 /// How far a glyph of the font moves the pen.
+#[inline]
 pub(super) fn advance_of<F: hb_font_t>(face: &F, glyph: &hb_glyph_info_t) -> i32
     requires { glyph.now.glyph_id ≤ 65535 }
     ensures { result ≡ width_of (F.font face.now) glyph.now }
@@ -102,14 +104,12 @@ pub(super) fn lay_of(choice: StretchStart, right_to_left: bool, run: Run) -> Opt
         return None;
     }
     let overlap = overlap(run, rounds);
-    match start(choice, right_to_left, run, rounds, overlap) {
-        Some(start) => Some(Lay {
-            added: rounds.added,
-            overlap,
-            start,
-        }),
-        None => None,
-    }
+    let start = start(choice, right_to_left, run, rounds, overlap)?;
+    Some(Lay {
+        added: rounds.added,
+        overlap,
+        start,
+    })
 }
 
 // Whether what a run measures fits 32 bits, and what its fixed tiles leave of the word.

@@ -15,6 +15,7 @@ pub(super) struct LastPart {
 }
 
 /// The last part of these glyphs.
+#[inline]
 pub(super) fn last_part(glyphs: &[hb_glyph_info_t]) -> LastPart
     ensures tiles { result.tiles + suffix_len is_tile glyphs.now ≡ length glyphs.now }
     ensures word { result.word + suffix_len in_word (take result.tiles glyphs.now) ≡ result.tiles }
@@ -64,6 +65,7 @@ fn count_last_others(glyphs: &[hb_glyph_info_t]) -> usize
 }
 
 /// Whether a glyph is a tile.
+#[inline]
 pub(super) fn is_tile(glyph: &hb_glyph_info_t) -> bool
     ensures { result ≡ is_tile glyph.now }
 {
@@ -71,6 +73,7 @@ pub(super) fn is_tile(glyph: &hb_glyph_info_t) -> bool
 }
 
 /// Whether a glyph is a tile that repeats.
+#[inline]
 pub(super) fn repeats(glyph: &hb_glyph_info_t) -> bool
     ensures { result ≡ repeats glyph.now }
 {

@@ -59,7 +59,7 @@ fn stretch_marks<F: hb_font_t>(
     ensures err { OnErr result (buffer.new ≡ buffer.old) }
     ensures unmarked { buffer.old.stch ≡ false → IsOk result }
 {
-    let _len = buffer.len();
+    prove!(buffer.len() <= buffer.max_len());
     if !buffer.has_stch() {
         return Ok(());
     }

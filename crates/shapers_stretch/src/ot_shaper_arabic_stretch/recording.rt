@@ -54,13 +54,15 @@ impl GlyphWalk for TileRecorder {
     ghost walks = { λ v w gs hs. (hs ≡ map recorded gs) × (w.has_stch ≡ list_any
         (λ g. is_multiplied g.marks) gs) };
 
+    #[inline]
     fn walk(&mut self, glyphs: &mut [hb_glyph_info_t]) {
-        self.has_stch = record_all(glyphs);
+        self.has_stch = record_stch_in(glyphs);
     }
 }
 
-// Records all tiles, and answers whether there was one.
-fn record_all(glyphs: &mut [hb_glyph_info_t]) -> bool
+/// Gives each multiplied glyph of the slice the action of its tile, and returns whether there was
+/// one. (OpenType `stch`.)
+pub fn record_stch_in(glyphs: &mut [hb_glyph_info_t]) -> bool
     ensures glyphs { glyphs.new ≡ map recorded glyphs.old }
     ensures answer { result ≡ list_any (λ g. is_multiplied g.marks) glyphs.old }
 {

@@ -2,11 +2,12 @@
 ghost use Rattle.std.specs.Prelude.{◌≡◌, map};
 ghost use Rattle.shapers_syllabic.specs.Characters.{composed_behind, with_category, with_category_and_position};
 
-use shapers_base::buffer::{GlyphChange, hb_buffer_t, hb_glyph_info_t};
+use shapers_base::buffer::{GlyphChange, change_each_in, hb_buffer_t, hb_glyph_info_t};
 use shapers_base::font::Tables;
 
 /// The composition of two characters by the table. A mark composes with nothing behind it, so that
 /// a split vowel isn't put together again.
+#[inline]
 pub fn compose<T: Tables>(tables: &T, a: char, b: char) -> Option<char>
     ensures { result ≡ composed_behind (T.tables tables.now) a b }
 {
@@ -18,6 +19,7 @@ pub fn compose<T: Tables>(tables: &T, a: char, b: char) -> Option<char>
 
 /// Gives each glyph the category that the table of the Indic, Khmer and Myanmar shapers has for its
 /// character. It takes no memory.
+#[inline]
 pub fn set_categories<T: Tables>(tables: &T, buffer: &mut hb_buffer_t)
     ensures { buffer.new ≡
         record buffer.old { glyphs = map (with_category (T.tables tables.now)) buffer.old.glyphs } }
@@ -26,8 +28,16 @@ pub fn set_categories<T: Tables>(tables: &T, buffer: &mut hb_buffer_t)
     buffer.change_each(0, len, &ByTable { tables });
 }
 
+/// The same for the glyphs of a slice.
+pub fn set_categories_in<T: Tables>(tables: &T, glyphs: &mut [hb_glyph_info_t])
+    ensures { glyphs.new ≡ map (with_category (T.tables tables.now)) glyphs.old }
+{
+    change_each_in(glyphs, &ByTable { tables });
+}
+
 /// Gives each glyph the category and, as its auxiliary byte, the position that the table of the
 /// Indic, Khmer and Myanmar shapers has for its character. It takes no memory.
+#[inline]
 pub fn set_categories_and_positions<T: Tables>(tables: &T, buffer: &mut hb_buffer_t)
     ensures { let with_both = with_category_and_position (T.tables tables.now) in
         let changed = map with_both buffer.old.glyphs in
@@ -35,6 +45,13 @@ pub fn set_categories_and_positions<T: Tables>(tables: &T, buffer: &mut hb_buffe
 {
     let len = buffer.len();
     buffer.change_each(0, len, &PlacedByTable { tables });
+}
+
+/// The same for the glyphs of a slice.
+pub fn set_categories_and_positions_in<T: Tables>(tables: &T, glyphs: &mut [hb_glyph_info_t])
+    ensures { glyphs.new ≡ map (with_category_and_position (T.tables tables.now)) glyphs.old }
+{
+    change_each_in(glyphs, &PlacedByTable { tables });
 }
 
 // The category by a table.
@@ -48,6 +65,7 @@ impl<'a, T: Tables> GlyphChange for ByTable<'a, T> {
 
     ghost changed = { λ change glyph. with_category (T.tables change.tables.now) glyph };
 
+    #[inline]
     fn change(&self, glyph: &mut hb_glyph_info_t) {
         glyph.category = self.tables.indic_categories(glyph.glyph_id).0;
     }
@@ -65,6 +83,7 @@ impl<'a, T: Tables> GlyphChange for PlacedByTable<'a, T> {
     ghost changed = { λ change glyph.
         with_category_and_position (T.tables change.tables.now) glyph };
 
+    #[inline]
     fn change(&self, glyph: &mut hb_glyph_info_t) {
         let (category, position) = self.tables.indic_categories(glyph.glyph_id);
         glyph.category = category;

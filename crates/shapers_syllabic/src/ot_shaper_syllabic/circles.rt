@@ -3,7 +3,6 @@ ghost use Rattle.std.specs.Prelude.{◌≡◌, ◌==◌, ◌<◌, ◌≤◌, ◌
 ghost use Rattle.std.specs.List.{prefix_len, suffix_len};
 ghost use Rattle.shapers_buffer.specs.Clusters.{stretch_of};
 ghost use Rattle.shapers_base.specs.Font.{dotted_circle};
-ghost use Rattle.shapers_syllabic.specs.CircleLaws.{CirclesCanBeErased, CirclesKeepClusters};
 ghost use Rattle.shapers_syllabic.specs.Circles.{circle_in, circled, circles_for, count_of_kind, rephas_len, with_circle, with_circles};
 ghost use Rattle.shapers_syllabic.specs.FirstBroken.{IsFirstBroken, IsLastBroken, IsOpened, is_of_other_kind};
 ghost use Rattle.shapers_buffer.specs.Refusals.{RefusesLength};
@@ -19,7 +18,7 @@ use shapers_base::font::hb_font_t;
 const DOTTED_CIRCLE: u32 = 0x25CC;
 
 /// What circles look like, and where they stand.
-#[derive(Clone, Copy)]
+#[derive(Clone, Copy, Debug)]
 pub struct DottedCircles {
     /// The kind of the syllables that get one.
     pub broken_kind: u8,
@@ -86,17 +85,6 @@ pub fn insert_dotted_circles<F: hb_font_t>(
         }
     }
 }
-
-/// Without its circles a text with circles is the text that they came into, and what was added is
-/// one circle for each broken syllable, in order.
-pub fn circles_can_be_erased()
-    ensures { CirclesCanBeErased }
-{}
-
-/// Circles bring no cluster that the text didn't have.
-pub fn circles_keep_clusters()
-    ensures { CirclesKeepClusters }
-{}
 
 // The circles that a buffer gets.
 fn circles_for<F: hb_font_t>(
@@ -272,6 +260,7 @@ impl GlyphWalk for CircleWalk {
 
     ghost walks = { λ v w gs hs. hs ≡ with_circles v.circles (take v.len gs) };
 
+    #[inline]
     fn walk(&mut self, glyphs: &mut [hb_glyph_info_t]) {
         self.circles.open_all(glyphs, self.len);
     }

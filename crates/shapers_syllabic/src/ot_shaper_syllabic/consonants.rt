@@ -9,6 +9,7 @@ use shapers_base::plan::ot_category_t::{
 
 /// Whether a glyph is a consonant: of a category that may carry a syllable, and not put in by a
 /// lookup for several. (OpenType.)
+#[inline]
 pub fn is_consonant(glyph: &hb_glyph_info_t) -> bool
     ensures { result ≡ is_consonant glyph.now }
 {

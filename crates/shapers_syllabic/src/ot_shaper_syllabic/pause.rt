@@ -4,8 +4,7 @@ ghost use Rattle.shapers_buffer.specs.Refusals.{Refuses};
 ghost use Rattle.shapers_syllabic.specs.CircleLaws.{NoNewCluster};
 ghost use Rattle.shapers_syllabic.specs.Circles.{circled};
 ghost use Rattle.shapers_syllabic.specs.Reordering.{PauseReordered, script_circles, first_unknown, kind_refusal};
-ghost use Rattle.shapers_syllabic.specs.ReorderingLaws.{PauseCutsAtBorders, PausesCutAtSpans, ReorderLaws, TextReordered};
-ghost use Rattle.shapers_syllabic.specs.SpanCuts.{PausesCutBetweenSpans};
+ghost use Rattle.shapers_syllabic.specs.ReorderingLaws.{PauseCutsAtBorders, ReorderLaws, TextReordered};
 
 use super::circles::insert_dotted_circles;
 use super::reordering::{Reorder, reorder_syllables};
@@ -16,9 +15,13 @@ use shapers_base::font::hb_font_t;
 /// behind the leading glyphs of the repha category where there is one.
 #[derive(Clone, Copy, Debug, PartialEq, Eq)]
 pub struct ScriptCircles {
+    /// The kind of the syllables that get one.
     pub broken_kind: u8,
+    /// The category of the circle.
     pub category: u8,
+    /// The category of glyphs that stay in front of it.
     pub repha: Option<u8>,
+    /// The circle's position, in its auxiliary byte, or none for 0.
     pub position: Option<u8>,
 }
 
@@ -82,15 +85,3 @@ fn first_unknown(buffer: &hb_buffer_t, last_kind: Option<u8>) -> Option<usize>
         Some(last_kind) => buffer.unknown_syllable(last_kind),
     }
 }
-
-/// A set-up by spans and a reordering pause directly after it give what they give on the halves,
-/// cut between any two spans, but for serials.
-pub fn pauses_cut_law()
-    ensures { PausesCutAtSpans }
-{}
-
-/// The same with clusters, and of halves whose bytes have other serials, as long as neighbouring
-/// syllables differ.
-pub fn pauses_cut_between_spans()
-    ensures { PausesCutBetweenSpans }
-{}

@@ -1,7 +1,7 @@
 //! Reordering a text syllable by syllable.
 ghost use Rattle.std.specs.Prelude.{◌≡◌, ◌≤◌, [], IsOk, length};
 ghost use Rattle.shapers_syllabic.specs.Reordering.{SyllableReordered, SyllablesReordered};
-ghost use Rattle.shapers_syllabic.specs.ReorderingLaws.{ReorderLaws, ReorderingCutsAtBorders, ReorderingLosesNothing, SerialsDontCount, TextReorderedLaw};
+ghost use Rattle.shapers_syllabic.specs.ReorderingLaws.{ReorderLaws};
 
 use shapers_base::buffer::{ShaperError, hb_buffer_t};
 
@@ -47,24 +47,3 @@ pub fn reorder_syllables<R: Reorder>(order: &R, buffer: &mut hb_buffer_t) -> Res
     }
     Ok(())
 }
-
-/// A reordering loses nothing: the text after has the glyphs of the text before in some order.
-pub fn reordering_loses_nothing()
-    ensures { ReorderingLosesNothing }
-{}
-
-/// The laws of clusters and glyph flags hold of a text that is reordered syllable by syllable.
-pub fn text_reordered_law()
-    ensures { TextReorderedLaw }
-{}
-
-/// A reordering pause on a text gives what it gives on the halves, cut at any border of syllables.
-pub fn reordering_cuts_at_borders()
-    ensures { ReorderingCutsAtBorders }
-{}
-
-/// The serials of syllables don't count: a pause of an instance that doesn't read them makes the
-/// same of texts that differ in them alone.
-pub fn serials_dont_count()
-    ensures { SerialsDontCount }
-{}

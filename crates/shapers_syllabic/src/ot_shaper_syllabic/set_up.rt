@@ -3,7 +3,7 @@ ghost use Rattle.std.specs.Prelude.{◌≡◌, ◌≤◌, All, IsTrue, OnErr, On
 ghost use Rattle.shapers_buffer.specs.Clusters.{with_stretch};
 ghost use Rattle.shapers_buffer.specs.Glyph.{clusters};
 ghost use Rattle.shapers_buffer.specs.GlyphFlags.{with_bits_off};
-ghost use Rattle.shapers_syllabic.specs.Borders.{SetUpCutsAtSpans, SpansCutLaw};
+ghost use Rattle.shapers_syllabic.specs.Borders.{SetUpCutsAtSpans};
 ghost use Rattle.shapers_syllabic.specs.Syllabic.{in_unsafe_syllable, unsafe_spans, with_unsafe_syllables};
 ghost use Rattle.shapers_buffer.specs.Refusals.{RefusesInput};
 ghost use Rattle.shapers_buffer.specs.Syllables.{in_syllable, spans_cover, spans_refusal, with_spans};
@@ -42,11 +42,6 @@ pub fn set_up_syllables(
     Ok(())
 }
 
-/// Spans set up a text as they set up its halves, cut between any two of them, but for serials.
-pub fn spans_cut_law()
-    ensures { SpansCutLaw }
-{}
-
 // The spans that a text is cut into.
 #[derive(Clone, Copy)]
 struct SetUp<'a> {
@@ -61,6 +56,7 @@ impl<'a> GlyphWalk for SetUp<'a> {
 
     ghost walks = { λ walk _ old new. new ≡ unsafe_spans walk.spans.now old };
 
+    #[inline]
     fn walk(&mut self, glyphs: &mut [hb_glyph_info_t]) {
         set_up_spans(glyphs, self.spans);
     }

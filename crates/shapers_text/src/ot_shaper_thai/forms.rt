@@ -20,6 +20,7 @@ enum Consonant {
     RC,
     /// With a descender that stays.
     DC,
+    /// Another character.
     NotConsonant,
 }
 
@@ -32,12 +33,14 @@ enum Mark {
     BV,
     /// A tone, above.
     T,
+    /// Another character.
     NotMark,
 }
 
 /// What a mark does.
 #[derive(Clone, Copy)]
 enum Action {
+    /// Nothing.
     NOP,
     /// It is shifted down.
     SD,
@@ -124,6 +127,7 @@ static TYPES: [Types; 96] = [
 ];
 
 // The types of a character. Outside the block of Thai it is neither.
+#[inline]
 fn types_of(u: u32) -> Types
     ensures { result ≡ types_of u }
 {
@@ -189,6 +193,7 @@ fn pua_shape<F: hb_font_t>(u: u32, action: Action, face: &F) -> u32
 // Flags the places from a base to its last mark, which `end` stands behind: a break there would
 // change the forms. The stretch to a base's last mark holds those to the others. One mark behind
 // its base flags nothing.
+#[inline]
 fn flag_marks(glyphs: &mut [hb_glyph_info_t], base: usize, end: usize)
     requires in_order { base ≤ end - 1 }
     requires in_range { end ≤ length glyphs.old }
@@ -308,6 +313,7 @@ impl<'a, F: hb_font_t> GlyphWalk for PuaShaping<'a, F> {
     ghost walks = { λ walk _ old new.
         new ≡ pua_shaped (has_nominal (F.font walk.face.now)) old };
 
+    #[inline]
     fn walk(&mut self, glyphs: &mut [hb_glyph_info_t]) {
         shape_marks(self.face, glyphs);
     }

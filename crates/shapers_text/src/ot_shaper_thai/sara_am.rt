@@ -200,6 +200,7 @@ impl GlyphWalk for Rewriting {
     ghost walks = { λ walk _ old new.
         new ≡ glyphs_in_two (take walk.len (merged_front walk.level walk.len old)) };
 
+    #[inline]
     fn walk(&mut self, glyphs: &mut [hb_glyph_info_t]) {
         merge_all_sara_am(self.level, glyphs, self.len);
         write_in_two(glyphs, self.len);

@@ -66,5 +66,5 @@ fn has_arabic_joining(script: Option<Script>) -> bool
 fn is_joining(script: Script) -> bool
     ensures { result ≡ list_any (λ t. pointwise nat_eq t.0 script.0) joining_scripts }
 {
-    JOINING_SCRIPTS.iter().any(|joining| *joining == script)
+    JOINING_SCRIPTS.contains(&script)
 }

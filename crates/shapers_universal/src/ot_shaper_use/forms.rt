@@ -106,6 +106,7 @@ impl GlyphWalk for FormMasks {
 
     ghost walks = { λ masks _ old new. new ≡ in_forms masks false (syllables old) };
 
+    #[inline]
     fn walk(&mut self, glyphs: &mut [hb_glyph_info_t]) {
         self.set_in(glyphs);
     }

@@ -1,10 +1,10 @@
 //! The masks of joining and the categories of the universal shaper.
-ghost use Rattle.std.specs.Prelude.{◌≡◌, true};
+ghost use Rattle.std.specs.Prelude.{◌≡◌, map, true};
 ghost use Rattle.shapers_universal.specs.PlanData.{arabic_of, is_universal};
 ghost use Rattle.shapers_universal.specs.UniversalMasks.{CanJoin, MasksAreSet, categorized, with_categories};
 
 use shapers_arabic::ot_shaper_arabic::setup_masks_inner;
-use shapers_base::buffer::{GlyphChange, hb_buffer_t, hb_glyph_info_t};
+use shapers_base::buffer::{GlyphChange, change_each_in, hb_buffer_t, hb_glyph_info_t};
 use shapers_base::font::Tables;
 use shapers_base::plan::{PlanData, hb_ot_shape_plan_t};
 
@@ -36,6 +36,13 @@ fn set_categories<T: Tables>(tables: &T, buffer: &mut hb_buffer_t)
     buffer.change_each(0, len, &Categories { tables });
 }
 
+/// Gives each of these glyphs the category of its character in the universal shaper.
+pub fn set_categories_in<T: Tables>(tables: &T, glyphs: &mut [hb_glyph_info_t])
+    ensures { glyphs.new ≡ map (categorized (T.tables tables.now).universal) glyphs.old }
+{
+    change_each_in(glyphs, &Categories { tables });
+}
+
 // The tables that tell categories.
 #[derive(Clone, Copy)]
 struct Categories<'a, T: Tables> {
@@ -47,6 +54,7 @@ impl<'a, T: Tables> GlyphChange for Categories<'a, T> {
 
     ghost changed = { λ change glyph. categorized (T.tables change.tables.now).universal glyph };
 
+    #[inline]
     fn change(&self, glyph: &mut hb_glyph_info_t) {
         glyph.category = self.tables.use_category(glyph.glyph_id);
     }

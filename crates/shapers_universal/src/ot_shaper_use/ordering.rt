@@ -42,7 +42,7 @@ const POST_BASE: [u8; 18] = [
 /// The order of a syllable in the universal shaper: a reph moves behind what it passes, and in each
 /// piece up to a halant the vowels and modifiers before the base come to the front. (OpenType, the
 /// Universal Shaping Engine.)
-#[derive(Clone, Copy)]
+#[derive(Clone, Copy, Debug)]
 pub struct UniversalOrder;
 
 impl Reorder for UniversalOrder {
@@ -52,6 +52,7 @@ impl Reorder for UniversalOrder {
 
     ghost steps = { λ _ _ gs. universal_steps gs };
 
+    #[inline]
     fn reorder(
         &self,
         buffer: &mut hb_buffer_t,
@@ -147,7 +148,7 @@ fn list_last_first(buffer: &mut hb_buffer_t, s: usize, e: usize)
 fn some_go_front(glyphs: &[hb_glyph_info_t]) -> bool
     ensures { result ≡ list_any goes_front glyphs.now }
 {
-    glyphs.iter().any(|glyph| goes_front(glyph))
+    glyphs.iter().any(goes_front)
 }
 
 // Whether a reph stands in front.
@@ -351,7 +352,7 @@ fn is_passed(glyph: &hb_glyph_info_t) -> bool
 fn is_post_base(category: u8) -> bool
     ensures { result ≡ list_any (λ c. c == category) post_base }
 {
-    POST_BASE.iter().any(|c| *c == category)
+    POST_BASE.contains(&category)
 }
 
 // Whether a glyph is a halant, and no ligature.

@@ -1,11 +1,13 @@
 //! What lookups did, kept as categories for the reordering.
 ghost use Rattle.std.specs.Prelude.{◌≡◌, ◌≤◌, length, true};
-ghost use Rattle.std.specs.List.{prefix_len};
+ghost use Rattle.std.specs.List.{flat_map, prefix_len};
+ghost use Rattle.shapers_buffer.specs.Syllables.{syllables};
+ghost use Rattle.shapers_universal.specs.declared.ot_shaper_use.category.TheConstants.{VPre};
 ghost use Rattle.shapers_universal.specs.PlanData.{is_universal, rphf_of};
 ghost use Rattle.shapers_universal.specs.UniversalSyllables.{first_recorded, has_bits, rphf_recorded, with_pref_recorded, with_rphf_recorded};
 
 use super::category;
-use super::syllable_walk::{EachSyllable, SyllableChange};
+use super::syllable_walk::{EachSyllable, SyllableChange, change_syllables};
 use shapers_base::buffer::{hb_buffer_t, hb_glyph_info_t};
 use shapers_base::plan::{PlanData, hb_ot_shape_plan_t};
 
@@ -36,6 +38,21 @@ pub fn record_pref(buffer: &mut hb_buffer_t)
     });
 }
 
+/// The same for the syllables of a slice, where `mask` is that of `rphf`.
+pub fn record_rphf_in(mask: u32, glyphs: &mut [hb_glyph_info_t])
+    ensures { glyphs.new ≡ flat_map (rphf_recorded mask) (syllables glyphs.old) }
+{
+    change_syllables(&RecordRphf { mask }, glyphs);
+}
+
+/// In each syllable of a slice the first glyph that a lookup put in becomes one that stands before
+/// the base.
+pub fn record_pref_in(glyphs: &mut [hb_glyph_info_t])
+    ensures { glyphs.new ≡ flat_map (first_recorded VPre) (syllables glyphs.old) }
+{
+    change_syllables(&RecordPref, glyphs);
+}
+
 // The record of `rphf`.
 #[derive(Clone, Copy)]
 struct RecordRphf {
@@ -47,6 +64,7 @@ impl SyllableChange for RecordRphf {
 
     ghost changed = { λ change glyphs. rphf_recorded change.mask glyphs };
 
+    #[inline]
     fn change(&self, syllable: &mut [hb_glyph_info_t]) {
         let leading = leading_len(syllable, self.mask);
         record_first(&mut syllable[..leading], category::R);
@@ -63,6 +81,7 @@ impl SyllableChange for RecordPref {
 
     ghost changed = { λ _ glyphs. first_recorded VPre glyphs };
 
+    #[inline]
     fn change(&self, syllable: &mut [hb_glyph_info_t]) {
         record_first(syllable, category::VPre);
     }

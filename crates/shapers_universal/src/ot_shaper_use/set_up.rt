@@ -82,6 +82,7 @@ impl SyllableChange for RphfMask {
 
     ghost changed = { λ change glyphs. with_rphf change.mask glyphs };
 
+    #[inline]
     fn change(&self, syllable: &mut [hb_glyph_info_t]) {
         let len = reph_len(syllable);
         add_mask(&mut syllable[..len], self.mask);

@@ -33,13 +33,14 @@ impl<'a, C: SyllableChange> GlyphWalk for EachSyllable<'a, C> {
 
     ghost walks = { λ walk _ old new. new ≡ flat_map (C.changed walk.change.now) (syllables old) };
 
+    #[inline]
     fn walk(&mut self, glyphs: &mut [hb_glyph_info_t]) {
         change_syllables(self.change, glyphs);
     }
 }
 
 // Changes each syllable of these glyphs.
-fn change_syllables<C: SyllableChange>(change: &C, glyphs: &mut [hb_glyph_info_t])
+pub(super) fn change_syllables<C: SyllableChange>(change: &C, glyphs: &mut [hb_glyph_info_t])
     ensures { glyphs.new ≡ flat_map (C.changed change.now) (syllables glyphs.old) }
 {
     let mut start = 0;

@@ -78,6 +78,12 @@ impl Drawing {
     // Carries out a line that writes to the buffer.
     fn write(&mut self, number: usize, line: &[u8]) -> Result<(), LineFault> {
         self.session.carry_out(line)?;
+        self.keep(number, line)?;
+        Ok(())
+    }
+
+    // Keeps a line for the head of the next row.
+    fn keep(&mut self, number: usize, line: &[u8]) -> Result<(), AllocError> {
         self.written.push(Line::new(self.alloc, number, line)?)?;
         Ok(())
     }

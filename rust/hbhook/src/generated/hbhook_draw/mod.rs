@@ -7,6 +7,7 @@ mod boxes;
 mod drawing;
 mod escaped;
 mod label;
+mod marks;
 mod names;
 mod origins;
 mod page;

@@ -103,10 +103,11 @@ impl Row<'_> {
         of: &str,
         number: u8,
     ) -> Result<Detail, AllocError> {
-        let text = match name {
-            Some(name) => String::from_str(self.alloc, name)?,
-            None => format!(in self.alloc; "{of} {number}")?,
-        };
+        let mut text = String::new(self.alloc);
+        match name {
+            Some(name) => text.push_str(name)?,
+            None => write!(text, "{of} {number}")?,
+        }
         Ok(Detail { style, text })
     }
 
@@ -120,7 +121,8 @@ impl Row<'_> {
             }
         }
         if unnamed != 0 {
-            let text = format!(in self.alloc; "+{unnamed:x}")?;
+            let mut text = String::new(self.alloc);
+            write!(text, "+{unnamed:x}")?;
             details.push(Detail {
                 style: Style::Mask,
                 text,

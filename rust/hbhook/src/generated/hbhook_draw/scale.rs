@@ -269,14 +269,16 @@ fn draw_extent(
         page,
         "<rect class=\"box k{colour}\" x=\"{x}\" y=\"{y}\" width=\"{width}\" height=\"{BOX}\"/>"
     )?;
-    let number = format!(in row.alloc; "{:04X}", extent.glyph_id)?;
-    frame.draw_label(page, Style::Number, 17, number.as_str())?;
-    let place = match (extent.x_advance, extent.x_offset) {
-        (0, offset) => format!(in row.alloc; "{offset:+}")?,
-        (advance, 0) => format!(in row.alloc; "{advance}")?,
-        (advance, offset) => format!(in row.alloc; "{advance} {offset:+}")?,
-    };
-    frame.draw_label(page, Style::Small, 33, place.as_str())
+    let mut text = String::new(row.alloc);
+    write!(text, "{:04X}", extent.glyph_id)?;
+    frame.draw_label(page, Style::Number, 17, text.as_str())?;
+    text.clear();
+    match (extent.x_advance, extent.x_offset) {
+        (0, offset) => write!(text, "{offset:+}")?,
+        (advance, 0) => write!(text, "{advance}")?,
+        (advance, offset) => write!(text, "{advance} {offset:+}")?,
+    }
+    frame.draw_label(page, Style::Small, 33, text.as_str())
 }
 
 // Draws how wide a group is.
@@ -289,6 +291,7 @@ fn draw_width(page: &mut String, row: &Row, units: u64, frame: Frame) -> Result<
         page,
         "<path class=\"measure\" d=\"M{left} {top}V{foot}M{left} {middle}H{right}M{right} {top}V{foot}\"/>"
     )?;
-    let text = format!(in row.alloc; "{units}")?;
+    let mut text = String::new(row.alloc);
+    write!(text, "{units}")?;
     frame.draw_label(page, Style::Small, 20, text.as_str())
 }

@@ -2,7 +2,7 @@
 //!
 //! How a glyph is shown: as a character, or by its number.
 
-use crate::support::unicode::properties::GeneralCategory;
+use crate::generated::hbhook_draw::marks::is_mark;
 use sengadlit::buffer::GlyphInfo;
 
 /// What stands in a glyph's box.
@@ -33,21 +33,58 @@ impl Shown {
         }
     }
 
-    // What is shown of a character, by its general category.
+    // What is shown of a character.
     fn of_character(character: char) -> Self {
-        match GeneralCategory::for_char(character) {
-            GeneralCategory::NonspacingMark
-            | GeneralCategory::SpacingMark
-            | GeneralCategory::EnclosingMark => Shown::Mark(character),
-            GeneralCategory::SpaceSeparator
-            | GeneralCategory::LineSeparator
-            | GeneralCategory::ParagraphSeparator
-            | GeneralCategory::Control
-            | GeneralCategory::Format
-            | GeneralCategory::Surrogate
-            | GeneralCategory::Unassigned => Shown::Unseen,
-            GeneralCategory::PrivateUse => Shown::Private,
-            _ => Shown::Character(character),
+        if is_mark(character) {
+            Shown::Mark(character)
+        } else if is_unseen(character) {
+            Shown::Unseen
+        } else if is_private(character) {
+            Shown::Private
+        } else {
+            Shown::Character(character)
         }
     }
+}
+
+// Whether a character leaves no trace of its own: Unicode's separators, controls and format
+// characters, and the noncharacters.
+fn is_unseen(character: char) -> bool {
+    matches!(
+        character,
+        '\0'..=' '
+            | '\u{7F}'..='\u{A0}'
+            | '\u{AD}'
+            | '\u{600}'..='\u{605}'
+            | '\u{61C}'
+            | '\u{6DD}'
+            | '\u{70F}'
+            | '\u{890}'..='\u{891}'
+            | '\u{8E2}'
+            | '\u{1680}'
+            | '\u{180E}'
+            | '\u{2000}'..='\u{200F}'
+            | '\u{2028}'..='\u{202F}'
+            | '\u{205F}'..='\u{2064}'
+            | '\u{2066}'..='\u{206F}'
+            | '\u{3000}'
+            | '\u{FDD0}'..='\u{FDEF}'
+            | '\u{FEFF}'
+            | '\u{FFF9}'..='\u{FFFB}'
+            | '\u{110BD}'
+            | '\u{110CD}'
+            | '\u{13430}'..='\u{1343F}'
+            | '\u{1BCA0}'..='\u{1BCA3}'
+            | '\u{1D173}'..='\u{1D17A}'
+            | '\u{E0001}'
+            | '\u{E0020}'..='\u{E007F}'
+    ) || u32::from(character) & 0xFFFE == 0xFFFE
+}
+
+// Whether a character is of a private use area.
+fn is_private(character: char) -> bool {
+    matches!(
+        character,
+        '\u{E000}'..='\u{F8FF}' | '\u{F0000}'..='\u{FFFFD}' | '\u{100000}'..='\u{10FFFD}'
+    )
 }

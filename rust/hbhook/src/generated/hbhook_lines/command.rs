@@ -12,7 +12,7 @@ mod setting;
 use crate::generated::hbhook_lines::expected::{BYTE, COUNT, Expected, FOUR_BYTES, TWO_BYTES};
 use crate::generated::hbhook_lines::fault::LineFault;
 use crate::generated::hbhook_lines::tables::{CanonicalPair, CharacterEntry};
-use crate::support::alloc::Global;
+use crate::support::alloc::{AllocError, Global};
 use core::ops::Range;
 use fields::{
     character, decimal, decimal_to, four_characters, general_category, hexadecimal, signed,
@@ -122,7 +122,7 @@ fn read_command(alloc: Global, word: &str, fields: &[&str]) -> Result<Command, L
 fn characters(alloc: Global, fields: &[&str]) -> Result<Vec<char>, LineFault> {
     let mut characters = Vec::with_capacity(alloc, fields.len())?;
     for field in fields {
-        characters.push(character(field)?)?;
+        characters.push(character(field)?).map_err(|_| AllocError)?;
     }
     Ok(characters)
 }
@@ -156,7 +156,9 @@ fn applies(alloc: Global, fields: &[&str]) -> Result<Command, LineFault> {
 fn glyph_ids(alloc: Global, fields: &[&str]) -> Result<Vec<GlyphId>, LineFault> {
     let mut glyphs = Vec::with_capacity(alloc, fields.len())?;
     for field in fields {
-        glyphs.push(GlyphId(decimal(field, TWO_BYTES)?))?;
+        glyphs
+            .push(GlyphId(decimal(field, TWO_BYTES)?))
+            .map_err(|_| AllocError)?;
     }
     Ok(glyphs)
 }

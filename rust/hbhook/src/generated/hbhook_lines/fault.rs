@@ -3,7 +3,7 @@
 //! What ends a run before its last line.
 
 use crate::generated::hbhook_lines::expected::Expected;
-use crate::support::alloc::{AllocError, AllocFailed};
+use crate::support::alloc::AllocError;
 use sengadlit::buffer::ShaperError;
 
 /// Why a line can't be carried out.
@@ -33,12 +33,6 @@ impl From<ShaperError> for LineFault {
 
 impl From<AllocError> for LineFault {
     fn from(_error: AllocError) -> Self {
-        LineFault::Refused(ShaperError::Memory)
-    }
-}
-
-impl<T> From<AllocFailed<T>> for LineFault {
-    fn from(_error: AllocFailed<T>) -> Self {
         LineFault::Refused(ShaperError::Memory)
     }
 }

@@ -98,7 +98,7 @@ impl Session {
             Command::Context(Side::Before, characters) => self.buffer.set_pre_context(&characters),
             Command::Context(Side::After, characters) => self.buffer.set_post_context(&characters),
             Command::At(place, field) => self.set_field(place, field)?,
-            Command::Span(span) => settings.spans.push(span)?,
+            Command::Span(span) => settings.add_span(span)?,
             Command::Run(call) => self.run(call)?,
         }
         Ok(())
@@ -146,14 +146,13 @@ impl Session {
     }
 
     // Gives each glyph a position with its advance in the font.
-    fn add_positions(&mut self) -> Result<(), LineFault> {
-        let mut positions = Vec::with_capacity(self.buffer.alloc(), self.buffer.len())?;
-        for i in 0..self.buffer.len() {
-            positions.push(GlyphPosition {
-                x_advance: self.advance(self.buffer.get(i).glyph_id),
-                ..GlyphPosition::ZERO
-            })?;
-        }
+    fn add_positions(&mut self) -> Result<(), AllocError> {
+        let alloc = self.buffer.alloc();
+        let positions = self.buffer.glyphs().iter().map(|glyph| GlyphPosition {
+            x_advance: self.advance(glyph.glyph_id),
+            ..GlyphPosition::ZERO
+        });
+        let positions = positions.collect_in(alloc)?;
         self.buffer.set_positions(positions);
         Ok(())
     }

@@ -12,7 +12,7 @@ use crate::support::alloc::{AllocError, Global};
 use core::ops::Range;
 use sengadlit::buffer::{Script, Span, Tag};
 use sengadlit::map::{FeatureMap, Map};
-use sengadlit::plan::{Plan, PlanData, StretchStart};
+use sengadlit::plan::{Plan, StretchStart};
 use sengadlit::shaper::Shaper;
 
 /// A feature's mask and lookups.
@@ -59,13 +59,10 @@ impl Settings {
 
     /// The plan of these settings.
     pub(crate) fn plan(&self) -> Result<Plan, LineFault> {
-        Ok(Plan {
-            script: self.script,
-            ot_map: self.map()?,
-            has_gpos_mark: self.gpos_mark,
-            stretch_start: self.stretch_start,
-            plan_data: PlanData::None,
-        })
+        let mut plan = Plan::new(self.script, self.map()?);
+        plan.has_gpos_mark = self.gpos_mark;
+        plan.stretch_start = self.stretch_start;
+        Ok(plan)
     }
 
     // The map: the stage of a feature is its place, and place i of the list of lookups is lookup i.
@@ -103,6 +100,12 @@ impl Settings {
     /// The features that have a mask or lookups.
     pub(crate) fn features(&self) -> &[Feature] {
         self.features.as_slice()
+    }
+
+    /// Adds a span.
+    pub(crate) fn add_span(&mut self, span: Span) -> Result<(), AllocError> {
+        self.spans.push(span)?;
+        Ok(())
     }
 
     /// Sets a feature's mask.

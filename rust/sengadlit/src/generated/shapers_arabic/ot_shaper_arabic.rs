@@ -11,7 +11,6 @@ use crate::support::arrayvec::ArrayVec;
 pub mod arabic_action_t;
 mod data;
 mod joining;
-mod look_ups;
 mod marks;
 mod masks;
 mod walk;
@@ -19,7 +18,7 @@ mod walk;
 pub use crate::generated::shapers_base::plan::{ArabicPlan, JoiningType};
 pub use data::{create_data, data_create_arabic};
 use joining::nearest_in;
-pub use marks::reorder_marks;
+pub use marks::{reorder_marks, reorder_marks_in};
 use walk::JoiningWalk;
 
 // A feature that holds for the whole text and sees joiners.

@@ -6,7 +6,8 @@
 use crate::generated::shapers_base::buffer::{GeneralCategory, Tag};
 use crate::generated::shapers_base::plan::{Category, JoiningType, Position};
 
-/// A glyph of a font, by its number.
+/// A glyph of a font, by its number, in two bytes.
+#[repr(transparent)]
 #[derive(Clone, Copy, Debug, PartialEq, Eq)]
 pub struct GlyphId(pub u16);
 
@@ -25,7 +26,8 @@ pub trait Font {
     /// </details>
     fn get_nominal_glyph(&self, c: u32) -> Option<GlyphId>;
 
-    /// Whether the font has a nominal glyph for a character.
+    /// Whether the font has a nominal glyph for a character: an impl has its own answer where it
+    /// can tell that without making the glyph.
     ///
     /// <details><summary>Contract</summary>
     ///
@@ -38,7 +40,9 @@ pub trait Font {
     /// - `has_nominal`: crates/shapers_base/specs/Font.antt
     ///
     /// </details>
-    fn has_glyph(&self, c: u32) -> bool;
+    fn has_glyph(&self, c: u32) -> bool {
+        self.get_nominal_glyph(c).is_some()
+    }
 
     /// How far a glyph moves the pen, in font units.
     ///
@@ -66,6 +70,27 @@ pub trait Font {
     ///
     /// </details>
     fn would_apply(&self, lookup: u16, glyphs: &[GlyphId], zero_context: bool) -> bool;
+
+    /// Whether one of these lookups would apply to exactly these glyphs. This asks `would_apply`
+    /// about each up to the first that would; an impl has its own answer where it can tell that at
+    /// once.
+    ///
+    /// <details><summary>Contract</summary>
+    ///
+    /// # Contract
+    ///
+    /// ```text
+    /// ensures { result ≡ would_one (font self.now).applies lookups.now glyphs.now zero_context }
+    /// ```
+    ///
+    /// - `would_one`: crates/shapers_base/specs/Map.antt
+    ///
+    /// </details>
+    fn would_apply_any(&self, lookups: &[u16], glyphs: &[GlyphId], zero_context: bool) -> bool {
+        lookups
+            .iter()
+            .any(|lookup| self.would_apply(*lookup, glyphs, zero_context))
+    }
 
     /// Whether the font has a feature by this tag.
     ///

@@ -4,7 +4,8 @@
 
 use crate::support::prelude::*;
 
-use crate::generated::shapers_base::buffer::Tag;
+use crate::generated::shapers_base::buffer::{ShaperError, Tag};
+use crate::support::alloc::Global;
 use core::ops::Range;
 
 /// No wish.
@@ -34,6 +35,7 @@ pub enum TableIndex {
 /// A feature of the map.
 #[derive(Clone, Copy, Debug, PartialEq, Eq)]
 pub struct FeatureMap {
+    /// The tag of the feature.
     pub tag: Tag,
     /// The bits of a glyph's mask that ask for the feature.
     pub mask: u32,
@@ -42,6 +44,7 @@ pub struct FeatureMap {
 }
 
 /// The map that the font's GSUB table and the wanted features make.
+#[derive(Debug)]
 pub struct Map {
     features: Vec<FeatureMap>,
     stages: Vec<Range<usize>>,
@@ -95,6 +98,51 @@ impl Map {
         })
     }
 
+    /// A map of copies of these, by the same rule as `new`. The only refusal is `Memory`, and none
+    /// comes where they can't be a map's.
+    ///
+    /// <details><summary>Contract</summary>
+    ///
+    /// # Contract
+    ///
+    /// ```text
+    /// ensures answer { let map : Map = record {
+    ///   features = features.now;
+    ///   stages = stages.now;
+    ///   lookups = lookups.now;
+    ///   global = global_mask;
+    ///   chosen = chosen_script;
+    ///   found = found_script;
+    /// } in
+    ///     IfOk result (λ answer. answer ≡ (if can_be_map map then Some map else None)) }
+    /// ensures refusal { IsOkUnless result Memory }
+    /// ```
+    ///
+    /// - `Map`, `can_be_map`: crates/shapers_base/specs/Map.antt
+    ///
+    /// </details>
+    pub fn from_slices(
+        alloc: Global,
+        features: &[FeatureMap],
+        stages: &[Range<usize>],
+        lookups: &[u16],
+        global_mask: u32,
+        chosen_script: Option<Tag>,
+        found_script: bool,
+    ) -> Result<Option<Self>, ShaperError> {
+        if !are_ranges(stages, lookups.len()) || !are_off_flags(features) {
+            return Ok(None);
+        }
+        Ok(Self::new(
+            copied(alloc, features)?,
+            copied_stages(alloc, stages)?,
+            copied(alloc, lookups)?,
+            global_mask,
+            chosen_script,
+            found_script,
+        ))
+    }
+
     /// The mask of the first feature by this tag, or 0. It touches no glyph flag bit.
     ///
     /// <details><summary>Contract</summary>
@@ -109,6 +157,7 @@ impl Map {
     /// - `mask_of`: crates/shapers_base/specs/Map.antt
     ///
     /// </details>
+    #[inline]
     pub fn get_1_mask(&self, tag: Tag) -> u32 {
         match first_feature(self.features.as_slice(), tag) {
             Some(feature) => feature.mask,
@@ -129,6 +178,7 @@ impl Map {
     /// - `of_gsub`, `stage_of`: crates/shapers_base/specs/Map.antt
     ///
     /// </details>
+    #[inline]
     pub fn get_feature_stage(&self, table_index: TableIndex, tag: Tag) -> Option<usize> {
         match table_index {
             TableIndex::GSUB => Some(first_feature(self.features.as_slice(), tag)?.stage),
@@ -151,6 +201,7 @@ impl Map {
     /// - `no_range`, `of_gsub`, `range_of`: crates/shapers_base/specs/Map.antt
     ///
     /// </details>
+    #[inline]
     pub fn stage_lookup_range(&self, table_index: TableIndex, stage: usize) -> Range<usize> {
         if table_index == TableIndex::GPOS || stage >= self.stages.len() {
             return 0..0;
@@ -172,6 +223,7 @@ impl Map {
     /// - `lookups_in`: crates/shapers_base/specs/Map.antt
     ///
     /// </details>
+    #[inline]
     pub fn lookups(&self, range: &Range<usize>) -> &[u16] {
         let end = range.end.min(self.lookups.len());
         let start = range.start.min(end);
@@ -191,6 +243,7 @@ impl Map {
     /// - `of_gsub`: crates/shapers_base/specs/Map.antt
     ///
     /// </details>
+    #[inline]
     pub fn lookup(&self, table_index: TableIndex, index: usize) -> Option<u16> {
         match table_index {
             TableIndex::GSUB => self.lookups.get(index).copied(),
@@ -211,6 +264,7 @@ impl Map {
     /// - `of_gsub`: crates/shapers_base/specs/Map.antt
     ///
     /// </details>
+    #[inline]
     pub fn chosen_script(&self, table_index: TableIndex) -> Option<Tag> {
         match table_index {
             TableIndex::GSUB => self.chosen_script,
@@ -231,6 +285,7 @@ impl Map {
     /// - `of_gsub`: crates/shapers_base/specs/Map.antt
     ///
     /// </details>
+    #[inline]
     pub fn found_script(&self, table_index: TableIndex) -> bool {
         match table_index {
             TableIndex::GSUB => self.found_script,
@@ -249,6 +304,7 @@ impl Map {
     /// ```
     ///
     /// </details>
+    #[inline]
     pub fn get_global_mask(&self) -> u32 {
         self.global_mask
     }
@@ -257,6 +313,24 @@ impl Map {
 // The first of these features that has this tag.
 fn first_feature(features: &[FeatureMap], tag: Tag) -> Option<FeatureMap> {
     features.iter().copied().find(|feature| feature.tag == tag)
+}
+
+// A copy of these.
+fn copied<T: Copy>(alloc: Global, items: &[T]) -> Result<Vec<T>, ShaperError> {
+    let mut copy = Vec::new(alloc);
+    copy.extend_from_slice(items)?;
+    Ok(copy)
+}
+
+// A copy of these stages.
+fn copied_stages(alloc: Global, stages: &[Range<usize>]) -> Result<Vec<Range<usize>>, ShaperError> {
+    let mut copy = Vec::new(alloc);
+    copy.reserve(stages.len())?;
+    for stage in stages {
+        copy.push(stage.start..stage.end)
+            .map_err(|_| ShaperError::Memory)?;
+    }
+    Ok(copy)
 }
 
 // Whether each stage is a range of a list of this length.

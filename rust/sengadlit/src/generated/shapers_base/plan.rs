@@ -38,6 +38,7 @@ pub type Category = u8;
 pub type Position = u8;
 
 /// What a shaper does to a text of one script.
+#[derive(Debug)]
 pub struct Plan {
     /// The script of the text, where it is known.
     pub script: Option<Script>,
@@ -49,6 +50,32 @@ pub struct Plan {
     pub stretch_start: StretchStart,
     /// What the shaper itself keeps.
     pub plan_data: PlanData,
+}
+
+impl Plan {
+    /// A plan whose shaper keeps nothing yet, for a font whose GPOS places no marks; tiles begin as
+    /// the code of HarfBuzz has it.
+    ///
+    /// <details><summary>Contract</summary>
+    ///
+    /// # Contract
+    ///
+    /// ```text
+    /// ensures { result ≡ new_plan script ot_map }
+    /// ```
+    ///
+    /// - `new_plan`: crates/shapers_base/specs/Plan.antt
+    ///
+    /// </details>
+    pub fn new(script: Option<Script>, ot_map: Map) -> Self {
+        Plan {
+            script,
+            ot_map,
+            has_gpos_mark: false,
+            stretch_start: StretchStart::AsCode,
+            plan_data: PlanData::None,
+        }
+    }
 }
 
 /// What a shaper keeps in the plan.
@@ -66,6 +93,108 @@ pub enum PlanData {
     Khmer(KhmerPlan),
     /// What the shaper of the Indic scripts keeps.
     Indic(IndicPlan),
+}
+
+impl PlanData {
+    /// What Arabic keeps, if these are its data.
+    ///
+    /// <details><summary>Contract</summary>
+    ///
+    /// # Contract
+    ///
+    /// ```text
+    /// ensures { option_copied result ≡ as_arabic self.now }
+    /// ```
+    ///
+    /// - `as_arabic`: crates/shapers_base/specs/Plan.antt
+    ///
+    /// </details>
+    pub fn arabic(&self) -> Option<&ArabicPlan> {
+        match self {
+            PlanData::Arabic(kept) => Some(kept),
+            _ => None,
+        }
+    }
+
+    /// What Hangul keeps, if these are its data.
+    ///
+    /// <details><summary>Contract</summary>
+    ///
+    /// # Contract
+    ///
+    /// ```text
+    /// ensures { option_copied result ≡ as_hangul self.now }
+    /// ```
+    ///
+    /// - `as_hangul`: crates/shapers_base/specs/Plan.antt
+    ///
+    /// </details>
+    pub fn hangul(&self) -> Option<&HangulPlan> {
+        match self {
+            PlanData::Hangul(kept) => Some(kept),
+            _ => None,
+        }
+    }
+
+    /// What the universal shaper keeps, if these are its data.
+    ///
+    /// <details><summary>Contract</summary>
+    ///
+    /// # Contract
+    ///
+    /// ```text
+    /// ensures { option_copied result ≡ as_universal self.now }
+    /// ```
+    ///
+    /// - `as_universal`: crates/shapers_base/specs/Plan.antt
+    ///
+    /// </details>
+    pub fn universal(&self) -> Option<&UniversalPlan> {
+        match self {
+            PlanData::Universal(kept) => Some(kept),
+            _ => None,
+        }
+    }
+
+    /// What Khmer keeps, if these are its data.
+    ///
+    /// <details><summary>Contract</summary>
+    ///
+    /// # Contract
+    ///
+    /// ```text
+    /// ensures { option_copied result ≡ as_khmer self.now }
+    /// ```
+    ///
+    /// - `as_khmer`: crates/shapers_base/specs/Plan.antt
+    ///
+    /// </details>
+    pub fn khmer(&self) -> Option<&KhmerPlan> {
+        match self {
+            PlanData::Khmer(kept) => Some(kept),
+            _ => None,
+        }
+    }
+
+    /// What the shaper of the Indic scripts keeps, if these are its data.
+    ///
+    /// <details><summary>Contract</summary>
+    ///
+    /// # Contract
+    ///
+    /// ```text
+    /// ensures { option_copied result ≡ as_indic self.now }
+    /// ```
+    ///
+    /// - `as_indic`: crates/shapers_base/specs/Plan.antt
+    ///
+    /// </details>
+    pub fn indic(&self) -> Option<&IndicPlan> {
+        match self {
+            PlanData::Indic(kept) => Some(kept),
+            _ => None,
+        }
+    }
 }
 
 /// What `preprocess_text` left to its caller.

@@ -10,6 +10,7 @@ use placement::{copy_places, make_room};
 
 mod category;
 mod cluster_runs;
+mod exchanging;
 mod fields;
 mod flags;
 mod glyph;
@@ -22,6 +23,7 @@ mod placement;
 mod refusal;
 mod replacing;
 mod reversing;
+mod settings;
 mod syllables;
 mod tag;
 mod walking;
@@ -37,15 +39,17 @@ pub use glyph_marks::GlyphMarks;
 pub use level::{BufferClusterLevel, Direction};
 pub use merging::{least_cluster, merge_clusters_in};
 pub use refusal::ShaperError;
+pub use settings::{BufferSettings, context_characters};
 pub use syllables::{Span, first_syllable_len, has_span_of_kind, set_syllable, spans_cover};
 pub use tag::{Script, Tag};
-pub use walking::{GlyphChange, GlyphWalk, PositionedWalk};
+pub use walking::{GlyphChange, GlyphWalk, PositionedWalk, change_each_in};
 
 /// How many characters of context a buffer keeps on each side.
 pub const CONTEXT_LENGTH: usize = 5;
 
 /// A list of glyphs, with positions or without, its settings, the text on both sides and marks
 /// that one hook leaves for a later one. Its length never passes `max_len`.
+#[derive(Debug)]
 pub struct Buffer {
     info: Vec<GlyphInfo>,
     pos: Vec<GlyphPosition>,
@@ -97,6 +101,7 @@ impl Buffer {
     }
 
     /// The allocator that the buffer was made with.
+    #[inline]
     pub fn alloc(&self) -> Global {
         *self.info.allocator()
     }
@@ -113,6 +118,7 @@ impl Buffer {
     /// ```
     ///
     /// </details>
+    #[inline]
     pub fn len(&self) -> usize {
         self.info.len()
     }
@@ -128,6 +134,7 @@ impl Buffer {
     /// ```
     ///
     /// </details>
+    #[inline]
     pub fn is_empty(&self) -> bool {
         self.info.is_empty()
     }
@@ -143,6 +150,7 @@ impl Buffer {
     /// ```
     ///
     /// </details>
+    #[inline]
     pub fn glyphs(&self) -> &[GlyphInfo] {
         self.info.as_slice()
     }
@@ -159,6 +167,7 @@ impl Buffer {
     /// ```
     ///
     /// </details>
+    #[inline]
     pub fn get(&self, i: usize) -> GlyphInfo {
         self.info[i]
     }
@@ -175,6 +184,7 @@ impl Buffer {
     /// ```
     ///
     /// </details>
+    #[inline]
     pub fn set(&mut self, i: usize, glyph: GlyphInfo) {
         self.info[i] = glyph;
     }
@@ -196,6 +206,7 @@ impl Buffer {
     /// - `RefusesLength`: crates/shapers_buffer/specs/Refusals.antt
     ///
     /// </details>
+    #[inline]
     pub fn push(&mut self, glyph: GlyphInfo) -> Result<(), ShaperError> {
         if self.info.len() == self.max_len {
             return Err(ShaperError::TooLong);
@@ -250,6 +261,7 @@ impl Buffer {
     /// ```
     ///
     /// </details>
+    #[inline]
     pub fn truncate(&mut self, n: usize) {
         self.info.truncate(n);
         self.pos.truncate(n);

@@ -93,7 +93,7 @@ pub fn override_features(planner: &mut Planner) -> Result<(), ShaperError> {
 ///
 /// </details>
 pub fn preprocess_text<F: Font>(
-    plan: &Plan,
+    _plan: &Plan,
     face: &F,
     buffer: &mut Buffer,
 ) -> Result<(), ShaperError> {
@@ -131,6 +131,7 @@ struct JamoMasks {
 }
 
 impl GlyphChange for JamoMasks {
+    #[inline]
     fn change(&self, glyph: &mut GlyphInfo) {
         let feature = usize::from(glyph.auxiliary);
         glyph.mask |= self.masks.get(feature).copied().unwrap_or(0);

@@ -120,6 +120,7 @@ pub fn override_features(planner: &mut Planner) -> Result<(), ShaperError> {
 /// - `composed_in_indic`: crates/shapers_indic/specs/Characters.antt
 ///
 /// </details>
+#[inline]
 pub fn compose<T: Tables>(tables: &T, a: char, b: char) -> Option<char> {
     match (a, b) {
         ('\u{09AF}', '\u{09BC}') if !tables.general_category(a).is_mark() => Some('\u{09DF}'),
@@ -140,6 +141,7 @@ pub fn compose<T: Tables>(tables: &T, a: char, b: char) -> Option<char> {
 /// - `decomposed_in_indic`: crates/shapers_indic/specs/Characters.antt
 ///
 /// </details>
+#[inline]
 pub fn decompose<T: Tables>(tables: &T, ab: char) -> Option<(char, char)> {
     match ab {
         // Devanagari RRA, Bengali RRA and RHA, Tamil AU.

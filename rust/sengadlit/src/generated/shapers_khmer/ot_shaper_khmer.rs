@@ -128,6 +128,7 @@ pub fn create_data(plan: &Plan) -> PlanData {
 /// - `composed_behind`: crates/shapers_syllabic/specs/Characters.antt
 ///
 /// </details>
+#[inline]
 pub fn compose<T: Tables>(tables: &T, a: char, b: char) -> Option<char> {
     ot_shaper_syllabic::compose(tables, a, b)
 }
@@ -146,6 +147,7 @@ pub fn compose<T: Tables>(tables: &T, a: char, b: char) -> Option<char> {
 /// - `decomposed_in_khmer`: crates/shapers_khmer/specs/Khmer.antt
 ///
 /// </details>
+#[inline]
 pub fn decompose<T: Tables>(tables: &T, ab: char) -> Option<(char, char)> {
     match ab {
         '\u{17BE}' | '\u{17BF}' | '\u{17C0}' | '\u{17C4}' | '\u{17C5}' => Some(('\u{17C1}', ab)),

@@ -9,6 +9,5 @@ mod measuring;
 mod parts;
 mod postprocessing;
 mod recording;
-
 pub use postprocessing::postprocess_glyphs;
-pub use recording::record_stch;
+pub use recording::{record_stch, record_stch_in};

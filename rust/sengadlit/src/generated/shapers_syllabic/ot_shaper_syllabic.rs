@@ -12,9 +12,14 @@ mod pause;
 mod reordering;
 mod set_up;
 
-pub use characters::{compose, set_categories, set_categories_and_positions};
+pub use characters::{
+    compose, set_categories, set_categories_and_positions, set_categories_and_positions_in,
+    set_categories_in,
+};
 pub use circles::{DottedCircles, insert_dotted_circles};
-pub use clearing::{clear_substitution_flags, clear_syllables};
+pub use clearing::{
+    clear_substitution_flags, clear_substitution_flags_in, clear_syllables, clear_syllables_in,
+};
 pub use consonants::is_consonant;
 pub use kinds::{indic_syllable, khmer_syllable, myanmar_syllable, use_syllable};
 pub use pause::{ScriptCircles, reorder_pause};

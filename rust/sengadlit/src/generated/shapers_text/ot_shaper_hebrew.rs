@@ -6,7 +6,9 @@
 use crate::generated::shapers_base::buffer::modified_combining_class::{
     BELOW, CCC10, CCC14, CCC17, CCC18, CCC22,
 };
-use crate::generated::shapers_base::buffer::{Buffer, GlyphInfo};
+use crate::generated::shapers_base::buffer::{
+    Buffer, BufferClusterLevel, GlyphInfo, GlyphWalk, merge_clusters_in,
+};
 use crate::generated::shapers_base::font::Tables;
 use crate::generated::shapers_base::plan::Plan;
 
@@ -34,23 +36,60 @@ use crate::generated::shapers_base::plan::Plan;
 /// - `MarksReordered`, `mark_step`, `marks_swapped`: crates/shapers_text/specs/Hebrew.antt
 ///
 /// </details>
-pub fn reorder_marks(plan: &Plan, buffer: &mut Buffer, start: usize, end: usize) {
-    if let Some(i) = find_triple(buffer, start, end) {
-        merge_and_swap(buffer, i);
+#[inline]
+pub fn reorder_marks(_plan: &Plan, buffer: &mut Buffer, start: usize, end: usize) {
+    let level = buffer.cluster_level();
+    buffer.walk(&mut MarkOrder { level, start, end });
+}
+
+/// The same in a slice whose clusters merge at this level.
+///
+/// <details><summary>Contract</summary>
+///
+/// # Contract
+///
+/// ```text
+/// requires in_order { start ≤ end }
+/// requires in_range { end ≤ length glyphs.old }
+/// ensures { glyphs.new ≡ run_step level (mark_step start end glyphs.old) glyphs.old }
+/// ```
+///
+/// - `run_step`: crates/shapers_clusters/specs/Steps.antt
+/// - `mark_step`: crates/shapers_text/specs/Hebrew.antt
+///
+/// </details>
+pub fn reorder_marks_in(
+    level: BufferClusterLevel,
+    glyphs: &mut [GlyphInfo],
+    start: usize,
+    end: usize,
+) {
+    if let Some(i) = find_triple(glyphs, start, end) {
+        merge_and_swap(level, glyphs, i);
+    }
+}
+
+// Where the marks stand, and whether clusters merge.
+struct MarkOrder {
+    level: BufferClusterLevel,
+    start: usize,
+    end: usize,
+}
+
+impl GlyphWalk for MarkOrder {
+    fn walk(&mut self, glyphs: &mut [GlyphInfo]) {
+        reorder_marks_in(self.level, glyphs, self.start, self.end);
     }
 }
 
 // Merges the glyphs at `i` and behind it, and swaps them.
-fn merge_and_swap(buffer: &mut Buffer, i: usize) {
-    buffer.merge_clusters(i, i + 2);
-    let (point, meteg) = (buffer.get(i), buffer.get(i + 1));
-    buffer.set(i, meteg);
-    buffer.set(i + 1, point);
+fn merge_and_swap(level: BufferClusterLevel, glyphs: &mut [GlyphInfo], i: usize) {
+    merge_clusters_in(level, glyphs, i, i + 2);
+    glyphs.swap(i, i + 1);
 }
 
 // The place of the second of the first three such neighbours.
-fn find_triple(buffer: &Buffer, start: usize, end: usize) -> Option<usize> {
-    let glyphs = buffer.glyphs();
+fn find_triple(glyphs: &[GlyphInfo], start: usize, end: usize) -> Option<usize> {
     for i in start..end.saturating_sub(2) {
         if is_triple(glyphs[i], glyphs[i + 1], glyphs[i + 2]) {
             return Some(i + 1);
@@ -81,6 +120,7 @@ fn is_triple(a: GlyphInfo, b: GlyphInfo, c: GlyphInfo) -> bool {
 /// - `composed_in_hebrew`: crates/shapers_text/specs/Hebrew.antt
 ///
 /// </details>
+#[inline]
 pub fn compose<T: Tables>(plan: &Plan, tables: &T, a: char, b: char) -> Option<char> {
     match tables.compose(a, b) {
         Some(composed) => Some(composed),
@@ -111,6 +151,7 @@ const PAIRS: [(char, char, char); 14] = [
 const ALEF_WITH_DAGESH: u32 = 0xFB30;
 
 // The presentation form of a letter and a point.
+#[inline]
 fn form_of(a: char, b: char) -> Option<char> {
     if is_in_dagesh_row(a, b) {
         return char::from_u32(ALEF_WITH_DAGESH + (a as u32 - 0x05D0));

@@ -20,9 +20,9 @@ mod syllable_walk;
 pub use crate::generated::shapers_base::plan::UniversalPlan;
 pub use crate::generated::shapers_syllabic::ot_shaper_syllabic::compose;
 pub use data::create_data;
-pub use masks::setup_masks;
+pub use masks::{set_categories_in, setup_masks};
 pub use ordering::UniversalOrder;
-pub use records::{record_pref, record_rphf};
+pub use records::{record_pref, record_pref_in, record_rphf, record_rphf_in};
 pub use reordering::reorder_use;
 pub use set_up::setup_syllables_use;
 

@@ -4,7 +4,6 @@
 //! Joining"; for Alaph, Dalath and Rish the OpenType specification for Syriac.)
 
 use super::arabic_action_t::{FIN2, FIN3, FINA, INIT, ISOL, MED2, MEDI, NONE};
-use super::look_ups::look_up;
 use crate::generated::shapers_base::buffer::{
     BufferFlags, GeneralCategory, GlyphInfo, safe_to_insert_tatweel_in, unsafe_to_concat_in,
 };
@@ -87,6 +86,7 @@ static STATE_TABLE: [[Transition; 6]; 7] = [
 // The column of a letter.
 fn column(joining_type: JoiningType) -> usize {
     match joining_type {
+        JoiningType::L => 1,
         JoiningType::R => 2,
         JoiningType::D => 3,
         JoiningType::GroupAlaph => 4,
@@ -96,11 +96,13 @@ fn column(joining_type: JoiningType) -> usize {
 }
 
 // The cell of a state and a letter.
+#[inline]
 fn transition_of(state: usize, joining_type: JoiningType) -> Transition {
     STATE_TABLE[state][column(joining_type)]
 }
 
 // The state before a text, by the nearest letter before it.
+#[inline]
 fn state_at_start(before: Option<JoiningType>) -> usize {
     match before {
         None => 0,
@@ -130,12 +132,19 @@ fn is_passed_over(category: GeneralCategory) -> bool {
 }
 
 // The joining type, where X is told by the category.
+#[inline]
 fn resolve(joining_type: JoiningType, category: GeneralCategory) -> JoiningType {
     match joining_type {
         JoiningType::X if is_passed_over(category) => JoiningType::T,
         JoiningType::X => JoiningType::U,
         own => own,
     }
+}
+
+// The joining type of a character as the tables have it; no other function asks them for it.
+#[inline]
+fn look_up<T: Tables>(tables: &T, c: char) -> JoiningType {
+    tables.joining_type(c)
 }
 
 // The type of a glyph, by its stored category.
@@ -223,6 +232,7 @@ fn join_letter(
 }
 
 // Gives the glyph at place `i`, which has this type, its form as long as nothing follows.
+#[inline]
 fn join_place(
     flags: BufferFlags,
     glyphs: &mut [GlyphInfo],
@@ -252,6 +262,7 @@ fn join_letters<T: Tables>(
 }
 
 // Gives each glyph its form, between the nearest letters before and after the text.
+#[inline]
 pub(super) fn join<T: Tables>(
     flags: BufferFlags,
     glyphs: &mut [GlyphInfo],

@@ -40,7 +40,8 @@ const ABOVE: u8 = 230;
 /// - `order_view`: crates/shapers_buffer/specs/Glyph.antt
 ///
 /// </details>
-pub fn reorder_marks(plan: &Plan, buffer: &mut Buffer, start: usize, end: usize) {
+#[inline]
+pub fn reorder_marks(_plan: &Plan, buffer: &mut Buffer, start: usize, end: usize) {
     let level = buffer.cluster_level();
     buffer.walk(&mut MarkOrder { level, start, end });
 }
@@ -53,13 +54,33 @@ struct MarkOrder {
 }
 
 impl GlyphWalk for MarkOrder {
+    #[inline]
     fn walk(&mut self, glyphs: &mut [GlyphInfo]) {
-        order_marks(self.level, glyphs, self.start, self.end);
+        reorder_marks_in(self.level, glyphs, self.start, self.end);
     }
 }
 
-// Orders the marks from `start` to `end`.
-fn order_marks(level: BufferClusterLevel, glyphs: &mut [GlyphInfo], start: usize, end: usize) {
+/// The same in a slice whose clusters merge at this level.
+///
+/// <details><summary>Contract</summary>
+///
+/// # Contract
+///
+/// ```text
+/// requires in_order { start ≤ end }
+/// requires in_range { end ≤ length glyphs.old }
+/// ensures { glyphs.new ≡ marks_reordered start end (marks_merged level start end glyphs.old) }
+/// ```
+///
+/// - `marks_merged`, `marks_reordered`: crates/shapers_arabic/specs/Marks.antt
+///
+/// </details>
+pub fn reorder_marks_in(
+    level: BufferClusterLevel,
+    glyphs: &mut [GlyphInfo],
+    start: usize,
+    end: usize,
+) {
     let parts = parts_of(&glyphs[start..end]);
     merge_passed(level, glyphs, start, parts);
     bring_forward(&mut glyphs[start..end], parts);
@@ -113,7 +134,7 @@ fn is_modifier_of(class: u8, mark: &GlyphInfo) -> bool {
 
 // Whether this mark modifies a letter.
 fn modifies(character: u32) -> bool {
-    MODIFIERS.iter().any(|c| *c == character)
+    MODIFIERS.contains(&character)
 }
 
 // Merges what the modifiers pass with them.

@@ -10,10 +10,15 @@ use core::ops::Range;
 /// Where a reph goes, as the position that it stands behind or before.
 #[derive(Clone, Copy, Debug, PartialEq, Eq)]
 pub enum RephPosition {
+    /// Behind the main consonant (`POS_AFTER_MAIN`).
     AfterMain,
+    /// Before the forms below the base (`POS_BEFORE_SUB`).
     BeforeSub,
+    /// Behind the forms below the base (`POS_AFTER_SUB`).
     AfterSub,
+    /// Before the forms behind the base (`POS_BEFORE_POST`).
     BeforePost,
+    /// Behind the forms behind the base (`POS_AFTER_POST`).
     AfterPost,
 }
 
@@ -46,8 +51,11 @@ pub struct IndicConfig {
     pub has_old_spec: bool,
     /// Its virama, or 0.
     pub virama: u32,
+    /// Where its reph goes.
     pub reph_pos: RephPosition,
+    /// How its reph is written.
     pub reph_mode: RephMode,
+    /// Where its feature `blwf` applies.
     pub blwf_mode: BlwfMode,
 }
 
@@ -98,10 +106,7 @@ impl IndicWouldSubstituteFeature {
     ///
     /// </details>
     pub fn would_substitute<F: Font>(&self, map: &Map, face: &F, glyphs: &[GlyphId]) -> bool {
-        let lookups = self.lookups(map);
-        lookups
-            .iter()
-            .any(|lookup| face.would_apply(*lookup, glyphs, self.zero_context))
+        face.would_apply_any(self.lookups(map), glyphs, self.zero_context)
     }
 
     /// The lookups that it is about.
@@ -117,6 +122,7 @@ impl IndicWouldSubstituteFeature {
     /// - `lookups_in`: crates/shapers_base/specs/Map.antt
     ///
     /// </details>
+    #[inline]
     pub fn lookups<'a>(&self, map: &'a Map) -> &'a [u16] {
         map.lookups(&self.lookups)
     }
@@ -132,6 +138,7 @@ impl IndicWouldSubstituteFeature {
     /// ```
     ///
     /// </details>
+    #[inline]
     pub fn zero_context(&self) -> bool {
         self.zero_context
     }
@@ -144,11 +151,15 @@ pub struct IndicPlan {
     pub config: IndicConfig,
     /// Whether the font follows the older specification.
     pub is_old_spec: bool,
-    /// The questions about the features that decide how a syllable is taken apart.
+    /// The question whether the font forms a reph, by `rphf`.
     pub rphf: IndicWouldSubstituteFeature,
+    /// The question whether it forms a consonant that goes before the base, by `pref`.
     pub pref: IndicWouldSubstituteFeature,
+    /// The question whether it forms one below the base, by `blwf`.
     pub blwf: IndicWouldSubstituteFeature,
+    /// The question whether it forms one behind the base, by `pstf`.
     pub pstf: IndicWouldSubstituteFeature,
+    /// The question whether it joins a consonant with a Ra below it, by `vatu`.
     pub vatu: IndicWouldSubstituteFeature,
     /// The masks of the shaper's features, by `indic_feature`; 0 for those of the whole text.
     pub mask_array: [u32; 17],

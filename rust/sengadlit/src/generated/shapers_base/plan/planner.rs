@@ -19,12 +19,14 @@ pub enum Request {
 
 impl Default for Request {
     /// A pause without a function.
+    #[inline]
     fn default() -> Self {
         Request::Pause(None)
     }
 }
 
 /// Collects what a shaper asks of the map for one script.
+#[derive(Debug)]
 pub struct Planner {
     script: Option<Script>,
     requests: Vec<Request>,
@@ -42,6 +44,7 @@ impl Planner {
     /// ```
     ///
     /// </details>
+    #[inline]
     pub fn new(alloc: Global, script: Option<Script>) -> Self {
         Planner {
             script,
@@ -60,6 +63,7 @@ impl Planner {
     /// ```
     ///
     /// </details>
+    #[inline]
     pub fn script(&self) -> Option<Script> {
         self.script
     }
@@ -75,6 +79,7 @@ impl Planner {
     /// ```
     ///
     /// </details>
+    #[inline]
     pub fn requests(&self) -> &[Request] {
         self.requests.as_slice()
     }
@@ -90,6 +95,7 @@ impl Planner {
     /// ```
     ///
     /// </details>
+    #[inline]
     pub fn has_feature<F: Font>(&self, face: &F, tag: Tag) -> bool {
         face.has_feature(tag)
     }
@@ -110,6 +116,7 @@ impl Planner {
     /// - `with_requests`: crates/shapers_base/specs/Planner.antt
     ///
     /// </details>
+    #[inline]
     pub fn add_feature(&mut self, tag: Tag, flags: u32, value: u32) -> Result<(), ShaperError> {
         self.add_requests(&[Request::Feature(tag, flags, value)])
     }
@@ -130,6 +137,7 @@ impl Planner {
     /// - `with_requests`: crates/shapers_base/specs/Planner.antt
     ///
     /// </details>
+    #[inline]
     pub fn enable_feature(&mut self, tag: Tag, flags: u32, value: u32) -> Result<(), ShaperError> {
         self.add_feature(tag, flags | F_GLOBAL, value)
     }
@@ -150,6 +158,7 @@ impl Planner {
     /// - `with_requests`: crates/shapers_base/specs/Planner.antt
     ///
     /// </details>
+    #[inline]
     pub fn disable_feature(&mut self, tag: Tag) -> Result<(), ShaperError> {
         self.add_feature(tag, F_GLOBAL, 0)
     }
@@ -169,6 +178,7 @@ impl Planner {
     /// - `with_requests`: crates/shapers_base/specs/Planner.antt
     ///
     /// </details>
+    #[inline]
     pub fn add_gsub_pause(&mut self, pause: Option<Pause>) -> Result<(), ShaperError> {
         self.add_requests(&[Request::Pause(pause)])
     }

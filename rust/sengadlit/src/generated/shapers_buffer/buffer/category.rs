@@ -1,37 +1,69 @@
 //! Generated from crates/shapers_buffer/src/buffer/category.rt by rust/erase; edit the source.
 
-/// The general categories of the Unicode Character Database, in their order.
+/// The general categories of the Unicode Character Database, in their order: one byte, from 0 to 29,
+/// as HarfBuzz numbers them.
+#[repr(u8)]
 #[derive(Clone, Copy, Debug, PartialEq, Eq)]
 pub enum GeneralCategory {
+    /// Control.
     Cc,
+    /// Format.
     Cf,
+    /// Unassigned.
     Cn,
+    /// Private use.
     Co,
+    /// Surrogate.
     Cs,
+    /// Lowercase letter.
     Ll,
+    /// Modifier letter.
     Lm,
+    /// Other letter.
     Lo,
+    /// Titlecase letter.
     Lt,
+    /// Uppercase letter.
     Lu,
+    /// Spacing mark.
     Mc,
+    /// Enclosing mark.
     Me,
+    /// Nonspacing mark.
     Mn,
+    /// Decimal number.
     Nd,
+    /// Letter number.
     Nl,
+    /// Other number.
     No,
+    /// Connector punctuation.
     Pc,
+    /// Dash punctuation.
     Pd,
+    /// Close punctuation.
     Pe,
+    /// Final punctuation.
     Pf,
+    /// Initial punctuation.
     Pi,
+    /// Other punctuation.
     Po,
+    /// Open punctuation.
     Ps,
+    /// Currency symbol.
     Sc,
+    /// Modifier symbol.
     Sk,
+    /// Math symbol.
     Sm,
+    /// Other symbol.
     So,
+    /// Line separator.
     Zl,
+    /// Paragraph separator.
     Zp,
+    /// Space separator.
     Zs,
 }
 
@@ -70,6 +102,40 @@ impl GeneralCategory {
         Self::Zs,
     ];
 
+    /// The category of this number, its place in `ALL`.
+    ///
+    /// <details><summary>Contract</summary>
+    ///
+    /// # Contract
+    ///
+    /// ```text
+    /// ensures { result ≡ slice_get categories number }
+    /// ```
+    ///
+    /// - `categories`: crates/shapers_buffer/specs/Numbers.antt
+    ///
+    /// </details>
+    pub fn from_number(number: u8) -> Option<Self> {
+        Self::ALL.as_slice().get(number as usize).copied()
+    }
+
+    /// The number of the category, its place in `ALL`.
+    ///
+    /// <details><summary>Contract</summary>
+    ///
+    /// # Contract
+    ///
+    /// ```text
+    /// ensures { slice_get categories result ≡ Some self }
+    /// ```
+    ///
+    /// - `categories`: crates/shapers_buffer/specs/Numbers.antt
+    ///
+    /// </details>
+    pub fn number(self) -> u8 {
+        self as u8
+    }
+
     /// Whether a character of this category is a mark: spacing, enclosing or nonspacing.
     ///
     /// <details><summary>Contract</summary>
@@ -83,6 +149,7 @@ impl GeneralCategory {
     /// - `is_mark`: crates/shapers_buffer/specs/Category.antt
     ///
     /// </details>
+    #[inline]
     pub fn is_mark(self) -> bool {
         matches!(self, Self::Mc | Self::Me | Self::Mn)
     }

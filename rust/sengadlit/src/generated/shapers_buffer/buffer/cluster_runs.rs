@@ -9,7 +9,7 @@ use super::{Buffer, BufferClusterLevel};
 
 /// Glyphs that merges have put into one cluster, which isn't written yet: where they start, the
 /// place behind them, and their cluster.
-#[derive(Clone, Copy)]
+#[derive(Clone, Copy, Debug)]
 pub struct ClusterRun {
     start: usize,
     end: usize,
@@ -49,6 +49,7 @@ impl Buffer {
     /// - `merge`, `merged`: crates/shapers_buffer/specs/Clusters.antt
     ///
     /// </details>
+    #[inline]
     pub fn merge_run(&mut self, run: ClusterRun, s: usize, e: usize) -> ClusterRun {
         merge_run_in(self.cluster_level, &mut self.info, run, s, e)
     }
@@ -67,6 +68,7 @@ impl Buffer {
     /// - `RunFits`, `with_run`: crates/shapers_buffer/specs/ClusterRuns.antt
     ///
     /// </details>
+    #[inline]
     pub fn write_run(&mut self, run: ClusterRun) {
         write_run_in(&mut self.info, run);
     }
@@ -90,6 +92,7 @@ impl Buffer {
 /// - `merge`, `merged`: crates/shapers_buffer/specs/Clusters.antt
 ///
 /// </details>
+#[inline]
 pub fn merge_run_in(
     level: BufferClusterLevel,
     glyphs: &mut [GlyphInfo],
@@ -118,6 +121,7 @@ pub fn merge_run_in(
 /// - `RunFits`, `with_run`: crates/shapers_buffer/specs/ClusterRuns.antt
 ///
 /// </details>
+#[inline]
 pub fn write_run_in(glyphs: &mut [GlyphInfo], run: ClusterRun) {
     set_cluster(&mut glyphs[run.start..run.end], run.cluster);
 }

@@ -19,6 +19,7 @@ impl Buffer {
     /// ```
     ///
     /// </details>
+    #[inline]
     pub fn position(&self, i: usize) -> GlyphPosition {
         self.pos[i]
     }
@@ -36,6 +37,7 @@ impl Buffer {
     /// ```
     ///
     /// </details>
+    #[inline]
     pub fn set_position(&mut self, i: usize, position: GlyphPosition) {
         self.pos[i] = position;
     }
@@ -51,6 +53,7 @@ impl Buffer {
     /// ```
     ///
     /// </details>
+    #[inline]
     pub fn positions(&self) -> &[GlyphPosition] {
         self.pos.as_slice()
     }
@@ -67,6 +70,7 @@ impl Buffer {
     /// ```
     ///
     /// </details>
+    #[inline]
     pub fn positions_len(&self) -> usize {
         self.pos.len()
     }
@@ -87,6 +91,7 @@ impl Buffer {
     /// - `can_be_positions`: crates/shapers_buffer/specs/Buffer.antt
     ///
     /// </details>
+    #[inline]
     pub fn set_positions(&mut self, positions: Vec<GlyphPosition>) -> bool {
         let fits = positions.is_empty() || positions.len() == self.info.len();
         if fits {
@@ -106,6 +111,7 @@ impl Buffer {
     /// ```
     ///
     /// </details>
+    #[inline]
     pub fn direction(&self) -> Direction {
         self.direction
     }
@@ -121,6 +127,7 @@ impl Buffer {
     /// ```
     ///
     /// </details>
+    #[inline]
     pub fn set_direction(&mut self, direction: Direction) {
         self.direction = direction;
     }
@@ -136,6 +143,7 @@ impl Buffer {
     /// ```
     ///
     /// </details>
+    #[inline]
     pub fn script(&self) -> Option<Script> {
         self.script
     }
@@ -151,6 +159,7 @@ impl Buffer {
     /// ```
     ///
     /// </details>
+    #[inline]
     pub fn set_script(&mut self, script: Option<Script>) {
         self.script = script;
     }
@@ -166,6 +175,7 @@ impl Buffer {
     /// ```
     ///
     /// </details>
+    #[inline]
     pub fn cluster_level(&self) -> BufferClusterLevel {
         self.cluster_level
     }
@@ -181,6 +191,7 @@ impl Buffer {
     /// ```
     ///
     /// </details>
+    #[inline]
     pub fn set_cluster_level(&mut self, cluster_level: BufferClusterLevel) {
         self.cluster_level = cluster_level;
     }
@@ -196,6 +207,7 @@ impl Buffer {
     /// ```
     ///
     /// </details>
+    #[inline]
     pub fn flags(&self) -> BufferFlags {
         self.flags
     }
@@ -211,6 +223,7 @@ impl Buffer {
     /// ```
     ///
     /// </details>
+    #[inline]
     pub fn set_flags(&mut self, flags: BufferFlags) {
         self.flags = flags;
     }
@@ -227,6 +240,7 @@ impl Buffer {
     /// ```
     ///
     /// </details>
+    #[inline]
     pub fn pre_context(&self) -> &[char] {
         self.pre_context.as_slice()
     }
@@ -242,6 +256,7 @@ impl Buffer {
     /// ```
     ///
     /// </details>
+    #[inline]
     pub fn set_pre_context(&mut self, chars: &[char]) {
         self.pre_context = context(chars);
     }
@@ -258,6 +273,7 @@ impl Buffer {
     /// ```
     ///
     /// </details>
+    #[inline]
     pub fn post_context(&self) -> &[char] {
         self.post_context.as_slice()
     }
@@ -273,6 +289,7 @@ impl Buffer {
     /// ```
     ///
     /// </details>
+    #[inline]
     pub fn set_post_context(&mut self, chars: &[char]) {
         self.post_context = context(chars);
     }
@@ -288,6 +305,7 @@ impl Buffer {
     /// ```
     ///
     /// </details>
+    #[inline]
     pub fn has_broken_syllable(&self) -> bool {
         self.has_broken_syllable
     }
@@ -303,6 +321,7 @@ impl Buffer {
     /// ```
     ///
     /// </details>
+    #[inline]
     pub fn set_has_broken_syllable(&mut self, has_broken_syllable: bool) {
         self.has_broken_syllable = has_broken_syllable;
     }
@@ -318,6 +337,7 @@ impl Buffer {
     /// ```
     ///
     /// </details>
+    #[inline]
     pub fn has_stch(&self) -> bool {
         self.has_stch
     }
@@ -333,6 +353,7 @@ impl Buffer {
     /// ```
     ///
     /// </details>
+    #[inline]
     pub fn set_has_stch(&mut self, has_stch: bool) {
         self.has_stch = has_stch;
     }
@@ -349,6 +370,7 @@ impl Buffer {
     /// ```
     ///
     /// </details>
+    #[inline]
     pub fn max_len(&self) -> usize {
         self.max_len
     }
@@ -365,6 +387,7 @@ impl Buffer {
     /// ```
     ///
     /// </details>
+    #[inline]
     pub fn set_max_len(&mut self, max_len: usize) {
         self.max_len = max_len;
     }

@@ -37,6 +37,7 @@ impl Buffer {
     /// - `unsafe_inside`: crates/shapers_buffer/specs/GlyphFlags.antt
     ///
     /// </details>
+    #[inline]
     pub fn unsafe_to_break(&mut self, s: usize, e: usize) {
         unsafe_to_break_in(&mut self.info, s, e);
     }
@@ -60,6 +61,7 @@ impl Buffer {
     /// - `flagged`, `unsafe_to_concat_in`: crates/shapers_buffer/specs/GlyphFlags.antt
     ///
     /// </details>
+    #[inline]
     pub fn unsafe_to_concat(&mut self, s: usize, e: usize) {
         unsafe_to_concat_in(self.flags, &mut self.info, s, e);
     }
@@ -82,6 +84,7 @@ impl Buffer {
     /// - `flagged`, `tatweel_inside`: crates/shapers_buffer/specs/GlyphFlags.antt
     ///
     /// </details>
+    #[inline]
     pub fn safe_to_insert_tatweel(&mut self, s: usize, e: usize) {
         safe_to_insert_tatweel_in(self.flags, &mut self.info, s, e);
     }
@@ -102,6 +105,7 @@ impl Buffer {
 /// - `unsafe_inside`: crates/shapers_buffer/specs/GlyphFlags.antt
 ///
 /// </details>
+#[inline]
 pub fn unsafe_to_break_in(glyphs: &mut [GlyphInfo], s: usize, e: usize) {
     flag(&mut glyphs[s..e], UNSAFE_TO_BREAK | UNSAFE_TO_CONCAT);
 }
@@ -123,6 +127,7 @@ pub fn unsafe_to_break_in(glyphs: &mut [GlyphInfo], s: usize, e: usize) {
 /// - `unsafe_to_concat_in`: crates/shapers_buffer/specs/GlyphFlags.antt
 ///
 /// </details>
+#[inline]
 pub fn unsafe_to_concat_in(flags: BufferFlags, glyphs: &mut [GlyphInfo], s: usize, e: usize) {
     if flags.contains(BufferFlags::PRODUCE_UNSAFE_TO_CONCAT) {
         flag_all(&mut glyphs[s..e], UNSAFE_TO_CONCAT);
@@ -145,6 +150,7 @@ pub fn unsafe_to_concat_in(flags: BufferFlags, glyphs: &mut [GlyphInfo], s: usiz
 /// - `tatweel_inside`: crates/shapers_buffer/specs/GlyphFlags.antt
 ///
 /// </details>
+#[inline]
 pub fn safe_to_insert_tatweel_in(flags: BufferFlags, glyphs: &mut [GlyphInfo], s: usize, e: usize) {
     let bits = if flags.contains(BufferFlags::PRODUCE_SAFE_TO_INSERT_TATWEEL) {
         SAFE_TO_INSERT_TATWEEL

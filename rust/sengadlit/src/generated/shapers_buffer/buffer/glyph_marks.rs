@@ -4,16 +4,22 @@
 
 use crate::support::bitflags::{Flag, Flags, bitflag_items};
 
-/// The marks of a glyph, a bit for each. No mark reads the three bits above them.
+/// The marks of a glyph, a bit for each, in one byte. No mark reads the three bits above them.
+#[repr(transparent)]
 #[derive(Clone, Copy, Debug, PartialEq, Eq)]
 pub struct GlyphMarks(pub u8);
 
 bitflag_items! {
     impl GlyphMarks: u8 {
+        /// A lookup put the glyph in.
         const SUBSTITUTED = 1;
+        /// A lookup put the glyph in for several.
         const LIGATED = 2;
+        /// A lookup put the glyph in as one of several for one.
         const MULTIPLIED = 4;
+        /// The character may stay undrawn (Default_Ignorable_Code_Point).
         const IGNORABLE = 8;
+        /// The character carries on the grapheme of the one before it.
         const CONTINUATION = 16;
     }
 }
@@ -21,14 +27,17 @@ bitflag_items! {
 impl Flags for GlyphMarks {
     type Bits = u8;
 
+    #[inline]
     fn flags<'a>() -> &'a [Flag<GlyphMarks>] {
         GlyphMarks::FLAGS
     }
 
+    #[inline]
     fn bits(&self) -> u8 {
         self.0
     }
 
+    #[inline]
     fn from_bits_retain(bits: u8) -> GlyphMarks {
         GlyphMarks(bits)
     }
@@ -51,6 +60,7 @@ impl GlyphMarks {
     /// - `is_substituted`: crates/shapers_buffer/specs/Marks.antt
     ///
     /// </details>
+    #[inline]
     pub fn is_substituted(self) -> bool {
         self.contains(GlyphMarks::SUBSTITUTED)
     }
@@ -68,6 +78,7 @@ impl GlyphMarks {
     /// - `is_ligated`: crates/shapers_buffer/specs/Marks.antt
     ///
     /// </details>
+    #[inline]
     pub fn is_ligated(self) -> bool {
         self.contains(GlyphMarks::LIGATED)
     }
@@ -85,6 +96,7 @@ impl GlyphMarks {
     /// - `is_multiplied`: crates/shapers_buffer/specs/Marks.antt
     ///
     /// </details>
+    #[inline]
     pub fn is_multiplied(self) -> bool {
         self.contains(GlyphMarks::MULTIPLIED)
     }
@@ -102,6 +114,7 @@ impl GlyphMarks {
     /// - `is_ignorable`: crates/shapers_buffer/specs/Marks.antt
     ///
     /// </details>
+    #[inline]
     pub fn is_ignorable(self) -> bool {
         self.contains(GlyphMarks::IGNORABLE)
     }
@@ -119,6 +132,7 @@ impl GlyphMarks {
     /// - `is_continuation`: crates/shapers_buffer/specs/Marks.antt
     ///
     /// </details>
+    #[inline]
     pub fn is_continuation(self) -> bool {
         self.contains(GlyphMarks::CONTINUATION)
     }
@@ -136,6 +150,7 @@ impl GlyphMarks {
     /// - `SUBSTITUTED`, `set_mark`: crates/shapers_buffer/specs/Marks.antt
     ///
     /// </details>
+    #[inline]
     pub fn set_substituted(&mut self, on: bool) {
         self.set(GlyphMarks::SUBSTITUTED, on);
     }
@@ -153,6 +168,7 @@ impl GlyphMarks {
     /// - `LIGATED`, `set_mark`: crates/shapers_buffer/specs/Marks.antt
     ///
     /// </details>
+    #[inline]
     pub fn set_ligated(&mut self, on: bool) {
         self.set(GlyphMarks::LIGATED, on);
     }
@@ -170,6 +186,7 @@ impl GlyphMarks {
     /// - `MULTIPLIED`, `set_mark`: crates/shapers_buffer/specs/Marks.antt
     ///
     /// </details>
+    #[inline]
     pub fn set_multiplied(&mut self, on: bool) {
         self.set(GlyphMarks::MULTIPLIED, on);
     }
@@ -187,6 +204,7 @@ impl GlyphMarks {
     /// - `IGNORABLE`, `set_mark`: crates/shapers_buffer/specs/Marks.antt
     ///
     /// </details>
+    #[inline]
     pub fn set_ignorable(&mut self, on: bool) {
         self.set(GlyphMarks::IGNORABLE, on);
     }
@@ -204,6 +222,7 @@ impl GlyphMarks {
     /// - `CONTINUATION`, `set_mark`: crates/shapers_buffer/specs/Marks.antt
     ///
     /// </details>
+    #[inline]
     pub fn set_continuation(&mut self, on: bool) {
         self.set(GlyphMarks::CONTINUATION, on);
     }

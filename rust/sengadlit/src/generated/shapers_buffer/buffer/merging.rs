@@ -23,6 +23,7 @@ impl Buffer {
     /// - `merge`: crates/shapers_buffer/specs/Clusters.antt
     ///
     /// </details>
+    #[inline]
     pub fn merge_clusters(&mut self, s: usize, e: usize) {
         merge_clusters_in(self.cluster_level, &mut self.info, s, e);
     }
@@ -43,6 +44,7 @@ impl Buffer {
 /// - `merge`: crates/shapers_buffer/specs/Clusters.antt
 ///
 /// </details>
+#[inline]
 pub fn merge_clusters_in(level: BufferClusterLevel, glyphs: &mut [GlyphInfo], s: usize, e: usize) {
     if merges(level) && e - s >= 2 {
         merge_stretch(glyphs, s, e);
@@ -50,6 +52,7 @@ pub fn merge_clusters_in(level: BufferClusterLevel, glyphs: &mut [GlyphInfo], s:
 }
 
 // Whether clusters merge at a level.
+#[inline]
 pub(super) fn merges(level: BufferClusterLevel) -> bool {
     match level {
         BufferClusterLevel::MonotoneGraphemes | BufferClusterLevel::MonotoneCharacters => true,

@@ -26,6 +26,7 @@ impl Buffer {
     /// - `place_at`: crates/shapers_buffer/specs/Places.antt
     ///
     /// </details>
+    #[inline]
     pub fn place(&self, i: usize) -> usize {
         self.places.get(i).copied().unwrap_or(0)
     }
@@ -44,6 +45,7 @@ impl Buffer {
     /// - `with_place`: crates/shapers_buffer/specs/Places.antt
     ///
     /// </details>
+    #[inline]
     pub fn set_place(&mut self, i: usize, place: usize) {
         open_places(&mut self.places, i + 1);
         self.places[i] = place;
@@ -67,6 +69,7 @@ impl Buffer {
     /// - `ListsEachOnce`, `placed`: crates/shapers_buffer/specs/Places.antt
     ///
     /// </details>
+    #[inline]
     pub fn apply(&mut self, start: usize, end: usize) {
         open_places(&mut self.places, end);
         open_spare(&mut self.spare, end - start);

@@ -18,6 +18,7 @@ pub enum ShaperError {
 }
 
 impl From<AllocError> for ShaperError {
+    #[inline]
     fn from(_e: AllocError) -> Self {
         ShaperError::Memory
     }

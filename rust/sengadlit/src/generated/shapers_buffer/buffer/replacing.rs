@@ -51,6 +51,7 @@ impl Buffer {
     /// - `copied_to`: crates/shapers_buffer/specs/Buffer.antt
     ///
     /// </details>
+    #[inline]
     pub fn copy_glyph(&mut self, from: usize, to: usize) {
         self.info[to] = self.info[from];
         if !self.pos.is_empty() {

@@ -19,6 +19,7 @@ impl Buffer {
     /// ```
     ///
     /// </details>
+    #[inline]
     pub fn reverse(&mut self) {
         self.info.reverse();
         self.pos.reverse();
@@ -42,6 +43,7 @@ impl Buffer {
     /// - `with_stretch`: crates/shapers_buffer/specs/Clusters.antt
     ///
     /// </details>
+    #[inline]
     pub fn reverse_range(&mut self, s: usize, e: usize) {
         self.info[s..e].reverse();
         if !self.pos.is_empty() {

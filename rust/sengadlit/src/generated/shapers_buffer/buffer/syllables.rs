@@ -5,10 +5,14 @@
 use super::glyph::GlyphInfo;
 use super::{Buffer, ShaperError};
 
-/// A syllable as the script's grammar found it: its number of glyphs, and its kind, at most 15.
+/// A syllable as the script's grammar found it: its number of glyphs, and its kind, at most 15. C's
+/// layout.
+#[repr(C)]
 #[derive(Clone, Copy, Debug, PartialEq, Eq)]
 pub struct Span {
+    /// How many glyphs it covers.
     pub len: usize,
+    /// The kind that the grammar gave it, at most 15.
     pub kind: u8,
 }
 
@@ -30,6 +34,7 @@ impl Buffer {
     /// - `first_syllable_len`: crates/shapers_buffer/specs/Syllables.antt
     ///
     /// </details>
+    #[inline]
     pub fn next_syllable(&self, s: usize) -> usize {
         s + first_syllable_len(&self.info[s..])
     }
@@ -47,6 +52,7 @@ impl Buffer {
     /// - `unknown_syllable`: crates/shapers_buffer/specs/Syllables.antt
     ///
     /// </details>
+    #[inline]
     pub fn unknown_syllable(&self, last_kind: u8) -> Option<usize> {
         first_above(&self.info, last_kind)
     }
@@ -98,6 +104,7 @@ impl Buffer {
 /// - `first_syllable_len`: crates/shapers_buffer/specs/Syllables.antt
 ///
 /// </details>
+#[inline]
 pub fn first_syllable_len(glyphs: &[GlyphInfo]) -> usize {
     1 + syllable_run_len(&glyphs[1..], glyphs[0].syllable)
 }
@@ -128,6 +135,7 @@ fn first_above(glyphs: &[GlyphInfo], last_kind: u8) -> Option<usize> {
 /// ```
 ///
 /// </details>
+#[inline]
 pub fn has_span_of_kind(spans: &[Span], kind: u8) -> bool {
     spans.iter().any(|span| span.kind == kind)
 }

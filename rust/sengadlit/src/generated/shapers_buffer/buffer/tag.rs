@@ -1,6 +1,7 @@
 //! Generated from crates/shapers_buffer/src/buffer/tag.rt by rust/erase; edit the source.
 
 /// A tag of the OpenType registry: four bytes.
+#[repr(transparent)]
 #[derive(Clone, Copy, Debug, PartialEq, Eq)]
 pub struct Tag(pub [u8; 4]);
 
@@ -16,6 +17,7 @@ impl Tag {
     /// ```
     ///
     /// </details>
+    #[inline]
     pub fn from_bytes(bytes: [u8; 4]) -> Self {
         Tag(bytes)
     }
@@ -31,12 +33,14 @@ impl Tag {
     /// ```
     ///
     /// </details>
+    #[inline]
     pub fn to_bytes(self) -> [u8; 4] {
         self.0
     }
 }
 
 /// A script, by its ISO 15924 code: four bytes, as `Thai`.
+#[repr(transparent)]
 #[derive(Clone, Copy, Debug, PartialEq, Eq)]
 pub struct Script(pub [u8; 4]);
 
@@ -52,6 +56,7 @@ impl Script {
     /// ```
     ///
     /// </details>
+    #[inline]
     pub fn from_bytes(bytes: [u8; 4]) -> Self {
         Script(bytes)
     }
@@ -67,6 +72,7 @@ impl Script {
     /// ```
     ///
     /// </details>
+    #[inline]
     pub fn to_bytes(self) -> [u8; 4] {
         self.0
     }

@@ -72,8 +72,9 @@ impl Buffer {
     /// - `with_stretch`: crates/shapers_buffer/specs/Clusters.antt
     ///
     /// </details>
+    #[inline]
     pub fn change_each<C: GlyphChange>(&mut self, s: usize, e: usize, change: &C) {
-        change_all(&mut self.info[s..e], change);
+        change_each_in(&mut self.info[s..e], change);
     }
 
     /// Walks over all glyphs. It takes no memory.
@@ -90,8 +91,49 @@ impl Buffer {
     /// ```
     ///
     /// </details>
+    #[inline]
     pub fn walk<W: GlyphWalk>(&mut self, walk: &mut W) {
         walk.walk(&mut self.info);
+    }
+
+    /// Calls `change` with all glyphs, which it may rewrite, and returns what it returned. It takes
+    /// no memory.
+    ///
+    /// <details><summary>Contract</summary>
+    ///
+    /// # Contract
+    ///
+    /// ```text
+    /// requires { F.IsAlwaysCallable change }
+    /// ensures changed { let call = FnOnceReturnsAtMut F.FnOnce change in
+    ///     call self.old.glyphs result self.new.glyphs }
+    /// ensures same_length { length self.new.glyphs ≡ length self.old.glyphs }
+    /// ensures others { self.new ≡ record self.old { glyphs = self.new.glyphs } }
+    /// ```
+    ///
+    /// </details>
+    pub fn with_glyphs_mut<R, F: FnOnce(&mut [GlyphInfo]) -> R>(&mut self, change: F) -> R {
+        change(&mut self.info)
+    }
+
+    /// Calls `change` with all positions, which it may rewrite, and returns what it returned. It
+    /// takes no memory.
+    ///
+    /// <details><summary>Contract</summary>
+    ///
+    /// # Contract
+    ///
+    /// ```text
+    /// requires { F.IsAlwaysCallable change }
+    /// ensures changed { let call = FnOnceReturnsAtMut F.FnOnce change in
+    ///     call self.old.positions result self.new.positions }
+    /// ensures same_length { length self.new.positions ≡ length self.old.positions }
+    /// ensures others { self.new ≡ record self.old { positions = self.new.positions } }
+    /// ```
+    ///
+    /// </details>
+    pub fn with_positions_mut<R, F: FnOnce(&mut [GlyphPosition]) -> R>(&mut self, change: F) -> R {
+        change(&mut self.pos)
     }
 
     /// Walks over all glyphs and their positions. It takes no memory.
@@ -111,13 +153,24 @@ impl Buffer {
     /// ```
     ///
     /// </details>
+    #[inline]
     pub fn walk_positioned<W: PositionedWalk>(&mut self, walk: &W) {
         walk.walk(&mut self.info, &mut self.pos);
     }
 }
 
-// Changes all these glyphs.
-fn change_all<C: GlyphChange>(glyphs: &mut [GlyphInfo], change: &C) {
+/// Changes each of these glyphs.
+///
+/// <details><summary>Contract</summary>
+///
+/// # Contract
+///
+/// ```text
+/// ensures { glyphs.new ≡ map (C.changed change.now) glyphs.old }
+/// ```
+///
+/// </details>
+pub fn change_each_in<C: GlyphChange>(glyphs: &mut [GlyphInfo], change: &C) {
     for glyph in glyphs.iter_mut() {
         change.change(glyph);
     }

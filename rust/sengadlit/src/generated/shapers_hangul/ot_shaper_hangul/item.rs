@@ -70,6 +70,7 @@ pub(super) struct Item {
 }
 
 // The character at place `i`, 0 where the text ends.
+#[inline]
 fn character_at(glyphs: &[GlyphInfo], i: usize) -> u32 {
     match glyphs.get(i) {
         Some(glyph) => glyph.glyph_id,
@@ -125,6 +126,7 @@ fn has_jamo_of<F: Font>(face: &F, s: u32) -> bool {
 }
 
 // A syllable character by its jamo.
+#[inline]
 fn parts(s: u32) -> Unit {
     let [l, v, t] = decompose(s);
     if is_lv(s) {
@@ -260,6 +262,7 @@ fn read_item<F: Font>(face: &F, circles: bool, glyphs: &[GlyphInfo]) -> Item {
 }
 
 // Whether the character that opens the text stays as it is, as far as it and the next one tell.
+#[inline]
 pub(super) fn stays_alone<F: Font>(face: &F, glyphs: &[GlyphInfo]) -> bool {
     let u = character_at(glyphs, 0);
     if follows(character_at(glyphs, 1)) {
@@ -272,12 +275,14 @@ pub(super) fn stays_alone<F: Font>(face: &F, glyphs: &[GlyphInfo]) -> bool {
 }
 
 // The item that opens the text, which stands within it.
+#[inline]
 pub(super) fn first_item<F: Font>(face: &F, circles: bool, glyphs: &[GlyphInfo]) -> Item {
     read_item(face, circles, glyphs)
 }
 
 impl JoinedTone {
     // How many characters it takes.
+    #[inline]
     fn len(self) -> usize {
         match self {
             JoinedTone::Absent => 0,
@@ -311,11 +316,13 @@ impl Unit {
     }
 
     // Whether it is a syllable.
+    #[inline]
     fn is_syllable(self) -> bool {
         !matches!(self, Unit::ToneCircle | Unit::CircleTone | Unit::Other)
     }
 
     // Whether its glyphs are marked as jamo.
+    #[inline]
     fn is_marked(self) -> bool {
         matches!(
             self,
@@ -424,16 +431,19 @@ impl Unit {
 
 impl Item {
     // How many characters it takes.
+    #[inline]
     pub(super) fn len(self) -> usize {
         self.unit.taken() + self.tone.len()
     }
 
     // How many glyphs it becomes.
+    #[inline]
     pub(super) fn output_len(self) -> usize {
         self.unit.output_len() + self.tone.len()
     }
 
     // Whether it is one glyph that stays as it is.
+    #[inline]
     pub(super) fn is_kept(self) -> bool {
         matches!(self.unit, Unit::Syllable | Unit::Other)
             && matches!(self.tone, JoinedTone::Absent)
@@ -458,6 +468,7 @@ impl Item {
     }
 
     // Adds what the item that opens the text becomes.
+    #[inline]
     pub(super) fn write(
         self,
         glyphs: &[GlyphInfo],

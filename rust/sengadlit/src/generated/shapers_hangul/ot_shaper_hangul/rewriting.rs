@@ -18,6 +18,7 @@ fn item_at<F: Font>(face: &F, circles: bool, glyphs: &[GlyphInfo], place: usize)
 }
 
 // The text from a place on.
+#[inline]
 fn rest_from(glyphs: &[GlyphInfo], place: usize) -> &[GlyphInfo] {
     &glyphs[place..]
 }
@@ -57,6 +58,7 @@ impl Cut {
     }
 
     // One more, unless it stays as it is.
+    #[inline]
     fn add(&mut self, place: usize, item: Item) {
         if !item.is_kept() && self.items.push((place, item)).is_err() {
             self.is_whole = false;

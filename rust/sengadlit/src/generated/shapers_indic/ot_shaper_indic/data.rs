@@ -203,6 +203,7 @@ pub fn create_data(plan: &Plan) -> PlanData {
 /// - `indic_in`, `is_indic_data`: crates/shapers_indic/specs/Plan.antt
 ///
 /// </details>
+#[inline]
 pub fn indic_in(plan: &Plan) -> &IndicPlan {
     match &plan.plan_data {
         PlanData::Indic(kept) => kept,
@@ -223,6 +224,7 @@ pub fn indic_in(plan: &Plan) -> &IndicPlan {
 /// - `virama_glyph`: crates/shapers_indic/specs/Plan.antt
 ///
 /// </details>
+#[inline]
 pub fn virama_glyph<F: Font>(plan: &IndicPlan, face: &F) -> Option<GlyphId> {
     if plan.config.virama == 0 {
         return None;

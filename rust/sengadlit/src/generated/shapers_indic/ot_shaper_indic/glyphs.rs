@@ -19,6 +19,7 @@ use crate::generated::shapers_base::plan::ot_category_t::{OT_M, OT_MPst, OT_ZWJ,
 /// - `number`: crates/shapers_indic/specs/Glyphs.antt
 ///
 /// </details>
+#[inline]
 pub fn number(glyph: &GlyphInfo) -> GlyphId {
     GlyphId((glyph.glyph_id % 65536) as u16)
 }
@@ -36,6 +37,7 @@ pub fn number(glyph: &GlyphInfo) -> GlyphId {
 /// - `is_joiner`: crates/shapers_indic/specs/Glyphs.antt
 ///
 /// </details>
+#[inline]
 pub fn is_joiner(glyph: &GlyphInfo) -> bool {
     !glyph.marks.is_ligated() && matches!(glyph.category, OT_ZWJ | OT_ZWNJ)
 }
@@ -53,6 +55,7 @@ pub fn is_joiner(glyph: &GlyphInfo) -> bool {
 /// - `is_matra`: crates/shapers_indic/specs/Glyphs.antt
 ///
 /// </details>
+#[inline]
 pub fn is_matra(glyph: &GlyphInfo) -> bool {
     matches!(glyph.category, OT_M | OT_MPst)
 }

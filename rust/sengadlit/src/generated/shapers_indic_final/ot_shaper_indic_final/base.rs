@@ -54,6 +54,7 @@ struct BaseWalk {
 }
 
 impl GlyphWalk for BaseWalk {
+    #[inline]
     fn walk(&mut self, glyphs: &mut [GlyphInfo]) {
         self.based = find_base(&self.rules, self.script, &mut glyphs[self.start..self.end]);
     }
@@ -88,15 +89,11 @@ fn is_from_base_on(glyph: &GlyphInfo) -> bool {
 
 // The first glyph after the base with the mask of `pref`, if it is not substituted and formed.
 fn unformed_pref(pref: u32, base: usize, glyphs: &[GlyphInfo]) -> Option<usize> {
-    match pref_place(pref, base, glyphs) {
-        Some(i) => {
-            if is_unformed(&glyphs[i]) {
-                Some(i)
-            } else {
-                None
-            }
-        }
-        None => None,
+    let i = pref_place(pref, base, glyphs)?;
+    if is_unformed(&glyphs[i]) {
+        Some(i)
+    } else {
+        None
     }
 }
 

@@ -9,21 +9,25 @@ use crate::generated::shapers_base::plan::ot_category_t::OT_ZWJ;
 use crate::generated::shapers_base::plan::ot_position_t::POS_PRE_M;
 
 // Whether a glyph is a left matra.
+#[inline]
 pub(super) fn is_left(glyph: &GlyphInfo) -> bool {
     glyph.auxiliary == POS_PRE_M
 }
 
 // Whether left matras go to a place: one past the start, where none stands.
+#[inline]
 pub(super) fn matras_go(p: usize, glyphs: &[GlyphInfo]) -> bool {
     p > 0 && !is_left(&glyphs[p])
 }
 
 // Whether there may be left matras before a base.
+#[inline]
 pub(super) fn has_room(base: usize, glyphs: &[GlyphInfo]) -> bool {
     glyphs.len() > 1 && base > 0
 }
 
 // The end of what merges with a left matra: the base with it, if there is one.
+#[inline]
 pub(super) fn end_of_base(base: usize, glyphs: &[GlyphInfo]) -> usize {
     if base < glyphs.len() {
         base + 1

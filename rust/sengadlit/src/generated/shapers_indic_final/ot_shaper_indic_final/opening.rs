@@ -7,6 +7,7 @@ use super::matras::is_left;
 use crate::generated::shapers_base::buffer::{Buffer, GeneralCategory, GlyphChange, GlyphInfo};
 
 // Opens the syllable at place `s`.
+#[inline]
 pub(super) fn open_syllable(init: u32, buffer: &mut Buffer, s: usize) {
     if !is_left(&buffer.glyphs()[s]) {
         return;
@@ -33,6 +34,7 @@ struct AddInit {
 }
 
 impl GlyphChange for AddInit {
+    #[inline]
     fn change(&self, glyph: &mut GlyphInfo) {
         glyph.mask |= self.init;
     }

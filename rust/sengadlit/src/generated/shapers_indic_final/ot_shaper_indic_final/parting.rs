@@ -48,7 +48,7 @@ fn part_further(top: usize, p: usize, b: usize, buffer: &mut Buffer, s: usize, e
 
 // Whether some glyph is a left matra.
 fn has_left(glyphs: &[GlyphInfo]) -> bool {
-    glyphs.iter().any(|glyph| is_left(glyph))
+    glyphs.iter().any(is_left)
 }
 
 // What the merges of the left matras before place `top` of the syllable from `s` on make, as
@@ -174,6 +174,7 @@ struct PutInCluster {
 }
 
 impl GlyphChange for PutInCluster {
+    #[inline]
     fn change(&self, glyph: &mut GlyphInfo) {
         if glyph.cluster != self.cluster {
             glyph.cluster = self.cluster;

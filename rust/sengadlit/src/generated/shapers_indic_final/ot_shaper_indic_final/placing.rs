@@ -11,6 +11,7 @@ use crate::generated::shapers_base::buffer::{Buffer, Script};
 use crate::generated::shapers_base::plan::RephPosition;
 
 // Puts the reph of the syllable from `s` to `e` in its place, and answers where the base stands then.
+#[inline]
 pub(super) fn place_reph(
     position: RephPosition,
     base: usize,
@@ -27,6 +28,7 @@ pub(super) fn place_reph(
 }
 
 // Puts the glyph of the syllable from `s` to `e` that `pref` formed in its place.
+#[inline]
 pub(super) fn place_pref(
     script: Option<Script>,
     pref: u32,

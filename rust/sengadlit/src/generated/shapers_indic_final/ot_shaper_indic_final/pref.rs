@@ -19,20 +19,14 @@ pub(super) fn pref_place(pref: u32, base: usize, glyphs: &[GlyphInfo]) -> Option
 }
 
 // That glyph, if it is formed.
+#[inline]
 pub(super) fn formed_pref(pref: u32, base: usize, glyphs: &[GlyphInfo]) -> Option<usize> {
-    match pref_place(pref, base, glyphs) {
-        Some(i) => {
-            if is_formed(&glyphs[i]) {
-                Some(i)
-            } else {
-                None
-            }
-        }
-        None => None,
-    }
+    let i = pref_place(pref, base, glyphs)?;
+    if is_formed(&glyphs[i]) { Some(i) } else { None }
 }
 
 // Where a formed glyph goes.
+#[inline]
 pub(super) fn pref_target(script: Option<Script>, base: usize, glyphs: &[GlyphInfo]) -> usize {
     let place = place_before_base(script, base, glyphs);
     if is_joiner_behind_halant(glyphs, place) {

@@ -12,6 +12,7 @@ use crate::generated::shapers_base::plan::ot_position_t::{
 use crate::generated::shapers_indic::ot_shaper_indic::glyphs::{is_joiner, is_matra};
 
 // Whether a reph that moves opens a syllable of two or more.
+#[inline]
 pub(super) fn opens_with_reph(glyphs: &[GlyphInfo]) -> bool {
     match glyphs {
         [first, _, ..] => is_moving_reph(first),
@@ -25,6 +26,7 @@ fn is_moving_reph(glyph: &GlyphInfo) -> bool {
 }
 
 // Where the reph goes: behind the first halant before the base, else by the script.
+#[inline]
 pub(super) fn reph_target(position: RephPosition, base: usize, glyphs: &[GlyphInfo]) -> usize {
     match halant_after_start(base, glyphs) {
         Some(halant) => with_joiner(base, glyphs, halant),
@@ -33,6 +35,7 @@ pub(super) fn reph_target(position: RephPosition, base: usize, glyphs: &[GlyphIn
 }
 
 // Where the base stands once the reph has gone to `target`: one place before, if the reph crossed it.
+#[inline]
 pub(super) fn base_after_reph(base: usize, target: usize) -> usize {
     if base > 0 && base <= target {
         base - 1

@@ -12,13 +12,16 @@ const MALAYALAM: Script = Script(*b"Mlym");
 
 const TAMIL: Script = Script(*b"Taml");
 
-/// Where the script wants its reph, the glyph of its virama if it has one and the font knows it, and
-/// the masks of `pref` and `init`.
+/// What the final reordering reads of the plan and the font.
 #[derive(Clone, Copy, Debug, PartialEq, Eq)]
 pub struct Rules {
+    /// Where the script wants its reph.
     pub reph_pos: RephPosition,
+    /// The glyph of its virama, if it has one and the font knows it.
     pub virama: Option<GlyphId>,
+    /// The mask of `pref`, without glyph flag bits.
     pub pref: u32,
+    /// The mask of `init`, without glyph flag bits.
     pub init: u32,
 }
 
@@ -47,11 +50,13 @@ impl Rules {
 }
 
 // Whether a script is Malayalam.
+#[inline]
 pub(super) fn is_malayalam(script: Option<Script>) -> bool {
     script == Some(MALAYALAM)
 }
 
 // Whether a script has neither half forms nor explicit viramas: Malayalam and Tamil.
+#[inline]
 pub(super) fn has_no_half_forms(script: Option<Script>) -> bool {
     is_malayalam(script) || script == Some(TAMIL)
 }

@@ -18,6 +18,7 @@ struct Recover {
 }
 
 impl GlyphChange for Recover {
+    #[inline]
     fn change(&self, glyph: &mut GlyphInfo) {
         if is_lost_virama(self.virama, glyph) {
             glyph.category = OT_H;

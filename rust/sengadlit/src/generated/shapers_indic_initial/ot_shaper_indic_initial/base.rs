@@ -41,6 +41,7 @@ pub(super) fn find_base<F: Font>(
 
 // The base from place `lo` on, or behind what stops the search: the last consonant without a
 // below-base or post-base form, else the first consonant.
+#[inline]
 fn last_or_first(lo: usize, glyphs: &[GlyphInfo]) -> Option<usize> {
     if let Some(base) = last_base(lo, glyphs) {
         return Some(base);

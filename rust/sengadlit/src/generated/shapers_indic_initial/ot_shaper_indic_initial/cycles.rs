@@ -22,7 +22,7 @@ fn spend_cycle(buffer: &mut Buffer, start: usize, end: usize, p: usize) -> (usiz
     let mut greatest = p;
     let mut q = old_place(buffer, start, end, p);
     spend_place(buffer, start, end, p);
-    for passed in start..end {
+    for _ in start..end {
         if q == p {
             break;
         }
@@ -48,6 +48,7 @@ fn merge_cycles(buffer: &mut Buffer, start: usize, end: usize, base: usize) {
 
 /// Whether all from the base on merges, and no cycles: in the older specification, and in a
 /// syllable of more than 127 glyphs.
+#[inline]
 pub(super) fn merges_all(old_spec: bool, len: usize) -> bool {
     old_spec || len > 127
 }
@@ -55,6 +56,7 @@ pub(super) fn merges_all(old_spec: bool, len: usize) -> bool {
 /// What merges once the glyphs from `start` to `end` are in their new order: in the older
 /// specification, and in a syllable of more than 127 glyphs, all from the base on, else each cycle
 /// of the order. `base` counts from `start`. It takes no memory.
+#[inline]
 pub(super) fn merge_ordered(
     buffer: &mut Buffer,
     start: usize,

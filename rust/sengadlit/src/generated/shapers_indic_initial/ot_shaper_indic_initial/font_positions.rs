@@ -114,6 +114,7 @@ impl<'a, F: Font> ByVirama<'a, F> {
 }
 
 impl<'a, F: Font> GlyphWalk for ByVirama<'a, F> {
+    #[inline]
     fn walk(&mut self, glyphs: &mut [GlyphInfo]) {
         self.position_all(glyphs);
     }

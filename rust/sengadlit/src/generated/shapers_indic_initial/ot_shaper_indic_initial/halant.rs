@@ -11,6 +11,7 @@ const KANNADA: Option<Script> = Some(Script(*b"Knda"));
 
 /// The place of the first H after the base and that of the glyph behind which it goes: the last
 /// consonant after it, in Kannada not over another H. `None` if it stays.
+#[inline]
 pub(super) fn halant_move(
     script: Option<Script>,
     base: usize,
@@ -53,6 +54,7 @@ fn is_passed_by_halant(script: Option<Script>, glyph: &GlyphInfo) -> bool {
 }
 
 /// Whether Kannada's opening Ra, H, ZWJ stands for Ra, ZWJ, H.
+#[inline]
 pub(super) fn joiner_comes_first(script: Option<Script>, glyphs: &[GlyphInfo]) -> bool {
     script == KANNADA && opens_with_ra_h_zwj(glyphs)
 }

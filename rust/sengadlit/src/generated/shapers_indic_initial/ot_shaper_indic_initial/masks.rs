@@ -19,6 +19,7 @@ const DEVANAGARI: Script = Script(*b"Deva");
 
 /// Gives the glyphs of an ordered syllable with its base at this place the masks of the basic
 /// features, which touch no glyph flag.
+#[inline]
 pub(super) fn set_masks<F: Font>(
     plan: &IndicPlan,
     map: &Map,
@@ -35,6 +36,7 @@ pub(super) fn set_masks<F: Font>(
 }
 
 // The bits that a feature gives: its mask, but for the glyph flags.
+#[inline]
 fn bits_of(plan: &IndicPlan, feature: usize) -> u32 {
     plan.mask_array[feature] & !7
 }
@@ -69,6 +71,7 @@ fn set_bits_around(before: u32, after: u32, base: usize, glyphs: &mut [GlyphInfo
 }
 
 // The bits before the base.
+#[inline]
 fn bits_before_base(plan: &IndicPlan) -> u32 {
     let half = bits_of(plan, HALF);
     if !plan.is_old_spec && applies_before_base(plan.config.blwf_mode) {
@@ -87,6 +90,7 @@ fn applies_before_base(mode: BlwfMode) -> bool {
 }
 
 // The bits after the base.
+#[inline]
 fn bits_after_base(plan: &IndicPlan) -> u32 {
     bits_of(plan, BLWF) | bits_of(plan, ABVF) | bits_of(plan, PSTF)
 }
@@ -182,7 +186,7 @@ fn clear_half(bits: u32, glyphs: &mut [GlyphInfo]) {
 
 // Whether there is a ZWNJ.
 fn has_non_joiner(glyphs: &[GlyphInfo]) -> bool {
-    glyphs.iter().any(|glyph| is_non_joiner(glyph))
+    glyphs.iter().any(is_non_joiner)
 }
 
 // The same, glyph by glyph, from the last one on.

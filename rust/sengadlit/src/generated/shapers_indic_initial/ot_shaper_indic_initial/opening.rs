@@ -14,6 +14,7 @@ use crate::generated::shapers_base::plan::IndicPlan;
 /// Gives the glyphs of the syllable from `start` to `end` their positions. Kannada's opening Ra, H,
 /// ZWJ becomes Ra, ZWJ, H, and by the older specification the H after the base goes behind the last
 /// consonant. It takes no memory.
+#[inline]
 pub(super) fn set_positions<F: Font>(
     plan: &IndicPlan,
     map: &Map,
@@ -74,6 +75,7 @@ struct PositionsByBase {
 }
 
 impl GlyphWalk for PositionsByBase {
+    #[inline]
     fn walk(&mut self, glyphs: &mut [GlyphInfo]) {
         set_positions_by_base(self.base, &mut glyphs[self.start..self.end]);
     }
@@ -87,6 +89,7 @@ struct PositionsOfMarks {
 }
 
 impl GlyphWalk for PositionsOfMarks {
+    #[inline]
     fn walk(&mut self, glyphs: &mut [GlyphInfo]) {
         set_positions_of_marks(self.base, &mut glyphs[self.start..self.end]);
     }

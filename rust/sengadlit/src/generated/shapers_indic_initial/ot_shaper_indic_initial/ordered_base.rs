@@ -6,6 +6,7 @@ use crate::generated::shapers_base::buffer::GlyphInfo;
 use crate::generated::shapers_base::plan::ot_position_t::POS_BASE_C;
 
 /// The place of the first glyph of position BASE_C in an ordered syllable, or its length.
+#[inline]
 pub(super) fn ordered_base(glyphs: &[GlyphInfo]) -> usize {
     first_base(glyphs).unwrap_or(glyphs.len())
 }

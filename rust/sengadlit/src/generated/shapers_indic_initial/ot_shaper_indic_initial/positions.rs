@@ -105,6 +105,7 @@ fn next_behind(position: u8, behind: u8) -> u8 {
 }
 
 /// Gives what stands before a consonant, after the base at this place, the consonant's position.
+#[inline]
 pub(super) fn own(base: usize, glyphs: &mut [GlyphInfo]) {
     if base < glyphs.len() {
         own_each(&mut glyphs[base + 1..]);

@@ -23,6 +23,7 @@ pub(super) struct InitialOrder<'a, F: Font> {
 }
 
 impl<'a, F: Font> Reorder for InitialOrder<'a, F> {
+    #[inline]
     fn reorder(&self, buffer: &mut Buffer, start: usize, end: usize) -> Result<(), ShaperError> {
         let (plan, map, face) = (self.plan, self.map, self.face);
         if is_reordered(&buffer.glyphs()[start..end]) {
@@ -60,6 +61,7 @@ struct Masks<'a, F: Font> {
 }
 
 impl<'a, F: Font> GlyphWalk for Masks<'a, F> {
+    #[inline]
     fn walk(&mut self, glyphs: &mut [GlyphInfo]) {
         let syllable = &mut glyphs[self.start..self.end];
         let base = ordered_base(syllable);
@@ -68,6 +70,7 @@ impl<'a, F: Font> GlyphWalk for Masks<'a, F> {
 }
 
 // Whether a syllable is reordered.
+#[inline]
 fn is_reordered(syllable: &[GlyphInfo]) -> bool {
     match syllable {
         [] => false,

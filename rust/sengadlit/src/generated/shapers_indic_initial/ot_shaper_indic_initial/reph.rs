@@ -35,6 +35,7 @@ pub(crate) fn reph_len<F: Font>(
 
 /// Where the search for the base ends, if no ZWJ ends it before: behind the reph and the joiners
 /// that follow it, or at the start.
+#[inline]
 pub(crate) fn limit(reph_len: usize, glyphs: &[GlyphInfo]) -> usize {
     if reph_len == 0 {
         return 0;
@@ -48,6 +49,7 @@ fn joiners_len(glyphs: &[GlyphInfo]) -> usize {
 }
 
 // Whether the third glyph lets the first two be a reph.
+#[inline]
 fn third_lets_reph(mode: RephMode, glyphs: &[GlyphInfo]) -> bool {
     match (glyphs, mode) {
         ([_, _, third, ..], RephMode::Implicit) => !is_joiner(third),
@@ -71,6 +73,7 @@ fn is_formed<F: Font>(plan: &IndicPlan, map: &Map, face: &F, glyphs: &[GlyphInfo
 
 // Whether the syllable opens with a reph that is a character of its own, in a script that writes it
 // so.
+#[inline]
 fn opens_with_repha(mode: RephMode, glyphs: &[GlyphInfo]) -> bool {
     match (glyphs, mode) {
         ([first, ..], RephMode::LogRepha) => first.category == OT_Repha,

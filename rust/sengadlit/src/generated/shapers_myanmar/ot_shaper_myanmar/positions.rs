@@ -12,6 +12,7 @@ use crate::generated::shapers_base::plan::ot_position_t::{
 use crate::generated::shapers_syllabic::ot_shaper_syllabic::is_consonant;
 
 // Gives each glyph of a syllable its position. The reph is to stand after the main consonant.
+#[inline]
 pub(super) fn set_positions(syllable: &mut [GlyphInfo]) {
     let (reph, rest) = syllable.split_at_mut(reph_len(syllable));
     set_position(reph, POS_AFTER_MAIN);
@@ -51,6 +52,7 @@ fn before_base(glyphs: &[GlyphInfo]) -> usize {
 }
 
 // The place of the first consonant.
+#[allow(clippy::redundant_closure)]
 fn first_consonant(glyphs: &[GlyphInfo]) -> Option<usize> {
     glyphs.iter().position(|glyph| is_consonant(glyph))
 }

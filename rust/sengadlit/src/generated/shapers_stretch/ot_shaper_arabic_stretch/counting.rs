@@ -108,12 +108,14 @@ fn behind_tile<F: Font>(
 }
 
 // How far each added copy of a tile moves the pen.
+#[inline]
 fn step_of(width: i32, lay: Lay) -> i128 {
     i128::from(width) - lay.overlap
 }
 
 // Where the pen is behind a copy that moves it so far, unless the copy's offset doesn't fit 32
 // bits.
+#[inline]
 fn behind_copy(right_to_left: bool, pen: i128, step: i128) -> Option<i128> {
     if fits_i32(first_offset(right_to_left, pen, step)) {
         Some(moved(right_to_left, pen, step))
@@ -158,6 +160,7 @@ fn product(count: usize, step: i128) -> i128 {
 }
 
 /// Where the pen is when it has moved so far.
+#[inline]
 pub(super) fn moved(right_to_left: bool, pen: i128, move_by: i128) -> i128 {
     if right_to_left {
         pen - move_by

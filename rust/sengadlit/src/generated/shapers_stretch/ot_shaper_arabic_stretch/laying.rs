@@ -23,6 +23,7 @@ pub(super) struct TileLaying<'a, F> {
 }
 
 impl<'a, F: Font> PositionedWalk for TileLaying<'a, F> {
+    #[inline]
     fn walk(&self, glyphs: &mut [GlyphInfo], positions: &mut [GlyphPosition]) {
         lay_all(
             self.face,
@@ -86,6 +87,7 @@ fn lay_last<F: Font>(
 }
 
 // Moves the cells from `start` to `end` up, so that they end at `place`.
+#[inline]
 fn move_up(
     glyphs: &mut [GlyphInfo],
     positions: &mut [GlyphPosition],

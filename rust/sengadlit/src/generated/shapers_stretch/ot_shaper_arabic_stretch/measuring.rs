@@ -28,8 +28,9 @@ pub(super) struct Lay {
 }
 
 // Whether a number fits 32 bits with a sign.
+#[inline]
 pub(super) fn fits_i32(x: i128) -> bool {
-    -0x8000_0000 <= x && x < 0x8000_0000
+    (-0x8000_0000..0x8000_0000).contains(&x)
 }
 
 /// What tiles and the word before them measure.
@@ -56,6 +57,7 @@ pub(super) fn measure<F: Font>(face: &F, word: &[GlyphPosition], tiles: &[GlyphI
 }
 
 /// How far a glyph of the font moves the pen.
+#[inline]
 pub(super) fn advance_of<F: Font>(face: &F, glyph: &GlyphInfo) -> i32 {
     face.glyph_h_advance(GlyphId(glyph.glyph_id as u16))
 }
@@ -79,14 +81,12 @@ pub(super) fn lay_of(choice: StretchStart, right_to_left: bool, run: Run) -> Opt
         return None;
     }
     let overlap = overlap(run, rounds);
-    match start(choice, right_to_left, run, rounds, overlap) {
-        Some(start) => Some(Lay {
-            added: rounds.added,
-            overlap,
-            start,
-        }),
-        None => None,
-    }
+    let start = start(choice, right_to_left, run, rounds, overlap)?;
+    Some(Lay {
+        added: rounds.added,
+        overlap,
+        start,
+    })
 }
 
 // Whether what a run measures fits 32 bits, and what its fixed tiles leave of the word.

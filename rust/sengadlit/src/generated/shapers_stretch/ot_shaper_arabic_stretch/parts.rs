@@ -16,6 +16,7 @@ pub(super) struct LastPart {
 }
 
 /// The last part of these glyphs.
+#[inline]
 pub(super) fn last_part(glyphs: &[GlyphInfo]) -> LastPart {
     let tiles = glyphs.len() - count_last_tiles(glyphs);
     let word = tiles - count_last_in_word(&glyphs[..tiles]);
@@ -51,11 +52,13 @@ fn count_last_others(glyphs: &[GlyphInfo]) -> usize {
 }
 
 /// Whether a glyph is a tile.
+#[inline]
 pub(super) fn is_tile(glyph: &GlyphInfo) -> bool {
     is_stch(glyph.auxiliary)
 }
 
 /// Whether a glyph is a tile that repeats.
+#[inline]
 pub(super) fn repeats(glyph: &GlyphInfo) -> bool {
     glyph.auxiliary == STRETCHING_REPEATING
 }

@@ -57,7 +57,6 @@ fn stretch_marks<F: Font>(
     choice: StretchStart,
     buffer: &mut Buffer,
 ) -> Result<(), ShaperError> {
-    let _len = buffer.len();
     if !buffer.has_stch() {
         return Ok(());
     }

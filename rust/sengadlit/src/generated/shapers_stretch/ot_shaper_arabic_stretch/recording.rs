@@ -51,13 +51,29 @@ struct TileRecorder {
 }
 
 impl GlyphWalk for TileRecorder {
+    #[inline]
     fn walk(&mut self, glyphs: &mut [GlyphInfo]) {
-        self.has_stch = record_all(glyphs);
+        self.has_stch = record_stch_in(glyphs);
     }
 }
 
-// Records all tiles, and answers whether there was one.
-fn record_all(glyphs: &mut [GlyphInfo]) -> bool {
+/// Gives each multiplied glyph of the slice the action of its tile, and returns whether there was
+/// one. (OpenType `stch`.)
+///
+/// <details><summary>Contract</summary>
+///
+/// # Contract
+///
+/// ```text
+/// ensures glyphs { glyphs.new ≡ map recorded glyphs.old }
+/// ensures answer { result ≡ list_any (λ g. is_multiplied g.marks) glyphs.old }
+/// ```
+///
+/// - `is_multiplied`: crates/shapers_buffer/specs/Marks.antt
+/// - `recorded`: crates/shapers_stretch/specs/Recorded.antt
+///
+/// </details>
+pub fn record_stch_in(glyphs: &mut [GlyphInfo]) -> bool {
     let mut has_stch = false;
     for glyph in glyphs.iter_mut() {
         if glyph.marks.is_multiplied() {

@@ -2,7 +2,7 @@
 //!
 //! What several shapers ask the tables about a character.
 
-use crate::generated::shapers_base::buffer::{Buffer, GlyphChange, GlyphInfo};
+use crate::generated::shapers_base::buffer::{Buffer, GlyphChange, GlyphInfo, change_each_in};
 use crate::generated::shapers_base::font::Tables;
 
 /// The composition of two characters by the table. A mark composes with nothing behind it, so that
@@ -19,6 +19,7 @@ use crate::generated::shapers_base::font::Tables;
 /// - `composed_behind`: crates/shapers_syllabic/specs/Characters.antt
 ///
 /// </details>
+#[inline]
 pub fn compose<T: Tables>(tables: &T, a: char, b: char) -> Option<char> {
     if tables.general_category(a).is_mark() {
         return None;
@@ -41,9 +42,27 @@ pub fn compose<T: Tables>(tables: &T, a: char, b: char) -> Option<char> {
 /// - `with_category`: crates/shapers_syllabic/specs/Characters.antt
 ///
 /// </details>
+#[inline]
 pub fn set_categories<T: Tables>(tables: &T, buffer: &mut Buffer) {
     let len = buffer.len();
     buffer.change_each(0, len, &ByTable { tables });
+}
+
+/// The same for the glyphs of a slice.
+///
+/// <details><summary>Contract</summary>
+///
+/// # Contract
+///
+/// ```text
+/// ensures { glyphs.new ≡ map (with_category (T.tables tables.now)) glyphs.old }
+/// ```
+///
+/// - `with_category`: crates/shapers_syllabic/specs/Characters.antt
+///
+/// </details>
+pub fn set_categories_in<T: Tables>(tables: &T, glyphs: &mut [GlyphInfo]) {
+    change_each_in(glyphs, &ByTable { tables });
 }
 
 /// Gives each glyph the category and, as its auxiliary byte, the position that the table of the
@@ -62,9 +81,27 @@ pub fn set_categories<T: Tables>(tables: &T, buffer: &mut Buffer) {
 /// - `with_category_and_position`: crates/shapers_syllabic/specs/Characters.antt
 ///
 /// </details>
+#[inline]
 pub fn set_categories_and_positions<T: Tables>(tables: &T, buffer: &mut Buffer) {
     let len = buffer.len();
     buffer.change_each(0, len, &PlacedByTable { tables });
+}
+
+/// The same for the glyphs of a slice.
+///
+/// <details><summary>Contract</summary>
+///
+/// # Contract
+///
+/// ```text
+/// ensures { glyphs.new ≡ map (with_category_and_position (T.tables tables.now)) glyphs.old }
+/// ```
+///
+/// - `with_category_and_position`: crates/shapers_syllabic/specs/Characters.antt
+///
+/// </details>
+pub fn set_categories_and_positions_in<T: Tables>(tables: &T, glyphs: &mut [GlyphInfo]) {
+    change_each_in(glyphs, &PlacedByTable { tables });
 }
 
 // The category by a table.
@@ -73,6 +110,7 @@ struct ByTable<'a, T: Tables> {
 }
 
 impl<'a, T: Tables> GlyphChange for ByTable<'a, T> {
+    #[inline]
     fn change(&self, glyph: &mut GlyphInfo) {
         glyph.category = self.tables.indic_categories(glyph.glyph_id).0;
     }
@@ -84,6 +122,7 @@ struct PlacedByTable<'a, T: Tables> {
 }
 
 impl<'a, T: Tables> GlyphChange for PlacedByTable<'a, T> {
+    #[inline]
     fn change(&self, glyph: &mut GlyphInfo) {
         let (category, position) = self.tables.indic_categories(glyph.glyph_id);
         glyph.category = category;

@@ -12,7 +12,7 @@ use crate::support::bitflags::Flags;
 const DOTTED_CIRCLE: u32 = 0x25CC;
 
 /// What circles look like, and where they stand.
-#[derive(Clone, Copy)]
+#[derive(Clone, Copy, Debug)]
 pub struct DottedCircles {
     /// The kind of the syllables that get one.
     pub broken_kind: u8,
@@ -214,6 +214,7 @@ struct CircleWalk {
 }
 
 impl GlyphWalk for CircleWalk {
+    #[inline]
     fn walk(&mut self, glyphs: &mut [GlyphInfo]) {
         self.circles.open_all(glyphs, self.len);
     }

@@ -2,7 +2,7 @@
 //!
 //! Clearing what one pause left on the glyphs for another.
 
-use crate::generated::shapers_base::buffer::{Buffer, GlyphChange, GlyphInfo};
+use crate::generated::shapers_base::buffer::{Buffer, GlyphChange, GlyphInfo, change_each_in};
 
 /// Takes every glyph out of its syllable: its syllable byte becomes 0. It takes no memory.
 ///
@@ -17,9 +17,27 @@ use crate::generated::shapers_base::buffer::{Buffer, GlyphChange, GlyphInfo};
 /// - `in_syllable`: crates/shapers_buffer/specs/Syllables.antt
 ///
 /// </details>
+#[inline]
 pub fn clear_syllables(buffer: &mut Buffer) {
     let len = buffer.len();
     buffer.change_each(0, len, &OutOfSyllable);
+}
+
+/// Takes these glyphs out of their syllables, as `clear_syllables` does those of a buffer.
+///
+/// <details><summary>Contract</summary>
+///
+/// # Contract
+///
+/// ```text
+/// ensures { glyphs.new ≡ map (in_syllable 0) glyphs.old }
+/// ```
+///
+/// - `in_syllable`: crates/shapers_buffer/specs/Syllables.antt
+///
+/// </details>
+pub fn clear_syllables_in(glyphs: &mut [GlyphInfo]) {
+    change_each_in(glyphs, &OutOfSyllable);
 }
 
 /// Takes back from every glyph the mark that a lookup substituted it. It takes no memory.
@@ -35,9 +53,27 @@ pub fn clear_syllables(buffer: &mut Buffer) {
 /// - `unsubstituted`: crates/shapers_syllabic/specs/Syllabic.antt
 ///
 /// </details>
+#[inline]
 pub fn clear_substitution_flags(buffer: &mut Buffer) {
     let len = buffer.len();
     buffer.change_each(0, len, &Unsubstituted);
+}
+
+/// Takes back from these glyphs the mark that a lookup substituted them.
+///
+/// <details><summary>Contract</summary>
+///
+/// # Contract
+///
+/// ```text
+/// ensures { glyphs.new ≡ map unsubstituted glyphs.old }
+/// ```
+///
+/// - `unsubstituted`: crates/shapers_syllabic/specs/Syllabic.antt
+///
+/// </details>
+pub fn clear_substitution_flags_in(glyphs: &mut [GlyphInfo]) {
+    change_each_in(glyphs, &Unsubstituted);
 }
 
 // Out of its syllable.
@@ -45,6 +81,7 @@ pub fn clear_substitution_flags(buffer: &mut Buffer) {
 struct OutOfSyllable;
 
 impl GlyphChange for OutOfSyllable {
+    #[inline]
     fn change(&self, glyph: &mut GlyphInfo) {
         glyph.syllable = 0;
     }
@@ -55,6 +92,7 @@ impl GlyphChange for OutOfSyllable {
 struct Unsubstituted;
 
 impl GlyphChange for Unsubstituted {
+    #[inline]
     fn change(&self, glyph: &mut GlyphInfo) {
         glyph.marks.set_substituted(false);
     }

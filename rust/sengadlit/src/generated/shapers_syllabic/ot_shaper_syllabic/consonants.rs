@@ -21,6 +21,7 @@ use crate::generated::shapers_base::plan::ot_category_t::{
 /// - `is_consonant`: crates/shapers_syllabic/specs/Consonants.antt
 ///
 /// </details>
+#[inline]
 pub fn is_consonant(glyph: &GlyphInfo) -> bool {
     !glyph.marks.is_ligated()
         && matches!(

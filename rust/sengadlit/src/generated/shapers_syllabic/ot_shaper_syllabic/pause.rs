@@ -11,9 +11,13 @@ use crate::generated::shapers_base::font::Font;
 /// behind the leading glyphs of the repha category where there is one.
 #[derive(Clone, Copy, Debug, PartialEq, Eq)]
 pub struct ScriptCircles {
+    /// The kind of the syllables that get one.
     pub broken_kind: u8,
+    /// The category of the circle.
     pub category: u8,
+    /// The category of glyphs that stay in front of it.
     pub repha: Option<u8>,
+    /// The circle's position, in its auxiliary byte, or none for 0.
     pub position: Option<u8>,
 }
 

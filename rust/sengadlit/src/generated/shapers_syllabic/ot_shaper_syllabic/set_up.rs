@@ -56,6 +56,7 @@ struct SetUp<'a> {
 }
 
 impl<'a> GlyphWalk for SetUp<'a> {
+    #[inline]
     fn walk(&mut self, glyphs: &mut [GlyphInfo]) {
         set_up_spans(glyphs, self.spans);
     }

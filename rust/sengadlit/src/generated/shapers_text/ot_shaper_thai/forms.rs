@@ -17,6 +17,7 @@ enum Consonant {
     RC,
     /// With a descender that stays.
     DC,
+    /// Another character.
     NotConsonant,
 }
 
@@ -29,12 +30,14 @@ enum Mark {
     BV,
     /// A tone, above.
     T,
+    /// Another character.
     NotMark,
 }
 
 /// What a mark does.
 #[derive(Clone, Copy)]
 enum Action {
+    /// Nothing.
     NOP,
     /// It is shifted down.
     SD,
@@ -118,6 +121,7 @@ static TYPES: [Types; 96] = [
 ];
 
 // The types of a character. Outside the block of Thai it is neither.
+#[inline]
 fn types_of(u: u32) -> Types {
     let i = u.wrapping_sub(0x0E00);
     if i < 96 { TYPES[i as usize] } else { NO }
@@ -173,6 +177,7 @@ fn pua_shape<F: Font>(u: u32, action: Action, face: &F) -> u32 {
 // Flags the places from a base to its last mark, which `end` stands behind: a break there would
 // change the forms. The stretch to a base's last mark holds those to the others. One mark behind
 // its base flags nothing.
+#[inline]
 fn flag_marks(glyphs: &mut [GlyphInfo], base: usize, end: usize) {
     if end - base > 2 {
         unsafe_to_break_in(glyphs, base, end - 1);
@@ -261,6 +266,7 @@ struct PuaShaping<'a, F> {
 }
 
 impl<'a, F: Font> GlyphWalk for PuaShaping<'a, F> {
+    #[inline]
     fn walk(&mut self, glyphs: &mut [GlyphInfo]) {
         shape_marks(self.face, glyphs);
     }

@@ -141,6 +141,7 @@ struct Rewriting {
 }
 
 impl GlyphWalk for Rewriting {
+    #[inline]
     fn walk(&mut self, glyphs: &mut [GlyphInfo]) {
         merge_all_sara_am(self.level, glyphs, self.len);
         write_in_two(glyphs, self.len);

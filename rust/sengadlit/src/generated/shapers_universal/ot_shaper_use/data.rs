@@ -65,5 +65,5 @@ fn has_arabic_joining(script: Option<Script>) -> bool {
 
 // Whether the letters of this script join.
 fn is_joining(script: Script) -> bool {
-    JOINING_SCRIPTS.iter().any(|joining| *joining == script)
+    JOINING_SCRIPTS.contains(&script)
 }

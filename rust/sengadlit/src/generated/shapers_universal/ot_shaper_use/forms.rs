@@ -82,6 +82,7 @@ impl FormMasks {
 }
 
 impl GlyphWalk for FormMasks {
+    #[inline]
     fn walk(&mut self, glyphs: &mut [GlyphInfo]) {
         self.set_in(glyphs);
     }

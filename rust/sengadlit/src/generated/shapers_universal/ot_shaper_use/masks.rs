@@ -3,7 +3,7 @@
 //! The masks of joining and the categories of the universal shaper.
 
 use crate::generated::shapers_arabic::ot_shaper_arabic::setup_masks_inner;
-use crate::generated::shapers_base::buffer::{Buffer, GlyphChange, GlyphInfo};
+use crate::generated::shapers_base::buffer::{Buffer, GlyphChange, GlyphInfo, change_each_in};
 use crate::generated::shapers_base::font::Tables;
 use crate::generated::shapers_base::plan::{Plan, PlanData};
 
@@ -44,6 +44,23 @@ fn set_categories<T: Tables>(tables: &T, buffer: &mut Buffer) {
     buffer.change_each(0, len, &Categories { tables });
 }
 
+/// Gives each of these glyphs the category of its character in the universal shaper.
+///
+/// <details><summary>Contract</summary>
+///
+/// # Contract
+///
+/// ```text
+/// ensures { glyphs.new ≡ map (categorized (T.tables tables.now).universal) glyphs.old }
+/// ```
+///
+/// - `categorized`: crates/shapers_universal/specs/UniversalMasks.antt
+///
+/// </details>
+pub fn set_categories_in<T: Tables>(tables: &T, glyphs: &mut [GlyphInfo]) {
+    change_each_in(glyphs, &Categories { tables });
+}
+
 // The tables that tell categories.
 #[derive(Clone, Copy)]
 struct Categories<'a, T: Tables> {
@@ -51,6 +68,7 @@ struct Categories<'a, T: Tables> {
 }
 
 impl<'a, T: Tables> GlyphChange for Categories<'a, T> {
+    #[inline]
     fn change(&self, glyph: &mut GlyphInfo) {
         glyph.category = self.tables.use_category(glyph.glyph_id);
     }

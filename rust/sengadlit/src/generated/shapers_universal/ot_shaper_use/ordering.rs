@@ -35,10 +35,11 @@ const POST_BASE: [u8; 18] = [
 /// The order of a syllable in the universal shaper: a reph moves behind what it passes, and in each
 /// piece up to a halant the vowels and modifiers before the base come to the front. (OpenType, the
 /// Universal Shaping Engine.)
-#[derive(Clone, Copy)]
+#[derive(Clone, Copy, Debug)]
 pub struct UniversalOrder;
 
 impl Reorder for UniversalOrder {
+    #[inline]
     fn reorder(&self, buffer: &mut Buffer, start: usize, end: usize) -> Result<(), ShaperError> {
         if is_reordered(&buffer.glyphs()[start..end]) {
             if has_reph(&buffer.glyphs()[start..end]) {
@@ -100,7 +101,7 @@ fn list_last_first(buffer: &mut Buffer, s: usize, e: usize) {
 
 // Whether some glyph goes to the front of its piece.
 fn some_go_front(glyphs: &[GlyphInfo]) -> bool {
-    glyphs.iter().any(|glyph| goes_front(glyph))
+    glyphs.iter().any(goes_front)
 }
 
 // Whether a reph stands in front.
@@ -235,7 +236,7 @@ fn is_passed(glyph: &GlyphInfo) -> bool {
 
 // Whether glyphs of this category stand after the base.
 fn is_post_base(category: u8) -> bool {
-    POST_BASE.iter().any(|c| *c == category)
+    POST_BASE.contains(&category)
 }
 
 // Whether a glyph is a halant, and no ligature.

@@ -3,7 +3,7 @@
 //! What lookups did, kept as categories for the reordering.
 
 use super::category;
-use super::syllable_walk::{EachSyllable, SyllableChange};
+use super::syllable_walk::{EachSyllable, SyllableChange, change_syllables};
 use crate::generated::shapers_base::buffer::{Buffer, GlyphInfo};
 use crate::generated::shapers_base::plan::{Plan, PlanData};
 
@@ -55,6 +55,43 @@ pub fn record_pref(buffer: &mut Buffer) {
     });
 }
 
+/// The same for the syllables of a slice, where `mask` is that of `rphf`.
+///
+/// <details><summary>Contract</summary>
+///
+/// # Contract
+///
+/// ```text
+/// ensures { glyphs.new ≡ flat_map (rphf_recorded mask) (syllables glyphs.old) }
+/// ```
+///
+/// - `syllables`: crates/shapers_buffer/specs/Syllables.antt
+/// - `rphf_recorded`: crates/shapers_universal/specs/UniversalSyllables.antt
+///
+/// </details>
+pub fn record_rphf_in(mask: u32, glyphs: &mut [GlyphInfo]) {
+    change_syllables(&RecordRphf { mask }, glyphs);
+}
+
+/// In each syllable of a slice the first glyph that a lookup put in becomes one that stands before
+/// the base.
+///
+/// <details><summary>Contract</summary>
+///
+/// # Contract
+///
+/// ```text
+/// ensures { glyphs.new ≡ flat_map (first_recorded VPre) (syllables glyphs.old) }
+/// ```
+///
+/// - `syllables`: crates/shapers_buffer/specs/Syllables.antt
+/// - `first_recorded`: crates/shapers_universal/specs/UniversalSyllables.antt
+///
+/// </details>
+pub fn record_pref_in(glyphs: &mut [GlyphInfo]) {
+    change_syllables(&RecordPref, glyphs);
+}
+
 // The record of `rphf`.
 #[derive(Clone, Copy)]
 struct RecordRphf {
@@ -62,6 +99,7 @@ struct RecordRphf {
 }
 
 impl SyllableChange for RecordRphf {
+    #[inline]
     fn change(&self, syllable: &mut [GlyphInfo]) {
         let leading = leading_len(syllable, self.mask);
         record_first(&mut syllable[..leading], category::R);
@@ -73,6 +111,7 @@ impl SyllableChange for RecordRphf {
 struct RecordPref;
 
 impl SyllableChange for RecordPref {
+    #[inline]
     fn change(&self, syllable: &mut [GlyphInfo]) {
         record_first(syllable, category::VPre);
     }

@@ -78,6 +78,7 @@ struct RphfMask {
 }
 
 impl SyllableChange for RphfMask {
+    #[inline]
     fn change(&self, syllable: &mut [GlyphInfo]) {
         let len = reph_len(syllable);
         add_mask(&mut syllable[..len], self.mask);

@@ -16,13 +16,14 @@ pub(super) struct EachSyllable<'a, C: SyllableChange> {
 }
 
 impl<'a, C: SyllableChange> GlyphWalk for EachSyllable<'a, C> {
+    #[inline]
     fn walk(&mut self, glyphs: &mut [GlyphInfo]) {
         change_syllables(self.change, glyphs);
     }
 }
 
 // Changes each syllable of these glyphs.
-fn change_syllables<C: SyllableChange>(change: &C, glyphs: &mut [GlyphInfo]) {
+pub(super) fn change_syllables<C: SyllableChange>(change: &C, glyphs: &mut [GlyphInfo]) {
     let mut start = 0;
     while start < glyphs.len() {
         let end = start + first_syllable_len(&glyphs[start..]);

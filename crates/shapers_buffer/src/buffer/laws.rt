@@ -1,0 +1,20 @@
+//! Laws of marks, places and syllables.
+ghost use Rattle.shapers_buffer.specs.Marks.{MarksAreSetAlone};
+ghost use Rattle.shapers_buffer.specs.Places.{PlacesAreWritten};
+ghost use Rattle.shapers_buffer.specs.SyllableLaws.{SyllablesAreRuns};
+
+/// A setter changes its own mark and no other.
+pub fn marks_are_set_alone()
+    ensures { MarksAreSetAlone }
+{}
+
+/// A place of the placement list reads what was written there last, or 0.
+pub fn places_are_written()
+    ensures { PlacesAreWritten }
+{}
+
+/// The first syllable of a text is the longest run of its byte, and the others are the syllables of
+/// what follows it.
+pub fn syllables_are_runs()
+    ensures { SyllablesAreRuns }
+{}

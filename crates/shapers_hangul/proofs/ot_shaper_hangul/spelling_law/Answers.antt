@@ -1,5 +1,0 @@
-use Rattle.shapers_hangul.proofs.HangulSpelling.{spells}
-use Rattle.shapers_hangul.proofs.ot_shaper_hangul.spelling_law.Goals as goal
-
-pub returns : goal.returns
-returns c = spells

@@ -1,5 +1,0 @@
-use Rattle.shapers_syllabic.proofs.PauseCuts.{pauses_cut}
-use Rattle.shapers_syllabic.proofs.ot_shaper_syllabic.pause.pauses_cut_law.Goals as goal
-
-pub returns : goal.returns
-returns c = pauses_cut

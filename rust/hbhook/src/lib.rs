@@ -1,0 +1,32 @@
+//! A small laboratory for the hooks of the script shapers.
+//!
+//! A script of lines says what a font has and what Unicode's tables say, chooses a shaper, puts a
+//! text into a buffer and runs hooks over it; docs/HBHOOK.md of the repository says how the lines
+//! read. [`run_lines`] prints the glyphs that are left, [`explain_lines`] tells besides what was
+//! expected of a line that doesn't read, and [`draw_lines`] writes a page of HTML that shows what
+//! each hook did.
+//!
+//! ```
+//! use sengadlit::alloc::Global;
+//!
+//! let script = "font F711 1 0\nset shaper thai\nset script Thai\ntext 0E1B 0E33\nrun preprocess";
+//! let mut printed = Vec::new();
+//! let mut faults = Vec::new();
+//! let status = hbhook::run_lines(Global, script.as_bytes(), &mut printed, &mut faults);
+//! assert_eq!(status, 0);
+//! assert!(printed.starts_with(b"0e1b 0 00000000 00 0 0 0\nf711 0 "));
+//! ```
+//!
+//! The modules in `generated` are made from proved sources by deletion; the rest is written by hand.
+
+#![forbid(unsafe_code)]
+#![deny(missing_docs)]
+
+mod generated {
+    pub(crate) mod hbhook_draw;
+    pub(crate) mod hbhook_lines;
+}
+mod support;
+
+pub use generated::hbhook_draw::draw_lines;
+pub use generated::hbhook_lines::{explain_lines, run_lines};

@@ -1,0 +1,28 @@
+//! What the sources take from Rattle's library where Rust's own differs: text, maps and lists whose
+//! growth can fail, and readers that fill such lists.
+
+mod collecting;
+pub mod collections;
+pub mod io;
+mod messages;
+mod string;
+
+pub mod alloc {
+    //! The allocator that calls are handed, and what they return where it has no memory.
+
+    pub use sengadlit::alloc::{AllocError, Global};
+}
+
+pub mod bitflags {
+    //! What flag types have in common.
+
+    pub use sengadlit::flags::Flags;
+}
+
+pub mod prelude {
+    //! What the generated files that name a list or a text import.
+
+    pub use super::collecting::CollectIn;
+    pub use super::string::String;
+    pub use sengadlit::alloc::Vec;
+}

@@ -1,0 +1,107 @@
+//! The program's arguments, its exit status, and an output that can't be written.
+
+mod common;
+
+use common::{Run, from_top, start};
+use std::io::Write;
+
+// The program rejects the arguments with a message.
+fn expect_rejected(arguments: &[&str], message: &str) {
+    let expected = Run {
+        printed: String::new(),
+        told: format!("hbhook: {message}\n"),
+        status: Some(2),
+    };
+    assert_eq!(Run::new(arguments, "text 41"), expected, "{arguments:?}");
+}
+
+#[test]
+fn rejects_bad_arguments() {
+    expect_rejected(&["a", "b"], "one file at most (hbhook --help)");
+    expect_rejected(&["--why", "a", "b"], "one file at most (hbhook --help)");
+    expect_rejected(&["--help", "a"], "one file at most (hbhook --help)");
+    expect_rejected(&["--what"], "there is no option --what (hbhook --help)");
+    expect_rejected(
+        &["--why", "--draw"],
+        "there is no option --draw (hbhook --help)",
+    );
+    expect_rejected(&["no such file"], "there is no file no such file");
+    expect_rejected(&[""], "there is no file ");
+    let folder = from_top("examples");
+    let folder = folder.to_str().unwrap();
+    expect_rejected(
+        &["--draw", folder],
+        &format!("{folder} is a folder, not a file of lines"),
+    );
+}
+
+#[test]
+fn prints_its_usage() {
+    let run = Run::new(&["--help"], "");
+    assert!(run.printed.starts_with("usage: hbhook [FILE] "));
+    assert_eq!((run.told.as_str(), run.status), ("", Some(0)));
+    assert_eq!(Run::new(&["-h"], ""), run);
+}
+
+#[test]
+fn ends_as_the_lines_say() {
+    let refused = Run::new(&["-"], "set maxlen 0\ntext 41");
+    assert_eq!(refused.status, Some(1));
+    assert_eq!(refused.told, "refused: TooLong\n");
+    let unread = Run::new(&["--why", "-"], "text 41\ntext");
+    assert_eq!(unread.status, Some(0));
+    let unread = Run::new(&["--why"], "text 41\nset");
+    assert_eq!(unread.status, Some(2));
+    assert_eq!(
+        unread.told,
+        "line 2: unreadable\nline 2: expected these fields: set KEY VALUE\n"
+    );
+    assert_eq!(unread.printed, "");
+    let drawn = Run::new(&["--draw"], "text 41\nset");
+    assert_eq!(drawn.status, Some(2));
+    assert_eq!(drawn.told, "line 2: unreadable\n");
+    assert!(
+        drawn
+            .printed
+            .ends_with("<br>unreadable</p>\n</body>\n</html>\n")
+    );
+}
+
+// A pipe whose reader is gone: the status is that of an output that can't be written.
+#[test]
+fn ends_where_no_one_reads_the_output() {
+    for arguments in [&[][..], &["--why"], &["--draw"]] {
+        let mut child = start(arguments);
+        drop(child.stdout.take());
+        let mut stdin = child.stdin.take().unwrap();
+        stdin.write_all(b"text 41").unwrap();
+        drop(stdin);
+        let run = Run::end_of(child);
+        assert_eq!(
+            (run.status, run.told.as_str()),
+            (Some(2), ""),
+            "{arguments:?}"
+        );
+    }
+}
+
+// A device that is always full: the same status.
+#[cfg(target_os = "linux")]
+#[test]
+fn ends_where_the_output_is_full() {
+    use std::fs::File;
+    use std::process::{Command, Stdio};
+
+    for option in ["-", "--why", "--draw", "--help"] {
+        let full = File::options().write(true).open("/dev/full").unwrap();
+        let output = Command::new(env!("CARGO_BIN_EXE_hbhook"))
+            .arg(option)
+            .stdin(File::open(from_top("examples/thai-sara-am.txt")).unwrap())
+            .stdout(full)
+            .stderr(Stdio::piped())
+            .output()
+            .unwrap();
+        assert_eq!(output.status.code(), Some(2), "{option}");
+        assert!(output.stderr.is_empty(), "{option}");
+    }
+}

@@ -1,0 +1,54 @@
+/* From Thai text to glyphs and clusters: KO KAI, MAI EK, SARA AM, PO PLA, MAI EK, for a font without GSUB.
+
+   SARA AM is taken apart, and its NIKHAHIT comes before the tone. For the tone on the tall PO PLA the font is asked for a
+   form lower and further to the left, which such fonts keep in the Private Use Area. */
+#include <sengadlit.h>
+
+#include <inttypes.h>
+#include <stdio.h>
+#include <stdlib.h>
+
+/* The font: its glyphs of Thai, and MAI EK lower and further to the left. */
+static sengadlit_bool_t nominal_glyph(void *user_data, uint32_t unicode, uint32_t *glyph)
+{
+    (void)user_data;
+    *glyph = unicode == 0xF705 ? 200 : unicode - 0x0E00;
+    return unicode == 0xF705 || (unicode > 0x0E00 && unicode <= 0x0E5B);
+}
+
+int main(void)
+{
+    static const uint32_t text[] = {0x0E01, 0x0E48, 0x0E33, 0x0E1B, 0x0E48};
+    static const sengadlit_font_funcs_t funcs = {.nominal_glyph = nominal_glyph};
+    const sengadlit_font_t font = {.funcs = &funcs};
+    const sengadlit_plan_input_t input = {.script = SENGADLIT_TAG('T', 'h', 'a', 'i')};
+    unsigned int length = sizeof text / sizeof *text;
+    sengadlit_plan_t *plan = sengadlit_plan_create(SENGADLIT_SHAPER_THAI, &input, NULL);
+    sengadlit_buffer_t *buffer = sengadlit_buffer_create();
+    sengadlit_glyph_info_t *glyphs = sengadlit_buffer_set_length(buffer, length);
+
+    if (plan == NULL || glyphs == NULL)
+        return EXIT_FAILURE;
+    for (unsigned int i = 0; i < length; i++) {
+        glyphs[i].codepoint = text[i];
+        glyphs[i].cluster = i;
+        glyphs[i].general_category = text[i] == 0x0E48 ? SENGADLIT_UNICODE_GENERAL_CATEGORY_NON_SPACING_MARK
+                                                       : SENGADLIT_UNICODE_GENERAL_CATEGORY_OTHER_LETTER;
+    }
+
+    sengadlit_status_t status = sengadlit_preprocess_text(plan, &font, buffer, NULL);
+    if (status != SENGADLIT_DONE) {
+        fprintf(stderr, "preprocess_text: %s\n", sengadlit_status_name(status));
+        return EXIT_FAILURE;
+    }
+    glyphs = sengadlit_buffer_get_glyph_infos(buffer, &length);
+    for (unsigned int i = 0; i < length; i++) {
+        uint32_t glyph = 0;
+        (void)nominal_glyph(NULL, glyphs[i].codepoint, &glyph);
+        printf("character %04" PRIX32 " glyph %" PRIu32 " cluster %" PRIu32 "\n", glyphs[i].codepoint, glyph,
+               glyphs[i].cluster);
+    }
+    sengadlit_buffer_destroy(buffer);
+    sengadlit_plan_destroy(plan);
+    return EXIT_SUCCESS;
+}

@@ -1,0 +1,570 @@
+/* sengadlit.h - script shapers: the hooks that stand between Unicode text and a font's lookups.
+
+   For Arabic and the scripts that join like it, Hangul, Hebrew, the Indic scripts, Khmer, Myanmar, Thai and Lao, and the
+   scripts of the Universal Shaping Engine. They are HarfBuzz's hooks under HarfBuzz's names, with its numbers for
+   scripts, directions, cluster levels, flags and categories. Lookups, the machines that find syllables, normalization
+   and positioning are the caller's, and so are the font and the Unicode tables, which are asked through callbacks.
+
+   Objects. A plan is made once for a shaper, a script and a font, and doesn't change afterwards: threads may share it. A
+   buffer is used by one thread at a time, again and again; its glyphs are read and written in place.
+
+   Pointers. What is passed in stays the caller's and is read during the call alone, but for the user data of a plan.
+   No pointer may be null unless its description says so. A null one where none may be is an argument that is refused
+   like any other.
+
+   Errors. A call tests its arguments before it writes anything. Where it doesn't return SENGADLIT_DONE, and where a
+   function that returns a pointer returns null, nothing has changed but what sengadlit_error_t reports; the one
+   exception is SENGADLIT_INTERNAL. Memory comes from malloc.
+
+   Callbacks run on the thread of the call, before it returns. They answer the same question in the same way throughout a
+   call; if one doesn't, the result is unspecified or SENGADLIT_INTERNAL, and memory stays sound all the same. A callback
+   has to return: no C++ exception and no longjmp may leave it. It must not pass the buffer of the call to any function of
+   this library, nor touch its glyphs or positions, nor drop the last reference to the plan of the call. It may use other
+   buffers and plans. */
+#ifndef SENGADLIT_H
+#define SENGADLIT_H
+
+#include <stddef.h>
+#include <stdint.h>
+
+#ifdef __cplusplus
+extern "C" {
+#endif
+
+/* ---- Version ---- */
+
+#define SENGADLIT_VERSION_MAJOR 0
+#define SENGADLIT_VERSION_MINOR 1
+#define SENGADLIT_VERSION_MICRO 0
+#define SENGADLIT_VERSION_STRING "0.1.0"
+
+/* Whether this header is of the given version or a later one. */
+#define SENGADLIT_VERSION_ATLEAST(major, minor, micro) \
+    ((major) * 10000 + (minor) * 100 + (micro) <= \
+     SENGADLIT_VERSION_MAJOR * 10000 + SENGADLIT_VERSION_MINOR * 100 + SENGADLIT_VERSION_MICRO)
+
+/* The version of the library that runs, which may be later than the header's. Each pointer may be null. */
+void sengadlit_version(unsigned int *major, unsigned int *minor, unsigned int *micro);
+/* The same as text, "0.1.0". The text is the library's and stays. */
+const char *sengadlit_version_string(void);
+
+/* ---- Common types ---- */
+
+typedef int sengadlit_bool_t; /* As hb_bool_t: 0 is false, anything else is true; the library writes 0 or 1. */
+typedef uint32_t sengadlit_tag_t; /* As hb_tag_t and hb_script_t: four bytes, the first one highest; 0 is none. */
+
+#define SENGADLIT_TAG(a, b, c, d) \
+    ((sengadlit_tag_t)(uint8_t)(a) << 24 | (sengadlit_tag_t)(uint8_t)(b) << 16 | (sengadlit_tag_t)(uint8_t)(c) << 8 | \
+     (sengadlit_tag_t)(uint8_t)(d))
+
+/* Frees what user data points to. */
+typedef void (*sengadlit_destroy_func_t)(void *user_data);
+
+/* ---- Errors ---- */
+
+/* How a call ended. */
+typedef enum sengadlit_status_t {
+    SENGADLIT_DONE = 0,
+    SENGADLIT_ABSENT = 1,            /* The shaper has no such hook: do what is done for scripts without a shaper. */
+    SENGADLIT_ARGUMENT = 2,          /* An argument isn't what the call asks for; sengadlit_error_t says which. */
+    SENGADLIT_MEMORY = 3,            /* Memory was refused. */
+    SENGADLIT_TOO_LONG = 4,          /* The text is, or would become, longer than its max_length. */
+    SENGADLIT_UNKNOWN_SYLLABLE = 5,  /* A syllable's kind is none of the shaper's; `index` is its first glyph. */
+    SENGADLIT_SPANS_DONT_COVER = 6,  /* A span is empty, or the lengths don't add up to the text's. */
+    SENGADLIT_STRETCH_OVERFLOW = 7,  /* A sum of advances doesn't fit 32 bits. */
+    SENGADLIT_NOT_FOUND = 8,         /* The characters don't compose, or the character doesn't decompose. */
+    SENGADLIT_INTERNAL = 9,          /* A fault of the library, or of a callback that changed its answer: the buffer of
+                                        the call is empty and may be used again. A message went to stderr. */
+    SENGADLIT_STATUS_MAX_VALUE = 0x7FFFFFFF
+} sengadlit_status_t;
+
+/* Which argument was refused. */
+typedef enum sengadlit_argument_t {
+    SENGADLIT_ARGUMENT_NONE = 0,     /* None: the status isn't SENGADLIT_ARGUMENT. */
+    SENGADLIT_ARGUMENT_SHAPER = 1,   /* No shaper by this number. */
+    SENGADLIT_ARGUMENT_PLAN = 2,     /* Null. */
+    SENGADLIT_ARGUMENT_FONT = 3,     /* Null, or a function that the call asks is. */
+    SENGADLIT_ARGUMENT_TABLES = 4,   /* Null, or a function that the call asks is. */
+    SENGADLIT_ARGUMENT_MAP = 5,      /* Null, or one of its functions is. */
+    SENGADLIT_ARGUMENT_RESULT = 6,   /* A pointer to write a result to is null. */
+    SENGADLIT_ARGUMENT_PAUSE = 7,    /* No pause by this number, or one that the plan's shaper doesn't have. */
+    SENGADLIT_ARGUMENT_RANGE = 8,    /* Places that aren't in order, beyond the text, or too many. */
+    SENGADLIT_ARGUMENT_SPANS = 9,   /* Null, or the kind of span `index` is above 15. */
+    SENGADLIT_ARGUMENT_CODEPOINT = 10, /* That of glyph `index` is none that the hook takes; or an argument is none. */
+    SENGADLIT_ARGUMENT_GENERAL_CATEGORY = 11, /* That of glyph `index` is above 29. */
+    SENGADLIT_ARGUMENT_POSITIONS = 12, /* There are positions where the hook wants none, or none where it wants them. */
+    SENGADLIT_ARGUMENT_DIRECTION = 13,
+    SENGADLIT_ARGUMENT_CLUSTER_LEVEL = 14,
+    SENGADLIT_ARGUMENT_PROPERTIES = 15, /* Null. */
+    SENGADLIT_ARGUMENT_CONTEXT = 16, /* Null, or character `index` is none of Unicode's scalar values. */
+    SENGADLIT_ARGUMENT_INPUT = 17,   /* Null. */
+    SENGADLIT_ARGUMENT_FEATURES = 18, /* Null, or the mask of feature `index` has one of the low three bits. */
+    SENGADLIT_ARGUMENT_STAGES = 19,  /* Null, or stage `index` is no range of the lookups. */
+    SENGADLIT_ARGUMENT_LOOKUPS = 20, /* Null. */
+    SENGADLIT_ARGUMENT_MAX_VALUE = 0x7FFFFFFF
+} sengadlit_argument_t;
+
+typedef struct sengadlit_error_t {
+    sengadlit_status_t status;
+    sengadlit_argument_t argument;
+    unsigned int index;              /* A place from 0 where `status` or `argument` names one, else 0. */
+} sengadlit_error_t;
+
+/* The name of a status or an argument as it stands above, "SENGADLIT_DONE"; "unknown" for another number. The text is the
+   library's and stays. */
+const char *sengadlit_status_name(sengadlit_status_t status);
+const char *sengadlit_argument_name(sengadlit_argument_t argument);
+
+/* ---- Shapers ---- */
+
+typedef enum sengadlit_shaper_t {
+    SENGADLIT_SHAPER_ARABIC = 0,     /* And Syriac, and scripts that join like them and have no shaper of their own. */
+    SENGADLIT_SHAPER_HANGUL = 1,
+    SENGADLIT_SHAPER_HEBREW = 2,
+    SENGADLIT_SHAPER_INDIC = 3,
+    SENGADLIT_SHAPER_KHMER = 4,
+    SENGADLIT_SHAPER_MYANMAR = 5,
+    SENGADLIT_SHAPER_MYANMAR_ZAWGYI = 6,
+    SENGADLIT_SHAPER_THAI = 7,       /* And Lao. */
+    SENGADLIT_SHAPER_UNIVERSAL = 8,  /* HarfBuzz's USE. */
+    SENGADLIT_SHAPER_MAX_VALUE = 0x7FFFFFFF
+} sengadlit_shaper_t;
+
+/* The hooks that a shaper has, as bits. */
+enum {
+    SENGADLIT_HOOK_COLLECT_FEATURES = 0x01,
+    SENGADLIT_HOOK_OVERRIDE_FEATURES = 0x02,
+    SENGADLIT_HOOK_DATA_CREATE = 0x04,       /* The plan keeps something: see sengadlit_plan_data_t. */
+    SENGADLIT_HOOK_PREPROCESS_TEXT = 0x08,
+    SENGADLIT_HOOK_POSTPROCESS_GLYPHS = 0x10,
+    SENGADLIT_HOOK_DECOMPOSE = 0x20,
+    SENGADLIT_HOOK_COMPOSE = 0x40,
+    SENGADLIT_HOOK_SETUP_MASKS = 0x80,
+    SENGADLIT_HOOK_REORDER_MARKS = 0x100
+};
+
+/* As hb_ot_shape_normalization_mode_t; the shapers here use three of its modes. */
+typedef enum sengadlit_normalization_mode_t {
+    SENGADLIT_NORMALIZATION_MODE_NONE = 0,
+    SENGADLIT_NORMALIZATION_MODE_COMPOSED_DIACRITICS_NO_SHORT_CIRCUIT = 3,
+    SENGADLIT_NORMALIZATION_MODE_AUTO = 4,
+    SENGADLIT_NORMALIZATION_MODE_MAX_VALUE = 0x7FFFFFFF
+} sengadlit_normalization_mode_t;
+
+/* As hb_ot_shape_zero_width_marks_type_t: when the advances of marks become 0. */
+typedef enum sengadlit_zero_width_marks_t {
+    SENGADLIT_ZERO_WIDTH_MARKS_NONE = 0,
+    SENGADLIT_ZERO_WIDTH_MARKS_BY_GDEF_EARLY = 1, /* Before GPOS. */
+    SENGADLIT_ZERO_WIDTH_MARKS_BY_GDEF_LATE = 2,  /* After GPOS. */
+    SENGADLIT_ZERO_WIDTH_MARKS_MAX_VALUE = 0x7FFFFFFF
+} sengadlit_zero_width_marks_t;
+
+/* What holds of a shaper whatever the text and the font. */
+typedef struct sengadlit_shaper_constants_t {
+    uint32_t hooks;                  /* SENGADLIT_HOOK_.. */
+    sengadlit_tag_t gpos_tag;        /* Marks are left to GPOS only if it chose this script; 0 if any will do. */
+    sengadlit_normalization_mode_t normalization_preference;
+    sengadlit_zero_width_marks_t zero_width_marks;
+    sengadlit_bool_t fallback_position; /* Whether marks are placed by their classes where the font doesn't place them. */
+} sengadlit_shaper_constants_t;
+
+/* ARGUMENT (and `constants` is as it was): no such shaper, or a null pointer. */
+sengadlit_status_t sengadlit_shaper_get_constants(sengadlit_shaper_t shaper, sengadlit_shaper_constants_t *constants);
+
+/* ---- Callbacks ---- */
+
+/* The font. A function may be null if no call asks it: each call below says which ones it asks. */
+typedef struct sengadlit_font_funcs_t {
+    /* Writes the nominal glyph of a character, as the font's cmap has it, and returns whether there is one. A glyph above
+       65535 counts as none. */
+    sengadlit_bool_t (*nominal_glyph)(void *user_data, uint32_t unicode, uint32_t *glyph);
+    /* The horizontal advance of a glyph, in font units; positive where the text runs right to left, too. */
+    int32_t (*glyph_h_advance)(void *user_data, uint32_t glyph);
+    /* Whether one of these lookups of GSUB would substitute exactly these glyphs; with `zero_context` only if it asks for
+       no context around them. As hb_ot_layout_lookup_would_substitute, of each lookup. There is at least one lookup, and
+       there are one to three glyphs. */
+    sengadlit_bool_t (*would_substitute)(void *user_data, const uint16_t *lookups, unsigned int lookups_length,
+                                         const uint32_t *glyphs, unsigned int glyphs_length, sengadlit_bool_t zero_context);
+    /* Whether the font's GSUB has a feature, as hb_ot_map_builder_t::has_feature. */
+    sengadlit_bool_t (*has_feature)(void *user_data, sengadlit_tag_t tag);
+} sengadlit_font_funcs_t;
+
+/* As the shapers' joining tables in HarfBuzz number them. */
+enum {
+    SENGADLIT_JOINING_TYPE_U = 0,
+    SENGADLIT_JOINING_TYPE_L = 1,
+    SENGADLIT_JOINING_TYPE_R = 2,
+    SENGADLIT_JOINING_TYPE_D = 3,            /* And C: join-causing. */
+    SENGADLIT_JOINING_GROUP_ALAPH = 4,
+    SENGADLIT_JOINING_GROUP_DALATH_RISH = 5,
+    SENGADLIT_JOINING_TYPE_T = 7,
+    SENGADLIT_JOINING_TYPE_X = 8             /* T for categories Mn, Me and Cf, else U. */
+};
+
+/* The Unicode Character Database and the shapers' tables. A function may be null if no call asks it. */
+typedef struct sengadlit_tables_funcs_t {
+    /* SENGADLIT_JOINING_..; any other number counts as U. */
+    uint8_t (*joining_type)(void *user_data, uint32_t unicode);
+    /* SENGADLIT_UNICODE_GENERAL_CATEGORY_..; any other number counts as UNASSIGNED. */
+    uint8_t (*general_category)(void *user_data, uint32_t unicode);
+    /* For Indic, Khmer and Myanmar: the category, and 256 times the position, as hb_indic_get_categories. The hooks take
+       any number; one that HarfBuzz doesn't use is a category that no rule names. */
+    uint16_t (*indic_categories)(void *user_data, uint32_t unicode);
+    /* For the universal shaper: as hb_use_get_category. The hooks take any number. */
+    uint8_t (*use_category)(void *user_data, uint32_t unicode);
+    /* Canonical composition and decomposition into two, as hb_unicode_compose and hb_unicode_decompose. What isn't a
+       Unicode scalar value counts as no answer. */
+    sengadlit_bool_t (*compose)(void *user_data, uint32_t a, uint32_t b, uint32_t *ab);
+    sengadlit_bool_t (*decompose)(void *user_data, uint32_t ab, uint32_t *a, uint32_t *b);
+} sengadlit_tables_funcs_t;
+
+typedef enum sengadlit_pause_t {
+    SENGADLIT_PAUSE_SETUP_SYLLABLES_INDIC = 0,
+    SENGADLIT_PAUSE_SETUP_SYLLABLES_KHMER = 1,
+    SENGADLIT_PAUSE_SETUP_SYLLABLES_MYANMAR = 2,
+    SENGADLIT_PAUSE_SETUP_SYLLABLES_USE = 3,
+    SENGADLIT_PAUSE_INITIAL_REORDERING = 4,
+    SENGADLIT_PAUSE_REORDER_KHMER = 5,
+    SENGADLIT_PAUSE_REORDER_MYANMAR = 6,
+    SENGADLIT_PAUSE_REORDER_USE = 7,
+    SENGADLIT_PAUSE_FINAL_REORDERING = 8,
+    SENGADLIT_PAUSE_RECORD_STCH = 9,
+    SENGADLIT_PAUSE_RECORD_RPHF = 10,
+    SENGADLIT_PAUSE_RECORD_PREF = 11,
+    SENGADLIT_PAUSE_SYLLABIC_CLEAR_VAR = 12,
+    SENGADLIT_PAUSE_CLEAR_SUBSTITUTION_FLAGS = 13,
+    SENGADLIT_PAUSE_ARABIC_FALLBACK_SHAPE = 14, /* Changes nothing: there is no fallback shaper here. */
+    SENGADLIT_PAUSE_NONE = 0xFF,     /* For add_gsub_pause alone: stages end here, and there is nothing to do. */
+    SENGADLIT_PAUSE_MAX_VALUE = 0x7FFFFFFF
+} sengadlit_pause_t;
+
+/* Flags of a feature, as hb_ot_map_feature_flags_t. */
+enum {
+    SENGADLIT_FEATURE_GLOBAL = 0x01,
+    SENGADLIT_FEATURE_HAS_FALLBACK = 0x02,
+    SENGADLIT_FEATURE_MANUAL_ZWNJ = 0x04,
+    SENGADLIT_FEATURE_MANUAL_ZWJ = 0x08,
+    SENGADLIT_FEATURE_PER_SYLLABLE = 0x40
+};
+
+/* Where a shaper says what it wants of the map, in order, as hb_ot_map_builder_t. Neither may be null. */
+typedef struct sengadlit_map_funcs_t {
+    void (*add_feature)(void *user_data, sengadlit_tag_t tag, uint32_t flags, uint32_t value); /* Value 0: off. */
+    void (*add_gsub_pause)(void *user_data, sengadlit_pause_t pause);
+} sengadlit_map_funcs_t;
+
+/* Functions with what they are given first. `user_data` may be null. Nothing is kept after a call. */
+typedef struct sengadlit_font_t {
+    const sengadlit_font_funcs_t *funcs;
+    void *user_data;
+} sengadlit_font_t;
+
+typedef struct sengadlit_tables_t {
+    const sengadlit_tables_funcs_t *funcs;
+    void *user_data;
+} sengadlit_tables_t;
+
+typedef struct sengadlit_map_t {
+    const sengadlit_map_funcs_t *funcs;
+    void *user_data;
+} sengadlit_map_t;
+
+/* ---- Plans ---- */
+
+/* Adds the features and pauses that the shaper wants before those of every script. `font` may be null except for
+   SENGADLIT_SHAPER_ARABIC, which asks has_feature. `error` may be null; it is written unless DONE or ABSENT is returned.
+   The map is told only when the whole list is there, so that no callback of it runs where MEMORY is returned.
+   ARGUMENT: SHAPER, FONT, MAP. */
+sengadlit_status_t sengadlit_collect_features(sengadlit_shaper_t shaper, sengadlit_tag_t script, const sengadlit_font_t *font,
+                                              const sengadlit_map_t *map, sengadlit_error_t *error);
+/* The same for those that it wants after those of every script. ARGUMENT: SHAPER, MAP. */
+sengadlit_status_t sengadlit_override_features(sengadlit_shaper_t shaper, sengadlit_tag_t script, const sengadlit_map_t *map,
+                                               sengadlit_error_t *error);
+
+/* A feature of the compiled map: as hb_ot_map_t::feature_map_t, of GSUB. */
+typedef struct sengadlit_feature_t {
+    sengadlit_tag_t tag;
+    uint32_t mask;                   /* None of the low three bits, which are the glyph flags. */
+    uint32_t stage;                  /* The place of its stage in `stages`; one beyond them has no lookups. */
+} sengadlit_feature_t;
+
+/* The lookups of a stage: those of `lookups` from place `start` to before `end`. */
+typedef struct sengadlit_stage_t {
+    uint32_t start;
+    uint32_t end;
+} sengadlit_stage_t;
+
+/* What the font's GSUB and the wanted features made. Set what you don't set by name to 0, by an initializer. */
+typedef struct sengadlit_plan_input_t {
+    sengadlit_tag_t script;          /* Of the text; 0 if it isn't known. */
+    sengadlit_tag_t chosen_script;   /* The script tag that GSUB was found to offer, as hb_ot_map_t::chosen_script; or 0. */
+    sengadlit_bool_t found_script;   /* Whether that is one of the script's own tags. */
+    sengadlit_bool_t has_gpos_mark;  /* Whether GPOS has the feature `mark`: read by Hebrew's compose. */
+    sengadlit_bool_t centres_stretch; /* Whether the tiles of stretched marks are centred; else as rustybuzz lays them. */
+    uint32_t global_mask;            /* As hb_ot_map_t::global_mask. */
+    const sengadlit_feature_t *features; /* Of a tag that stands there twice the first counts. Null if the length is 0; */
+    unsigned int features_length;
+    const sengadlit_stage_t *stages; /* so with these two. Only Indic asks for lookups: others need no stages. */
+    unsigned int stages_length;
+    const uint16_t *lookups;         /* Numbers that would_substitute is given: the library doesn't read them itself. */
+    unsigned int lookups_length;
+    void *user_data;                 /* Kept by the plan; may be null. */
+    sengadlit_destroy_func_t destroy; /* Called once with `user_data`: when the last reference to the plan is dropped,
+                                        on that thread, or before sengadlit_plan_create returns null; may be null. */
+} sengadlit_plan_input_t;
+
+typedef struct sengadlit_plan_t sengadlit_plan_t;
+
+/* Makes a plan with one reference, the caller's. All but the user data is copied. `error` may be null; it is written where
+   null is returned: MEMORY, INTERNAL, or ARGUMENT: SHAPER, INPUT, FEATURES, STAGES, LOOKUPS. */
+sengadlit_plan_t *sengadlit_plan_create(sengadlit_shaper_t shaper, const sengadlit_plan_input_t *input,
+                                        sengadlit_error_t *error);
+/* Adds a reference and returns `plan`, which may be null. Any thread that has a reference may call these two. */
+sengadlit_plan_t *sengadlit_plan_reference(sengadlit_plan_t *plan);
+/* Drops a reference; the last one frees the plan. `plan` may be null. */
+void sengadlit_plan_destroy(sengadlit_plan_t *plan);
+
+/* The user data that the plan keeps; null for a null plan. */
+void *sengadlit_plan_get_user_data(const sengadlit_plan_t *plan);
+
+/* What the shaper keeps in the plan: for callers that leave calls out which would change nothing. */
+typedef struct sengadlit_plan_data_t {
+    sengadlit_shaper_t shaper;
+    sengadlit_bool_t joins;          /* Whether letters join: Arabic, and scripts of the universal shaper that do. */
+    sengadlit_bool_t has_stch;       /* Whether the font stretches marks: else RECORD_STCH and postprocess_glyphs do nothing. */
+    uint32_t rphf_mask;              /* Universal: where it is 0, RECORD_RPHF does nothing. */
+    uint32_t masks[9];               /* Where letters join: isol, fina, fin2, fin3, medi, med2, init. Hangul: none, ljmo,
+                                        vjmo, tjmo. Khmer: pref, blwf, abvf, pstf, cfar, pres, blws, abvs, psts. */
+} sengadlit_plan_data_t;
+
+/* ARGUMENT (and `data` is as it was): a null pointer. */
+sengadlit_status_t sengadlit_plan_get_data(const sengadlit_plan_t *plan, sengadlit_plan_data_t *data);
+
+/* ---- Buffers ---- */
+
+/* The low three bits of `mask`, as hb_glyph_flags_t. */
+enum {
+    SENGADLIT_GLYPH_FLAG_UNSAFE_TO_BREAK = 0x01,
+    SENGADLIT_GLYPH_FLAG_UNSAFE_TO_CONCAT = 0x02,
+    SENGADLIT_GLYPH_FLAG_SAFE_TO_INSERT_TATWEEL = 0x04,
+    SENGADLIT_GLYPH_FLAG_DEFINED = 0x07
+};
+
+/* Bits of `marks`: what happened to the glyph in lookups, which the caller notes, and what its character is. */
+enum {
+    SENGADLIT_GLYPH_MARK_SUBSTITUTED = 0x01,  /* As HB_OT_LAYOUT_GLYPH_PROPS_SUBSTITUTED, shifted right by 4; */
+    SENGADLIT_GLYPH_MARK_LIGATED = 0x02,      /* so these two. */
+    SENGADLIT_GLYPH_MARK_MULTIPLIED = 0x04,
+    SENGADLIT_GLYPH_MARK_IGNORABLE = 0x08,    /* Default_Ignorable_Code_Point. */
+    SENGADLIT_GLYPH_MARK_CONTINUATION = 0x10  /* It continues the grapheme of the one before. */
+};
+
+/* As hb_unicode_general_category_t. */
+enum {
+    SENGADLIT_UNICODE_GENERAL_CATEGORY_CONTROL = 0,              /* Cc */
+    SENGADLIT_UNICODE_GENERAL_CATEGORY_FORMAT = 1,               /* Cf */
+    SENGADLIT_UNICODE_GENERAL_CATEGORY_UNASSIGNED = 2,           /* Cn */
+    SENGADLIT_UNICODE_GENERAL_CATEGORY_PRIVATE_USE = 3,          /* Co */
+    SENGADLIT_UNICODE_GENERAL_CATEGORY_SURROGATE = 4,            /* Cs */
+    SENGADLIT_UNICODE_GENERAL_CATEGORY_LOWERCASE_LETTER = 5,     /* Ll */
+    SENGADLIT_UNICODE_GENERAL_CATEGORY_MODIFIER_LETTER = 6,      /* Lm */
+    SENGADLIT_UNICODE_GENERAL_CATEGORY_OTHER_LETTER = 7,         /* Lo */
+    SENGADLIT_UNICODE_GENERAL_CATEGORY_TITLECASE_LETTER = 8,     /* Lt */
+    SENGADLIT_UNICODE_GENERAL_CATEGORY_UPPERCASE_LETTER = 9,     /* Lu */
+    SENGADLIT_UNICODE_GENERAL_CATEGORY_SPACING_MARK = 10,        /* Mc */
+    SENGADLIT_UNICODE_GENERAL_CATEGORY_ENCLOSING_MARK = 11,      /* Me */
+    SENGADLIT_UNICODE_GENERAL_CATEGORY_NON_SPACING_MARK = 12,    /* Mn */
+    SENGADLIT_UNICODE_GENERAL_CATEGORY_DECIMAL_NUMBER = 13,      /* Nd */
+    SENGADLIT_UNICODE_GENERAL_CATEGORY_LETTER_NUMBER = 14,       /* Nl */
+    SENGADLIT_UNICODE_GENERAL_CATEGORY_OTHER_NUMBER = 15,        /* No */
+    SENGADLIT_UNICODE_GENERAL_CATEGORY_CONNECT_PUNCTUATION = 16, /* Pc */
+    SENGADLIT_UNICODE_GENERAL_CATEGORY_DASH_PUNCTUATION = 17,    /* Pd */
+    SENGADLIT_UNICODE_GENERAL_CATEGORY_CLOSE_PUNCTUATION = 18,   /* Pe */
+    SENGADLIT_UNICODE_GENERAL_CATEGORY_FINAL_PUNCTUATION = 19,   /* Pf */
+    SENGADLIT_UNICODE_GENERAL_CATEGORY_INITIAL_PUNCTUATION = 20, /* Pi */
+    SENGADLIT_UNICODE_GENERAL_CATEGORY_OTHER_PUNCTUATION = 21,   /* Po */
+    SENGADLIT_UNICODE_GENERAL_CATEGORY_OPEN_PUNCTUATION = 22,    /* Ps */
+    SENGADLIT_UNICODE_GENERAL_CATEGORY_CURRENCY_SYMBOL = 23,     /* Sc */
+    SENGADLIT_UNICODE_GENERAL_CATEGORY_MODIFIER_SYMBOL = 24,     /* Sk */
+    SENGADLIT_UNICODE_GENERAL_CATEGORY_MATH_SYMBOL = 25,         /* Sm */
+    SENGADLIT_UNICODE_GENERAL_CATEGORY_OTHER_SYMBOL = 26,        /* So */
+    SENGADLIT_UNICODE_GENERAL_CATEGORY_LINE_SEPARATOR = 27,      /* Zl */
+    SENGADLIT_UNICODE_GENERAL_CATEGORY_PARAGRAPH_SEPARATOR = 28, /* Zp */
+    SENGADLIT_UNICODE_GENERAL_CATEGORY_SPACE_SEPARATOR = 29      /* Zs */
+};
+
+/* A glyph, or before the font's mapping a character: 24 bytes. What is written here is what a hook reads. A hook that
+   isn't said to read a field carries it along with the glyph, so that it may hold anything of the caller's. In a dotted
+   circle that a hook adds, `var` is 0. */
+typedef struct sengadlit_glyph_info_t {
+    uint32_t codepoint;              /* A character before the font's mapping, a glyph number after it. */
+    uint32_t cluster;                /* The place in the text that it leads back to. */
+    uint32_t mask;                   /* The features that are on, and glyph flags. */
+    uint32_t var;                    /* The caller's own: no hook reads it. */
+    uint8_t syllable;                /* A serial in the high four bits, the kind in the low four; 0 in no syllable. */
+    uint8_t category;                /* ot_shaper_var_u8_category of HarfBuzz. */
+    uint8_t auxiliary;               /* ot_shaper_var_u8_auxiliary: a joining form, a jamo's kind or a position. */
+    uint8_t general_category;        /* 0 to 29, at every hook. */
+    uint8_t modified_combining_class; /* As HarfBuzz modifies it. */
+    uint8_t lig_comp;                /* The component of a ligature that a mark stands on, from 1; 0 if it stands on none. */
+    uint8_t marks;                   /* SENGADLIT_GLYPH_MARK_.. */
+} sengadlit_glyph_info_t;
+
+/* Where a glyph is drawn and how far it moves the pen, in font units: as hb_glyph_position_t, without its `var`. */
+typedef struct sengadlit_glyph_position_t {
+    int32_t x_advance;
+    int32_t y_advance;
+    int32_t x_offset;
+    int32_t y_offset;
+} sengadlit_glyph_position_t;
+
+/* As hb_direction_t. */
+typedef enum sengadlit_direction_t {
+    SENGADLIT_DIRECTION_INVALID = 0,
+    SENGADLIT_DIRECTION_LTR = 4,
+    SENGADLIT_DIRECTION_RTL = 5,
+    SENGADLIT_DIRECTION_TTB = 6,
+    SENGADLIT_DIRECTION_BTT = 7,
+    SENGADLIT_DIRECTION_MAX_VALUE = 0x7FFFFFFF
+} sengadlit_direction_t;
+
+/* As hb_buffer_cluster_level_t. */
+typedef enum sengadlit_buffer_cluster_level_t {
+    SENGADLIT_BUFFER_CLUSTER_LEVEL_MONOTONE_GRAPHEMES = 0,
+    SENGADLIT_BUFFER_CLUSTER_LEVEL_MONOTONE_CHARACTERS = 1,
+    SENGADLIT_BUFFER_CLUSTER_LEVEL_CHARACTERS = 2,
+    SENGADLIT_BUFFER_CLUSTER_LEVEL_MAX_VALUE = 0x7FFFFFFF
+} sengadlit_buffer_cluster_level_t;
+
+/* As hb_buffer_flags_t: its other flags may be set too, and change nothing. */
+enum {
+    SENGADLIT_BUFFER_FLAG_DO_NOT_INSERT_DOTTED_CIRCLE = 0x10,
+    SENGADLIT_BUFFER_FLAG_PRODUCE_UNSAFE_TO_CONCAT = 0x40,
+    SENGADLIT_BUFFER_FLAG_PRODUCE_SAFE_TO_INSERT_TATWEEL = 0x80
+};
+
+typedef struct sengadlit_buffer_properties_t {
+    sengadlit_tag_t script;          /* 0 if it isn't known. */
+    sengadlit_direction_t direction;
+    sengadlit_buffer_cluster_level_t cluster_level;
+    uint32_t flags;                  /* SENGADLIT_BUFFER_FLAG_.. */
+    uint32_t max_length;             /* A hook that would make the text longer returns TOO_LONG. A stretched mark may
+                                        repeat a tile as often as this allows: HarfBuzz sets 64 times the length of the
+                                        text, or 16384 if that is more. */
+} sengadlit_buffer_properties_t;
+
+typedef struct sengadlit_buffer_t sengadlit_buffer_t;
+
+/* An empty buffer: script 0, left to right, monotone graphemes, no flags, max_length UINT32_MAX, no context, state 0. Null
+   where memory is refused. */
+sengadlit_buffer_t *sengadlit_buffer_create(void);
+/* `buffer` may be null. */
+void sengadlit_buffer_destroy(sengadlit_buffer_t *buffer);
+
+/* Gives the text this length and returns its glyphs: those that were there stay as they are, new ones are all zero, and
+   there are no positions. The pointer holds until the buffer is passed to another function, sengadlit_buffer_get_error,
+   _get_state and _set_state apart. It isn't null where the length is 0. Null where memory is refused, or `buffer` is
+   null. */
+sengadlit_glyph_info_t *sengadlit_buffer_set_length(sengadlit_buffer_t *buffer, unsigned int length);
+/* The glyphs, for which the same holds, and through `length`, which may be null, how many there are. */
+sengadlit_glyph_info_t *sengadlit_buffer_get_glyph_infos(sengadlit_buffer_t *buffer, unsigned int *length);
+/* The positions, one a glyph, which the first call makes, all zero. They stay until sengadlit_buffer_set_length; while
+   they are there, sengadlit_postprocess_glyphs alone takes the buffer. */
+sengadlit_glyph_position_t *sengadlit_buffer_get_glyph_positions(sengadlit_buffer_t *buffer, unsigned int *length);
+
+/* ARGUMENT: BUFFER, PROPERTIES, DIRECTION, CLUSTER_LEVEL. */
+sengadlit_status_t sengadlit_buffer_set_properties(sengadlit_buffer_t *buffer, const sengadlit_buffer_properties_t *properties);
+/* The characters before the text and after it, the nearest first, of which five count on each side. Null if the length is
+   0. Read where letters join. ARGUMENT: BUFFER; CONTEXT, where `index` counts on from those before to those after. */
+sengadlit_status_t sengadlit_buffer_set_context(sengadlit_buffer_t *buffer, const uint32_t *before, unsigned int before_length,
+                                                const uint32_t *after, unsigned int after_length);
+
+/* What one hook leaves for a later one, as HarfBuzz's scratch flags. It stays until it is set again. */
+enum {
+    SENGADLIT_BUFFER_STATE_HAS_BROKEN_SYLLABLE = 0x01, /* Set by the set-ups, read by the reorderings. */
+    SENGADLIT_BUFFER_STATE_HAS_STCH = 0x02             /* Set by RECORD_STCH, read by postprocess_glyphs. */
+};
+/* Other bits are ignored, and so is a null buffer. */
+void sengadlit_buffer_set_state(sengadlit_buffer_t *buffer, unsigned int state);
+/* 0 for a null buffer. */
+unsigned int sengadlit_buffer_get_state(const sengadlit_buffer_t *buffer);
+
+/* Why the last call failed that was given the buffer and failed: as with errno, a call that succeeds leaves it alone. At
+   first, and where `buffer` is null, it is all zero. `error` isn't written if it is null. */
+void sengadlit_buffer_get_error(const sengadlit_buffer_t *buffer, sengadlit_error_t *error);
+
+/* ---- Hooks, in the order of a pipeline ---- */
+
+/* All of them: ARGUMENT for PLAN, BUFFER, POSITIONS and GENERAL_CATEGORY besides what stands at each. An argument is
+   refused before ABSENT is returned. TOO_LONG: the text is longer than max_length already. MEMORY: even a hook that takes
+   none may want room for the reordering of a text that is longer than all before it.
+   A cluster and a mask are written wherever glyphs merge or a glyph flag is set. */
+
+/* Thai: SARA AM is taken apart; and for a plan without found_script the forms of the Private Use Area, which ask
+   nominal_glyph. Hangul: jamo are composed and syllables decomposed as the font has them, and tones reordered: asks
+   nominal_glyph and glyph_h_advance. Indic and universal: nothing changes, and `vowel_constraints`, which may be null, is
+   set to 1, which asks the caller to run the vowel constraints; it is set to 0 otherwise, unless the call fails.
+   Reads codepoint, cluster, mask, general_category, marks; writes codepoint, auxiliary (Hangul), general_category, marks;
+   adds and removes glyphs. `font` may be null where it isn't asked. ARGUMENT: FONT; CODEPOINT (Hangul): no scalar value.
+   TOO_LONG, MEMORY. */
+sengadlit_status_t sengadlit_preprocess_text(const sengadlit_plan_t *plan, const sengadlit_font_t *font,
+                                             sengadlit_buffer_t *buffer, sengadlit_bool_t *vowel_constraints);
+
+/* Whether the shaper composes two characters, or decomposes one: DONE, and what they make is written; NOT_FOUND; or ABSENT,
+   where Unicode's own composition holds. Asks compose (and for Indic, Khmer and universal general_category), or decompose.
+   `error` may be null; it is written where ARGUMENT is returned: PLAN, TABLES, RESULT, or CODEPOINT, which is no scalar
+   value. */
+sengadlit_status_t sengadlit_decompose(const sengadlit_plan_t *plan, const sengadlit_tables_t *tables, uint32_t ab,
+                                       uint32_t *a, uint32_t *b, sengadlit_error_t *error);
+sengadlit_status_t sengadlit_compose(const sengadlit_plan_t *plan, const sengadlit_tables_t *tables, uint32_t a, uint32_t b,
+                                     uint32_t *ab, sengadlit_error_t *error);
+
+/* Reorders the marks from place `start` to before `end` (Arabic, Hebrew). Reads codepoint (Arabic),
+   modified_combining_class, cluster; moves glyphs, and writes modified_combining_class (Arabic).
+   ARGUMENT: RANGE, which for Arabic is of at most 32 places. */
+sengadlit_status_t sengadlit_reorder_marks(const sengadlit_plan_t *plan, sengadlit_buffer_t *buffer, unsigned int start,
+                                           unsigned int end);
+
+/* Indic, Khmer, Myanmar: writes category, and Indic and Myanmar auxiliary; reads codepoint; asks indic_categories.
+   Universal: writes category; reads codepoint; asks use_category. Arabic, and universal where letters join: writes
+   auxiliary and mask; reads codepoint, cluster, general_category, the properties and the context; asks joining_type and
+   general_category. Hangul: writes mask; reads auxiliary, codepoint. `tables` may be null where they aren't asked.
+   ARGUMENT: TABLES; CODEPOINT: where letters join, no scalar value. */
+sengadlit_status_t sengadlit_setup_masks(const sengadlit_plan_t *plan, const sengadlit_tables_t *tables,
+                                         sengadlit_buffer_t *buffer);
+
+/* A syllable, as the caller's machine found it. */
+typedef struct sengadlit_span_t {
+    size_t length;                   /* In glyphs. */
+    uint8_t kind;                    /* 0 to 15: as the machines of rustybuzz and HarfBuzz number them. */
+} sengadlit_span_t;
+
+/* Does what a shaper does between two stages of GSUB.
+   SETUP_SYLLABLES_..: writes syllable, the state HAS_BROKEN_SYLLABLE, and universal mask; reads the spans, which cover the
+   text in its order, cluster, and universal category, mask. Needs no font. SPANS_DONT_COVER.
+   INITIAL_REORDERING, REORDER_..: moves glyphs, adds dotted circles where the state has HAS_BROKEN_SYLLABLE and the
+   properties allow it, and writes mask, auxiliary and the cluster of what moves; reads codepoint, cluster, mask, syllable,
+   category, auxiliary, marks, and REORDER_USE lig_comp. Asks nominal_glyph, and INITIAL_REORDERING would_substitute too.
+   MEMORY and TOO_LONG, and but for REORDER_USE UNKNOWN_SYLLABLE.
+   FINAL_REORDERING: moves glyphs, writes mask; reads the same. Asks nominal_glyph.
+   RECORD_STCH: writes auxiliary and the state HAS_STCH; reads marks, lig_comp. RECORD_RPHF, RECORD_PREF: write category;
+   read marks, syllable, and RECORD_RPHF mask. SYLLABIC_CLEAR_VAR: writes syllable. CLEAR_SUBSTITUTION_FLAGS: clears
+   SENGADLIT_GLYPH_MARK_SUBSTITUTED. ARABIC_FALLBACK_SHAPE: nothing.
+   `font` may be null where it isn't asked, `spans` for all but the set-ups of a text that isn't empty. `circles`, which may
+   be null, is set to whether dotted circles were wanted, unless the call fails.
+   ARGUMENT: PAUSE, FONT, SPANS; CODEPOINT (INITIAL_REORDERING): above 65535. */
+sengadlit_status_t sengadlit_run_pause(const sengadlit_plan_t *plan, sengadlit_pause_t pause, const sengadlit_font_t *font,
+                                       const sengadlit_span_t *spans, unsigned int spans_length, sengadlit_buffer_t *buffer,
+                                       sengadlit_bool_t *circles);
+
+/* After positioning: where the state has HAS_STCH, stretches marks over the words beside them (Arabic). Reads auxiliary,
+   codepoint, general_category, marks, all of the positions; adds glyphs with their positions, writes x_advance, x_offset,
+   cluster and mask. Asks glyph_h_advance. ARGUMENT: FONT; CODEPOINT: above 65535; POSITIONS: there are none for a text
+   that isn't empty. STRETCH_OVERFLOW, TOO_LONG, MEMORY. */
+sengadlit_status_t sengadlit_postprocess_glyphs(const sengadlit_plan_t *plan, const sengadlit_font_t *font,
+                                                sengadlit_buffer_t *buffer);
+
+#ifdef __cplusplus
+}
+#endif
+#endif

@@ -1,0 +1,97 @@
+//! The functions of the header, and all that is unsafe: pointers of C as references, calls back, and caught panics.
+//!
+//! What C promises, and each SAFETY line leans on: a pointer that isn't null is aligned and points to what its type says,
+//! for the length that stands beside it, and lasts through the call; objects came from this library and weren't destroyed;
+//! no other thread uses the buffer; callbacks are functions of the declared types, which return.
+#![allow(unsafe_code)]
+
+mod buffers;
+pub mod callbacks;
+pub mod glyphs;
+mod hook_calls;
+mod names;
+pub mod plans;
+
+use crate::status::Error;
+use core::mem::MaybeUninit;
+use core::slice;
+use std::alloc::{Layout, alloc};
+use std::panic::{AssertUnwindSafe, catch_unwind};
+
+/// Where C wants a result written; none where the pointer is null.
+type Out<'a, T> = Option<&'a mut MaybeUninit<T>>;
+
+/// Writes a result where C wants it.
+#[inline]
+fn put<T>(to: Out<'_, T>, value: T) {
+    if let Some(to) = to {
+        to.write(value);
+    }
+}
+
+/// An array of C's; none where it is null and isn't empty.
+///
+/// # Safety
+///
+/// If `first` isn't null, so many things stand there, and nobody writes them as long as the slice is used.
+#[inline]
+unsafe fn array<'a, T>(first: *const T, length: u32) -> Option<&'a [T]> {
+    if length == 0 {
+        return Some(&[]);
+    }
+    if first.is_null() {
+        return None;
+    }
+    // SAFETY: the caller's promise, of a pointer that isn't null.
+    Some(unsafe { slice::from_raw_parts(first, length as usize) })
+}
+
+/// A thing on the heap; none where memory is refused.
+fn boxed<T>(thing: T) -> Option<Box<T>> {
+    const { assert!(size_of::<T>() != 0) };
+    // SAFETY: the layout isn't of size 0.
+    let place = unsafe { alloc(Layout::new::<T>()) }.cast::<T>();
+    if place.is_null() {
+        return None;
+    }
+    // SAFETY: `place` is new, aligned, and has room for a `T`, which is written before the box owns it; it came from the
+    // allocator and the layout that the box frees it with.
+    unsafe {
+        place.write(thing);
+        Some(Box::from_raw(place))
+    }
+}
+
+/// Makes a call; a panic of it is an internal error.
+#[inline]
+fn guarded<A>(call: impl FnOnce() -> Result<A, Error>) -> Result<A, Error> {
+    catch_unwind(AssertUnwindSafe(call)).unwrap_or(Err(Error::INTERNAL))
+}
+
+#[cfg(test)]
+mod tests {
+    use super::{array, boxed, guarded};
+    use crate::status::{Error, Status};
+
+    #[test]
+    fn a_panic_is_an_internal_error() {
+        let ended: Result<(), Error> = guarded(|| panic!("of the test"));
+        assert_eq!(ended.unwrap_err().status, Status::Internal);
+        assert_eq!(guarded(|| Ok(7)), Ok(7));
+    }
+
+    #[test]
+    fn an_array_may_be_null_if_it_is_empty() {
+        // SAFETY: the pointers are null, or of an array that lives as long.
+        unsafe {
+            assert_eq!(array::<u32>(core::ptr::null(), 0), Some(&[][..]));
+            assert_eq!(array::<u32>(core::ptr::null(), 1), None);
+            assert_eq!(array([7, 8].as_ptr(), 2), Some(&[7, 8][..]));
+        }
+    }
+
+    #[test]
+    fn a_box_holds_its_thing() {
+        assert_eq!(boxed([1u64, 2, 3]).as_deref(), Some(&[1, 2, 3]));
+    }
+}

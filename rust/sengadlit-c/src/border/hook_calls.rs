@@ -1,0 +1,165 @@
+//! The hooks.
+use super::callbacks::{Font, Tables};
+use super::{Out, array, guarded, put};
+use crate::buffer::Buffer;
+use crate::hooks;
+use crate::layout::Bool;
+use crate::plan::Plan;
+use crate::status::{Argument, Error, Status};
+use core::ffi::c_uint;
+use sengadlit::buffer::Span;
+
+// Runs a hook. Why it fails stays in the buffer, which a panic leaves empty.
+#[inline]
+fn on_buffer(
+    plan: Option<&Plan>,
+    buffer: Option<&mut Buffer>,
+    hook: impl FnOnce(&Plan, &mut Buffer) -> Result<Status, Error>,
+) -> Status {
+    let Some(buffer) = buffer else {
+        return Status::Argument;
+    };
+    let ended = match plan {
+        Some(plan) => guarded(|| hook(plan, buffer)),
+        None => Err(Error::argument(Argument::Plan)),
+    };
+    ended.unwrap_or_else(|error| failed(buffer, error))
+}
+
+#[cold]
+fn failed(buffer: &mut Buffer, error: Error) -> Status {
+    if error.status == Status::Internal {
+        buffer.recover();
+    }
+    buffer.error = error;
+    error.status
+}
+
+#[unsafe(no_mangle)]
+pub extern "C" fn sengadlit_preprocess_text(
+    plan: Option<&Plan>,
+    font: Option<&Font<'_>>,
+    buffer: Option<&mut Buffer>,
+    vowel_constraints: Out<'_, Bool>,
+) -> Status {
+    on_buffer(plan, buffer, |plan, buffer| {
+        let (status, are_asked) = hooks::preprocess_text(plan, font, buffer)?;
+        put(vowel_constraints, Bool::from(are_asked));
+        Ok(status)
+    })
+}
+
+// What composition or decomposition returns; what it found is written by `write`.
+#[inline]
+fn ended<A>(
+    found: Result<Option<Option<A>>, Error>,
+    error: Out<'_, Error>,
+    write: impl FnOnce(A),
+) -> Status {
+    match found {
+        Ok(Some(Some(found))) => {
+            write(found);
+            Status::Done
+        }
+        Ok(Some(None)) => Status::NotFound,
+        Ok(None) => Status::Absent,
+        Err(why) => {
+            put(error, why);
+            why.status
+        }
+    }
+}
+
+#[unsafe(no_mangle)]
+pub extern "C" fn sengadlit_decompose(
+    plan: Option<&Plan>,
+    tables: Option<&Tables<'_>>,
+    ab: u32,
+    a: Out<'_, u32>,
+    b: Out<'_, u32>,
+    error: Out<'_, Error>,
+) -> Status {
+    let found = match (plan, &a, &b) {
+        (Some(plan), Some(_), Some(_)) => guarded(|| hooks::decompose(plan, tables, ab)),
+        (None, _, _) => Err(Error::argument(Argument::Plan)),
+        _ => Err(Error::argument(Argument::Result)),
+    };
+    ended(found, error, |(first, second)| {
+        put(a, first);
+        put(b, second);
+    })
+}
+
+#[unsafe(no_mangle)]
+pub extern "C" fn sengadlit_compose(
+    plan: Option<&Plan>,
+    tables: Option<&Tables<'_>>,
+    a: u32,
+    b: u32,
+    ab: Out<'_, u32>,
+    error: Out<'_, Error>,
+) -> Status {
+    let found = match (plan, &ab) {
+        (Some(plan), Some(_)) => guarded(|| hooks::compose(plan, tables, a, b)),
+        (None, _) => Err(Error::argument(Argument::Plan)),
+        (_, None) => Err(Error::argument(Argument::Result)),
+    };
+    ended(found, error, |composed| put(ab, composed))
+}
+
+#[unsafe(no_mangle)]
+pub extern "C" fn sengadlit_reorder_marks(
+    plan: Option<&Plan>,
+    buffer: Option<&mut Buffer>,
+    start: c_uint,
+    end: c_uint,
+) -> Status {
+    on_buffer(plan, buffer, |plan, buffer| {
+        hooks::reorder_marks(plan, buffer, start as usize, end as usize)
+    })
+}
+
+#[unsafe(no_mangle)]
+pub extern "C" fn sengadlit_setup_masks(
+    plan: Option<&Plan>,
+    tables: Option<&Tables<'_>>,
+    buffer: Option<&mut Buffer>,
+) -> Status {
+    on_buffer(plan, buffer, |plan, buffer| {
+        hooks::setup_masks(plan, tables, buffer)
+    })
+}
+
+/// # Safety
+///
+/// The array of spans has the length beside it.
+#[unsafe(no_mangle)]
+pub unsafe extern "C" fn sengadlit_run_pause(
+    plan: Option<&Plan>,
+    pause: u32,
+    font: Option<&Font<'_>>,
+    spans: *const Span,
+    spans_length: c_uint,
+    buffer: Option<&mut Buffer>,
+    circles: Out<'_, Bool>,
+) -> Status {
+    on_buffer(plan, buffer, |plan, buffer| {
+        // SAFETY: an array of C's with its length.
+        let spans = unsafe { array(spans, spans_length) }
+            .ok_or_else(|| Error::argument(Argument::Spans))?;
+        let are_wanted = hooks::run_pause(plan, pause, font, spans, buffer)?;
+        put(circles, Bool::from(are_wanted));
+        Ok(Status::Done)
+    })
+}
+
+#[unsafe(no_mangle)]
+pub extern "C" fn sengadlit_postprocess_glyphs(
+    plan: Option<&Plan>,
+    font: Option<&Font<'_>>,
+    buffer: Option<&mut Buffer>,
+) -> Status {
+    on_buffer(plan, buffer, |plan, buffer| {
+        hooks::postprocess_glyphs(plan, font, buffer)
+    })
+}

@@ -1,0 +1,186 @@
+//! The hooks: what each asks of its arguments, tested before the first write, and the call.
+use crate::border::callbacks::{
+    Asked, FONT_ADVANCE, FONT_NOMINAL, FONT_WOULD, Font, TABLES_COMPOSE, TABLES_DECOMPOSE,
+    TABLES_GENERAL, TABLES_INDIC, TABLES_JOINING, TABLES_USE, Tables,
+};
+use crate::buffer::Buffer;
+use crate::numbers;
+use crate::plan::Plan;
+use crate::status::{Argument, Error, Status};
+use sengadlit::buffer::Span;
+use sengadlit::plan::{Pause, Preprocess};
+use sengadlit::shaper::{Shaper, pause_fits, run_pause as run};
+
+/// The greatest number of a glyph.
+const GREATEST_GLYPH: u32 = 0xFFFF;
+/// The greatest kind of a syllable.
+const GREATEST_KIND: u8 = 15;
+
+fn done_if(is_there: bool) -> Status {
+    if is_there {
+        Status::Done
+    } else {
+        Status::Absent
+    }
+}
+
+/// `sengadlit_preprocess_text`, and whether the caller runs the vowel constraints.
+pub fn preprocess_text(
+    plan: &Plan,
+    font: Option<&Font<'_>>,
+    buffer: &mut Buffer,
+) -> Result<(Status, bool), Error> {
+    let asks = match plan.shaper {
+        Shaper::Thai => FONT_NOMINAL,
+        Shaper::Hangul => FONT_NOMINAL | FONT_ADVANCE,
+        _ => 0,
+    };
+    let font = Asked::font(font, asks)?;
+    buffer.is_ready(u32::MAX)?;
+    let done = buffer.run(|inner| Ok(plan.shaper.preprocess_text(&plan.inner, &font, inner)?))?;
+    Ok((
+        done_if(done.is_some()),
+        done == Some(Preprocess::CallerRunsVowelConstraints),
+    ))
+}
+
+/// What two characters compose to.
+pub fn compose(
+    plan: &Plan,
+    tables: Option<&Tables<'_>>,
+    a: u32,
+    b: u32,
+) -> Result<Option<Option<u32>>, Error> {
+    let asks = match plan.shaper {
+        Shaper::Hebrew => TABLES_COMPOSE,
+        Shaper::Indic | Shaper::Khmer | Shaper::Universal => TABLES_COMPOSE | TABLES_GENERAL,
+        _ => 0,
+    };
+    let tables = Asked::tables(tables, asks)?;
+    let composed = plan
+        .shaper
+        .compose(&plan.inner, &tables, character(a)?, character(b)?);
+    Ok(composed.map(|pair| pair.map(u32::from)))
+}
+
+/// The two characters that one decomposes to.
+pub fn decompose(
+    plan: &Plan,
+    tables: Option<&Tables<'_>>,
+    ab: u32,
+) -> Result<Option<Option<(u32, u32)>>, Error> {
+    let asks = match plan.shaper {
+        Shaper::Indic | Shaper::Khmer => TABLES_DECOMPOSE,
+        _ => 0,
+    };
+    let tables = Asked::tables(tables, asks)?;
+    let parts = plan.shaper.decompose(&plan.inner, &tables, character(ab)?);
+    Ok(parts.map(|parts| parts.map(|(a, b)| (u32::from(a), u32::from(b)))))
+}
+
+fn character(number: u32) -> Result<char, Error> {
+    char::from_u32(number).ok_or_else(|| Error::argument(Argument::Codepoint))
+}
+
+/// `sengadlit_reorder_marks`.
+pub fn reorder_marks(
+    plan: &Plan,
+    buffer: &mut Buffer,
+    start: usize,
+    end: usize,
+) -> Result<Status, Error> {
+    if start > end || end > buffer.glyphs().len() || !plan.shaper.marks_fit(start, end) {
+        return Err(Error::argument(Argument::Range));
+    }
+    buffer.is_ready(u32::MAX)?;
+    let done = buffer.run(|inner| Ok(plan.shaper.reorder_marks(&plan.inner, inner, start, end)))?;
+    Ok(done_if(done.is_some()))
+}
+
+/// `sengadlit_setup_masks`.
+pub fn setup_masks(
+    plan: &Plan,
+    tables: Option<&Tables<'_>>,
+    buffer: &mut Buffer,
+) -> Result<Status, Error> {
+    let joins = plan.joins();
+    let joining = if joins {
+        TABLES_JOINING | TABLES_GENERAL
+    } else {
+        0
+    };
+    let asks = match plan.shaper {
+        Shaper::Arabic => joining,
+        Shaper::Universal => joining | TABLES_USE,
+        Shaper::Indic | Shaper::Khmer | Shaper::Myanmar => TABLES_INDIC,
+        _ => 0,
+    };
+    let tables = Asked::tables(tables, asks)?;
+    buffer.is_ready(u32::MAX)?;
+    if joins {
+        buffer.are_characters()?;
+    }
+    let font = Asked::font(None, 0)?;
+    let done =
+        buffer.run(|inner| Ok(plan.shaper.setup_masks(&plan.inner, &font, &tables, inner)))?;
+    Ok(done_if(done.is_some()))
+}
+
+/// `sengadlit_run_pause`, and whether dotted circles were wanted.
+#[inline]
+pub fn run_pause(
+    plan: &Plan,
+    pause: u32,
+    font: Option<&Font<'_>>,
+    spans: &[Span],
+    buffer: &mut Buffer,
+) -> Result<bool, Error> {
+    let known = numbers::pause(pause).filter(|pause| pause_fits(*pause, &plan.inner));
+    let pause = known.ok_or_else(|| Error::argument(Argument::Pause))?;
+    let font = Asked::font(font, asks_of(pause))?;
+    if let Some(index) = spans.iter().position(|span| span.kind > GREATEST_KIND) {
+        return Err(Error::argument_at(Argument::Spans, index));
+    }
+    let greatest = if pause == Pause::InitialReordering {
+        GREATEST_GLYPH
+    } else {
+        u32::MAX
+    };
+    buffer.is_ready(greatest)?;
+    buffer.run(|inner| Ok(run(pause, &plan.inner, &font, spans, inner)?))
+}
+
+// What a pause asks of the font.
+fn asks_of(pause: Pause) -> u8 {
+    match pause {
+        Pause::InitialReordering => FONT_NOMINAL | FONT_WOULD,
+        Pause::ReorderKhmer
+        | Pause::ReorderMyanmar
+        | Pause::ReorderUse
+        | Pause::FinalReordering => FONT_NOMINAL,
+        Pause::SetupSyllablesIndic
+        | Pause::SetupSyllablesKhmer
+        | Pause::SetupSyllablesMyanmar
+        | Pause::SetupSyllablesUse
+        | Pause::RecordStch
+        | Pause::RecordRphf
+        | Pause::RecordPref
+        | Pause::SyllabicClearVar
+        | Pause::ClearSubstitutionFlags
+        | Pause::ArabicFallbackShape => 0,
+    }
+}
+
+/// `sengadlit_postprocess_glyphs`.
+pub fn postprocess_glyphs(
+    plan: &Plan,
+    font: Option<&Font<'_>>,
+    buffer: &mut Buffer,
+) -> Result<Status, Error> {
+    let stretches = plan.shaper == Shaper::Arabic;
+    let font = Asked::font(font, if stretches { FONT_ADVANCE } else { 0 })?;
+    buffer.is_positioned(if stretches { GREATEST_GLYPH } else { u32::MAX })?;
+    let done =
+        buffer.run(|inner| Ok(plan.shaper.postprocess_glyphs(&plan.inner, &font, inner)?))?;
+    Ok(done_if(done.is_some()))
+}

@@ -1,0 +1,136 @@
+//! The structs of the header that hold numbers alone, and the layout of all of them.
+use core::ffi::{c_int, c_uint};
+use core::mem::{align_of, offset_of, size_of};
+use sengadlit::buffer::GlyphInfo;
+
+/// `sengadlit_bool_t`: 0 is false.
+pub type Bool = c_int;
+
+/// `sengadlit_glyph_info_t`: a glyph as C writes it, whose general category may be any number.
+#[repr(C)]
+#[derive(Clone, Copy, Debug, Default)]
+pub struct Glyph {
+    pub codepoint: u32,
+    pub cluster: u32,
+    pub mask: u32,
+    pub var: u32,
+    pub syllable: u8,
+    pub category: u8,
+    pub auxiliary: u8,
+    pub general_category: u8,
+    pub modified_combining_class: u8,
+    pub lig_comp: u8,
+    pub marks: u8,
+}
+
+macro_rules! same_layout {
+    ($c:ty, $rust:ty: $($field:ident = $other:ident),*) => {
+        const _: () = {
+            assert!(size_of::<$c>() == size_of::<$rust>() && align_of::<$c>() == align_of::<$rust>());
+            $(assert!(offset_of!($c, $field) == offset_of!($rust, $other));)*
+        };
+    };
+}
+same_layout!(Glyph, GlyphInfo: codepoint = glyph_id, cluster = cluster, mask = mask, var = var, syllable = syllable,
+    category = category, auxiliary = auxiliary, general_category = general_category,
+    modified_combining_class = modified_combining_class, lig_comp = lig_comp, marks = marks);
+
+/// `sengadlit_buffer_properties_t`.
+#[repr(C)]
+pub struct Properties {
+    pub script: u32,
+    pub direction: u32,
+    pub cluster_level: u32,
+    pub flags: u32,
+    pub max_length: u32,
+}
+
+/// `sengadlit_shaper_constants_t`.
+#[repr(C)]
+pub struct Constants {
+    pub hooks: u32,
+    pub gpos_tag: u32,
+    pub normalization_preference: u32,
+    pub zero_width_marks: u32,
+    pub fallback_position: Bool,
+}
+
+/// `sengadlit_feature_t`.
+#[repr(C)]
+#[derive(Clone, Copy)]
+pub struct Feature {
+    pub tag: u32,
+    pub mask: u32,
+    pub stage: u32,
+}
+
+/// `sengadlit_stage_t`.
+#[repr(C)]
+#[derive(Clone, Copy)]
+pub struct Stage {
+    pub start: u32,
+    pub end: u32,
+}
+
+/// `sengadlit_plan_data_t`.
+#[repr(C)]
+#[derive(Default)]
+pub struct Data {
+    pub shaper: u32,
+    pub joins: Bool,
+    pub has_stch: Bool,
+    pub rphf_mask: u32,
+    pub masks: [u32; 9],
+}
+
+const _: () = assert!(size_of::<c_uint>() == 4 && size_of::<Bool>() == 4);
+
+#[cfg(test)]
+mod tests {
+    use super::*;
+    use crate::border::callbacks::{Font, FontFuncs, Map, MapFuncs, Tables, TablesFuncs};
+    use crate::border::plans::PlanInput;
+    use crate::status::Error;
+    use core::fmt::Write;
+    use sengadlit::buffer::{GlyphPosition, Span};
+
+    /// The size of each struct and the offset of each field, a line each, as `tests/layout.c` prints them.
+    fn layouts() -> String {
+        let mut lines = String::new();
+        macro_rules! layout {
+        ($name:literal, $c:ty: $($field:ident $(.$inner:ident)? $(= $as:literal)?),*) => {
+            writeln!(lines, "{} {}", $name, size_of::<$c>()).unwrap();
+            $(
+                let name = [$($as,)? stringify!($field)][0];
+                writeln!(lines, "  {} {}", name, offset_of!($c, $field $(.$inner)?)).unwrap();
+            )*
+        };
+    }
+        layout!("error", Error: status, argument, index);
+        layout!("shaper_constants", Constants: hooks, gpos_tag, normalization_preference, zero_width_marks, fallback_position);
+        layout!("font_funcs", FontFuncs: nominal_glyph, glyph_h_advance, would_substitute, has_feature);
+        layout!("tables_funcs", TablesFuncs: joining_type, general_category, indic_categories, use_category, compose, decompose);
+        layout!("map_funcs", MapFuncs: add_feature, add_gsub_pause);
+        layout!("font", Font<'static>: funcs, user_data);
+        layout!("tables", Tables<'static>: funcs, user_data);
+        layout!("map", Map<'static>: funcs, user_data);
+        layout!("feature", Feature: tag, mask, stage);
+        layout!("stage", Stage: start, end);
+        layout!("plan_input", PlanInput: script, chosen_script, found_script, has_gpos_mark, centres_stretch, global_mask,
+        features, features_length, stages, stages_length, lookups, lookups_length, kept.user_data = "user_data", kept.destroy = "destroy");
+        layout!("plan_data", Data: shaper, joins, has_stch, rphf_mask, masks);
+        layout!("glyph_info", Glyph: codepoint, cluster, mask, var, syllable, category, auxiliary, general_category,
+        modified_combining_class, lig_comp, marks);
+        layout!("glyph_position", GlyphPosition: x_advance, y_advance, x_offset, y_offset);
+        layout!("buffer_properties", Properties: script, direction, cluster_level, flags, max_length);
+        layout!("span", Span: len = "length", kind);
+        lines
+    }
+
+    /// `abi/layout.txt` is what C prints of the header: `checks/c` compares it.
+    #[cfg(target_arch = "x86_64")]
+    #[test]
+    fn layouts_are_the_recorded_ones() {
+        assert_eq!(layouts(), include_str!("../abi/layout.txt"));
+    }
+}

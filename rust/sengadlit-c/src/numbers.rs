@@ -1,0 +1,112 @@
+//! The header's numbers, as the types of `sengadlit` and back.
+use sengadlit::buffer::{GeneralCategory, Script, Tag};
+use sengadlit::plan::{JoiningType, Pause};
+use sengadlit::shaper::{NormalizationMode, Shaper, ZeroWidthMarks};
+
+/// `SENGADLIT_PAUSE_NONE`.
+pub const NO_PAUSE: u32 = 0xFF;
+
+const SHAPERS: [Shaper; 9] = [
+    Shaper::Arabic,
+    Shaper::Hangul,
+    Shaper::Hebrew,
+    Shaper::Indic,
+    Shaper::Khmer,
+    Shaper::Myanmar,
+    Shaper::MyanmarZawgyi,
+    Shaper::Thai,
+    Shaper::Universal,
+];
+
+/// The shaper of `sengadlit_shaper_t`.
+pub fn shaper(number: u32) -> Option<Shaper> {
+    SHAPERS.get(number as usize).copied()
+}
+
+/// Its number.
+pub fn shaper_number(shaper: Shaper) -> u32 {
+    SHAPERS
+        .iter()
+        .position(|s| *s == shaper)
+        .map_or(u32::MAX, |number| number as u32)
+}
+
+/// The pause of `sengadlit_pause_t`.
+#[inline]
+pub fn pause(number: u32) -> Option<Pause> {
+    Pause::from_number(u8::try_from(number).ok()?)
+}
+
+/// Its number; `NO_PAUSE` for none.
+pub fn pause_number(pause: Option<Pause>) -> u32 {
+    pause.map_or(NO_PAUSE, |pause| u32::from(pause.number()))
+}
+
+/// The joining type of `SENGADLIT_JOINING_..`; U for any other number.
+#[inline]
+pub fn joining_type(number: u8) -> JoiningType {
+    JoiningType::from_number(number).unwrap_or(JoiningType::U)
+}
+
+/// The general category of `SENGADLIT_UNICODE_GENERAL_CATEGORY_..`; unassigned for any other number.
+#[inline]
+pub fn general_category(number: u8) -> GeneralCategory {
+    GeneralCategory::from_number(number).unwrap_or(GeneralCategory::Cn)
+}
+
+/// `sengadlit_normalization_mode_t`, which is HarfBuzz's.
+pub fn normalization(mode: NormalizationMode) -> u32 {
+    match mode {
+        NormalizationMode::NONE => 0,
+        NormalizationMode::CD => 3,
+        NormalizationMode::AUTO => 4,
+    }
+}
+
+/// `sengadlit_zero_width_marks_t`.
+pub fn zero_width_marks(when: ZeroWidthMarks) -> u32 {
+    match when {
+        ZeroWidthMarks::NONE => 0,
+        ZeroWidthMarks::GDEF_EARLY => 1,
+        ZeroWidthMarks::GDEF_LATE => 2,
+    }
+}
+
+/// A tag of four bytes.
+pub fn tag(number: u32) -> Tag {
+    Tag(number.to_be_bytes())
+}
+
+/// Its number.
+pub fn tag_number(tag: Tag) -> u32 {
+    u32::from_be_bytes(tag.0)
+}
+
+/// A script; 0 is none.
+pub fn script(number: u32) -> Option<Script> {
+    (number != 0).then(|| Script(number.to_be_bytes()))
+}
+
+/// The hooks of `SENGADLIT_HOOK_..` that a shaper has.
+pub fn hooks(shaper: Shaper) -> u32 {
+    const COLLECT: u32 = 0x01;
+    const OVERRIDE: u32 = 0x02;
+    const DATA: u32 = 0x04;
+    const PREPROCESS: u32 = 0x08;
+    const POSTPROCESS: u32 = 0x10;
+    const DECOMPOSE: u32 = 0x20;
+    const COMPOSE: u32 = 0x40;
+    const MASKS: u32 = 0x80;
+    const MARKS: u32 = 0x100;
+    match shaper {
+        Shaper::Arabic => COLLECT | DATA | POSTPROCESS | MASKS | MARKS,
+        Shaper::Hangul => COLLECT | OVERRIDE | DATA | PREPROCESS | MASKS,
+        Shaper::Hebrew => COMPOSE | MARKS,
+        Shaper::Indic => COLLECT | OVERRIDE | DATA | PREPROCESS | DECOMPOSE | COMPOSE | MASKS,
+        Shaper::Khmer => COLLECT | OVERRIDE | DATA | DECOMPOSE | COMPOSE | MASKS,
+        Shaper::Myanmar => COLLECT | MASKS,
+        Shaper::MyanmarZawgyi => 0,
+        Shaper::Thai => PREPROCESS,
+        Shaper::Universal => COLLECT | DATA | PREPROCESS | COMPOSE | MASKS,
+    }
+}

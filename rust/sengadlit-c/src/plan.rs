@@ -1,0 +1,144 @@
+//! Plans, from what C gives.
+use crate::border::plans::{Kept, PlanInput};
+use crate::layout::{Bool, Data, Feature, Stage};
+use crate::numbers::{self, script, tag};
+use crate::status::{Argument, Error};
+use core::ops::Range;
+use core::sync::atomic::AtomicUsize;
+use sengadlit::alloc::{AllocError, Global, Vec as List};
+use sengadlit::buffer::ShaperError;
+use sengadlit::map::{FeatureMap, Map};
+use sengadlit::plan::{ArabicPlan, Plan as Inner, StretchStart};
+use sengadlit::shaper::Shaper;
+
+/// The bits of a mask that are glyph flags.
+const GLYPH_FLAGS: u32 = 7;
+
+/// `sengadlit_plan_t`: a plan with the data of its shaper.
+pub struct Plan {
+    pub references: AtomicUsize,
+    pub shaper: Shaper,
+    pub inner: Inner,
+    pub kept: Kept,
+}
+
+/// The plan for a shaper, with one reference.
+pub fn make(
+    shaper: Shaper,
+    input: &PlanInput,
+    features: &[Feature],
+    stages: &[Stage],
+    lookups: &[u16],
+) -> Result<Plan, Error> {
+    if let Some(index) = features
+        .iter()
+        .position(|feature| feature.mask & GLYPH_FLAGS != 0)
+    {
+        return Err(Error::argument_at(Argument::Features, index));
+    }
+    let is_range = |stage: &Stage| stage.start <= stage.end && stage.end as usize <= lookups.len();
+    if let Some(index) = stages.iter().position(|stage| !is_range(stage)) {
+        return Err(Error::argument_at(Argument::Stages, index));
+    }
+    let mut plan = Inner::new(script(input.script), map(input, features, stages, lookups)?);
+    plan.has_gpos_mark = input.has_gpos_mark != 0;
+    if input.centres_stretch != 0 {
+        plan.stretch_start = StretchStart::Centred;
+    }
+    Ok(Plan {
+        references: AtomicUsize::new(1),
+        shaper,
+        inner: shaper.with_data(plan),
+        kept: input.kept,
+    })
+}
+
+// The map of these features, stages and lookups, which fit each other.
+fn map(
+    input: &PlanInput,
+    features: &[Feature],
+    stages: &[Stage],
+    lookups: &[u16],
+) -> Result<Map, Error> {
+    let of_feature = |f: &Feature| FeatureMap {
+        tag: tag(f.tag),
+        mask: f.mask,
+        stage: f.stage as usize,
+    };
+    let of_stage = |s: &Stage| -> Range<usize> { s.start as usize..s.end as usize };
+    let features = list(features, of_feature).map_err(ShaperError::from)?;
+    let stages = list(stages, of_stage).map_err(ShaperError::from)?;
+    let lookups = List::from_slice(Global, lookups).map_err(ShaperError::from)?;
+    let chosen = (input.chosen_script != 0).then(|| tag(input.chosen_script));
+    let map = Map::new(
+        features,
+        stages,
+        lookups,
+        input.global_mask,
+        chosen,
+        input.found_script != 0,
+    );
+    map.ok_or_else(|| Error::argument(Argument::Stages))
+}
+
+// A list of the things that these items stand for.
+fn list<A, B>(items: &[A], of: impl Fn(&A) -> B) -> Result<List<B>, AllocError> {
+    let mut list = List::with_capacity(Global, items.len())?;
+    for item in items {
+        list.push(of(item)).map_err(|_| AllocError)?;
+    }
+    Ok(list)
+}
+
+/// What the shaper keeps in the plan.
+pub fn data(plan: &Plan) -> Data {
+    let kept = &plan.inner.plan_data;
+    let mut data = Data {
+        shaper: numbers::shaper_number(plan.shaper),
+        ..Data::default()
+    };
+    if let Some(arabic) = kept.arabic() {
+        put_joining(&mut data, arabic);
+    }
+    if let Some(universal) = kept.universal() {
+        data.rphf_mask = universal.rphf_mask;
+        if let Some(arabic) = &universal.arabic_plan {
+            put_joining(&mut data, arabic);
+        }
+    }
+    if let Some(hangul) = kept.hangul() {
+        put_masks(&mut data, &hangul.mask_array);
+    }
+    if let Some(khmer) = kept.khmer() {
+        put_masks(&mut data, &khmer.mask_array);
+    }
+    data
+}
+
+fn put_joining(data: &mut Data, arabic: &ArabicPlan) {
+    put_masks(data, &arabic.mask_array);
+    data.has_stch = Bool::from(arabic.has_stch);
+    data.joins = 1;
+}
+
+fn put_masks(data: &mut Data, masks: &[u32]) {
+    for (to, mask) in data.masks.iter_mut().zip(masks) {
+        *to = *mask;
+    }
+}
+
+impl Plan {
+    /// Whether letters join.
+    #[inline]
+    pub fn joins(&self) -> bool {
+        match self.shaper {
+            Shaper::Arabic => true,
+            Shaper::Universal => self
+                .inner
+                .plan_data
+                .universal()
+                .is_some_and(|kept| kept.arabic_plan.is_some()),
+            _ => false,
+        }
+    }
+}

@@ -1,0 +1,388 @@
+/* Bytes that drive every function of the header, for libFuzzer, or with -DRANDOM for bytes at random. The font and the tables
+   answer anything, and where the bytes say so another thing each time. The program aborts where a call breaks what the header
+   says: a failed call that changed the text, an internal error that left some, a status that is none, and where the answers
+   don't change, an internal error at all. */
+#include <sengadlit.h>
+
+#include <stdio.h>
+#include <stdlib.h>
+#include <string.h>
+
+enum { MOST = 24, CALLS = 24, ROOM = 512 };
+
+/* ---- The input ---- */
+
+static const uint8_t *bytes;
+static size_t left;
+
+static uint8_t next(void)
+{
+    if (left == 0) return 0;
+    left--;
+    return *bytes++;
+}
+
+static uint32_t next_word(void)
+{
+    uint32_t word = next();
+
+    word = word << 8 | next();
+    word = word << 8 | next();
+    return word << 8 | next();
+}
+
+/* ---- Callbacks: the answer depends on the question, or besides on how many were asked ---- */
+
+static uint32_t salt, asked;
+static int changes;
+
+static uint32_t answer(uint32_t a, uint32_t b)
+{
+    uint32_t x = salt ^ a * 0x9E3779B1u ^ b * 0x85EBCA77u;
+
+    if (changes) x += ++asked * 0xC2B2AE3Du;
+    x ^= x >> 15;
+    x *= 0x2C1B3C6Du;
+    return x ^ x >> 13;
+}
+
+static sengadlit_bool_t nominal_glyph(void *user_data, uint32_t unicode, uint32_t *glyph)
+{
+    uint32_t a = answer(unicode, 1);
+
+    (void)user_data;
+    *glyph = a % 16 == 0 ? a : a & 0xFFFF;
+    return a % 5 != 0;
+}
+
+static int32_t glyph_h_advance(void *user_data, uint32_t glyph)
+{
+    uint32_t a = answer(glyph, 2);
+
+    (void)user_data;
+    return a % 32 == 0 ? (int32_t)a : (int32_t)(a % 1024);
+}
+
+static sengadlit_bool_t would_substitute(void *user_data, const uint16_t *lookups, unsigned int lookups_length,
+                                         const uint32_t *glyphs, unsigned int glyphs_length, sengadlit_bool_t zero_context)
+{
+    uint32_t all = (uint32_t)zero_context;
+
+    (void)user_data;
+    if (lookups_length == 0 || glyphs_length == 0 || glyphs_length > 3) abort();
+    for (unsigned int i = 0; i < lookups_length; i++) all = all * 31 + lookups[i];
+    for (unsigned int i = 0; i < glyphs_length; i++) all = all * 31 + glyphs[i];
+    return answer(all, 3) % 3 == 0 ? 2 : 0;
+}
+
+static sengadlit_bool_t has_feature(void *user_data, sengadlit_tag_t tag)
+{
+    (void)user_data;
+    return (sengadlit_bool_t)(answer(tag, 4) & 1);
+}
+
+static uint8_t joining_type(void *user_data, uint32_t u) { (void)user_data; return (uint8_t)(answer(u, 5) % 12); }
+static uint8_t general_category(void *user_data, uint32_t u) { (void)user_data; return (uint8_t)(answer(u, 6) % 36); }
+static uint16_t indic_categories(void *user_data, uint32_t u) { (void)user_data; return (uint16_t)(answer(u, 7) & 0x1F3F); }
+static uint8_t use_category(void *user_data, uint32_t u) { (void)user_data; return (uint8_t)(answer(u, 8) & 0x3F); }
+
+static sengadlit_bool_t compose(void *user_data, uint32_t a, uint32_t b, uint32_t *ab)
+{
+    (void)user_data;
+    *ab = answer(a, b) & 0x1FFFFF;
+    return (sengadlit_bool_t)(*ab & 1);
+}
+
+static sengadlit_bool_t decompose(void *user_data, uint32_t ab, uint32_t *a, uint32_t *b)
+{
+    (void)user_data;
+    *a = answer(ab, 9) & 0x1FFFFF;
+    *b = answer(ab, 10) & 0xFFFF;
+    return (sengadlit_bool_t)(*b & 1);
+}
+
+static void add_feature(void *user_data, sengadlit_tag_t tag, uint32_t flags, uint32_t value)
+{
+    *(unsigned int *)user_data += (tag != 0) + flags + value;
+}
+
+static void add_gsub_pause(void *user_data, sengadlit_pause_t pause) { *(unsigned int *)user_data += pause; }
+
+static void destroy(void *user_data) { ++*(unsigned int *)user_data; }
+
+/* Now and then a function or the table is missing. */
+static sengadlit_font_funcs_t font_funcs;
+static sengadlit_tables_funcs_t tables_funcs;
+
+static void choose_functions(void)
+{
+    static const sengadlit_font_funcs_t font = {nominal_glyph, glyph_h_advance, would_substitute, has_feature};
+    static const sengadlit_tables_funcs_t tables = {joining_type, general_category, indic_categories,
+                                                    use_category, compose,          decompose};
+    uint8_t missing = next();
+
+    font_funcs = font;
+    tables_funcs = tables;
+    if (missing == 1) font_funcs.nominal_glyph = NULL;
+    if (missing == 2) font_funcs.glyph_h_advance = NULL;
+    if (missing == 3) font_funcs.would_substitute = NULL;
+    if (missing == 4) tables_funcs.joining_type = NULL;
+    if (missing == 5) tables_funcs.indic_categories = NULL;
+    if (missing == 6) tables_funcs.general_category = NULL;
+}
+
+/* ---- Plans ---- */
+
+static const uint32_t scripts[] = {
+    SENGADLIT_TAG('A', 'r', 'a', 'b'), SENGADLIT_TAG('S', 'y', 'r', 'c'), SENGADLIT_TAG('H', 'a', 'n', 'g'),
+    SENGADLIT_TAG('H', 'e', 'b', 'r'), SENGADLIT_TAG('D', 'e', 'v', 'a'), SENGADLIT_TAG('M', 'l', 'y', 'm'),
+    SENGADLIT_TAG('T', 'a', 'm', 'l'), SENGADLIT_TAG('K', 'h', 'm', 'r'), SENGADLIT_TAG('M', 'y', 'm', 'r'),
+    SENGADLIT_TAG('T', 'h', 'a', 'i'), SENGADLIT_TAG('L', 'a', 'o', 'o'), SENGADLIT_TAG('M', 'o', 'n', 'g'),
+    SENGADLIT_TAG('J', 'a', 'v', 'a'), SENGADLIT_TAG('K', 'n', 'd', 'a'), SENGADLIT_TAG('B', 'e', 'n', 'g'), 0};
+static const uint32_t firsts[] = {0x620, 0x710, 0x1100, 0x5B0, 0x900, 0xD00, 0xB80, 0x1780,
+                                  0x1000, 0xE30, 0xEB0, 0x1820, 0xA980, 0xC80, 0x980, 0};
+
+static unsigned int place; /* The script's, in the lists. */
+static unsigned int shaper_number;
+
+static sengadlit_plan_t *make_plan(unsigned int *destroyed)
+{
+    static const char tags[][5] = {"isol", "fina", "medi", "init", "stch", "rphf", "pref", "blwf", "pstf", "vatu",
+                                   "ljmo", "vjmo", "tjmo", "half", "abvf", "cfar", "fin2", "med2", "blws", "psts"};
+    sengadlit_feature_t features[8];
+    sengadlit_stage_t stages[4];
+    uint16_t lookups[4];
+    sengadlit_plan_input_t input = {0};
+    sengadlit_error_t error;
+    uint8_t settings = next();
+
+    for (unsigned int i = 0; i < 8; i++) {
+        const char *tag = tags[next() % 20];
+        features[i].tag = SENGADLIT_TAG(tag[0], tag[1], tag[2], tag[3]);
+        features[i].mask = (uint32_t)next() << 3 | (next() == 1);
+        features[i].stage = next() % 5;
+    }
+    for (unsigned int i = 0; i < 4; i++) {
+        lookups[i] = next();
+        stages[i].start = i;
+        stages[i].end = next() == 1 ? next() : i + 1;
+    }
+    shaper_number = next() % 10;
+    place = next() % 16;
+    input.script = scripts[place];
+    input.chosen_script = settings & 1 ? SENGADLIT_TAG('d', 'e', 'v', settings & 2 ? '2' : 'a') : 0;
+    input.found_script = settings & 4;
+    input.has_gpos_mark = settings & 8;
+    input.centres_stretch = settings & 16;
+    input.global_mask = next();
+    input.features = features;
+    input.features_length = 8;
+    input.stages = settings & 32 && next() == 1 ? NULL : stages;
+    input.stages_length = 4;
+    input.lookups = lookups;
+    input.lookups_length = 4;
+    input.user_data = destroyed;
+    input.destroy = destroy;
+    *destroyed = 0;
+    sengadlit_plan_t *plan = sengadlit_plan_create((sengadlit_shaper_t)shaper_number, &input, &error);
+    if (!plan && (error.status != SENGADLIT_ARGUMENT || *destroyed != 1)) abort();
+    return plan;
+}
+
+/* ---- Texts ---- */
+
+static void write_glyph(sengadlit_glyph_info_t *glyph, uint32_t cluster)
+{
+    uint8_t kind = next();
+
+    glyph->codepoint = kind < 240 ? firsts[place] + next() % 128 : kind < 250 ? next() * 257u : next_word();
+    glyph->cluster = kind & 1 ? cluster : next();
+    glyph->mask = kind & 2 ? 0 : next_word();
+    glyph->var = next();
+    glyph->syllable = next();
+    glyph->category = kind & 4 ? next() % 64 : next();
+    glyph->auxiliary = next() % 24;
+    glyph->general_category = next() % 31 == 30 ? next() : next() % 30;
+    glyph->modified_combining_class = next();
+    glyph->lig_comp = next() % 16;
+    glyph->marks = next();
+}
+
+static void write_text(sengadlit_buffer_t *buffer)
+{
+    unsigned int length = next() % (MOST + 1);
+    sengadlit_glyph_info_t *glyphs = sengadlit_buffer_set_length(buffer, length);
+
+    if (!glyphs) abort();
+    for (unsigned int i = 0; i < length; i++) write_glyph(&glyphs[i], i);
+}
+
+static void write_settings(sengadlit_buffer_t *buffer)
+{
+    static const unsigned int directions[] = {4, 5, 6, 7, 0, 3, 4, 5};
+    sengadlit_buffer_properties_t properties = {0, SENGADLIT_DIRECTION_RTL, SENGADLIT_BUFFER_CLUSTER_LEVEL_CHARACTERS, 0, ROOM};
+    uint32_t context[6];
+    uint8_t settings = next();
+
+    if (sengadlit_buffer_set_properties(buffer, &properties) != SENGADLIT_DONE) abort();
+    properties.script = scripts[place];
+    properties.direction = (sengadlit_direction_t)directions[settings % 8];
+    properties.cluster_level = (sengadlit_buffer_cluster_level_t)(settings >> 3 & 3);
+    properties.flags = next();
+    properties.max_length = settings & 32 ? next() : ROOM;
+    (void)sengadlit_buffer_set_properties(buffer, &properties);
+    for (unsigned int i = 0; i < 6; i++) context[i] = firsts[place] + (settings & 64 ? next_word() : next() % 64);
+    (void)sengadlit_buffer_set_context(buffer, context, next() % 7, context, next() % 7);
+    sengadlit_buffer_set_state(buffer, next());
+}
+
+/* ---- Calls ---- */
+
+static const sengadlit_font_t font = {&font_funcs, NULL};
+static const sengadlit_tables_t tables = {&tables_funcs, NULL};
+
+static sengadlit_status_t run_pause(const sengadlit_plan_t *plan, sengadlit_buffer_t *buffer)
+{
+    sengadlit_span_t spans[MOST];
+    unsigned int length, count = 0, sum = 0;
+    sengadlit_bool_t circles;
+    unsigned int pause = next() % 17;
+
+    (void)sengadlit_buffer_get_glyph_infos(buffer, &length);
+    while (pause < 4 && sum < length && count < MOST) {
+        spans[count].kind = next() % 17;
+        spans[count].length = next() % 6 + (next() != 1);
+        if (spans[count].length > length - sum && next() != 1) spans[count].length = length - sum;
+        sum += (unsigned int)spans[count++].length;
+    }
+    return sengadlit_run_pause(plan, (sengadlit_pause_t)pause, next() == 1 ? NULL : &font, spans, count, buffer, &circles);
+}
+
+static sengadlit_status_t run_hook(const sengadlit_plan_t *plan, sengadlit_buffer_t *buffer)
+{
+    sengadlit_bool_t constraints;
+    unsigned int start = next() % 33;
+
+    switch (next() % 8) {
+    case 0: return sengadlit_preprocess_text(plan, &font, buffer, &constraints);
+    case 1: return sengadlit_setup_masks(plan, &tables, buffer);
+    case 2: return sengadlit_reorder_marks(plan, buffer, start, start + next() % 40);
+    case 3: (void)sengadlit_buffer_get_glyph_positions(buffer, NULL); /* fall through */
+    case 4: return sengadlit_postprocess_glyphs(plan, &font, buffer);
+    default: return run_pause(plan, buffer);
+    }
+}
+
+struct text {
+    unsigned int length, state;
+    sengadlit_glyph_info_t glyphs[ROOM];
+};
+
+static struct text before, after;
+
+static void keep(sengadlit_buffer_t *buffer, struct text *text)
+{
+    const sengadlit_glyph_info_t *glyphs = sengadlit_buffer_get_glyph_infos(buffer, &text->length);
+
+    text->state = sengadlit_buffer_get_state(buffer);
+    if (text->length > ROOM) abort();
+    for (unsigned int i = 0; i < text->length; i++) {
+        memset(&text->glyphs[i], 0, sizeof text->glyphs[i]);
+        memcpy(&text->glyphs[i], &glyphs[i], offsetof(sengadlit_glyph_info_t, marks) + 1);
+    }
+}
+
+static unsigned long internal, done;
+
+/* A call, and what the header says of its end. */
+static void make_call(const sengadlit_plan_t *plan, sengadlit_buffer_t *buffer)
+{
+    sengadlit_error_t error;
+
+    keep(buffer, &before);
+    sengadlit_status_t status = run_hook(plan, buffer);
+    sengadlit_buffer_get_error(buffer, &error);
+    keep(buffer, &after);
+    if (status == SENGADLIT_DONE) {
+        done++;
+        return;
+    }
+    if (status != SENGADLIT_ABSENT && error.status != status) abort();
+    if (status == SENGADLIT_INTERNAL) {
+        internal++;
+        if (after.length != 0 || !changes) abort();
+        return;
+    }
+    if (status < SENGADLIT_DONE || status > SENGADLIT_STRETCH_OVERFLOW) abort();
+    if (after.length != before.length || after.state != before.state ||
+        memcmp(after.glyphs, before.glyphs, after.length * sizeof *after.glyphs) != 0)
+        abort();
+}
+
+/* The functions that no buffer is given. */
+static void call_others(sengadlit_plan_t *plan)
+{
+    static const sengadlit_map_funcs_t funcs = {add_feature, add_gsub_pause};
+    unsigned int sum = 0;
+    const sengadlit_map_t map = {&funcs, &sum};
+    sengadlit_shaper_constants_t constants;
+    sengadlit_plan_data_t data;
+    uint32_t a = next_word() % 0x120000, b = firsts[place] + next() % 128, c, d;
+
+    (void)sengadlit_shaper_get_constants((sengadlit_shaper_t)shaper_number, &constants);
+    (void)sengadlit_collect_features((sengadlit_shaper_t)shaper_number, scripts[place], &font, &map, NULL);
+    (void)sengadlit_override_features((sengadlit_shaper_t)shaper_number, scripts[place], &map, NULL);
+    (void)sengadlit_plan_get_data(plan, &data);
+    (void)sengadlit_compose(plan, &tables, b, a, &c, NULL);
+    (void)sengadlit_decompose(plan, &tables, next() & 1 ? a : b, &c, &d, NULL);
+    (void)sengadlit_status_name((sengadlit_status_t)a);
+    (void)sengadlit_argument_name((sengadlit_argument_t)(a % 32));
+    sengadlit_plan_destroy(sengadlit_plan_reference(plan));
+}
+
+int LLVMFuzzerTestOneInput(const uint8_t *data, size_t size)
+{
+    unsigned int destroyed;
+
+    bytes = data;
+    left = size;
+    salt = next();
+    asked = 0;
+    changes = next() % 4 == 1;
+    choose_functions();
+    sengadlit_plan_t *plan = make_plan(&destroyed);
+    sengadlit_buffer_t *buffer = sengadlit_buffer_create();
+    if (!buffer) abort();
+    call_others(plan);
+    write_settings(buffer);
+    write_text(buffer);
+    for (unsigned int i = 0; i < CALLS && left != 0; i++) {
+        if (next() % 16 == 1) write_text(buffer);
+        make_call(plan, buffer);
+    }
+    sengadlit_buffer_destroy(buffer);
+    sengadlit_plan_destroy(plan);
+    if (destroyed != 1) abort();
+    return 0;
+}
+
+#ifdef RANDOM
+int main(int argc, char **argv)
+{
+    unsigned long rounds = argc > 1 ? strtoul(argv[1], NULL, 10) : 1000;
+    uint64_t x = 0x9E3779B97F4A7C15u;
+    static uint8_t input[2048];
+
+    for (unsigned long round = 0; round < rounds; round++) {
+        for (size_t i = 0; i < sizeof input; i++) {
+            x ^= x << 13;
+            x ^= x >> 7;
+            x ^= x << 17;
+            input[i] = (uint8_t)(x >> 32);
+        }
+        (void)LLVMFuzzerTestOneInput(input, sizeof input);
+    }
+    printf("%lu rounds, %lu calls done, %lu internal errors\n", rounds, done, internal);
+    return 0;
+}
+#endif

@@ -1,0 +1,121 @@
+/* Prints the size of each struct of the header and the offset of each of its fields, as this compiler has them. The library
+   is built from structs of the same: abi/layout.txt holds both to one record. */
+#include <sengadlit.h>
+
+#include <stdio.h>
+
+#define STRUCT(name) printf("%s %u\n", #name, (unsigned)sizeof(sengadlit_##name##_t))
+#define FIELD(name, field) printf("  %s %u\n", #field, (unsigned)offsetof(sengadlit_##name##_t, field))
+
+static void print_common(void)
+{
+    STRUCT(error);
+    FIELD(error, status);
+    FIELD(error, argument);
+    FIELD(error, index);
+    STRUCT(shaper_constants);
+    FIELD(shaper_constants, hooks);
+    FIELD(shaper_constants, gpos_tag);
+    FIELD(shaper_constants, normalization_preference);
+    FIELD(shaper_constants, zero_width_marks);
+    FIELD(shaper_constants, fallback_position);
+}
+
+static void print_callbacks(void)
+{
+    STRUCT(font_funcs);
+    FIELD(font_funcs, nominal_glyph);
+    FIELD(font_funcs, glyph_h_advance);
+    FIELD(font_funcs, would_substitute);
+    FIELD(font_funcs, has_feature);
+    STRUCT(tables_funcs);
+    FIELD(tables_funcs, joining_type);
+    FIELD(tables_funcs, general_category);
+    FIELD(tables_funcs, indic_categories);
+    FIELD(tables_funcs, use_category);
+    FIELD(tables_funcs, compose);
+    FIELD(tables_funcs, decompose);
+    STRUCT(map_funcs);
+    FIELD(map_funcs, add_feature);
+    FIELD(map_funcs, add_gsub_pause);
+    STRUCT(font);
+    FIELD(font, funcs);
+    FIELD(font, user_data);
+    STRUCT(tables);
+    FIELD(tables, funcs);
+    FIELD(tables, user_data);
+    STRUCT(map);
+    FIELD(map, funcs);
+    FIELD(map, user_data);
+}
+
+static void print_plans(void)
+{
+    STRUCT(feature);
+    FIELD(feature, tag);
+    FIELD(feature, mask);
+    FIELD(feature, stage);
+    STRUCT(stage);
+    FIELD(stage, start);
+    FIELD(stage, end);
+    STRUCT(plan_input);
+    FIELD(plan_input, script);
+    FIELD(plan_input, chosen_script);
+    FIELD(plan_input, found_script);
+    FIELD(plan_input, has_gpos_mark);
+    FIELD(plan_input, centres_stretch);
+    FIELD(plan_input, global_mask);
+    FIELD(plan_input, features);
+    FIELD(plan_input, features_length);
+    FIELD(plan_input, stages);
+    FIELD(plan_input, stages_length);
+    FIELD(plan_input, lookups);
+    FIELD(plan_input, lookups_length);
+    FIELD(plan_input, user_data);
+    FIELD(plan_input, destroy);
+    STRUCT(plan_data);
+    FIELD(plan_data, shaper);
+    FIELD(plan_data, joins);
+    FIELD(plan_data, has_stch);
+    FIELD(plan_data, rphf_mask);
+    FIELD(plan_data, masks);
+}
+
+static void print_buffers(void)
+{
+    STRUCT(glyph_info);
+    FIELD(glyph_info, codepoint);
+    FIELD(glyph_info, cluster);
+    FIELD(glyph_info, mask);
+    FIELD(glyph_info, var);
+    FIELD(glyph_info, syllable);
+    FIELD(glyph_info, category);
+    FIELD(glyph_info, auxiliary);
+    FIELD(glyph_info, general_category);
+    FIELD(glyph_info, modified_combining_class);
+    FIELD(glyph_info, lig_comp);
+    FIELD(glyph_info, marks);
+    STRUCT(glyph_position);
+    FIELD(glyph_position, x_advance);
+    FIELD(glyph_position, y_advance);
+    FIELD(glyph_position, x_offset);
+    FIELD(glyph_position, y_offset);
+    STRUCT(buffer_properties);
+    FIELD(buffer_properties, script);
+    FIELD(buffer_properties, direction);
+    FIELD(buffer_properties, cluster_level);
+    FIELD(buffer_properties, flags);
+    FIELD(buffer_properties, max_length);
+    STRUCT(span);
+    FIELD(span, length);
+    FIELD(span, kind);
+}
+
+int main(void)
+{
+    print_common();
+    print_callbacks();
+    print_plans();
+    print_buffers();
+    return 0;
+}

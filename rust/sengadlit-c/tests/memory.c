@@ -1,0 +1,193 @@
+/* Makes each call that wants memory, and prints what it leaves. Where a call is refused memory, nothing may be changed, and
+   made again it must succeed: so the program prints the same whichever request is refused. Each refusal is told on
+   stderr. */
+#include "world.h"
+
+#include <inttypes.h>
+#include <stdio.h>
+#include <stdlib.h>
+#include <string.h>
+
+/* ---- Calls ---- */
+
+static unsigned int told;
+
+static void add_feature(void *user_data, sengadlit_tag_t tag, uint32_t flags, uint32_t value)
+{
+    (void)user_data, (void)tag, (void)flags, (void)value;
+    told++;
+}
+
+static void add_gsub_pause(void *user_data, sengadlit_pause_t pause)
+{
+    (void)user_data, (void)pause;
+    told++;
+}
+
+static const sengadlit_map_funcs_t map_funcs = {add_feature, add_gsub_pause};
+static const sengadlit_map_t map = {&map_funcs, NULL};
+
+/* Nothing is told to the map of a refused list. */
+static sengadlit_status_t list(sengadlit_status_t status, const sengadlit_error_t *error)
+{
+    if (status == SENGADLIT_MEMORY && (told != 0 || error->status != SENGADLIT_MEMORY))
+        exit(EXIT_FAILURE);
+    return status;
+}
+
+static sengadlit_status_t collect(void)
+{
+    sengadlit_error_t error;
+
+    told = 0;
+    return list(sengadlit_collect_features(SENGADLIT_SHAPER_ARABIC, world.properties.script, &world.font, &map, &error), &error);
+}
+
+static sengadlit_status_t override(void)
+{
+    sengadlit_error_t error;
+
+    told = 0;
+    return list(sengadlit_override_features(SENGADLIT_SHAPER_KHMER, world.properties.script, &map, &error), &error);
+}
+
+static sengadlit_status_t lengthen(void)
+{
+    return sengadlit_buffer_set_length(world.buffer, 60) ? SENGADLIT_DONE : SENGADLIT_MEMORY;
+}
+
+static sengadlit_status_t position(void)
+{
+    return sengadlit_buffer_get_glyph_positions(world.buffer, NULL) ? SENGADLIT_DONE : SENGADLIT_MEMORY;
+}
+
+static sengadlit_status_t preprocess(void)
+{
+    return sengadlit_preprocess_text(world.plan, &world.font, world.buffer, NULL);
+}
+
+static sengadlit_status_t masks(void)
+{
+    return sengadlit_setup_masks(world.plan, &world.tables, world.buffer);
+}
+
+static sengadlit_status_t marks(void)
+{
+    return sengadlit_reorder_marks(world.plan, world.buffer, 0, 3);
+}
+
+static sengadlit_status_t set_up(void)
+{
+    static const sengadlit_span_t spans[] = {{3, 0}, {1, 1}};
+
+    return sengadlit_run_pause(world.plan, SENGADLIT_PAUSE_SETUP_SYLLABLES_KHMER, NULL, spans, 2, world.buffer, NULL);
+}
+
+static sengadlit_status_t reorder(void)
+{
+    return sengadlit_run_pause(world.plan, SENGADLIT_PAUSE_REORDER_KHMER, &world.font, NULL, 0, world.buffer, NULL);
+}
+
+static sengadlit_status_t record(void)
+{
+    return sengadlit_run_pause(world.plan, SENGADLIT_PAUSE_RECORD_STCH, NULL, NULL, 0, world.buffer, NULL);
+}
+
+static sengadlit_status_t stretch(void)
+{
+    return sengadlit_postprocess_glyphs(world.plan, &world.font, world.buffer);
+}
+
+/* ---- What they leave ---- */
+
+static void print_text(const char *name)
+{
+    unsigned int length;
+
+    (void)sengadlit_buffer_get_glyph_infos(world.buffer, &length);
+    printf("%s: %u glyphs, %u told\n", name, length, told);
+    for (unsigned int i = 0; i < length; i++)
+        printf("  %04" PRIX32 " %" PRIu32 " %08" PRIX32 " %02X %d\n", glyphs()[i].codepoint, glyphs()[i].cluster,
+               glyphs()[i].mask, glyphs()[i].syllable, world.has_positions ? (int)positions()[i].x_offset : 0);
+}
+
+/* Ends the program unless a refusal of memory left all as it was. */
+static void must_be_refused(const char *name, sengadlit_status_t status)
+{
+    if (status == SENGADLIT_MEMORY && !text_is_changed()) {
+        fprintf(stderr, "refused: %s\n", name);
+        return;
+    }
+    printf("%s: %s%s\n", name, sengadlit_status_name(status), text_is_changed() ? ", and something changed" : "");
+    exit(EXIT_FAILURE);
+}
+
+/* Makes a call, again where it is refused memory, and prints what it leaves. */
+static void try_call(const char *name, sengadlit_status_t (*call)(void))
+{
+    sengadlit_status_t status;
+
+    keep_text();
+    status = call();
+    if (status != SENGADLIT_DONE) {
+        must_be_refused(name, status);
+        status = call();
+    }
+    if (status != SENGADLIT_DONE)
+        must_be_refused(name, SENGADLIT_INTERNAL);
+    print_text(name);
+}
+
+/* ---- Texts ---- */
+
+static void try_buffers(void)
+{
+    begin_world(SENGADLIT_SHAPER_THAI, SENGADLIT_TAG('T', 'h', 'a', 'i'), 0x0E01, 4);
+    try_call("set_length", lengthen);
+    try_call("get_glyph_positions", position);
+}
+
+static void try_characters(void)
+{
+    begin_world(SENGADLIT_SHAPER_THAI, SENGADLIT_TAG('T', 'h', 'a', 'i'), 0x0E01, 4);
+    glyphs()[2].codepoint = 0x0E33;
+    try_call("preprocess Thai", preprocess);
+    begin_world(SENGADLIT_SHAPER_HANGUL, SENGADLIT_TAG('H', 'a', 'n', 'g'), 0x1100, 8);
+    glyphs()[1].codepoint = 0x1161;
+    try_call("preprocess Hangul", preprocess);
+    begin_world(SENGADLIT_SHAPER_ARABIC, SENGADLIT_TAG('A', 'r', 'a', 'b'), 0x064B, 3);
+    try_call("collect", collect);
+    try_call("marks", marks);
+    try_call("masks", masks);
+}
+
+/* The second syllable is broken, and the font has a dotted circle. */
+static void try_khmer(void)
+{
+    begin_world(SENGADLIT_SHAPER_KHMER, SENGADLIT_TAG('K', 'h', 'm', 'r'), 0x1780, 4);
+    world.answers.glyph_of_circle = 7;
+    try_call("override", override);
+    try_call("set up", set_up);
+    try_call("reorder", reorder);
+}
+
+static void try_stretch(void)
+{
+    begin_word_and_tiles();
+    try_call("record", record);
+    positions()[0].x_advance = 1000;
+    try_call("stretch", stretch);
+}
+
+int main(void)
+{
+    static char room[1 << 16]; /* So that printing wants no memory. */
+
+    setvbuf(stdout, room, _IOFBF, sizeof room);
+    try_buffers();
+    try_characters();
+    try_khmer();
+    try_stretch();
+    end_world();
+    return EXIT_SUCCESS;
+}

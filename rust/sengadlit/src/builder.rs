@@ -1,0 +1,276 @@
+//! Plans and maps made from what a caller has.
+
+use crate::alloc::{AllocError, Global};
+use crate::buffer::{Script, Tag};
+use crate::map::{FeatureMap, Map};
+use crate::plan::{Plan, StretchStart};
+use crate::shaper::Shaper;
+use core::error::Error;
+use core::fmt;
+use core::ops::Range;
+
+impl FeatureMap {
+    /// A feature with the bits of a glyph's mask that ask for it, and the stage of its lookups.
+    #[inline]
+    pub const fn new(tag: Tag, mask: u32, stage: usize) -> Self {
+        FeatureMap { tag, mask, stage }
+    }
+}
+
+impl Plan {
+    /// A builder of a plan, so far without script and features.
+    #[inline]
+    pub fn builder<'a>() -> PlanBuilder<'a> {
+        PlanBuilder::default()
+    }
+}
+
+/// Builds a [`Plan`] with its [`Map`], from slices.
+///
+/// ```
+/// use sengadlit::map::FeatureMap;
+/// use sengadlit::{Plan, Script, Shaper, Tag};
+///
+/// let plan = Plan::builder()
+///     .script(Script(*b"Khmr"))
+///     .features(&[FeatureMap::new(Tag(*b"pref"), 0x10, 0)])
+///     .stages(&[0..2])
+///     .lookups(&[14, 15])
+///     .build_for(Shaper::Khmer)?;
+/// assert_eq!(plan.ot_map.get_1_mask(Tag(*b"pref")), 0x10);
+/// # Ok::<(), sengadlit::plan::PlanError>(())
+/// ```
+#[derive(Clone, Copy, Debug, Default)]
+pub struct PlanBuilder<'a> {
+    script: Option<Script>,
+    features: &'a [FeatureMap],
+    stages: &'a [Range<usize>],
+    lookups: &'a [u16],
+    global_mask: u32,
+    chosen_script: Option<Tag>,
+    found_script: bool,
+    has_gpos_mark: bool,
+    stretch_start: StretchStart,
+}
+
+impl<'a> PlanBuilder<'a> {
+    /// The script of the text.
+    #[inline]
+    pub fn script(self, script: Script) -> Self {
+        let script = Some(script);
+        PlanBuilder { script, ..self }
+    }
+
+    /// The features of the map, with their masks and stages.
+    #[inline]
+    pub fn features(self, features: &'a [FeatureMap]) -> Self {
+        PlanBuilder { features, ..self }
+    }
+
+    /// The stages: for each the places of its lookups in the list.
+    #[inline]
+    pub fn stages(self, stages: &'a [Range<usize>]) -> Self {
+        PlanBuilder { stages, ..self }
+    }
+
+    /// The list of lookups, by their numbers in GSUB.
+    #[inline]
+    pub fn lookups(self, lookups: &'a [u16]) -> Self {
+        PlanBuilder { lookups, ..self }
+    }
+
+    /// The bits of the features that hold for the whole text.
+    #[inline]
+    pub fn global_mask(self, global_mask: u32) -> Self {
+        PlanBuilder {
+            global_mask,
+            ..self
+        }
+    }
+
+    /// The script of the font that was chosen for the text, as `dev2`.
+    #[inline]
+    pub fn chosen_script(self, script: Tag) -> Self {
+        let chosen_script = Some(script);
+        PlanBuilder {
+            chosen_script,
+            ..self
+        }
+    }
+
+    /// Whether GSUB has the script that was asked for.
+    #[inline]
+    pub fn found_script(self, found_script: bool) -> Self {
+        PlanBuilder {
+            found_script,
+            ..self
+        }
+    }
+
+    /// Whether GPOS places marks.
+    #[inline]
+    pub fn has_gpos_mark(self, has_gpos_mark: bool) -> Self {
+        PlanBuilder {
+            has_gpos_mark,
+            ..self
+        }
+    }
+
+    /// Where the tiles of a stretched mark begin.
+    #[inline]
+    pub fn stretch_start(self, stretch_start: StretchStart) -> Self {
+        PlanBuilder {
+            stretch_start,
+            ..self
+        }
+    }
+
+    /// The map of the features, stages and lookups.
+    pub fn build_map(self) -> Result<Map, PlanError> {
+        let map = Map::from_slices(
+            Global,
+            self.features,
+            self.stages,
+            self.lookups,
+            self.global_mask,
+            self.chosen_script,
+            self.found_script,
+        );
+        // want of memory is its only refusal
+        map.map_err(|_| PlanError::Memory)?
+            .ok_or_else(|| self.fault())
+    }
+
+    /// The plan, without what a shaper keeps in it.
+    pub fn build(self) -> Result<Plan, PlanError> {
+        let mut plan = Plan::new(self.script, self.build_map()?);
+        plan.has_gpos_mark = self.has_gpos_mark;
+        plan.stretch_start = self.stretch_start;
+        Ok(plan)
+    }
+
+    /// The plan, with what the shaper keeps in it, if it keeps anything.
+    pub fn build_for(self, shaper: Shaper) -> Result<Plan, PlanError> {
+        Ok(shaper.with_data(self.build()?))
+    }
+
+    // What is no map's.
+    fn fault(self) -> PlanError {
+        let touches_flags = |feature: &FeatureMap| feature.mask & 7 != 0;
+        match self.features.iter().position(touches_flags) {
+            Some(place) => PlanError::FeatureMask(place),
+            None => PlanError::Stage(self.stray_stage()),
+        }
+    }
+
+    // The first stage that isn't a range of the lookups.
+    fn stray_stage(self) -> usize {
+        let is_range =
+            |stage: &Range<usize>| stage.start <= stage.end && stage.end <= self.lookups.len();
+        self.stages
+            .iter()
+            .take_while(|stage| is_range(stage))
+            .count()
+    }
+}
+
+/// Why a plan can't be built. Places count from 0.
+#[derive(Clone, Copy, Debug, PartialEq, Eq)]
+#[non_exhaustive]
+pub enum PlanError {
+    /// A request for memory was refused.
+    Memory,
+    /// The mask of the feature at this place touches the low three bits, which are glyph flags.
+    FeatureMask(usize),
+    /// The stage at this place isn't a range of the lookups.
+    Stage(usize),
+}
+
+impl fmt::Display for PlanError {
+    fn fmt(&self, f: &mut fmt::Formatter<'_>) -> fmt::Result {
+        match self {
+            PlanError::Memory => AllocError.fmt(f),
+            PlanError::FeatureMask(place) => {
+                write!(f, "the mask of feature {place} touches a glyph flag")
+            }
+            PlanError::Stage(place) => write!(f, "stage {place} isn't a range of the lookups"),
+        }
+    }
+}
+
+impl Error for PlanError {}
+
+#[cfg(test)]
+mod tests {
+    use super::*;
+    use crate::plan::PlanData;
+    use std::string::ToString;
+
+    const PREF: FeatureMap = FeatureMap::new(Tag(*b"pref"), 0x10, 1);
+    const RLIG: FeatureMap = FeatureMap::new(Tag(*b"rlig"), 0x24, 0);
+
+    fn error_of(plan: PlanBuilder<'_>) -> PlanError {
+        plan.build().unwrap_err()
+    }
+
+    #[test]
+    fn a_plan_has_what_it_is_built_of() {
+        let plan = Plan::builder()
+            .script(Script(*b"Khmr"))
+            .features(&[PREF])
+            .stages(&[0..0, 0..2])
+            .lookups(&[14, 15])
+            .global_mask(0x100)
+            .chosen_script(Tag(*b"khmr"))
+            .found_script(true)
+            .has_gpos_mark(true)
+            .stretch_start(StretchStart::Centred)
+            .build()
+            .unwrap();
+        let table = crate::map::TableIndex::GSUB;
+        assert_eq!(plan.script, Some(Script(*b"Khmr")));
+        assert!(plan.has_gpos_mark);
+        assert_eq!(plan.stretch_start, StretchStart::Centred);
+        assert_eq!(plan.plan_data, PlanData::None);
+        assert_eq!(plan.ot_map.get_1_mask(PREF.tag), 0x10);
+        assert_eq!(plan.ot_map.get_feature_stage(table, PREF.tag), Some(1));
+        assert_eq!(plan.ot_map.stage_lookup_range(table, 1), 0..2);
+        assert_eq!(plan.ot_map.lookups(&(0..2)), [14, 15]);
+        assert_eq!(plan.ot_map.get_global_mask(), 0x100);
+        assert_eq!(plan.ot_map.chosen_script(table), Some(Tag(*b"khmr")));
+        assert!(plan.ot_map.found_script(table));
+    }
+
+    #[test]
+    fn a_plan_is_empty_where_nothing_is_said() {
+        let plan = Plan::builder().build().unwrap();
+        assert_eq!((plan.script, plan.has_gpos_mark), (None, false));
+        assert_eq!(plan.stretch_start, StretchStart::AsCode);
+        assert_eq!(plan.ot_map.get_global_mask(), 0);
+    }
+
+    #[test]
+    fn a_plan_is_built_with_the_data_of_its_shaper() {
+        let plan = Plan::builder().features(&[PREF]).build_for(Shaper::Khmer);
+        let plan = plan.unwrap();
+        assert_eq!(plan.plan_data.khmer().unwrap().mask_array[0], 0x10);
+        let plan = Plan::builder().build_for(Shaper::Thai).unwrap();
+        assert_eq!(plan.plan_data, PlanData::None);
+    }
+
+    #[test]
+    fn what_is_no_map_is_an_error_with_its_place() {
+        let flagged = Plan::builder().features(&[PREF, RLIG]);
+        assert_eq!(error_of(flagged), PlanError::FeatureMask(1));
+        let long = Plan::builder().stages(&[0..1, 0..2]).lookups(&[9]);
+        assert_eq!(error_of(long), PlanError::Stage(1));
+        let backwards = Range { start: 1, end: 0 };
+        let stages = [backwards];
+        let backwards = Plan::builder().stages(&stages).lookups(&[9]);
+        assert_eq!(error_of(backwards), PlanError::Stage(0));
+        assert_eq!(
+            error_of(flagged).to_string(),
+            "the mask of feature 1 touches a glyph flag"
+        );
+    }
+}

@@ -1,0 +1,205 @@
+//! Script shapers of text layout: Arabic, Hangul, Hebrew, the Indic scripts, Khmer, Myanmar, Thai and
+//! Lao, and the universal shaper.
+//!
+//! They are the hooks of rustybuzz's shapers, which stand between Unicode text and a font's lookups
+//! and rewrite a buffer of glyphs. What is around them is the caller's: lookups, normalization, the
+//! machines that find syllables, and Unicode's tables. The crate has no dependencies and no `unsafe`,
+//! and needs `alloc` alone.
+//!
+//! It is generated from proved sources, by deleting their contracts, and tested against the proved
+//! program; the contract of each function stands in its documentation.
+//!
+//! # Quick start
+//!
+//! Thai puts SARA AM in two, and the tone that stood before it behind NIKHAHIT:
+//!
+//! ```
+//! use sengadlit::font::NominalOnly;
+//! use sengadlit::{Buffer, GlyphId, Plan, Shaper, script};
+//!
+//! // a font with a glyph for each character of Thai
+//! let number = |c: u32| u16::try_from(c).ok()?.checked_sub(0x0E00);
+//! let font = NominalOnly(|c| number(c).filter(|number| *number < 0x80).map(GlyphId));
+//!
+//! let plan = Plan::builder().script(script::THAI).build_for(Shaper::Thai)?;
+//! let mut buffer = Buffer::from("\u{0E14}\u{0E4B}\u{0E33}");
+//! Shaper::Thai.preprocess_text(&plan, &font, &mut buffer)?;
+//!
+//! let characters: Vec<u32> = buffer.glyphs().iter().map(|glyph| glyph.glyph_id).collect();
+//! assert_eq!(characters, [0x0E14, 0x0E4D, 0x0E4B, 0x0E32]);
+//! # Ok::<(), Box<dyn std::error::Error>>(())
+//! ```
+//!
+//! # The hooks in the order of a pipeline
+//!
+//! Each is a method of [`Shaper`]; one that the shaper lacks returns `None` and changes nothing.
+//!
+//! 1. *Plan time*, once for a script and a font: [`collect_features`] and [`override_features`] fill
+//!    a [`Planner`] with features and pauses. The caller makes of them a [`Plan`], with
+//!    [`Plan::builder`] and [`Shaper::with_data`] (or [`create_data`]).
+//! 2. *Text*: [`Buffer`] takes the characters, their clusters and general categories.
+//!    [`preprocess_text`] rewrites them.
+//! 3. *Normalization*: [`decompose`], [`compose`], and [`reorder_marks`] for each run of marks;
+//!    [`normalization_preference`] says how.
+//! 4. [`setup_masks`] says what each character is, and which features it takes. Then characters
+//!    become glyphs.
+//! 5. *Lookups*, stage by stage; between two stages [`run_pause`] does what the planner's requests
+//!    name there: syllables are set up from [`Span`]s, reordered, recorded.
+//! 6. *Positioning*: [`zero_width_marks`], [`fallback_position`] and [`gpos_tag`] say how. Then
+//!    [`postprocess_glyphs`] stretches marks over their words.
+//!
+//! A Khmer word between steps 4 and 5:
+//!
+//! ```
+//! # use sengadlit::font::NominalOnly;
+//! # let font = NominalOnly(|_| None);
+//! use sengadlit::ot_shaper_syllabic::khmer_syllable::CONSONANT_SYLLABLE;
+//! use sengadlit::plan::ot_category_t::{OT_C, OT_VPre};
+//! use sengadlit::{Buffer, GlyphInfo, Pause, Plan, Shaper, Span, run_pause, script};
+//!
+//! let plan = Plan::builder().script(script::KHMER).build_for(Shaper::Khmer)?;
+//! let letter = |c, cluster, category| GlyphInfo { category, ..GlyphInfo::of_character(c, cluster) };
+//! // KA, and the vowel sign E, which is drawn in front of it
+//! let letters = [letter('\u{1780}', 0, OT_C), letter('\u{17C1}', 3, OT_VPre)];
+//! let mut buffer: Buffer = letters.into_iter().collect();
+//! let spans = [Span { len: 2, kind: CONSONANT_SYLLABLE }];
+//! run_pause(Pause::SetupSyllablesKhmer, &plan, &font, &spans, &mut buffer)?;
+//! run_pause(Pause::ReorderKhmer, &plan, &font, &[], &mut buffer)?;
+//!
+//! let glyphs: Vec<_> = buffer.glyphs().iter().map(|glyph| (glyph.glyph_id, glyph.cluster)).collect();
+//! assert_eq!(glyphs, [(0x17C1, 0), (0x1780, 0)]);
+//! # Ok::<(), Box<dyn std::error::Error>>(())
+//! ```
+//!
+//! # What a caller owes
+//!
+//! - **Conditions.** Some calls have conditions, `requires` in the contract. Where one isn't met the
+//!   result is unspecified and the call may panic; memory stays safe.
+//!
+//!   | call | asks |
+//!   |---|---|
+//!   | [`preprocess_text`], [`setup_masks`], [`reorder_marks`], [`run_pause`] | the buffer has no positions |
+//!   | [`setup_masks`] | for Arabic, Hangul and universal: the plan has the shaper's data; for Arabic, and for universal where letters join: glyphs are characters |
+//!   | [`reorder_marks`] | `start <= end`, and `end` is within the buffer; for Arabic, at most 32 places |
+//!   | [`run_pause`] | kinds of spans are at most 15; the plan has the data that the pause reads |
+//!   | [`postprocess_glyphs`] | a position a glyph; for Arabic, its data in the plan, and glyph numbers of at most 65535 |
+//!
+//!   [`Shaper::with_data`] and [`Plan::builder`] make plans that fit. Whoever can't know calls the
+//!   checked methods, which test the conditions before they change anything: see `shaper::checked`.
+//! - **Answers.** A [`Font`] and [`Tables`] give the same answer to the same question.
+//! - **Refusals.** A call that returns a [`ShaperError`] has changed nothing.
+//!
+//! # What is stable
+//!
+//! The names in the public modules, their signatures and meaning; the numbers of enums and flags;
+//! the layout of [`GlyphInfo`], [`GlyphPosition`] and [`Span`] (`repr(C)`, as their documentation
+//! states it). Before 1.0 a new minor version may change them, and CHANGELOG.md says how. Not stable:
+//! the wording of contracts, what `Debug` prints, the order in which a font is asked, and the fields
+//! of [`Plan`], which is built by [`Plan::builder`] or [`Plan::new`] so that a new one breaks nobody.
+//!
+//! # Features
+//!
+//! `std` (on by default): a refused request for memory becomes a `std::io::Error`. Without it the
+//! crate is `no_std`.
+//!
+//! [`collect_features`]: Shaper::collect_features
+//! [`override_features`]: Shaper::override_features
+//! [`create_data`]: Shaper::create_data
+//! [`preprocess_text`]: Shaper::preprocess_text
+//! [`decompose`]: Shaper::decompose
+//! [`compose`]: Shaper::compose
+//! [`reorder_marks`]: Shaper::reorder_marks
+//! [`normalization_preference`]: Shaper::normalization_preference
+//! [`setup_masks`]: Shaper::setup_masks
+//! [`zero_width_marks`]: Shaper::zero_width_marks
+//! [`fallback_position`]: Shaper::fallback_position
+//! [`gpos_tag`]: Shaper::gpos_tag
+//! [`postprocess_glyphs`]: Shaper::postprocess_glyphs
+#![no_std]
+#![forbid(unsafe_code)]
+#![warn(missing_docs, missing_debug_implementations)]
+
+extern crate alloc as rust_alloc;
+#[cfg(any(test, feature = "std"))]
+extern crate std;
+
+mod builder;
+mod fonts;
+mod numbers;
+mod references;
+mod support;
+mod text;
+mod values;
+
+/// The modules that the eraser makes of the sources, one for each crate of theirs.
+#[allow(
+    non_camel_case_types,
+    non_upper_case_globals,
+    unused_imports,
+    reason = "names as the sources and OpenType have them; the sources name again what other crates take"
+)]
+mod generated {
+    pub(crate) mod rustybuzz_shapers;
+    pub(crate) mod shapers_arabic;
+    pub(crate) mod shapers_base;
+    pub(crate) mod shapers_buffer;
+    pub(crate) mod shapers_hangul;
+    pub(crate) mod shapers_indic;
+    pub(crate) mod shapers_indic_final;
+    pub(crate) mod shapers_indic_initial;
+    pub(crate) mod shapers_khmer;
+    pub(crate) mod shapers_myanmar;
+    pub(crate) mod shapers_stretch;
+    pub(crate) mod shapers_syllabic;
+    pub(crate) mod shapers_text;
+    pub(crate) mod shapers_universal;
+}
+
+pub mod alloc;
+pub mod buffer;
+pub mod flags;
+pub mod font;
+pub mod map;
+pub mod ot_shaper_arabic;
+pub mod ot_shaper_hangul;
+pub mod ot_shaper_hebrew;
+pub mod ot_shaper_indic;
+pub mod ot_shaper_khmer;
+pub mod ot_shaper_myanmar;
+pub mod ot_shaper_syllabic;
+pub mod ot_shaper_thai;
+pub mod ot_shaper_use;
+pub mod plan;
+pub mod rustybuzz;
+pub mod script;
+pub mod shaper;
+
+pub use buffer::{
+    Buffer, BufferClusterLevel, BufferFlags, Direction, GeneralCategory, GlyphInfo, GlyphPosition,
+    Script, ShaperError, Span, Tag,
+};
+pub use font::{Font, GlyphId, Tables};
+pub use map::{FeatureMap, Map};
+pub use plan::{JoiningType, Pause, Plan, PlanData, Planner, Preprocess, Request};
+pub use shaper::{Shaper, run_pause};
+
+/// What is shared between threads, or moved to another one.
+const _: () = {
+    const fn crosses_threads<T: Send + Sync>() {}
+    crosses_threads::<Buffer>();
+    crosses_threads::<GlyphInfo>();
+    crosses_threads::<GlyphPosition>();
+    crosses_threads::<Map>();
+    crosses_threads::<Plan>();
+    crosses_threads::<Planner>();
+    crosses_threads::<Shaper>();
+    crosses_threads::<ShaperError>();
+    crosses_threads::<Span>();
+    crosses_threads::<alloc::Vec<GlyphInfo>>();
+    crosses_threads::<plan::PlanBuilder<'_>>();
+};
+
+/// The code of README.md, which is tested as this page's is.
+#[cfg(doctest)]
+#[doc = include_str!("../README.md")]
+struct Readme;

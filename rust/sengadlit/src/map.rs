@@ -1,0 +1,6 @@
+//! The map: what a font's GSUB table and the wanted features make of each other.
+
+pub use crate::generated::shapers_base::map::{
+    F_GLOBAL, F_HAS_FALLBACK, F_MANUAL_JOINERS, F_MANUAL_ZWJ, F_MANUAL_ZWNJ, F_NONE,
+    F_PER_SYLLABLE, FeatureMap, Map, TableIndex,
+};

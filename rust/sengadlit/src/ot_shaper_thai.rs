@@ -1,0 +1,3 @@
+//! The shaper of Thai and Lao.
+
+pub use crate::shaper::THAI_SHAPER;

@@ -1,0 +1,10 @@
+//! The planner and the plan: what a shaper asks of a font, and what it keeps for one script and
+//! font.
+
+pub use crate::builder::{PlanBuilder, PlanError};
+pub use crate::generated::shapers_base::plan::{
+    ArabicPlan, BlwfMode, Category, HangulPlan, IndicConfig, IndicPlan,
+    IndicWouldSubstituteFeature, JoiningType, KhmerPlan, NormalizationMode, Pause, Plan, PlanData,
+    Planner, Position, Preprocess, RephMode, RephPosition, Request, StretchStart, UniversalPlan,
+    ZeroWidthMarks, ot_category_t, ot_position_t,
+};

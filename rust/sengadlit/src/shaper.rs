@@ -1,0 +1,7 @@
+//! The shapers, a method a hook, and what runs between two stages of lookups.
+
+pub use crate::generated::rustybuzz_shapers::shaper::{
+    ARABIC_SHAPER, HANGUL_SHAPER, HEBREW_SHAPER, INDIC_SHAPER, KHMER_SHAPER, MYANMAR_SHAPER,
+    MYANMAR_ZAWGYI_SHAPER, NormalizationMode, Pause, PlanData, Preprocess, Shaper, THAI_SHAPER,
+    UNIVERSAL_SHAPER, ZeroWidthMarks, pause_fits, run_pause,
+};

@@ -1,0 +1,143 @@
+//! Texts into buffers, and glyphs out of them.
+
+use crate::alloc::{Global, Vec};
+use crate::buffer::{Buffer, GeneralCategory, GlyphInfo, GlyphPosition, ShaperError};
+use crate::font::Tables;
+use core::fmt;
+use core::slice;
+
+impl GlyphInfo {
+    /// A character in its cluster, of category Cc, with nothing else.
+    #[inline]
+    pub const fn of_character(character: char, cluster: u32) -> Self {
+        GlyphInfo {
+            glyph_id: character as u32,
+            cluster,
+            ..GlyphInfo::DEFAULT
+        }
+    }
+}
+
+impl Default for GlyphInfo {
+    #[inline]
+    fn default() -> Self {
+        GlyphInfo::DEFAULT
+    }
+}
+
+impl Default for GlyphPosition {
+    #[inline]
+    fn default() -> Self {
+        GlyphPosition::ZERO
+    }
+}
+
+impl Buffer {
+    /// The greatest length of a buffer that [`Buffer::default`] makes.
+    pub const MAX_LEN_DEFAULT: usize = 0x3FFF_FFFF;
+
+    /// Adds the characters of a text, each of general category Cc; see
+    /// [`Buffer::set_general_categories`]. Their clusters are the places of their bytes in the
+    /// text. Returns [`ShaperError::Memory`], or [`ShaperError::TooLong`] also where a place has more
+    /// than 32 bits, and then adds nothing.
+    pub fn push_str(&mut self, text: &str) -> Result<(), ShaperError> {
+        if u32::try_from(text.len()).is_err() {
+            return Err(ShaperError::TooLong);
+        }
+        let start = self.len();
+        self.grow(text.chars().count())?;
+        for (glyph, (place, character)) in (start..).zip(text.char_indices()) {
+            // it fits, as the length of the text does
+            let cluster = place as u32;
+            self.set(glyph, GlyphInfo::of_character(character, cluster));
+        }
+        Ok(())
+    }
+
+    /// Sets the general category of each character, as the tables have it. Marks that stretch read
+    /// it, and Indic where a word begins. What is no character stays as it is.
+    pub fn set_general_categories<T: Tables>(&mut self, tables: &T) {
+        self.with_glyphs_mut(|glyphs| set_categories(tables, glyphs));
+    }
+
+    /// Sets the text before the buffer's, of which the last five characters are kept, and the text
+    /// after it, of which the first five are kept.
+    pub fn set_contexts(&mut self, before: &str, after: &str) {
+        self.set_pre_context(nearest(before.chars().rev(), &mut [' '; 5]));
+        self.set_post_context(nearest(after.chars(), &mut [' '; 5]));
+    }
+}
+
+/// An empty buffer of the default greatest length. It takes no memory.
+impl Default for Buffer {
+    fn default() -> Self {
+        Buffer::new(Global, Buffer::MAX_LEN_DEFAULT)
+    }
+}
+
+/// A buffer of the characters of a text, as [`Buffer::push_str`] adds them.
+///
+/// # Panics
+///
+/// Where `push_str` returns an error: the text is too long, or memory is refused.
+impl From<&str> for Buffer {
+    fn from(text: &str) -> Self {
+        let mut buffer = Buffer::default();
+        let pushed = buffer.push_str(text);
+        pushed.expect("the text fits the buffer and memory");
+        buffer
+    }
+}
+
+/// A buffer of glyphs.
+///
+/// # Panics
+///
+/// If there are 2³⁰ glyphs or more, or memory is refused.
+impl FromIterator<GlyphInfo> for Buffer {
+    fn from_iter<I: IntoIterator<Item = GlyphInfo>>(glyphs: I) -> Self {
+        let glyphs: rust_alloc::vec::Vec<_> = glyphs.into_iter().collect();
+        let mut buffer = Buffer::default();
+        let replaced = buffer.replace_glyphs(Vec::from(glyphs));
+        replaced.expect("the glyphs fit the buffer and memory");
+        buffer
+    }
+}
+
+impl<'a> IntoIterator for &'a Buffer {
+    type Item = &'a GlyphInfo;
+    type IntoIter = slice::Iter<'a, GlyphInfo>;
+
+    #[inline]
+    fn into_iter(self) -> slice::Iter<'a, GlyphInfo> {
+        self.glyphs().iter()
+    }
+}
+
+// The first characters of these, in the room that is given.
+fn nearest(characters: impl Iterator<Item = char>, room: &mut [char; 5]) -> &[char] {
+    let mut len = 0;
+    for (to, character) in room.iter_mut().zip(characters) {
+        *to = character;
+        len += 1;
+    }
+    &room[..len]
+}
+
+// Sets the general category of each character.
+fn set_categories<T: Tables>(tables: &T, glyphs: &mut [GlyphInfo]) {
+    for glyph in glyphs {
+        if let Some(character) = char::from_u32(glyph.glyph_id) {
+            glyph.general_category = tables.general_category(character);
+        }
+    }
+}
+
+impl fmt::Display for GeneralCategory {
+    fn fmt(&self, f: &mut fmt::Formatter<'_>) -> fmt::Result {
+        fmt::Debug::fmt(self, f)
+    }
+}
+
+#[cfg(test)]
+mod tests;

@@ -1,0 +1,113 @@
+use super::*;
+use crate::buffer::{BufferClusterLevel, Direction};
+use crate::plan::{Category, JoiningType, Position};
+use std::string::ToString;
+use std::vec::Vec as List;
+
+/// Tables in which letters of Thai are Lo and all else Cn.
+struct Letters;
+
+impl Tables for Letters {
+    fn joining_type(&self, _c: char) -> JoiningType {
+        JoiningType::U
+    }
+
+    fn general_category(&self, c: char) -> GeneralCategory {
+        match c {
+            '\u{0E01}'..='\u{0E2E}' => GeneralCategory::Lo,
+            _ => GeneralCategory::Cn,
+        }
+    }
+
+    fn indic_categories(&self, _c: u32) -> (Category, Position) {
+        (0, 14)
+    }
+
+    fn use_category(&self, _c: u32) -> Category {
+        0
+    }
+
+    fn compose(&self, _a: char, _b: char) -> Option<char> {
+        None
+    }
+
+    fn decompose(&self, _ab: char) -> Option<(char, char)> {
+        None
+    }
+}
+
+fn clusters(buffer: &Buffer) -> List<(u32, u32)> {
+    let pair = |glyph: &GlyphInfo| (glyph.glyph_id, glyph.cluster);
+    buffer.into_iter().map(pair).collect()
+}
+
+#[test]
+fn a_default_buffer_is_empty() {
+    let buffer = Buffer::default();
+    assert!(buffer.is_empty());
+    assert_eq!(buffer.max_len(), Buffer::MAX_LEN_DEFAULT);
+    assert_eq!(buffer.direction(), Direction::LeftToRight);
+    let level = BufferClusterLevel::MonotoneGraphemes;
+    assert_eq!(buffer.cluster_level(), level);
+    assert_eq!(
+        (GlyphInfo::default(), GlyphPosition::default()),
+        (GlyphInfo::DEFAULT, GlyphPosition::ZERO)
+    );
+}
+
+#[test]
+fn characters_have_the_places_of_their_bytes_as_clusters() {
+    let mut buffer = Buffer::from("a\u{0E01}b");
+    assert_eq!(clusters(&buffer), [(0x61, 0), (0xE01, 1), (0x62, 4)]);
+    buffer.push_str("cd").unwrap();
+    assert_eq!(clusters(&buffer)[3..], [(0x63, 0), (0x64, 1)]);
+    assert!(Buffer::from("").is_empty());
+}
+
+#[test]
+fn a_text_that_is_too_long_adds_nothing() {
+    let mut buffer = Buffer::new(Global, 2);
+    buffer.push_str("a").unwrap();
+    assert_eq!(buffer.push_str("bc"), Err(ShaperError::TooLong));
+    assert_eq!(clusters(&buffer), [(0x61, 0)]);
+    assert_eq!(buffer.push_str("b"), Ok(()));
+}
+
+#[test]
+fn a_buffer_is_collected_from_glyphs() {
+    let glyphs = [
+        GlyphInfo::of_character('a', 7),
+        GlyphInfo::of_character('b', 9),
+    ];
+    let buffer: Buffer = glyphs.into_iter().collect();
+    assert_eq!(buffer.glyphs(), glyphs);
+}
+
+#[test]
+fn categories_are_those_of_the_tables() {
+    let mut buffer = Buffer::from("a\u{0E01}");
+    let surrogate = GlyphInfo {
+        glyph_id: 0xD800,
+        ..GlyphInfo::DEFAULT
+    };
+    buffer.push(surrogate).unwrap();
+    buffer.set_general_categories(&Letters);
+    let categories = buffer.into_iter().map(|glyph| glyph.general_category);
+    let (cn, lo) = (GeneralCategory::Cn, GeneralCategory::Lo);
+    assert!(categories.eq([cn, lo, GeneralCategory::Cc]));
+}
+
+#[test]
+fn contexts_are_kept_as_far_as_five_characters() {
+    let mut buffer = Buffer::default();
+    buffer.set_contexts("abcdefg", "xy");
+    assert_eq!(buffer.pre_context(), ['g', 'f', 'e', 'd', 'c']);
+    assert_eq!(buffer.post_context(), ['x', 'y']);
+    buffer.set_contexts("", "");
+    assert!(buffer.pre_context().is_empty() && buffer.post_context().is_empty());
+}
+
+#[test]
+fn categories_are_shown_by_their_names() {
+    assert_eq!(GeneralCategory::Lo.to_string(), "Lo");
+}

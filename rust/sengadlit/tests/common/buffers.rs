@@ -1,0 +1,255 @@
+//! Buffers drawn by lot, and what a buffer holds.
+
+use super::numbers::Numbers;
+use sengadlit::alloc::{Global, Vec as List};
+use sengadlit::buffer::{
+    Buffer, BufferClusterLevel, BufferFlags, Direction, GeneralCategory, GlyphInfo, GlyphMarks,
+    GlyphPosition, Script, Span,
+};
+
+/// All that a caller can read of a buffer, to compare what was with what is.
+#[derive(Clone, Debug, PartialEq)]
+pub struct Contents {
+    pub glyphs: Vec<GlyphInfo>,
+    pub positions: Vec<GlyphPosition>,
+    places: Vec<usize>,
+    contexts: (Vec<char>, Vec<char>),
+    settings: (Direction, Option<Script>, BufferClusterLevel, BufferFlags),
+    marks: (bool, bool),
+    max_len: usize,
+}
+
+impl Contents {
+    /// What a buffer holds, the list of places left out.
+    pub fn of(buffer: &Buffer) -> Self {
+        Contents {
+            glyphs: buffer.glyphs().to_vec(),
+            positions: buffer.positions().to_vec(),
+            places: Vec::new(),
+            contexts: (
+                buffer.pre_context().to_vec(),
+                buffer.post_context().to_vec(),
+            ),
+            settings: (
+                buffer.direction(),
+                buffer.script(),
+                buffer.cluster_level(),
+                buffer.flags(),
+            ),
+            marks: (buffer.has_broken_syllable(), buffer.has_stch()),
+            max_len: buffer.max_len(),
+        }
+    }
+
+    /// The same with the list of places, which a refused call leaves too.
+    pub fn with_places(buffer: &Buffer) -> Self {
+        Contents {
+            places: (0..buffer.len()).map(|i| buffer.place(i)).collect(),
+            ..Contents::of(buffer)
+        }
+    }
+
+    /// The clusters, each once, in rising order.
+    pub fn clusters(&self) -> Vec<u32> {
+        sorted(self.glyphs.iter().map(|glyph| glyph.cluster), true)
+    }
+
+    /// The caller's numbers of the glyphs in rising order.
+    pub fn vars(&self) -> Vec<u32> {
+        sorted(self.glyphs.iter().map(|glyph| glyph.var), false)
+    }
+}
+
+/// Numbers in rising order, each once if that is asked.
+pub fn sorted(numbers: impl Iterator<Item = u32>, once: bool) -> Vec<u32> {
+    let mut numbers: Vec<_> = numbers.collect();
+    numbers.sort_unstable();
+    if once {
+        numbers.dedup();
+    }
+    numbers
+}
+
+/// A buffer of these glyphs.
+pub fn buffer_of(glyphs: &[GlyphInfo], max_len: usize) -> Buffer {
+    let mut buffer = Buffer::new(Global, max_len);
+    for glyph in glyphs {
+        buffer.push(*glyph).unwrap();
+    }
+    buffer
+}
+
+/// A buffer of these characters with clusters 0, 1, 2 ..
+pub fn text_of(characters: &[u32], max_len: usize) -> Buffer {
+    let glyphs: Vec<_> = (0..).zip(characters).map(|(i, c)| letter(*c, i)).collect();
+    buffer_of(&glyphs, max_len)
+}
+
+/// A letter of a cluster.
+pub fn letter(glyph_id: u32, cluster: u32) -> GlyphInfo {
+    GlyphInfo {
+        glyph_id,
+        cluster,
+        var: cluster,
+        general_category: GeneralCategory::Lo,
+        ..GlyphInfo::DEFAULT
+    }
+}
+
+/// Gives the glyphs positions with these advances.
+pub fn set_advances(buffer: &mut Buffer, advances: &[i32]) {
+    let positions: Vec<_> = advances
+        .iter()
+        .map(|&x_advance| GlyphPosition {
+            x_advance,
+            ..GlyphPosition::ZERO
+        })
+        .collect();
+    assert!(buffer.set_positions(List::from_slice(Global, &positions).unwrap()));
+}
+
+/// A buffer that holds the same.
+pub fn copy_of(buffer: &Buffer) -> Buffer {
+    buffer.copy().unwrap()
+}
+
+/// Which glyphs a buffer drawn by lot may have.
+#[derive(Clone, Copy, Debug, PartialEq, Eq)]
+pub enum Glyphs {
+    /// Characters of the scripts' blocks.
+    Letters,
+    /// Whatever fits in the fields.
+    Any,
+}
+
+/// The first characters of blocks whose letters the shapers know.
+const BLOCKS: [u32; 12] = [
+    0x590, 0x620, 0x710, 0x915, 0xE30, 0xEB0, 0x1000, 0x1100, 0x1160, 0x1780, 0x1800, 0xAC00,
+];
+
+/// A buffer drawn by lot, without positions. Each glyph's number of the caller is its place.
+pub fn random_buffer(numbers: &mut Numbers, kind: Glyphs) -> Buffer {
+    let most = numbers.one_of(&[3, 10, 24, 24, 60]);
+    let length = numbers.below(most);
+    let block = numbers.one_of(&BLOCKS);
+    let clusters = random_clusters(numbers, length);
+    let glyphs: Vec<_> = (0..length)
+        .map(|i| GlyphInfo {
+            cluster: clusters[i],
+            var: i as u32,
+            ..random_glyph(numbers, kind, block)
+        })
+        .collect();
+    let mut buffer = buffer_of(&glyphs, length);
+    set_anything(numbers, &mut buffer);
+    buffer
+}
+
+/// Settings, contexts and marks drawn by lot.
+fn set_anything(numbers: &mut Numbers, buffer: &mut Buffer) {
+    buffer.set_max_len(buffer.len() + numbers.below(200));
+    buffer.set_cluster_level(numbers.one_of(&[
+        BufferClusterLevel::MonotoneGraphemes,
+        BufferClusterLevel::MonotoneCharacters,
+        BufferClusterLevel::Characters,
+    ]));
+    buffer.set_direction(numbers.one_of(&[Direction::LeftToRight, Direction::RightToLeft]));
+    buffer.set_flags(BufferFlags(numbers.below(8) as u32 * 0x20));
+    buffer.set_script(Some(Script(*numbers.one_of(&super::plans::SCRIPTS))));
+    buffer.set_pre_context(&['\u{628}', 'a'][..numbers.below(3)]);
+    buffer.set_post_context(&['\u{64B}', '\u{628}'][..numbers.below(3)]);
+    buffer.set_has_broken_syllable(numbers.once_in(2));
+    buffer.set_has_stch(numbers.once_in(2));
+}
+
+/// Clusters drawn by lot: rising, falling, all the same, or in no order.
+fn random_clusters(numbers: &mut Numbers, length: usize) -> Vec<u32> {
+    let kind = numbers.below(5);
+    (0..length as u32)
+        .map(|i| match kind {
+            0 => i,
+            1 => i / 3,
+            2 => length as u32 - i,
+            3 => 7,
+            _ => numbers.number(),
+        })
+        .collect()
+}
+
+fn random_glyph(numbers: &mut Numbers, kind: Glyphs, block: u32) -> GlyphInfo {
+    let glyph_id = match kind {
+        Glyphs::Letters => block + numbers.below(48).min(numbers.below(48)) as u32,
+        Glyphs::Any => numbers.number(),
+    };
+    GlyphInfo {
+        glyph_id,
+        mask: numbers.number(),
+        syllable: random_syllable(numbers, kind),
+        category: random_byte(numbers, kind, 56),
+        auxiliary: random_byte(numbers, kind, 15),
+        general_category: numbers.one_of(&GeneralCategory::ALL),
+        modified_combining_class: random_class(numbers),
+        lig_comp: numbers.below(16) as u8,
+        marks: GlyphMarks(numbers.below(32) as u8),
+        ..GlyphInfo::DEFAULT
+    }
+}
+
+/// A syllable byte: few serials, so that syllables have several glyphs, and any kind once in a
+/// while.
+fn random_syllable(numbers: &mut Numbers, kind: Glyphs) -> u8 {
+    match kind {
+        Glyphs::Letters => (numbers.below(2) * 16 + numbers.below(3)) as u8,
+        Glyphs::Any if numbers.once_in(30) => numbers.byte(),
+        Glyphs::Any => (numbers.below(2) * 16 + numbers.below(8)) as u8,
+    }
+}
+
+/// A byte below `end`, or any.
+fn random_byte(numbers: &mut Numbers, kind: Glyphs, end: usize) -> u8 {
+    match kind {
+        Glyphs::Any if numbers.once_in(4) => numbers.byte(),
+        _ => numbers.below(end) as u8,
+    }
+}
+
+fn random_class(numbers: &mut Numbers) -> u8 {
+    match numbers.below(10) {
+        0 => numbers.byte(),
+        _ => numbers.one_of(&[0, 0, 20, 21, 22, 23, 25, 26, 220, 230]),
+    }
+}
+
+/// Positions with advances drawn by lot, some of them extreme.
+pub fn set_random_positions(numbers: &mut Numbers, buffer: &mut Buffer) {
+    let is_extreme = numbers.once_in(4);
+    let advances: Vec<_> = (0..buffer.len())
+        .map(|_| match is_extreme {
+            true => numbers.number() as i32,
+            false => numbers.below(3000) as i32,
+        })
+        .collect();
+    set_advances(buffer, &advances);
+}
+
+/// Spans drawn by lot, which mostly cover so many glyphs. Kinds are at most `last_kind`.
+pub fn random_spans(numbers: &mut Numbers, length: usize, last_kind: u8) -> Vec<Span> {
+    let mut spans = Vec::new();
+    let mut rest = length;
+    while rest > 0 {
+        let len = 1 + numbers.below(rest.min(6));
+        let kind = numbers.below(usize::from(last_kind) + 1) as u8;
+        spans.push(Span { len, kind });
+        rest -= len;
+    }
+    match numbers.below(40) {
+        0 => drop(spans.pop()),
+        1 => spans.push(Span { len: 0, kind: 0 }),
+        2 => spans.push(Span {
+            len: usize::MAX,
+            kind: 0,
+        }),
+        _ => {}
+    }
+    spans
+}

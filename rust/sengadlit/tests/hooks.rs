@@ -1,0 +1,144 @@
+//! Which shaper has which hook, an empty text in each, and threads that share what is constant.
+
+mod common;
+
+use common::buffers::{Contents, set_advances, text_of};
+use common::calls::{Call, Returned, Setting};
+use common::fonts::{PlainFont, PlainTables};
+use common::plans::{SHAPERS, plan_of};
+use sengadlit::alloc::Global;
+use sengadlit::buffer::{Buffer, Script, ShaperError};
+use sengadlit::plan::{PlanData, Planner};
+use sengadlit::shaper::Shaper;
+
+/// Makes a call of a shaper on a text.
+fn make(call: Call, shaper: Shaper, text: &mut Buffer) -> Result<Returned, ShaperError> {
+    let setting = Setting {
+        shaper,
+        plan: &plan_of(shaper, b"Mong"),
+        font: &PlainFont(100),
+        tables: &PlainTables,
+        spans: &[],
+    };
+    match call.fits(&setting, text) {
+        true => call.make(&setting, text),
+        false => Ok(Returned::Absent),
+    }
+}
+
+#[test]
+fn an_empty_text_stays_empty() {
+    for shaper in SHAPERS {
+        for call in Call::all(0) {
+            let mut text = text_of(&[], 0);
+            let before = Contents::of(&text);
+            assert!(
+                make(call, shaper, &mut text).is_ok(),
+                "{call:?} of {shaper:?}"
+            );
+            assert_eq!(Contents::of(&text), before, "{call:?} of {shaper:?}");
+        }
+    }
+}
+
+/// The hooks that a shaper has, in the order of `HOOKS`.
+fn hooks_of(shaper: Shaper) -> [bool; 6] {
+    match shaper {
+        Shaper::Arabic => [false, true, true, true, false, false],
+        Shaper::Hangul => [true, true, false, false, false, false],
+        Shaper::Hebrew => [false, false, true, false, true, false],
+        Shaper::Indic => [true, true, false, false, true, true],
+        Shaper::Khmer => [false, true, false, false, true, true],
+        Shaper::Myanmar => [false, true, false, false, false, false],
+        Shaper::MyanmarZawgyi => [false; 6],
+        Shaper::Thai => [true, false, false, false, false, false],
+        Shaper::Universal => [true, true, false, false, true, false],
+    }
+}
+
+const HOOKS: [Call; 6] = [
+    Call::Preprocess,
+    Call::Masks,
+    Call::Marks(0, 2),
+    Call::Postprocess,
+    Call::Compose('\u{5D9}', '\u{5B4}'),
+    Call::Decompose('\u{931}'),
+];
+
+#[test]
+fn a_hook_that_a_shaper_lacks_changes_nothing() {
+    for shaper in SHAPERS {
+        let present = HOOKS.map(|call| {
+            let mut text = text_of(&[0x1820, 0x1821], 10);
+            if call.wants_positions() {
+                set_advances(&mut text, &[500, 600]);
+            }
+            let before = Contents::of(&text);
+            let is_absent = make(call, shaper, &mut text) == Ok(Returned::Absent);
+            assert!(!is_absent || Contents::of(&text) == before);
+            !is_absent
+        });
+        assert_eq!(present, hooks_of(shaper), "{shaper:?}");
+    }
+}
+
+#[test]
+fn shapers_ask_for_features() {
+    for shaper in SHAPERS {
+        let mut planner = Planner::new(Global, Some(Script(*b"Arab")));
+        let collects = shaper
+            .collect_features(&PlainFont(0), &mut planner)
+            .unwrap();
+        let collected = planner.requests().len();
+        let overrides = shaper.override_features(&mut planner).unwrap();
+        let lengths = (collected, planner.requests().len() - collected);
+        let wanted = match shaper {
+            Shaper::Arabic => (26, 0),
+            Shaper::Hangul => (3, 1),
+            Shaper::Indic => (33, 2),
+            Shaper::Khmer => (14, 2),
+            Shaper::Myanmar => (17, 0),
+            Shaper::Universal => (30, 0),
+            Shaper::Hebrew | Shaper::MyanmarZawgyi | Shaper::Thai => (0, 0),
+        };
+        assert_eq!(lengths, wanted, "{shaper:?}");
+        assert_eq!(
+            (collects.is_some(), overrides.is_some()),
+            (wanted.0 > 0, wanted.1 > 0)
+        );
+    }
+}
+
+#[test]
+fn shapers_keep_data() {
+    for shaper in SHAPERS {
+        let kept = plan_of(shaper, b"Deva").plan_data;
+        let is_kept = match shaper {
+            Shaper::Arabic => matches!(kept, PlanData::Arabic(_)),
+            Shaper::Hangul => matches!(kept, PlanData::Hangul(_)),
+            Shaper::Indic => matches!(kept, PlanData::Indic(_)),
+            Shaper::Khmer => matches!(kept, PlanData::Khmer(_)),
+            Shaper::Universal => matches!(kept, PlanData::Universal(_)),
+            _ => kept == PlanData::None,
+        };
+        assert!(is_kept, "{shaper:?}");
+    }
+}
+
+#[test]
+fn threads_share_a_plan() {
+    let plan = plan_of(Shaper::Thai, b"Thai");
+    let shape = || {
+        let mut text = text_of(&[0xE1B, 0xE49, 0xE33], 10);
+        let returned = Shaper::Thai.preprocess_text(&plan, &PlainFont(0), &mut text);
+        assert!(returned.is_ok());
+        Contents::of(&text)
+    };
+    let here = shape();
+    std::thread::scope(|scope| {
+        let threads: Vec<_> = (0..4).map(|_| scope.spawn(shape)).collect();
+        for thread in threads {
+            assert_eq!(thread.join().unwrap(), here);
+        }
+    });
+}

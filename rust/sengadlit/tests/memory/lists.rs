@@ -1,0 +1,141 @@
+//! Trials of the calls that grow a buffer, a planner's list, or a map.
+
+use crate::common::buffers::{buffer_of, letter, set_advances};
+use crate::common::fonts::PlainFont;
+use crate::common::plans::SHAPERS;
+use crate::trial::{Subject, Trial};
+use sengadlit::alloc::{Global, Vec as List};
+use sengadlit::buffer::{Buffer, GlyphInfo, Script, ShaperError, Tag};
+use sengadlit::map::{F_NONE, FeatureMap, Map};
+use sengadlit::plan::{Pause, Planner, Request};
+use sengadlit::shaper::Shaper;
+
+/// A trial that takes memory.
+fn trial(
+    name: String,
+    subject: Subject,
+    call: impl Fn(&mut Subject) -> Result<(), ShaperError> + 'static,
+) -> Trial {
+    Trial {
+        name,
+        may_refuse: true,
+        subject,
+        call: Box::new(call),
+    }
+}
+
+fn text(length: usize) -> Buffer {
+    let glyphs: Vec<_> = (0..length as u32).map(|i| letter(i % 3, i)).collect();
+    buffer_of(&glyphs, 100_000)
+}
+
+/// Each call of the buffer that may refuse memory.
+pub fn of_the_buffer(length: usize) -> Vec<Trial> {
+    let named = |call: &str| format!("{call} with {length} glyphs");
+    let mut positioned = text(length);
+    set_advances(&mut positioned, &vec![1000; length]);
+    vec![
+        trial(named("push"), Subject::Buffer(text(length)), |subject| {
+            subject.buffer().push(GlyphInfo::DEFAULT)
+        }),
+        trial(named("grow"), Subject::Buffer(text(length)), |subject| {
+            subject.buffer().grow(1000)
+        }),
+        trial(
+            named("grow with positions"),
+            Subject::Buffer(positioned),
+            |subject| subject.buffer().grow(1000),
+        ),
+        trial(
+            named("replace_glyphs"),
+            Subject::Buffer(text(length)),
+            |subject| {
+                let glyphs = List::from_elem(Global, letter(7, 7), 3000)?;
+                subject.buffer().replace_glyphs(glyphs)
+            },
+        ),
+        trial(named("copy"), Subject::Buffer(text(length)), |subject| {
+            *subject.buffer() = subject.buffer().copy()?;
+            Ok(())
+        }),
+    ]
+}
+
+const TAG: Tag = Tag(*b"rphf");
+
+/// A planner with so many requests.
+fn planner(length: usize) -> Subject {
+    let mut planner = Planner::new(Global, Some(Script(*b"Arab")));
+    for value in 0..length as u32 {
+        planner.add_feature(TAG, F_NONE, value).unwrap();
+    }
+    Subject::Planner(planner)
+}
+
+/// Each call that grows a planner's list.
+pub fn of_the_planner(length: usize) -> Vec<Trial> {
+    let named = |call: &str| format!("{call} with {length} requests");
+    let mut trials = vec![
+        trial(named("add_requests"), planner(length), |subject| {
+            let requests = [Request::Pause(None); 1000];
+            subject.planner().add_requests(&requests)
+        }),
+        trial(named("add_feature"), planner(length), |subject| {
+            subject.planner().add_feature(TAG, F_NONE, 1)
+        }),
+        trial(named("enable_feature"), planner(length), |subject| {
+            subject.planner().enable_feature(TAG, F_NONE, 1)
+        }),
+        trial(named("disable_feature"), planner(length), |subject| {
+            subject.planner().disable_feature(TAG)
+        }),
+        trial(named("add_gsub_pause"), planner(length), |subject| {
+            subject.planner().add_gsub_pause(Some(Pause::RecordRphf))
+        }),
+    ];
+    trials.extend(SHAPERS.map(|shaper| collecting(shaper, length)));
+    trials.extend(SHAPERS.map(|shaper| overriding(shaper, length)));
+    trials
+}
+
+fn collecting(shaper: Shaper, length: usize) -> Trial {
+    let name = format!("collect_features of {shaper:?} with {length} requests");
+    Trial {
+        may_refuse: !matches!(
+            shaper,
+            Shaper::Hebrew | Shaper::MyanmarZawgyi | Shaper::Thai
+        ),
+        ..trial(name, planner(length), move |subject| {
+            let planner = subject.planner();
+            shaper.collect_features(&PlainFont(100), planner).map(drop)
+        })
+    }
+}
+
+fn overriding(shaper: Shaper, length: usize) -> Trial {
+    let name = format!("override_features of {shaper:?} with {length} requests");
+    Trial {
+        may_refuse: matches!(shaper, Shaper::Hangul | Shaper::Indic | Shaper::Khmer),
+        ..trial(name, planner(length), move |subject| {
+            shaper.override_features(subject.planner()).map(drop)
+        })
+    }
+}
+
+/// The map, made from slices.
+pub fn of_the_map(length: usize) -> Vec<Trial> {
+    let feature = FeatureMap {
+        tag: TAG,
+        mask: 8,
+        stage: 0,
+    };
+    let name = format!("Map::from_slices with {length} lookups");
+    vec![trial(name, Subject::Nothing, move |_| {
+        let lookups = [7; 1024];
+        let stages = [0..length, 0..1];
+        let lookups = &lookups[..length];
+        let map = Map::from_slices(Global, &[feature], &stages, lookups, 0, None, true)?;
+        assert!(map.is_some());
+        Ok(())
+    })]
+}

@@ -1,0 +1,94 @@
+//! Memory refused at each request in turn: the call returns `Memory`, all is as it was before, and
+//! made again it does what it does without a refusal.
+
+mod allocator;
+#[path = "../common/mod.rs"]
+mod common;
+mod hooks;
+mod lists;
+mod trial;
+
+use allocator::Refusing;
+use common::buffers::{Contents, Glyphs, copy_of};
+use common::scenes::Scene;
+use sengadlit::buffer::ShaperError;
+use trial::{Trial, refused_requests};
+
+#[global_allocator]
+static ALLOCATOR: Refusing = Refusing;
+
+/// How many glyphs or requests there are before a call.
+const LENGTHS: [usize; 2] = [4, 1024];
+
+/// Runs trials: those that may refuse must have done so, and the others must take no memory. Prints
+/// each, with its number of refusals.
+fn run(trials: &[Trial]) {
+    for trial in trials {
+        let refusals = refused_requests(trial);
+        println!("{}: {refusals} requests, each refused once", trial.name);
+        assert_eq!(refusals > 0, trial.may_refuse, "{}", trial.name);
+    }
+}
+
+#[test]
+fn hooks_and_pauses_that_may_refuse_memory() {
+    for length in LENGTHS {
+        run(&hooks::growing(length));
+    }
+}
+
+#[test]
+fn hooks_and_pauses_that_take_no_memory() {
+    for length in LENGTHS {
+        run(&hooks::standing(length));
+    }
+}
+
+#[test]
+fn calls_of_the_buffer() {
+    for length in LENGTHS {
+        run(&lists::of_the_buffer(length));
+    }
+}
+
+#[test]
+fn calls_of_planner_and_map() {
+    for length in LENGTHS {
+        run(&lists::of_the_planner(length));
+        run(&lists::of_the_map(length));
+    }
+}
+
+/// Calls drawn by lot, each with each of its requests refused.
+#[test]
+fn calls_drawn_by_lot() {
+    let mut refusals = 0;
+    for seed in 0..40_000 {
+        let kinds = [Glyphs::Letters, Glyphs::Any];
+        let scene = Scene::random(seed, kinds[seed as usize % 2]);
+        if scene.fits() {
+            refusals += refuse_each(&scene);
+        }
+    }
+    println!("{refusals} requests of calls drawn by lot, each refused once");
+    assert!(refusals > 300);
+}
+
+/// Refuses each request of a scene's call: how many there are.
+fn refuse_each(scene: &Scene) -> usize {
+    let setting = scene.setting();
+    let mut buffer = copy_of(&scene.buffer);
+    let (wanted, requests) = allocator::refusing(0, || scene.call.make(&setting, &mut buffer));
+    for refused in 1..=requests {
+        let mut again = copy_of(&scene.buffer);
+        let (returned, _) = allocator::refusing(refused, || scene.call.make(&setting, &mut again));
+        assert_eq!(returned, Err(ShaperError::Memory));
+        assert_eq!(
+            Contents::with_places(&again),
+            Contents::with_places(&scene.buffer)
+        );
+        assert_eq!(scene.call.make(&setting, &mut again), wanted);
+        assert_eq!(Contents::of(&again), Contents::of(&buffer));
+    }
+    requests
+}

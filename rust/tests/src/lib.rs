@@ -1,0 +1,11 @@
+//! What tests the crate `sengadlit` and the program `hbhook` against each other and against the
+//! repository's worked rows.
+//!
+//! [`lines`] carries out the lines of a script by the crate's own calls. It is written apart from
+//! the program, and prints what the program prints. [`scripts`] makes random scripts.
+#![forbid(unsafe_code)]
+#![deny(missing_docs)]
+
+pub mod lines;
+pub mod numbers;
+pub mod scripts;

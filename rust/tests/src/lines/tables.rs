@@ -1,0 +1,75 @@
+//! The tables that the lines `table` and `pair` describe.
+
+use sengadlit::Tables;
+use sengadlit::buffer::GeneralCategory;
+use sengadlit::plan::{Category, JoiningType, Position};
+use std::collections::HashMap;
+
+/// What a line `table` says of a character.
+#[derive(Clone, Copy, Debug)]
+pub struct Entry {
+    pub joining_type: JoiningType,
+    pub general_category: GeneralCategory,
+    pub indic_categories: (Category, Position),
+    pub use_category: Category,
+}
+
+/// What holds of a character without a line.
+const DEFAULT: Entry = Entry {
+    joining_type: JoiningType::U,
+    general_category: GeneralCategory::Lo,
+    indic_categories: (0, 14),
+    use_category: 0,
+};
+
+/// The tables of the lines so far.
+#[derive(Clone, Debug, Default)]
+pub struct LineTables {
+    entries: HashMap<u32, Entry>,
+    compositions: HashMap<(char, char), char>,
+    decompositions: HashMap<char, (char, char)>,
+}
+
+impl LineTables {
+    /// Sets what holds of a character.
+    pub fn set_entry(&mut self, character: char, entry: Entry) {
+        self.entries.insert(u32::from(character), entry);
+    }
+
+    /// Adds a pair, which counts unless an earlier one says otherwise.
+    pub fn add_pair(&mut self, first: char, second: char, composed: char) {
+        let pair = (first, second);
+        self.compositions.entry(pair).or_insert(composed);
+        self.decompositions.entry(composed).or_insert(pair);
+    }
+
+    fn entry(&self, c: u32) -> Entry {
+        self.entries.get(&c).copied().unwrap_or(DEFAULT)
+    }
+}
+
+impl Tables for LineTables {
+    fn joining_type(&self, c: char) -> JoiningType {
+        self.entry(u32::from(c)).joining_type
+    }
+
+    fn general_category(&self, c: char) -> GeneralCategory {
+        self.entry(u32::from(c)).general_category
+    }
+
+    fn indic_categories(&self, c: u32) -> (Category, Position) {
+        self.entry(c).indic_categories
+    }
+
+    fn use_category(&self, c: u32) -> Category {
+        self.entry(c).use_category
+    }
+
+    fn compose(&self, a: char, b: char) -> Option<char> {
+        self.compositions.get(&(a, b)).copied()
+    }
+
+    fn decompose(&self, ab: char) -> Option<(char, char)> {
+        self.decompositions.get(&ab).copied()
+    }
+}

@@ -1,0 +1,64 @@
+//! Random scripts by the program's library and by the crate's own calls: status, output and message
+//! are the same.
+
+use sengadlit::alloc::Global;
+use sengadlit_tests::lines::{End, run_script};
+use sengadlit_tests::scripts::script;
+use std::collections::BTreeMap;
+
+/// How many scripts are run.
+const SCRIPTS: u64 = 20_000;
+
+/// How the run of a script by the program's library ends.
+fn run_by_program(script: &[u8]) -> End {
+    let (mut printed, mut told) = (Vec::new(), Vec::new());
+    let status = hbhook::run_lines(Global, script, &mut printed, &mut told);
+    End {
+        status,
+        printed,
+        told,
+    }
+}
+
+#[test]
+fn both_ways_end_alike() {
+    let mut ends = BTreeMap::<String, usize>::new();
+    for seed in 0..SCRIPTS {
+        let script = script(seed);
+        let end = run_by_program(script.as_bytes());
+        assert_eq!(run_script(script.as_bytes()), end, "seed {seed}:\n{script}");
+        let message = String::from_utf8(end.told).unwrap();
+        let reason = message.rsplit(' ').next().unwrap().trim_end();
+        *ends.entry(format!("{} {reason}", end.status)).or_default() += 1;
+    }
+    println!("{ends:?}");
+    assert!(ends["0 "] > SCRIPTS as usize / 2);
+    for refusal in [
+        "TooLong",
+        "UnknownSyllable",
+        "SpansDontCover",
+        "StretchOverflow",
+    ] {
+        assert!(ends.contains_key(&format!("1 {refusal}")), "{refusal}");
+    }
+}
+
+/// Each hook and pause is run to its end by many scripts.
+#[test]
+fn scripts_reach_every_hook() {
+    let mut runs = BTreeMap::<String, usize>::new();
+    for seed in 0..SCRIPTS / 4 {
+        let script = script(seed);
+        if run_by_program(script.as_bytes()).status == 0 {
+            for line in script.lines().filter(|line| line.starts_with("run ")) {
+                let words = line.split(' ').skip(1);
+                let is_pause = line.starts_with("run pause");
+                let name: Vec<_> = words.take(if is_pause { 2 } else { 1 }).collect();
+                *runs.entry(name.join(" ")).or_default() += 1;
+            }
+        }
+    }
+    println!("{runs:?}");
+    assert_eq!(runs.len(), 6 + 15);
+    assert!(runs.values().all(|count| *count > 30));
+}
