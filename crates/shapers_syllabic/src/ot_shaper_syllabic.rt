@@ -26,4 +26,4 @@ pub use reordering::{
     Reorder, reorder_syllables, reordering_cuts_at_borders, reordering_loses_nothing,
     serials_dont_count, text_reordered_law,
 };
-pub use set_up::{set_up_syllables, spans_cut_law};
+pub use set_up::{flag_syllables_in, set_up_by_bytes, set_up_syllables, spans_cut_law};
