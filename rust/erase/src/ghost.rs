@@ -39,8 +39,12 @@ fn erase_ghost(file: &mut File, i: usize) -> Result<(), String> {
     Ok(())
 }
 
-// Notes what `ghost use Rattle.CRATE.specs.FILE.{..};` imports, unless it is the kit's.
+// Notes what `ghost use Rattle.CRATE.specs.FILE.{..};` imports, unless it is the kit's. A module under a name of
+// the file's own brings in no definition by name.
 fn define(file: &mut File, i: usize, end: usize) -> Result<(), String> {
+    if file.text(end - 2) == "as" {
+        return Ok(());
+    }
     let import = file.joined(i + 2..=end);
     let (path, names) =
         import.split_once(".{").ok_or_else(|| file.fault(i, "an unknown import"))?;
