@@ -13,20 +13,16 @@ pub fn emit(file: &File) -> Result<String, String> {
         let text = renamed(file, i)?.unwrap_or_else(|| token.text.clone());
         body = body + &token.lead + &text;
     }
-    let body = body.trim_start();
+    let body = body.trim();
     let is_inner = |line: &&str| line.starts_with("//!");
     let inner: String = body.split_inclusive('\n').take_while(is_inner).collect();
-    let rest = body[inner.len()..].trim();
+    let rest = body[inner.len()..].trim_start();
     let blank = if inner.is_empty() { "" } else { "//!\n" };
     let is_known = |i: usize| PRELUDE.contains(&file.text(i)) && file.before(i) != "::";
     let needs_prelude = (0..file.tokens.len()).any(|i| is_known(i) || is_collected(file, i));
-    let prelude = match (needs_prelude, rest.starts_with("use")) {
-        (true, true) => "use crate::support::prelude::*;\n",
-        (true, false) => "use crate::support::prelude::*;\n\n",
-        _ => "",
-    };
+    let prelude = if needs_prelude { "use crate::support::prelude::*;\n\n" } else { "" };
     let head = format!("//! Generated from {} by rust/erase; edit the source.\n", file.path);
-    Ok(format!("{head}{blank}{inner}\n{prelude}{rest}\n"))
+    Ok(head + blank + &inner + "\n" + prelude + rest + "\n")
 }
 
 /// A comment with the table's names in it.
@@ -51,8 +47,8 @@ fn check(file: &File, i: usize) -> Result<(), String> {
     }
     let is_local =
         |j: &usize| *j != i && matches!(file.before(*j), "mod" | "enum" | "," | "{" | "::");
-    let is_known = matches!(text, "self" | "super") || file.places(text).iter().any(is_local);
-    if before == "use" && !is_known && renamed(file, i)?.is_none() {
+    let is_known = || matches!(text, "self" | "super") || file.places(text).iter().any(is_local);
+    if before == "use" && !is_known() && renamed(file, i)?.is_none() {
         return Err(file.fault(i, &format!("unknown crate `{text}`")));
     }
     Ok(())

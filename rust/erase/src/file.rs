@@ -2,7 +2,6 @@
 
 use crate::token::{Token, is_part, tokens};
 use std::collections::{BTreeMap, BTreeSet};
-use std::iter::{once, successors};
 use std::ops::RangeInclusive;
 
 /// A source file: what is left of its tokens, of which the last one is empty, the words that are
@@ -20,7 +19,9 @@ impl File {
         let tokens = tokens(text).map_err(|(line, message)| format!("{path}:{line}: {message}"))?;
         let (erased, definitions) = (BTreeSet::new(), BTreeMap::new());
         let file = File { path: path.to_string(), tokens, erased, definitions };
-        let is_open = |i: &usize| "()[]{}".contains(file.text(*i)) && file.partner(*i) == *i;
+        let kind = |i: usize| "([{)]}".find(file.text(i));
+        let is_open =
+            |i: &usize| kind(*i).is_some_and(|k| kind(file.partner(*i)) != Some((k + 3) % 6));
         match (0..file.tokens.len() - 1).find(is_open) {
             Some(i) => Err(file.fault(i, &format!("unbalanced `{}`", file.text(i)))),
             None => Ok(file),
@@ -42,10 +43,9 @@ impl File {
         self.text(i.wrapping_sub(1))
     }
 
-    /// The characters of some tokens, with a space around `as`.
+    /// The characters of some tokens.
     pub fn joined(&self, range: RangeInclusive<usize>) -> String {
-        let tokens = self.tokens.get(range).unwrap_or_default();
-        tokens.iter().map(|token| if token.text == "as" { " as " } else { &token.text }).collect()
+        range.map(|i| self.text(i)).collect()
     }
 
     /// The places of a word, the last one first, so that what is cut there moves none to come.
@@ -72,12 +72,6 @@ impl File {
         found.unwrap_or(i)
     }
 
-    // The tokens from a place on, without those in brackets.
-    fn outer(&self, i: usize) -> impl Iterator<Item = usize> + '_ {
-        let next = |j: &usize| Some(self.partner(*j).max(*j) + 1);
-        successors(Some(i), next).take_while(|j| *j < self.tokens.len())
-    }
-
     /// The first token of the item with its keyword at `i`: an attribute, `pub`, or the keyword.
     pub fn start(&self, i: usize) -> usize {
         let open = self.partner(i.saturating_sub(1));
@@ -92,19 +86,14 @@ impl File {
     /// brace of its body.
     pub fn end(&self, i: usize) -> Result<usize, String> {
         let has_body = !matches!(self.text(i), "use" | "const" | "static" | "type" | "let");
-        let is_end = |j: &usize| self.text(*j) == ";" || has_body && self.text(*j) == "{";
-        let end = self.outer(i).find(is_end).map(|j| self.partner(j));
-        end.ok_or_else(|| self.fault(i, "an item without an end"))
-    }
-
-    /// The elements of the list between a bracket and its partner, the last one first.
-    pub fn listed(&self, open: usize) -> Vec<RangeInclusive<usize>> {
-        let close = self.partner(open);
-        let inner = self.outer(open + 1).take_while(|i| *i < close);
-        let commas = inner.filter(|i| self.text(*i) == ",");
-        let borders: Vec<usize> = once(open).chain(commas).chain(once(close)).collect();
-        let elements = borders.windows(2).rev().map(|pair| pair[0] + 1..=pair[1] - 1);
-        elements.filter(|element| !element.is_empty()).collect()
+        let mut j = i;
+        while self.text(j) != ";" && !(has_body && self.text(j) == "{") {
+            j = self.partner(j).max(j) + 1;
+            if j >= self.tokens.len() {
+                return Err(self.fault(i, "an item without an end"));
+            }
+        }
+        Ok(self.partner(j))
     }
 
     /// Whether a token is part of an import.
@@ -133,12 +122,20 @@ impl File {
         self.tokens[start].lead = lead;
     }
 
-    /// Cuts an element of a list out, with the comma behind it or, if there is none, before it.
-    pub fn cut_listed(&mut self, range: RangeInclusive<usize>) {
-        let (first, last) = range.into_inner();
+    /// Cuts out the parameter, argument, field, bound, import or statement that a token stands in.
+    pub fn cut_element(&mut self, i: usize) {
+        let (mut first, mut last) = (i, self.partner(i).max(i));
+        let opens = |text| matches!(text, "," | ";" | "(" | "[" | "{" | "}" | "<" | "where");
+        while first > 0 && !opens(self.before(first)) {
+            first = self.partner(first - 1);
+        }
+        while !matches!(self.text(last + 1), "" | "," | ";" | ")" | "]" | "{" | "}" | ">") {
+            last = self.partner(last + 1);
+        }
         match (self.before(first), self.text(last + 1)) {
-            (_, ",") => self.cut_item(first..=last + 1),
+            (_, "," | ";") => self.cut_item(first..=last + 1),
             (",", _) => self.cut_item(first - 1..=last),
+            ("<", ">") => self.cut(first - 1..=last + 1),
             _ => self.cut_item(first..=last),
         }
     }

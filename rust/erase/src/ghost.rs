@@ -5,11 +5,10 @@ use crate::contract::{documentation, is_public};
 use crate::file::File;
 use crate::table::{ATTRIBUTES, CLAUSES, ERASED_ATTRIBUTES, ERASED_DERIVES, ITEMS};
 
-/// Erases contracts and ghost items, and what only the proof or its tests read. `is_file` tells
-/// whether the repository has a file.
-pub fn erase_file(file: &mut File, is_file: &dyn Fn(&str) -> bool) -> Result<(), String> {
+/// Erases contracts and ghost items, and what only the proof or its tests read.
+pub fn erase_file(file: &mut File) -> Result<(), String> {
     for i in file.places("ghost") {
-        erase_ghost(file, i, is_file)?;
+        erase_ghost(file, i)?;
     }
     for i in (0..file.tokens.len()).rev() {
         match file.text(i) {
@@ -25,14 +24,14 @@ pub fn erase_file(file: &mut File, is_file: &dyn Fn(&str) -> bool) -> Result<(),
 }
 
 // `ghost use ..;`, `ghost NAME: {..};`, `ghost NAME = {..};` or both together.
-fn erase_ghost(file: &mut File, i: usize, is_file: &dyn Fn(&str) -> bool) -> Result<(), String> {
+fn erase_ghost(file: &mut File, i: usize) -> Result<(), String> {
     let mut end = i + 2;
     while matches!(file.text(end), ":" | "=") && file.text(end + 1) == "{" {
         end = file.partner(end + 1) + 1;
     }
     if file.text(i + 1) == "use" {
         end = file.end(i + 1)?;
-        define(file, i, end, is_file)?;
+        define(file, i, end)?;
     }
     if file.text(end) == ";" {
         file.cut_item(i..=end);
@@ -40,27 +39,23 @@ fn erase_ghost(file: &mut File, i: usize, is_file: &dyn Fn(&str) -> bool) -> Res
     Ok(())
 }
 
-// Notes what `ghost use Rattle.CRATE.specs.FILE.{..};` imports, unless it is the kit's.
-fn define(
-    file: &mut File,
-    i: usize,
-    end: usize,
-    is_file: &dyn Fn(&str) -> bool,
-) -> Result<(), String> {
+// Notes what `ghost use Rattle.CRATE.specs.FILE.{..};` imports, unless it is the kit's. A module under a name of
+// the file's own brings in no definition by name.
+fn define(file: &mut File, i: usize, end: usize) -> Result<(), String> {
+    if file.text(end - 2) == "as" {
+        return Ok(());
+    }
     let import = file.joined(i + 2..=end);
     let (path, names) =
         import.split_once(".{").ok_or_else(|| file.fault(i, "an unknown import"))?;
     let specification = path.strip_prefix("Rattle.").and_then(|path| path.split_once(".specs."));
-    let (krate, path) = specification.unwrap_or(("std", ""));
-    let place = format!("crates/{krate}/specs/{}.antt", path.replace('.', "/"));
-    if krate == "std" || path.starts_with("declared.") {
-        return Ok(());
+    let own =
+        specification.filter(|(krate, path)| *krate != "std" && !path.starts_with("declared."));
+    if let Some((krate, path)) = own {
+        let place = format!("crates/{krate}/specs/{}.antt", path.replace('.', "/"));
+        let names = names.trim_end_matches(['}', ';']).split(',');
+        file.definitions.extend(names.map(|name| (name.to_string(), place.clone())));
     }
-    if !is_file(&place) {
-        return Err(file.fault(i, &format!("no file {place}")));
-    }
-    let names = names.trim_end_matches(['}', ';']).split(',');
-    file.definitions.extend(names.map(|name| (name.to_string(), place.clone())));
     Ok(())
 }
 
@@ -91,7 +86,7 @@ fn erase_attribute(file: &mut File, i: usize) -> Result<(), String> {
     let end = file.partner(open);
     match file.text(open + 1) {
         "cfg" if file.joined(i..=end) == "#[cfg(test)]" => file.cut_item(i..=file.end(end)?),
-        "derive" => erase_derives(file, i),
+        "derive" => erase_derives(file, i, end),
         name if ERASED_ATTRIBUTES.contains(&name) => file.cut(i..=end),
         name if ATTRIBUTES.contains(&name) => {}
         _ => return Err(file.fault(i, "an unknown attribute")),
@@ -99,10 +94,10 @@ fn erase_attribute(file: &mut File, i: usize) -> Result<(), String> {
     Ok(())
 }
 
-fn erase_derives(file: &mut File, i: usize) {
-    for derive in file.listed(i + 3) {
-        if ERASED_DERIVES.contains(&file.text(*derive.start())) {
-            file.cut_listed(derive);
+fn erase_derives(file: &mut File, i: usize, end: usize) {
+    for derive in (i..end).rev() {
+        if ERASED_DERIVES.contains(&file.text(derive)) {
+            file.cut_element(derive);
         }
     }
     if file.text(i + 4) == ")" {
@@ -110,7 +105,7 @@ fn erase_derives(file: &mut File, i: usize) {
     }
 }
 
-// Cuts the bound `Drop`, and where it is all that a line of a `where` clause asks that line.
+// Cuts the bound `Drop`, and where it is all that a `where` clause asks of a type that type.
 fn erase_bound(file: &mut File, i: usize) {
     let owner = file.nearest(i, &["where", "fn", "impl", "struct", "enum", "trait"]);
     let owner = owner.filter(|owner| file.text(*owner) == "where");
@@ -119,7 +114,7 @@ fn erase_bound(file: &mut File, i: usize) {
         (":", "+", _) => file.cut(i..=i + 1),
         (":", _, None) => file.cut(i - 1..=i),
         (":", _, Some(owner)) => {
-            file.cut_listed(file.nearest(i, &["where", ","]).unwrap_or(owner) + 1..=i);
+            file.cut_element(i);
             if matches!(file.text(owner + 1), "{" | ";") {
                 file.cut(owner..=owner);
             }

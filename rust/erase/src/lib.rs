@@ -10,7 +10,6 @@ mod emit;
 mod file;
 mod ghost;
 mod laws;
-mod ledger;
 pub mod table;
 pub mod token;
 
@@ -36,8 +35,9 @@ pub fn erase(crates: &[&str], read: Read) -> Result<Vec<Output>, String> {
         load(krate, read, &mut files)?;
     }
     let laws = laws::erase_laws(&mut files)?;
-    files.iter_mut().try_for_each(ledger::erase_count)?;
-    laws::erase_imports(&mut files, &laws)?;
+    files.iter_mut().try_for_each(laws::erase_count)?;
+    files.iter_mut().for_each(|file| laws::erase_imports(file, &laws));
+    laws::erase_modules(&mut files)?;
     files.iter().filter(|file| file.tokens.len() > 1).map(output).collect()
 }
 
@@ -50,7 +50,7 @@ fn load(krate: &str, read: Read, files: &mut Vec<File>) -> Result<(), String> {
         for token in &mut file.tokens {
             token.lead = emit::in_comment(&token.lead);
         }
-        ghost::erase_file(&mut file, &|path| read(path).is_some())?;
+        ghost::erase_file(&mut file)?;
         let modules = file.places("mod").into_iter().filter(|i| file.text(i + 2) == ";");
         paths.extend(modules.map(|i| file.path_of_module(file.text(i + 1))));
         files.push(file);

@@ -1,5 +1,5 @@
-//! `erase` makes the generated trees anew, `erase --check` prints each file that isn't up to date.
-//! Both run at the top of the repository.
+//! `erase` makes the generated trees anew, `erase --check` tells whether they are up to date. Both
+//! print each file that differs, and run at the top of the repository.
 
 #![forbid(unsafe_code)]
 
@@ -15,42 +15,40 @@ use std::{env, fs};
 type Files = BTreeMap<PathBuf, String>;
 
 fn main() -> ExitCode {
-    let result = match env::args().skip(1).collect::<Vec<String>>().join(" ").as_str() {
-        "" => make(),
-        "--check" => check(),
-        _ => Err("usage: erase [--check]".into()),
-    };
-    match result {
-        Ok(paths) if paths.is_empty() => return ExitCode::SUCCESS,
-        Ok(paths) => paths.iter().for_each(|path| println!("{}", path.display())),
-        Err(error) => eprintln!("{error}"),
+    let arguments: Vec<String> = env::args().skip(1).collect();
+    let is_check = arguments == ["--check"];
+    let usage = || Err("usage: erase [--check]".into());
+    match if arguments.is_empty() || is_check { update(is_check) } else { usage() } {
+        Ok(true) => ExitCode::SUCCESS,
+        Ok(false) => ExitCode::FAILURE,
+        Err(error) => {
+            eprintln!("{error}");
+            ExitCode::FAILURE
+        }
     }
-    ExitCode::FAILURE
 }
 
-// Writes what changed, and removes what is no longer made.
-fn make() -> Result<Vec<PathBuf>, Box<dyn Error>> {
+// Prints each file that differs by more than white space and the layout's commas and, unless this is
+// a check, writes or removes it. Returns whether all is up to date then.
+fn update(is_check: bool) -> Result<bool, Box<dyn Error>> {
     let (made, committed) = (generated()?, files_below(Path::new(""))?);
-    for path in committed.keys().filter(|path| !made.contains_key(*path)) {
-        fs::remove_file(path)?;
+    let words = |files: &Files, path: &PathBuf| files.get(path).map(|text| words(text));
+    let differs = |path: &&PathBuf| words(&made, path) != words(&committed, path);
+    let paths: BTreeSet<&PathBuf> = made.keys().chain(committed.keys()).collect();
+    let different: Vec<&PathBuf> = paths.into_iter().filter(differs).collect();
+    for path in &different {
+        println!("{}", path.display());
+        match made.get(*path) {
+            _ if is_check => {}
+            Some(text) => write(path, text)?,
+            None => fs::remove_file(path)?,
+        }
     }
-    for (path, text) in made.iter().filter(|(path, text)| committed.get(*path) != Some(text)) {
-        write(path, text)?;
-    }
-    Ok(Vec::new())
-}
-
-// The files that differ by more than white space and the layout's commas.
-fn check() -> Result<Vec<PathBuf>, Box<dyn Error>> {
-    let (made, committed) = (generated()?, files_below(Path::new(""))?);
-    let compared = |text: Option<&String>| text.map(|text| compared(text));
-    let differs = |path: &PathBuf| compared(made.get(path)) != compared(committed.get(path));
-    let paths: BTreeSet<PathBuf> = made.keys().chain(committed.keys()).cloned().collect();
-    Ok(paths.into_iter().filter(differs).collect())
+    Ok(!is_check || different.is_empty())
 }
 
 // The words of a text's comments and its tokens, without commas before closing brackets.
-fn compared(text: &str) -> Vec<String> {
+fn words(text: &str) -> Vec<String> {
     let tokens = tokens(text).unwrap_or_default();
     let is_layout = |i: usize| tokens[i].text == "," && ")]}>".contains(&tokens[i + 1].text);
     let text = |i: usize| if is_layout(i) { "" } else { &tokens[i].text };

@@ -59,7 +59,8 @@ pub const ROOTS: &[(&str, &[&str])] = &[
 pub const PRELUDE: &[&str] = &["Vec", "String", "vec", "format", "collect_in"];
 
 /// The attributes that stay.
-pub const ATTRIBUTES: &[&str] = &["allow", "default", "inline", "must_use", "non_exhaustive", "repr"];
+pub const ATTRIBUTES: &[&str] =
+    &["allow", "default", "inline", "must_use", "non_exhaustive", "repr", "test"];
 
 /// The attributes that go.
 pub const ERASED_ATTRIBUTES: &[&str] = &["tactic", "rattlefmt", "error"];

@@ -16,10 +16,11 @@ pub struct Token {
 pub fn tokens(text: &str) -> Result<Vec<Token>, (usize, &'static str)> {
     let (mut tokens, mut rest, mut line) = (Vec::new(), text, 1);
     while tokens.last().is_none_or(|token: &Token| !token.text.is_empty()) {
-        let (lead, code) = rest.split_at(lead_len(rest).ok_or((line, "a comment without an end"))?);
+        let (lead, code) = rest.split_at(lead_len(rest));
         line += lead.matches('\n').count();
+        let len = if code.starts_with("/*") { None } else { code_len(code) };
         let (text, behind) =
-            code.split_at(code_len(code).ok_or((line, "a string without an end"))?);
+            code.split_at(len.ok_or((line, "a comment or a string without an end"))?);
         tokens.push(Token { lead: lead.to_string(), text: text.to_string(), line });
         line += text.matches('\n').count();
         rest = behind;
@@ -33,18 +34,15 @@ pub fn is_part(c: char) -> bool {
 }
 
 // The length of the white space and the comments that a text begins with.
-fn lead_len(text: &str) -> Option<usize> {
-    let mut rest = text.trim_start();
-    loop {
-        let behind = if rest.starts_with("//") {
-            rest.find('\n').map_or("", |end| &rest[end..])
-        } else if rest.starts_with("/*") {
-            &rest[rest.find("*/")? + 2..]
-        } else {
-            return Some(text.len() - rest.len());
-        };
-        rest = behind.trim_start();
-    }
+fn lead_len(text: &str) -> usize {
+    let rest = text.trim_start();
+    let comment = match rest.get(..2) {
+        Some("//") => rest.find('\n').or(Some(rest.len())),
+        Some("/*") => rest.find("*/").map(|end| end + 2),
+        _ => None,
+    };
+    let len = text.len() - rest.len();
+    comment.map_or(len, |comment| len + comment + lead_len(&rest[comment..]))
 }
 
 // The length of the token of code that a text begins with; None where it has no end.

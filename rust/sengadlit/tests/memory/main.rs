@@ -48,6 +48,7 @@ fn hooks_and_pauses_that_take_no_memory() {
 fn calls_of_the_buffer() {
     for length in LENGTHS {
         run(&lists::of_the_buffer(length));
+        run(&lists::exchanging(length));
     }
 }
 

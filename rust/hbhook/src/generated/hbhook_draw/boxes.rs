@@ -2,13 +2,14 @@
 //!
 //! Boxes, a box a glyph: pieces of a row as drawings that the page lets wrap.
 
+use crate::support::prelude::*;
+
 use crate::generated::hbhook_draw::label::{Place, Style};
 use crate::generated::hbhook_draw::names::{BROKEN, kind_name};
 use crate::generated::hbhook_draw::pieces::{Piece, pieces_of};
 use crate::generated::hbhook_draw::row::Row;
 use crate::generated::hbhook_draw::shown::Shown;
 use crate::support::alloc::AllocError;
-use crate::support::prelude::*;
 use sengadlit::buffer::GlyphInfo;
 
 // From the left edge of one box to that of the next.

@@ -2,6 +2,8 @@
 //!
 //! The walk over the lines: which rows the page has.
 
+use crate::support::prelude::*;
+
 use crate::generated::hbhook_draw::boxes::draw_boxes;
 use crate::generated::hbhook_draw::origins::{Origins, Traced};
 use crate::generated::hbhook_draw::page::{
@@ -11,7 +13,6 @@ use crate::generated::hbhook_draw::row::Row;
 use crate::generated::hbhook_draw::scale::draw_positions;
 use crate::generated::hbhook_lines::{LineFault, LineKind, Session, kind_of_line};
 use crate::support::alloc::{AllocError, Global};
-use crate::support::prelude::*;
 use sengadlit::buffer::GlyphInfo;
 
 /// A page in the making.

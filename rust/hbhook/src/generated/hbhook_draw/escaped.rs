@@ -2,8 +2,9 @@
 //!
 //! Text as HTML has it.
 
-use crate::support::alloc::AllocError;
 use crate::support::prelude::*;
+
+use crate::support::alloc::AllocError;
 
 /// Adds a text to a page: an entity for each character that HTML gives a meaning, and U+FFFD for a
 /// control character, which HTML may not have.

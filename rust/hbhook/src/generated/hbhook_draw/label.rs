@@ -2,9 +2,10 @@
 //!
 //! Small texts of a drawing.
 
+use crate::support::prelude::*;
+
 use crate::generated::hbhook_draw::escaped::push_escaped;
 use crate::support::alloc::AllocError;
-use crate::support::prelude::*;
 
 /// How a text looks.
 #[derive(Clone, Copy, Debug, PartialEq, Eq)]

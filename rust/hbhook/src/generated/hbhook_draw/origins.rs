@@ -2,9 +2,10 @@
 //!
 //! Where the glyphs that a hook left stood before it.
 
+use crate::support::prelude::*;
+
 use crate::generated::hbhook_lines::Session;
 use crate::support::alloc::AllocError;
-use crate::support::prelude::*;
 use core::mem;
 use sengadlit::buffer::{Buffer, BufferClusterLevel, GlyphInfo};
 

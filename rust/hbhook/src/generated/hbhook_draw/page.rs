@@ -2,10 +2,11 @@
 //!
 //! The page round the rows: its style, and the lines that say what ran.
 
+use crate::support::prelude::*;
+
 use crate::generated::hbhook_draw::escaped::push_escaped;
 use crate::generated::hbhook_lines::LineFault;
 use crate::support::alloc::{AllocError, Global};
-use crate::support::prelude::*;
 
 /// How a page begins. Colours of clusters are those of Okabe and Ito, which the colour-blind can
 /// tell apart; the reader's setting chooses between dark and light.

@@ -2,9 +2,10 @@
 //!
 //! Where a row may wrap: between pieces that no cluster, no syllable and no line crosses.
 
+use crate::support::prelude::*;
+
 use crate::generated::hbhook_draw::row::Row;
 use crate::support::alloc::{AllocError, Global};
-use crate::support::prelude::*;
 use core::ops::Range;
 use sengadlit::buffer::GlyphInfo;
 

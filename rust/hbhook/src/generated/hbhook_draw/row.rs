@@ -2,11 +2,12 @@
 //!
 //! A row of boxes: the glyphs of a buffer, and what is told of them.
 
+use crate::support::prelude::*;
+
 use crate::generated::hbhook_draw::label::Style;
 use crate::generated::hbhook_draw::names::{auxiliary_name, category_name};
 use crate::generated::hbhook_lines::Feature;
 use crate::support::alloc::{AllocError, Global};
-use crate::support::prelude::*;
 use sengadlit::buffer::{GlyphInfo, GlyphPosition};
 use sengadlit::shaper::Shaper;
 

@@ -2,12 +2,13 @@
 //!
 //! Positions, drawn to scale: glyphs as wide as their advances, where their offsets put them.
 
+use crate::support::prelude::*;
+
 use crate::generated::hbhook_draw::boxes::{colour, open_drawing};
 use crate::generated::hbhook_draw::label::{Place, Style};
 use crate::generated::hbhook_draw::row::Row;
 use crate::generated::hbhook_lines::Session;
 use crate::support::alloc::AllocError;
-use crate::support::prelude::*;
 use core::ops::Range;
 
 // How wide the narrowest glyph of a row is drawn, and how wide the widest at most.

@@ -2,9 +2,10 @@
 //!
 //! The font that the lines `font` and `applies` describe.
 
+use crate::support::prelude::*;
+
 use crate::support::alloc::{AllocError, Global};
 use crate::support::collections::BTreeMap;
-use crate::support::prelude::*;
 use sengadlit::buffer::Tag;
 use sengadlit::font::{Font, GlyphId};
 

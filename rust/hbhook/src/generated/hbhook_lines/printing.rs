@@ -2,10 +2,11 @@
 //!
 //! What a run writes: the glyphs of the buffer on standard output, a fault on standard error.
 
+use crate::support::prelude::*;
+
 use crate::generated::hbhook_lines::fault::Fault;
 use crate::support::alloc::AllocError;
 use crate::support::io::Write;
-use crate::support::prelude::*;
 use sengadlit::buffer::Buffer;
 
 /// Adds a line for each glyph: glyph, cluster, mask, syllable, category, auxiliary and class, and

@@ -2,12 +2,13 @@
 //!
 //! What the lines have set so far, but for what the buffer keeps.
 
+use crate::support::prelude::*;
+
 use crate::generated::hbhook_lines::expected::Expected;
 use crate::generated::hbhook_lines::fault::LineFault;
 use crate::generated::hbhook_lines::font::LineFont;
 use crate::generated::hbhook_lines::tables::LineTables;
 use crate::support::alloc::{AllocError, Global};
-use crate::support::prelude::*;
 use core::ops::Range;
 use sengadlit::buffer::{Script, Span, Tag};
 use sengadlit::map::{FeatureMap, Map};

@@ -2,9 +2,10 @@
 //!
 //! The tables that the lines `table` and `pair` describe.
 
+use crate::support::prelude::*;
+
 use crate::support::alloc::{AllocError, Global};
 use crate::support::collections::BTreeMap;
-use crate::support::prelude::*;
 use sengadlit::buffer::GeneralCategory;
 use sengadlit::font::Tables;
 use sengadlit::plan::{Category, JoiningType, Position};

@@ -2,9 +2,10 @@
 //!
 //! The map from features to masks and lookups, as far as the shapers read it. It knows GSUB alone.
 
+use crate::support::prelude::*;
+
 use crate::generated::shapers_base::buffer::{ShaperError, Tag};
 use crate::support::alloc::Global;
-use crate::support::prelude::*;
 use core::ops::Range;
 
 /// No wish.

@@ -2,9 +2,10 @@
 //!
 //! The buffer of glyphs: what the shapers read and rewrite.
 
+use crate::support::prelude::*;
+
 use crate::support::alloc::Global;
 use crate::support::arrayvec::ArrayVec;
-use crate::support::prelude::*;
 use placement::{copy_places, make_room};
 
 mod category;

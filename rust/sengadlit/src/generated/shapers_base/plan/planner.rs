@@ -1,11 +1,12 @@
 //! Generated from crates/shapers_base/src/plan/planner.rt by rust/erase; edit the source.
 
+use crate::support::prelude::*;
+
 use crate::generated::shapers_base::buffer::{Script, ShaperError, Tag};
 use crate::generated::shapers_base::font::Font;
 use crate::generated::shapers_base::map::F_GLOBAL;
 use crate::generated::shapers_base::plan::pause::Pause;
 use crate::support::alloc::Global;
-use crate::support::prelude::*;
 
 /// What a shaper asks of the map, in order.
 #[derive(Clone, Copy, Debug, PartialEq, Eq)]

@@ -3,12 +3,13 @@
 //! Lists taken out of the buffer and exchanged with the caller's, so that no glyph is copied and
 //! the caller's room is used again.
 
+use crate::support::prelude::*;
+
 use super::Buffer;
 use super::glyph::{GlyphInfo, GlyphPosition};
 use super::placement::make_room;
 use super::refusal::ShaperError;
 use super::settings::BufferSettings;
-use crate::support::prelude::*;
 use core::mem;
 
 impl Buffer {

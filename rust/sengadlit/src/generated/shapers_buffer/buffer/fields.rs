@@ -2,8 +2,9 @@
 //!
 //! Readers and setters of the buffer's fields.
 
-use super::{Buffer, BufferClusterLevel, BufferFlags, Direction, GlyphPosition, Script, context};
 use crate::support::prelude::*;
+
+use super::{Buffer, BufferClusterLevel, BufferFlags, Direction, GlyphPosition, Script, context};
 
 impl Buffer {
     /// Where the glyph at place `i` is drawn; `i` is below the number of positions.

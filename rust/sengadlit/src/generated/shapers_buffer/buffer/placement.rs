@@ -4,11 +4,12 @@
 //! there, and then the syllable is written once. Its room grows with the buffer, so that a
 //! reordering takes no memory; what was never listed is never written.
 
+use crate::support::prelude::*;
+
 use super::Buffer;
 use super::glyph::GlyphInfo;
 use super::refusal::ShaperError;
 use crate::support::alloc::Global;
-use crate::support::prelude::*;
 
 impl Buffer {
     /// The place whose glyph is listed to come to `i`.

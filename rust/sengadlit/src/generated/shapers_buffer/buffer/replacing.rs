@@ -2,11 +2,12 @@
 //!
 //! Other glyphs for the buffer's, and glyphs copied with their positions.
 
+use crate::support::prelude::*;
+
 use super::Buffer;
 use super::glyph::GlyphInfo;
 use super::placement::make_room;
 use super::refusal::ShaperError;
-use crate::support::prelude::*;
 
 impl Buffer {
     /// Puts these glyphs in the place of the buffer's, which has no positions. Refuses by their

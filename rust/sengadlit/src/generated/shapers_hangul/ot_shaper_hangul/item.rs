@@ -2,6 +2,8 @@
 //!
 //! The units of a Hangul text, and the tones that join them.
 
+use crate::support::prelude::*;
+
 use super::jamo::{
     compose_three, compose_two, decompose, follows, is_combined_s, is_combining_l, is_combining_t,
     is_combining_v, is_hangul_tone, is_l, is_lv, is_t, is_v,
@@ -10,7 +12,6 @@ use crate::generated::shapers_base::buffer::{
     BufferClusterLevel, GlyphInfo, ShaperError, merge_clusters_in, unsafe_to_break_in,
 };
 use crate::generated::shapers_base::font::Font;
-use crate::support::prelude::*;
 
 // The features of leading, vowel and trailing jamo.
 const LJMO: u8 = 1;

@@ -2,6 +2,8 @@
 //!
 //! The text rewritten, item after item.
 
+use crate::support::prelude::*;
+
 use super::item::{Item, first_item, stays_alone};
 use crate::generated::shapers_base::buffer::{
     Buffer, BufferClusterLevel, BufferFlags, GlyphInfo, ShaperError,
@@ -9,7 +11,6 @@ use crate::generated::shapers_base::buffer::{
 use crate::generated::shapers_base::font::Font;
 use crate::support::alloc::Global;
 use crate::support::bitflags::Flags;
-use crate::support::prelude::*;
 
 // The item at a place of the text.
 fn item_at<F: Font>(face: &F, circles: bool, glyphs: &[GlyphInfo], place: usize) -> Item {
