@@ -118,7 +118,7 @@
 //! [`postprocess_glyphs`]: Shaper::postprocess_glyphs
 #![no_std]
 #![forbid(unsafe_code)]
-#![warn(missing_docs, missing_debug_implementations)]
+#![deny(missing_docs, missing_debug_implementations)]
 
 extern crate alloc as rust_alloc;
 #[cfg(any(test, feature = "std"))]
