@@ -22,6 +22,8 @@
 #![forbid(unsafe_code)]
 #![deny(missing_docs)]
 
+// The sources import a trait for methods that the flag types have of their own in Rust.
+#[allow(unused_imports)]
 mod generated {
     pub(crate) mod hbhook_draw;
     pub(crate) mod hbhook_lines;
