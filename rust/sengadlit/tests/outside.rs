@@ -11,7 +11,7 @@ use common::watchdog::{caught, in_time};
 use std::panic;
 
 /// How many calls are made of each kind of buffer.
-const CALLS: u64 = 60_000;
+const CALLS: u64 = 40_000;
 
 /// What became of calls.
 #[derive(Debug, Default)]

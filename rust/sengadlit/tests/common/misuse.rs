@@ -24,6 +24,7 @@ impl Misuse {
     pub fn random(numbers: &mut Numbers, kind: Glyphs) -> Self {
         let shaper = numbers.one_of(&SHAPERS);
         let other = numbers.one_of(&SHAPERS);
+        let last_kind = numbers.one_of(&[15, 15, 15, u8::MAX]);
         let planned = if numbers.once_in(3) { other } else { shaper };
         let mut buffer = random_buffer(numbers, kind);
         if numbers.once_in(3) {
@@ -33,7 +34,7 @@ impl Misuse {
             call: random_call(numbers, buffer.len()),
             shaper,
             plan: random_plan(numbers, planned),
-            spans: random_spans(numbers, buffer.len(), u8::MAX),
+            spans: random_spans(numbers, buffer.len(), last_kind),
             buffer,
         }
     }
