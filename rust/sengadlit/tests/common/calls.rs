@@ -129,8 +129,10 @@ impl Call {
                     is_range && (setting.shaper != Shaper::Arabic || end - start <= 32)
                 }
                 Call::Postprocess => setting.shaper != Shaper::Arabic || are_numbers(glyphs),
-                Call::Pause(Pause::InitialReordering) => are_numbers(glyphs),
-                Call::Pause(_) => setting.spans.iter().all(|span| span.kind <= 15),
+                Call::Pause(pause) => {
+                    let kinds_fit = setting.spans.iter().all(|span| span.kind <= 15);
+                    kinds_fit && (pause != Pause::InitialReordering || are_numbers(glyphs))
+                }
                 Call::Compose(..) | Call::Decompose(_) => true,
             }
         }
