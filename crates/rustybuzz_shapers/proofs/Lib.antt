@@ -1,5 +1,6 @@
 mod CheckedRows
 mod Cuts
+mod FlagLaws
 mod Headline
 mod HookRows
 mod PauseRows

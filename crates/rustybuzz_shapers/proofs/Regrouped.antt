@@ -1,17 +1,21 @@
 -- Each pause that reorders regroups each syllable by itself.
-use Rattle.std.proofs.Common.{List, map, subst}
+use Rattle.std.proofs.Common.{List, map, sym, ◌∙◌, subst}
 use Rattle.std.specs.List.Sorted.{IsPermutation}
 use Rattle.std.proofs.lemmas.List.Sorted.{IsPermutation-map}
 use Rattle.shapers_buffer.specs.declared.buffer.glyph.hb_glyph_info_t.{hb_glyph_info_t}
 use Rattle.shapers_buffer.specs.Buffer.{Buffer}
 use Rattle.shapers_base.specs.declared.plan.pause.Pause.TheVariants.{SetupSyllablesIndic, SetupSyllablesKhmer, SetupSyllablesMyanmar, SetupSyllablesUse, InitialReordering, ReorderKhmer, ReorderMyanmar, ReorderUse, FinalReordering, RecordStch, RecordRphf, RecordPref, SyllabicClearVar, ClearSubstitutionFlags, ArabicFallbackShape}
 use Rattle.shapers_clusters.specs.Flags.{seen}
+use Rattle.shapers_buffer.specs.declared.buffer.level.BufferClusterLevel.TheVariants.{Characters}
 use Rattle.shapers_clusters.specs.Steps.{Step}
+use Rattle.shapers_clusters.proofs.Views.{seen-permuted, seen-run_steps}
 use Rattle.shapers_syllabic.specs.Reordering.{SyllablesReordered, carried}
 use Rattle.shapers_syllabic.specs.ReorderingLaws.{ReorderLaws}
+use Rattle.shapers_syllabic.proofs.ReorderingLemmas.{carried_hides}
 use Rattle.shapers_syllabic.proofs.ReorderingLaws.{numbers-seen, text_reordered}
 use Rattle.shapers_indic.specs.Plan.{indic_in}
 use Rattle.shapers_indic_final.proofs.FinalKept.{finally_kept}
+use Rattle.shapers_indic_final.proofs.FinalLaws.{final_laws}
 use Rattle.shapers_indic_final.specs.FinalRules.{rules_of as final_rules}
 use Rattle.shapers_indic_initial.proofs.FontPositions.{order_by_font_laws}
 use Rattle.shapers_khmer.specs.Khmer.{order_in}
@@ -29,13 +33,21 @@ numbers_kept gs hs kept =
 numbers_by : (meaning : List hb_glyph_info_t → List hb_glyph_info_t) (steps : List hb_glyph_info_t → List Step) (old new : Buffer) → ReorderLaws meaning steps → SyllablesReordered meaning steps old new → IsPermutation (map (λ g. g.glyph_id) old.glyphs) (map (λ g. g.glyph_id) new.glyphs)
 numbers_by meaning steps old new laws done = numbers_kept old.glyphs new.glyphs (text_reordered meaning steps old new laws done).kept
 
+-- of each syllable by itself
+each_kept : (meaning : List hb_glyph_info_t → List hb_glyph_info_t) (steps : List hb_glyph_info_t → List Step) → ReorderLaws meaning steps → (syl : List hb_glyph_info_t) → IsPermutation (map (λ g. g.glyph_id) syl) (map (λ g. g.glyph_id) (meaning syl))
+each_kept meaning steps laws syl =
+    numbers_kept syl (meaning syl)
+    (subst (IsPermutation (seen carried syl)) (seen-run_steps carried carried_hides Characters (steps syl) syl ∙ sym (laws.agrees syl))
+    (seen-permuted carried carried_hides Characters (steps syl) syl (laws.fits syl) (laws.permutes syl)))
+
 pub syllables_regrouped : SyllablesRegrouped
 syllables_regrouped InitialReordering plan font spans old new done =
-    record { order = done.0.order; numbers = numbers_by _ _ _ new (order_by_font_laws font plan.ot_map (indic_in plan) old.script) done.0 }
-syllables_regrouped ReorderKhmer plan font spans old new done = record { order = done.order; numbers = numbers_by _ _ _ new (khmer_laws (order_in plan.plan_data)) done }
-syllables_regrouped ReorderMyanmar plan font spans old new done = record { order = done.order; numbers = numbers_by _ _ _ new myanmar_laws done }
-syllables_regrouped ReorderUse plan font spans old new done = record { order = done.order; numbers = numbers_by _ _ _ new universal_laws done }
-syllables_regrouped FinalReordering plan font spans old new done = record { order = done.order; numbers = (finally_kept (final_rules font (indic_in plan)) old new done).numbers }
+    let laws = order_by_font_laws font plan.ot_map (indic_in plan) old.script in
+    record { order = done.0.order; numbers = numbers_by _ _ _ new laws done.0; each = each_kept _ _ laws }
+syllables_regrouped ReorderKhmer plan font spans old new done = let laws = khmer_laws (order_in plan.plan_data) in record { order = done.order; numbers = numbers_by _ _ _ new laws done; each = each_kept _ _ laws }
+syllables_regrouped ReorderMyanmar plan font spans old new done = record { order = done.order; numbers = numbers_by _ _ _ new myanmar_laws done; each = each_kept _ _ myanmar_laws }
+syllables_regrouped ReorderUse plan font spans old new done = record { order = done.order; numbers = numbers_by _ _ _ new universal_laws done; each = each_kept _ _ universal_laws }
+syllables_regrouped FinalReordering plan font spans old new done = record { order = done.order; numbers = (finally_kept (final_rules font (indic_in plan)) old new done).numbers; each = each_kept _ _ (final_laws (final_rules font (indic_in plan)) old.script) }
 syllables_regrouped SetupSyllablesIndic plan font spans old new done = tt
 syllables_regrouped SetupSyllablesKhmer plan font spans old new done = tt
 syllables_regrouped SetupSyllablesMyanmar plan font spans old new done = tt

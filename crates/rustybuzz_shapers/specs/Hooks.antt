@@ -1,7 +1,7 @@
 -- What each hook does, of each shaper that has it. Of the others, which lack it by their
 -- `standing`: nothing changes and the answer is None.
-use Rattle.std.specs.Prelude.{ℕ, ◌+◌, ◌≤◌, List, map, true, false, ◌≡◌, length, Option, None, Some, Result, IsOk}
-use Rattle.std.specs.List.{All, list_any}
+use Rattle.std.specs.Prelude.{ℕ, ◌+◌, ◌≤◌, ◌%◌, List, [], ◌∷◌, map, true, false, ◌≡◌, length, Option, None, Some, Result, IsOk}
+use Rattle.std.specs.List.{All, AllByRecursion, list_any}
 use Rattle.shapers_buffer.specs.Buffer.{Buffer}
 use Rattle.shapers_base.specs.Font.{CharacterTables, Font}
 use Rattle.shapers_buffer.specs.Glyph.{clusters, characters}
@@ -19,7 +19,7 @@ use Rattle.shapers_base.specs.declared.plan.Preprocess.{Preprocess}
 use Rattle.shapers_base.specs.declared.plan.Preprocess.TheVariants.{Done, CallerRunsVowelConstraints}
 use Rattle.shapers_clusters.specs.Steps.{run_step}
 use Rattle.shapers_hangul.specs.Hangul as hangul
-use Rattle.shapers_hangul.specs.HangulLaws.{KeepsClusters, SpellsSame}
+use Rattle.shapers_hangul.specs.HangulLaws.{AllKept, KeepsClusters, KeepsGlyphFlags, SpellsByUnits, SpellsSame}
 use Rattle.shapers_hangul.specs.Masks.{is_hangul_data, jamo_masks, with_jamo_masks}
 use Rattle.shapers_indic.specs.Characters.{composed_in_indic, decomposed_in_indic}
 use Rattle.shapers_indic.specs.Plan.{indic_plan}
@@ -27,14 +27,16 @@ use Rattle.shapers_khmer.specs.Khmer.{decomposed_in_khmer}
 use Rattle.shapers_khmer.specs.Plan.{khmer_masks}
 use Rattle.shapers_stretch.specs.Recorded.{start_of}
 use Rattle.shapers_stretch.specs.Stretch.{marks_stretched, stretch_refusal}
+use Rattle.shapers_stretch.specs.StretchLaws.{AreCopies, IsLaidOver}
 use Rattle.shapers_syllabic.specs.Characters.{composed_behind, with_category, with_category_and_position}
 use Rattle.shapers_universal.specs.PlanData.{arabic_of, is_universal, universal_plan}
+use Rattle.shapers_universal.specs.PlanMasks.{joining_masks}
 use Rattle.shapers_universal.specs.UniversalMasks.{CanJoin, MasksAreSet}
 use Rattle.shapers_text.specs.Hebrew as hebrew
 use Rattle.shapers_text.specs.Hebrew.{composed_in_hebrew, mark_step}
 use Rattle.shapers_text.specs.Thai.{is_sara_am, glyphs_in_two}
 use Rattle.shapers_text.specs.ThaiForms.{asks_for_forms, preprocessed_in_thai}
-use Rattle.shapers_text.specs.ThaiLaws.{ClustersInTwo, KeptInTwo}
+use Rattle.shapers_text.specs.ThaiLaws.{ClustersInTwo, FlagsInTwo, KeptInTwo}
 use Rattle.rustybuzz_shapers.specs.Standing.{Lacking, standing}
 use Rattle.rustybuzz_shapers.specs.declared.shaper.hb_ot_shaper_t.{hb_ot_shaper_t}
 use Rattle.rustybuzz_shapers.specs.declared.shaper.hb_ot_shaper_t.TheVariants.{Arabic, Hangul, Hebrew, Indic, Khmer, Myanmar, Thai, Universal}
@@ -48,6 +50,18 @@ data_created Khmer plan = Some (data_of.Khmer (record { mask_array = khmer_masks
 data_created Universal plan =
     Some (data_of.Universal (universal_plan plan.stretch_start plan.script plan.ot_map))
 data_created _ plan = None
+
+-- all masks in a plan's data, and that none of them touches a glyph flag bit
+abbrev pub masks_kept : PlanData → List ℕ
+masks_kept (data_of.Arabic kept) = kept.mask_array
+masks_kept (data_of.Hangul kept) = kept.mask_array
+masks_kept (data_of.Indic kept) = kept.mask_array
+masks_kept (data_of.Khmer kept) = kept.mask_array
+masks_kept (data_of.Universal kept) = kept.rphf_mask ∷ joining_masks kept.arabic_plan
+masks_kept _ = []
+
+abbrev pub MasksOffFlags : PlanData → Type 0
+MasksOffFlags kept = AllByRecursion (λ mask. mask % 8 ≡ 0) (masks_kept kept)
 
 -- the plan with these data, if there are any
 abbrev pub with_created : Option PlanData → hb_ot_shape_plan_t → hb_ot_shape_plan_t
@@ -95,22 +109,27 @@ Preprocessed Thai plan font old new = new ≡ preprocessed_in_thai plan font old
 Preprocessed Universal plan font old new = new ≡ old
 Preprocessed shaper plan font old new = Lacking (standing shaper).preprocess_text (new ≡ old)
 
--- the laws of its clusters, and that no glyph is lost
+-- the laws of its clusters and glyph flags, that no glyph is lost, and for Hangul that each unit
+-- spells what it takes
 abbrev pub PreprocessKeeps : hb_ot_shaper_t → hb_ot_shape_plan_t → Font → Buffer → Buffer → Type 0
-PreprocessKeeps Hangul plan font old new = KeepsClusters font old new × SpellsSame old new
+PreprocessKeeps Hangul plan font old new =
+    KeepsClusters font old new × SpellsSame old new × KeepsGlyphFlags font old new
+    × SpellsByUnits font old new
 PreprocessKeeps Indic plan font old new = new ≡ old
 PreprocessKeeps Thai plan font old new =
     ClustersInTwo old.level (characters old.glyphs) (clusters old.glyphs) (clusters new.glyphs)
     × KeptInTwo (asks_for_forms plan) old.glyphs new.glyphs
+    × FlagsInTwo old.glyphs new.glyphs
 PreprocessKeeps Universal plan font old new = new ≡ old
 PreprocessKeeps shaper plan font old new = Lacking (standing shaper).preprocess_text (new ≡ old)
 
--- when it refuses: Hangul and Thai as a growth to the result's length does, Thai never without a
--- SARA AM; the others never
+-- when it refuses: Hangul and Thai as a growth to the result's length does, Hangul never where every
+-- item stays as it is, Thai never without a SARA AM; the others never
 abbrev pub RefusesPreprocess :
     {T : Type 0} → hb_ot_shaper_t → Font → Buffer → Result T ShaperError → Type 0
 RefusesPreprocess Hangul font old r =
     RefusesLength old.max_len (length (hangul.rewritten font old).glyphs) r
+    × (AllKept font old → IsOk r)
 RefusesPreprocess Indic font old r = IsOk r
 RefusesPreprocess Thai font old r =
     RefusesLength old.max_len (length (glyphs_in_two old.glyphs)) r
@@ -122,6 +141,14 @@ RefusesPreprocess shaper font old r = Lacking (standing shaper).preprocess_text 
 abbrev pub Postprocessed : hb_ot_shaper_t → hb_ot_shape_plan_t → Font → Buffer → Buffer → Type 0
 Postprocessed Arabic plan font old new = new ≡ marks_stretched font (start_of plan.plan_data) old
 Postprocessed shaper plan font old new = Lacking (standing shaper).postprocess_glyphs (new ≡ old)
+
+-- what it keeps: for Arabic each glyph is a copy of one that the text had, with its cluster and its
+-- glyph flags, and what is laid is as wide as the law of widths says
+abbrev pub PostprocessKeeps :
+    hb_ot_shaper_t → hb_ot_shape_plan_t → Font → Buffer → Buffer → Type 0
+PostprocessKeeps Arabic plan font old new =
+    AreCopies old.glyphs new.glyphs × IsLaidOver font (start_of plan.plan_data) old new
+PostprocessKeeps shaper plan font old new = Lacking (standing shaper).postprocess_glyphs (new ≡ old)
 
 -- when it refuses: for Arabic where a number doesn't fit, and then as a growth to the result's
 -- length does, but never without a mark that stretches; the others never

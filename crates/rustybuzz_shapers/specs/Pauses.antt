@@ -4,6 +4,7 @@ use Rattle.std.specs.Prelude.{◌≡◌, Bool, true, List, [], ◌∷◌, All, m
 use Rattle.shapers_arabic.specs.PlanData.{IsArabic}
 use Rattle.shapers_buffer.specs.Glyph.{clusters, order_view}
 use Rattle.shapers_buffer.specs.declared.buffer.glyph.hb_glyph_info_t.{hb_glyph_info_t}
+use Rattle.shapers_clusters.specs.FlagLaw.{OnlyFlagsAdded}
 use Rattle.shapers_clusters.specs.Laws.{ReorderedHold}
 use Rattle.shapers_clusters.specs.Steps.{Step}
 use Rattle.shapers_indic.specs.Plan.{indic_in, is_indic_data}
@@ -188,15 +189,19 @@ abbrev pub ClustersStay : Buffer → Buffer → Type 0
 ClustersStay old new = clusters new.glyphs ≡ clusters old.glyphs
 
 -- The laws of a pause: spans may be cut between any two, and texts at any border of syllables; what
--- becomes of clusters. In the initial reordering of Indic they merge by the cycles of its order, in
+-- becomes of clusters and glyph flags. What doesn't reorder leaves clusters, and only adds flags. In
+-- the initial reordering of Indic they merge by the cycles of its order, in
 -- the final one by its moves.
 abbrev pub PauseKeeps : Pause → hb_ot_shape_plan_t → Font → List Span → Buffer → Buffer → Type 0
 PauseKeeps SetupSyllablesIndic plan font spans old new =
     SetUpCutsAtSpans spans 4 old new × ClustersStay old new
+    × OnlyFlagsAdded old.glyphs new.glyphs
 PauseKeeps SetupSyllablesKhmer plan font spans old new =
     SetUpCutsAtSpans spans 1 old new × ClustersStay old new
+    × OnlyFlagsAdded old.glyphs new.glyphs
 PauseKeeps SetupSyllablesMyanmar plan font spans old new =
     SetUpCutsAtSpans spans 2 old new × ClustersStay old new
+    × OnlyFlagsAdded old.glyphs new.glyphs
 PauseKeeps SetupSyllablesUse plan font spans old new =
     UniversalSetUpCutsAtSpans plan.plan_data plan.ot_map spans old new × ClustersStay old new
 PauseKeeps InitialReordering plan font spans old new =
@@ -210,12 +215,12 @@ PauseKeeps ReorderUse plan font spans old new =
     ReorderingKeeps (by_universal font old) old new × MergedFirst (by_universal font old) old new
 PauseKeeps FinalReordering plan font spans old new =
     FinallyKept (final.rules_of font (indic_in plan)) old new × NoNewCluster old.glyphs new.glyphs
-PauseKeeps RecordStch plan font spans old new = Unit {0}
-PauseKeeps RecordRphf plan font spans old new = Unit {0}
-PauseKeeps RecordPref plan font spans old new = Unit {0}
-PauseKeeps SyllabicClearVar plan font spans old new = Unit {0}
-PauseKeeps ClearSubstitutionFlags plan font spans old new = Unit {0}
-PauseKeeps ArabicFallbackShape plan font spans old new = Unit {0}
+PauseKeeps RecordStch plan font spans old new = OnlyFlagsAdded old.glyphs new.glyphs
+PauseKeeps RecordRphf plan font spans old new = OnlyFlagsAdded old.glyphs new.glyphs
+PauseKeeps RecordPref plan font spans old new = OnlyFlagsAdded old.glyphs new.glyphs
+PauseKeeps SyllabicClearVar plan font spans old new = OnlyFlagsAdded old.glyphs new.glyphs
+PauseKeeps ClearSubstitutionFlags plan font spans old new = OnlyFlagsAdded old.glyphs new.glyphs
+PauseKeeps ArabicFallbackShape plan font spans old new = OnlyFlagsAdded old.glyphs new.glyphs
 
 -- when a reordering refuses: an unknown kind first; then as a growth to the text with its circles
 -- does; never where no circle opens

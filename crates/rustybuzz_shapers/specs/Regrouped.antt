@@ -27,13 +27,15 @@ text_of_syllables FinalReordering plan font r gs =
 text_of_syllables _ plan font r gs = text_order r.order gs
 
 -- The text after is made of the syllables of the text with circles, each by itself, and no glyph
--- number is lost.
+-- number is lost: of the text, and of each syllable by itself.
 pub record RegroupsSyllables (pause : Pause) (plan : hb_ot_shape_plan_t) (font : Font)
     (r : Reordering) (old new : Buffer) : Type 0 where
   pub order : order_view new.glyphs
       ≡ text_of_syllables pause plan font r (order_view (circled r.circles old.glyphs))
   pub numbers : IsPermutation
       (map (λ g. g.glyph_id) (circled r.circles old.glyphs)) (map (λ g. g.glyph_id) new.glyphs)
+  pub each : (syl : List hb_glyph_info_t) →
+      IsPermutation (map (λ g. g.glyph_id) syl) (map (λ g. g.glyph_id) (r.order syl))
 
 -- so each pause that reorders, by what it makes of a syllable: a function of that syllable, the
 -- plan, the font and the buffer's script

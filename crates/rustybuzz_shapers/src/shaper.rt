@@ -1,9 +1,11 @@
 //! The shapers behind one enum, a method a hook. Where a shaper lacks a hook, its method answers
 //! None and changes nothing.
 ghost use Rattle.std.specs.Prelude.{◌≡◌, ◌≤◌, [], length, IfOk, IsOk, false, is_some, IsOkUnless, OnOk, OnErr};
+ghost use Rattle.std.specs.Option.{IfSome};
 ghost use Rattle.shapers_buffer.specs.declared.buffer.refusal.ShaperError.TheVariants.{Memory};
 ghost use Rattle.shapers_arabic.specs.Requests.{rclt};
-ghost use Rattle.rustybuzz_shapers.specs.Hooks.{Composed, Decomposed, GlyphsFit, MasksSet, MarksFit, MarksKeep, MarksReordered, PlanFits, PostprocessFits, Postprocessed, Preprocessed, PreprocessKeeps, data_created, preprocess_answer, RefusesPostprocess, RefusesPreprocess};
+ghost use Rattle.shapers_clusters.specs.FlagLaw.{OnlyFlagsAdded};
+ghost use Rattle.rustybuzz_shapers.specs.Hooks.{Composed, Decomposed, GlyphsFit, MasksOffFlags, MasksSet, MarksFit, MarksKeep, MarksReordered, PlanFits, PostprocessFits, PostprocessKeeps, Postprocessed, Preprocessed, PreprocessKeeps, data_created, preprocess_answer, RefusesPostprocess, RefusesPreprocess};
 ghost use Rattle.rustybuzz_shapers.specs.Records.{asked, collected, normalizes, overridden, places_marks, wants_gpos_script, zeroes_marks};
 ghost use Rattle.rustybuzz_shapers.specs.Standing.{has_hook, standing};
 
@@ -226,10 +228,11 @@ impl hb_ot_shaper_t {
         }
     }
 
-    /// What the shaper keeps in the plan.
+    /// What the shaper keeps in the plan. No mask in it touches a glyph flag bit.
     pub fn create_data(self, plan: &hb_ot_shape_plan_t) -> Option<PlanData>
         ensures data { result ≡ data_created self plan.now }
         ensures answer { is_some result ≡ (standing self).create_data }
+        ensures off_flags { IfSome result MasksOffFlags }
     {
         match self {
             Self::Arabic => Some(ot_shaper_arabic::create_data(plan)),
@@ -279,7 +282,7 @@ impl hb_ot_shaper_t {
     }
 
     /// Rewrites the glyphs after positioning: for Arabic, marks stretch over the words before them,
-    /// by the widths of `stretches_cover_law`.
+    /// as wide as these or wider by less than a unit an added copy, where their tiles fit.
     pub fn postprocess_glyphs<F: hb_font_t>(
         self,
         plan: &hb_ot_shape_plan_t,
@@ -292,6 +295,8 @@ impl hb_ot_shaper_t {
             IfOk result (λ answer. is_some answer ≡ there) }
         ensures ok { let font = F.font face.now in
             OnOk result (Postprocessed self plan.now font buffer.old buffer.new) }
+        ensures laws { let font = F.font face.now in
+            OnOk result (PostprocessKeeps self plan.now font buffer.old buffer.new) }
         ensures longer { let added = glyphs_added self (F.font face.now) buffer.old in
             OnOk result (length buffer.new.glyphs ≡ length buffer.old.glyphs + added) }
         ensures refusal { RefusesPostprocess self plan.now (F.font face.now) buffer.old result }
@@ -375,6 +380,7 @@ impl hb_ot_shaper_t {
         requires glyphs { GlyphsFit self plan.now buffer.old.glyphs }
         ensures answer { is_some result ≡ (standing self).setup_masks }
         ensures masks { MasksSet self plan.now (T.tables tables.now) buffer.old buffer.new }
+        ensures flags { OnlyFlagsAdded buffer.old.glyphs buffer.new.glyphs }
     {
         match self {
             Self::Arabic => Some(ot_shaper_arabic::setup_masks(plan, tables, buffer)),

@@ -9,7 +9,9 @@ ghost use Rattle.shapers_syllabic.specs.Characters.{with_category_and_position};
 use shapers_base::buffer::{hb_buffer_t, hb_tag_t};
 use shapers_base::font::Tables;
 use shapers_base::map::{F_GLOBAL, F_MANUAL_JOINERS, F_PER_SYLLABLE};
-pub use shapers_base::plan::{Category, Position, ot_category_t, ot_position_t};
+pub use shapers_base::plan::{
+    Category, IndicWouldSubstituteFeature, Position, ot_category_t, ot_position_t,
+};
 use shapers_base::plan::{Pause, Request, ShaperError, hb_ot_shape_planner_t};
 use shapers_syllabic::ot_shaper_syllabic;
 
