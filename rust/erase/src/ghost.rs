@@ -3,7 +3,7 @@
 
 use crate::contract::{documentation, is_public};
 use crate::file::File;
-use crate::table::{ATTRIBUTES, CLAUSES, ERASED_ATTRIBUTES, ERASED_DERIVES, ITEMS};
+use crate::table::{all, get};
 
 /// Erases contracts and ghost items, and what only the proof or its tests read.
 pub fn erase_file(file: &mut File) -> Result<(), String> {
@@ -13,44 +13,34 @@ pub fn erase_file(file: &mut File) -> Result<(), String> {
     for i in (0..file.tokens.len()).rev() {
         match file.text(i) {
             "fn" => erase_clauses(file, i),
-            "prove" => erase_proof(file, i),
+            "prove" if file.text(i + 1) == "!" => file.cut_item(i..=file.end(i)?),
             "Drop" => erase_bound(file, i),
             "#" => erase_attribute(file, i)?,
             _ => {}
         }
     }
-    let items: Vec<usize> = ITEMS.iter().flat_map(|name| file.places(name)).collect();
-    items.into_iter().try_for_each(|i| erase_item(file, i))
-}
-
-// `ghost use ..;`, `ghost NAME: {..};`, `ghost NAME = {..};` or both together.
-fn erase_ghost(file: &mut File, i: usize) -> Result<(), String> {
-    let mut end = i + 2;
-    while matches!(file.text(end), ":" | "=") && file.text(end + 1) == "{" {
-        end = file.partner(end + 1) + 1;
-    }
-    if file.text(i + 1) == "use" {
-        end = file.end(i + 1)?;
-        define(file, i, end)?;
-    }
-    if file.text(end) == ";" {
-        file.cut_item(i..=end);
+    for i in all("item").flat_map(|(name, _)| file.places(name)).collect::<Vec<usize>>() {
+        erase_item(file, i)?;
     }
     Ok(())
 }
 
-// Notes what `ghost use Rattle.CRATE.specs.FILE.{..};` imports, unless it is the kit's.
-fn define(file: &mut File, i: usize, end: usize) -> Result<(), String> {
-    let import = file.joined(i + 2..=end);
-    let (path, names) =
-        import.split_once(".{").ok_or_else(|| file.fault(i, "an unknown import"))?;
-    let specification = path.strip_prefix("Rattle.").and_then(|path| path.split_once(".specs."));
-    let own =
-        specification.filter(|(krate, path)| *krate != "std" && !path.starts_with("declared."));
-    if let Some((krate, path)) = own {
-        let place = format!("crates/{krate}/specs/{}.antt", path.replace('.', "/"));
-        let names = names.trim_end_matches(['}', ';']).split(',');
-        file.definitions.extend(names.map(|name| (name.to_string(), place.clone())));
+// Cuts `ghost use ..;`, `ghost NAME: {..};` or `ghost NAME = {..};`, and notes the names that it
+// imports from the specifications of this repository.
+fn erase_ghost(file: &mut File, i: usize) -> Result<(), String> {
+    let is_member = matches!(file.text(i + 2), ":" | "=") && file.text(i + 3) == "{";
+    let item = i..=file.end(i)?;
+    let import = file.joined(item.clone());
+    if let Some((path, names)) = import.trim_end_matches("};").split_once(".{") {
+        let path = path.strip_prefix("ghostuseRattle.").and_then(|path| path.split_once(".specs."));
+        let path = path.filter(|(krate, path)| *krate != "std" && !path.starts_with("declared."));
+        let file_of = |(krate, path): (&str, &str)| format!("crates/{krate}/specs/{path}.antt");
+        let place = path.map(|(krate, path)| file_of((krate, &path.replace('.', "/"))));
+        let names = names.split(',').map(str::to_string);
+        file.definitions.extend(names.filter_map(|name| Some((name, place.clone()?))));
+    }
+    if is_member || import.starts_with("ghostuse") {
+        file.cut_item(item);
     }
     Ok(())
 }
@@ -59,7 +49,7 @@ fn define(file: &mut File, i: usize, end: usize) -> Result<(), String> {
 fn erase_clauses(file: &mut File, function: usize) {
     let clause = |i: usize| {
         let open = (i + 1..=i + 2).find(|open| file.text(*open) == "{")?;
-        CLAUSES.contains(&file.text(i)).then(|| i..=file.partner(open))
+        get("clause", file.text(i)).map(|_| i..=file.partner(open))
     };
     let clauses: Vec<_> = (function..file.tokens.len()).filter_map(clause).collect();
     if !clauses.is_empty() && is_public(file, function) {
@@ -69,30 +59,22 @@ fn erase_clauses(file: &mut File, function: usize) {
     clauses.into_iter().rev().for_each(|clause| file.cut_item(clause));
 }
 
-// Cuts `prove!(..);`.
-fn erase_proof(file: &mut File, i: usize) {
-    let end = file.partner(i + 2) + 1;
-    if file.text(i + 1) == "!" && file.text(end) == ";" {
-        file.cut_item(i..=end);
-    }
-}
-
 fn erase_attribute(file: &mut File, i: usize) -> Result<(), String> {
     let open = if file.text(i + 1) == "!" { i + 2 } else { i + 1 };
-    let end = file.partner(open);
-    match file.text(open + 1) {
-        "cfg" if file.joined(i..=end) == "#[cfg(test)]" => file.cut_item(i..=file.end(end)?),
-        "derive" => erase_derives(file, i, end),
-        name if ERASED_ATTRIBUTES.contains(&name) => file.cut(i..=end),
-        name if ATTRIBUTES.contains(&name) => {}
-        _ => return Err(file.fault(i, "an unknown attribute")),
+    let (name, end) = (file.text(open + 1), file.partner(open));
+    match get("attribute", name) {
+        Some("goes") => file.cut(i..=end),
+        Some(_) if name == "derive" => erase_derives(file, i, end),
+        Some(_) => {}
+        None if file.joined(i..=end) == "#[cfg(test)]" => file.cut_item(i..=file.end(end + 1)?),
+        None => return Err(file.fault(i, "an unknown attribute")),
     }
     Ok(())
 }
 
 fn erase_derives(file: &mut File, i: usize, end: usize) {
     for derive in (i..end).rev() {
-        if ERASED_DERIVES.contains(&file.text(derive)) {
+        if get("derive", file.text(derive)).is_some() {
             file.cut_element(derive);
         }
     }
@@ -104,8 +86,7 @@ fn erase_derives(file: &mut File, i: usize, end: usize) {
 // Cuts the bound `Drop`, and where it is all that a `where` clause asks of a type that type.
 fn erase_bound(file: &mut File, i: usize) {
     let owner = file.nearest(i, &["where", "fn", "impl", "struct", "enum", "trait"]);
-    let owner = owner.filter(|owner| file.text(*owner) == "where");
-    match (file.before(i), file.text(i + 1), owner) {
+    match (file.before(i), file.text(i + 1), owner.filter(|owner| file.text(*owner) == "where")) {
         ("+", ..) => file.cut(i - 1..=i),
         (":", "+", _) => file.cut(i..=i + 1),
         (":", _, None) => file.cut(i - 1..=i),

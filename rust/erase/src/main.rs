@@ -3,53 +3,48 @@
 
 #![forbid(unsafe_code)]
 
-use erase::erase;
-use erase::table::TREES;
-use erase::token::tokens;
+use erase::{erase, table, token};
 use std::collections::{BTreeMap, BTreeSet};
 use std::error::Error;
 use std::path::{Path, PathBuf};
 use std::process::{Command, ExitCode};
 use std::{env, fs};
 
-type Files = BTreeMap<PathBuf, String>;
-
 fn main() -> ExitCode {
-    let arguments: Vec<String> = env::args().skip(1).collect();
-    let is_check = arguments == ["--check"];
-    let usage = || Err("usage: erase [--check]".into());
-    match if arguments.is_empty() || is_check { update(is_check) } else { usage() } {
-        Ok(true) => ExitCode::SUCCESS,
-        Ok(false) => ExitCode::FAILURE,
-        Err(error) => {
-            eprintln!("{error}");
-            ExitCode::FAILURE
-        }
-    }
+    let result = match env::args().nth(1).as_deref() {
+        None => update(false),
+        Some("--check") => update(true),
+        Some(_) => Err("usage: erase [--check]".into()),
+    };
+    result.unwrap_or_else(|error| {
+        eprintln!("{error}");
+        ExitCode::FAILURE
+    })
 }
 
 // Prints each file that differs by more than white space and the layout's commas and, unless this is
-// a check, writes or removes it. Returns whether all is up to date then.
-fn update(is_check: bool) -> Result<bool, Box<dyn Error>> {
+// a check, writes or removes it.
+fn update(is_check: bool) -> Result<ExitCode, Box<dyn Error>> {
     let (made, committed) = (generated()?, files_below(Path::new(""))?);
-    let words = |files: &Files, path: &PathBuf| files.get(path).map(|text| words(text));
-    let differs = |path: &&PathBuf| words(&made, path) != words(&committed, path);
     let paths: BTreeSet<&PathBuf> = made.keys().chain(committed.keys()).collect();
-    let different: Vec<&PathBuf> = paths.into_iter().filter(differs).collect();
-    for path in &different {
-        println!("{}", path.display());
-        match made.get(*path) {
-            _ if is_check => {}
-            Some(text) => write(path, text)?,
-            None => fs::remove_file(path)?,
+    let mut status = ExitCode::SUCCESS;
+    for path in paths {
+        let (new, old) = (made.get(path), committed.get(path));
+        if new.map(|text| words(text)) != old.map(|text| words(text)) {
+            println!("{}", path.display());
+            match new {
+                _ if is_check => status = ExitCode::FAILURE,
+                Some(text) => write(path, text)?,
+                None => fs::remove_file(path)?,
+            }
         }
     }
-    Ok(!is_check || different.is_empty())
+    Ok(status)
 }
 
 // The words of a text's comments and its tokens, without commas before closing brackets.
 fn words(text: &str) -> Vec<String> {
-    let tokens = tokens(text).unwrap_or_default();
+    let tokens = token::tokens(text).unwrap_or_default();
     let is_layout = |i: usize| tokens[i].text == "," && ")]}>".contains(&tokens[i + 1].text);
     let text = |i: usize| if is_layout(i) { "" } else { &tokens[i].text };
     let words = |i: usize| tokens[i].lead.split_whitespace().chain([text(i)]).map(str::to_string);
@@ -57,18 +52,16 @@ fn words(text: &str) -> Vec<String> {
 }
 
 // The files of all trees after rustfmt, by their paths.
-fn generated() -> Result<Files, Box<dyn Error>> {
-    let crates: Vec<&str> = TREES.iter().flat_map(|(_, crates)| crates.split(' ')).collect();
+fn generated() -> Result<BTreeMap<PathBuf, String>, Box<dyn Error>> {
+    let crates: Vec<&str> = table::all("crate").map(|(krate, _)| krate).collect();
     let outputs = erase(&crates, &|path| fs::read_to_string(path).ok())?;
     let scratch = Path::new("target/erase");
     if scratch.exists() {
         fs::remove_dir_all(scratch)?;
     }
-    for output in &outputs {
-        write(&scratch.join(&output.path), &output.text)?;
-    }
-    let roots = outputs.iter().map(|output| scratch.join(&output.path));
-    let roots = roots.filter(|path| path.ends_with("mod.rs"));
+    outputs.iter().try_for_each(|(path, text)| write(&scratch.join(path), text))?;
+    let roots =
+        outputs.keys().filter(|path| path.ends_with("/mod.rs")).map(|path| scratch.join(path));
     match Command::new("rustfmt").args(["--edition", "2024"]).args(roots).status()?.success() {
         true => files_below(scratch),
         false => Err("rustfmt failed".into()),
@@ -76,16 +69,16 @@ fn generated() -> Result<Files, Box<dyn Error>> {
 }
 
 // The files of all trees below a folder, by their paths from there.
-fn files_below(top: &Path) -> Result<Files, Box<dyn Error>> {
-    let mut files = Files::new();
-    let mut folders: Vec<PathBuf> = TREES.iter().map(|(folder, _)| top.join(folder)).collect();
+fn files_below(top: &Path) -> Result<BTreeMap<PathBuf, String>, Box<dyn Error>> {
+    let mut files = BTreeMap::new();
+    let mut folders: Vec<PathBuf> = table::all("crate").map(|(_, tree)| top.join(tree)).collect();
     while let Some(folder) = folders.pop() {
         for entry in folder.read_dir().into_iter().flatten() {
-            let path = entry?.path();
-            if path.is_dir() {
-                folders.push(path);
-            } else {
-                files.insert(path.strip_prefix(top)?.to_path_buf(), fs::read_to_string(&path)?);
+            match entry?.path() {
+                path if path.is_dir() => folders.push(path),
+                path => {
+                    _ = files.insert(path.strip_prefix(top)?.into(), fs::read_to_string(&path)?)
+                }
             }
         }
     }
