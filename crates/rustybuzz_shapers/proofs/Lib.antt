@@ -1,3 +1,4 @@
+mod CheckedRows
 mod Cuts
 mod Headline
 mod HookRows

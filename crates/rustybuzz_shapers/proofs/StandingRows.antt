@@ -1,6 +1,8 @@
 -- Which shaper has which hook, computed: the whole table.
 use Rattle.std.specs.Prelude.{◌≡◌, Bool, true, false, List, [], ◌∷◌, map, refl}
-use Rattle.rustybuzz_shapers.specs.Standing.{Standing, standing}
+use Rattle.rustybuzz_shapers.specs.Standing.{Standing, has_hook, standing}
+use Rattle.rustybuzz_shapers.specs.declared.shaper.Hook.{Hook}
+use Rattle.rustybuzz_shapers.specs.declared.shaper.Hook.TheVariants.{CollectFeatures, OverrideFeatures, CreateData, PreprocessText, PostprocessGlyphs, Compose, Decompose, SetupMasks, ReorderMarks}
 use Rattle.rustybuzz_shapers.specs.declared.shaper.hb_ot_shaper_t.{hb_ot_shaper_t}
 use Rattle.rustybuzz_shapers.specs.declared.shaper.hb_ot_shaper_t.TheVariants.{Arabic, Hangul, Hebrew, Indic, Khmer, Myanmar, MyanmarZawgyi, Thai, Universal}
 
@@ -37,3 +39,10 @@ sets_masks = refl
 
 orders_marks : which (λ s. s.reorder_marks) ≡ true ∷ false ∷ true ∷ false ∷ false ∷ false ∷ false ∷ false ∷ false ∷ []
 orders_marks = refl
+
+-- each hook by its name is its column
+abbrev by_name : Hook → List Bool
+by_name hook = map (λ shaper. has_hook shaper hook) nine
+
+columns : map by_name (CollectFeatures ∷ OverrideFeatures ∷ CreateData ∷ PreprocessText ∷ PostprocessGlyphs ∷ Compose ∷ Decompose ∷ SetupMasks ∷ ReorderMarks ∷ []) ≡ which (λ s. s.collect_features) ∷ which (λ s. s.override_features) ∷ which (λ s. s.create_data) ∷ which (λ s. s.preprocess_text) ∷ which (λ s. s.postprocess_glyphs) ∷ which (λ s. s.compose) ∷ which (λ s. s.decompose) ∷ which (λ s. s.setup_masks) ∷ which (λ s. s.reorder_marks) ∷ []
+columns = refl

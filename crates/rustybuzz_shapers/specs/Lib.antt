@@ -1,3 +1,4 @@
+pub mod Checked
 pub mod Cuts
 pub mod Headline
 pub mod Hooks

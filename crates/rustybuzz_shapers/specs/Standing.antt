@@ -1,5 +1,7 @@
 -- Which shaper has which hook, said once.
 use Rattle.std.specs.Prelude.{Bool, true, false, ◌≡◌}
+use Rattle.rustybuzz_shapers.specs.declared.shaper.Hook.{Hook}
+use Rattle.rustybuzz_shapers.specs.declared.shaper.Hook.TheVariants.{CollectFeatures, OverrideFeatures, CreateData, PreprocessText, PostprocessGlyphs, Compose, Decompose, SetupMasks, ReorderMarks}
 use Rattle.rustybuzz_shapers.specs.declared.shaper.hb_ot_shaper_t.{hb_ot_shaper_t}
 use Rattle.rustybuzz_shapers.specs.declared.shaper.hb_ot_shaper_t.TheVariants.{Arabic, Hangul, Hebrew, Indic, Khmer, Myanmar, MyanmarZawgyi, Thai, Universal}
 
@@ -78,6 +80,18 @@ standing Universal =
       compose = true;
       setup_masks = true;
     }
+
+-- whether a shaper has a hook
+abbrev pub has_hook : hb_ot_shaper_t → Hook → Bool
+has_hook shaper CollectFeatures = (standing shaper).collect_features
+has_hook shaper OverrideFeatures = (standing shaper).override_features
+has_hook shaper CreateData = (standing shaper).create_data
+has_hook shaper PreprocessText = (standing shaper).preprocess_text
+has_hook shaper PostprocessGlyphs = (standing shaper).postprocess_glyphs
+has_hook shaper Compose = (standing shaper).compose
+has_hook shaper Decompose = (standing shaper).decompose
+has_hook shaper SetupMasks = (standing shaper).setup_masks
+has_hook shaper ReorderMarks = (standing shaper).reorder_marks
 
 -- what holds of a shaper that lacks a hook, and can't be met by one that has it
 abbrev pub Lacking : Bool → Type 0 → Type 0

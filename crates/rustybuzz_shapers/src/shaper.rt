@@ -5,17 +5,18 @@ ghost use Rattle.shapers_buffer.specs.declared.buffer.refusal.ShaperError.TheVar
 ghost use Rattle.shapers_arabic.specs.Requests.{rclt};
 ghost use Rattle.rustybuzz_shapers.specs.Hooks.{Composed, Decomposed, GlyphsFit, MasksSet, MarksFit, MarksKeep, MarksReordered, PlanFits, PostprocessFits, Postprocessed, Preprocessed, PreprocessKeeps, data_created, preprocess_answer, RefusesPostprocess, RefusesPreprocess};
 ghost use Rattle.rustybuzz_shapers.specs.Records.{asked, collected, normalizes, overridden, places_marks, wants_gpos_script, zeroes_marks};
-ghost use Rattle.rustybuzz_shapers.specs.Standing.{standing};
+ghost use Rattle.rustybuzz_shapers.specs.Standing.{has_hook, standing};
 
 use shapers_base::buffer::{ShaperError, hb_buffer_t, hb_tag_t};
 use shapers_base::font::{Tables, hb_font_t};
 use shapers_base::plan::{hb_ot_shape_plan_t, hb_ot_shape_planner_t};
 
+pub mod checked;
 mod conditions;
 mod laws;
 mod pauses;
 
-pub use conditions::pause_fits;
+pub use conditions::{has_positions, kinds_fit, lacks_positions, pause_fits};
 pub use laws::{cuts_at_borders_law, headline, stretches_cover_law};
 pub use pauses::{run_pause, syllables_regrouped_law};
 use shapers_arabic::ot_shaper_arabic;
@@ -51,6 +52,29 @@ pub enum hb_ot_shaper_t {
     Universal,
 }
 
+/// A hook of a shaper, by its method.
+#[derive(Clone, Copy, Debug, PartialEq, Eq)]
+pub enum Hook {
+    /// `collect_features`.
+    CollectFeatures,
+    /// `override_features`.
+    OverrideFeatures,
+    /// `create_data`.
+    CreateData,
+    /// `preprocess_text`.
+    PreprocessText,
+    /// `postprocess_glyphs`.
+    PostprocessGlyphs,
+    /// `compose`.
+    Compose,
+    /// `decompose`.
+    Decompose,
+    /// `setup_masks`.
+    SetupMasks,
+    /// `reorder_marks`.
+    ReorderMarks,
+}
+
 /// The shaper of Arabic and the scripts that join like it.
 pub const ARABIC_SHAPER: hb_ot_shaper_t = hb_ot_shaper_t::Arabic;
 
@@ -82,8 +106,41 @@ impl hb_ot_shaper_t {
     ghost use Rattle.std.specs.Prelude.{◌+◌};
     ghost use Rattle.rustybuzz_shapers.specs.Stretched.{glyphs_added};
 
+    /// Whether the shaper has a hook. Where it lacks one, the hook's method answers None and changes
+    /// nothing.
+    pub const fn has_hook(self, hook: Hook) -> bool
+        ensures { result ≡ has_hook self hook }
+    {
+        match hook {
+            Hook::CollectFeatures => {
+                !matches!(self, Self::Hebrew | Self::MyanmarZawgyi | Self::Thai)
+            }
+            Hook::OverrideFeatures => matches!(self, Self::Hangul | Self::Indic | Self::Khmer),
+            Hook::CreateData => matches!(
+                self,
+                Self::Arabic | Self::Hangul | Self::Indic | Self::Khmer | Self::Universal
+            ),
+            Hook::PreprocessText => {
+                matches!(
+                    self,
+                    Self::Hangul | Self::Indic | Self::Thai | Self::Universal
+                )
+            }
+            Hook::PostprocessGlyphs => matches!(self, Self::Arabic),
+            Hook::Compose => {
+                matches!(
+                    self,
+                    Self::Hebrew | Self::Indic | Self::Khmer | Self::Universal
+                )
+            }
+            Hook::Decompose => matches!(self, Self::Indic | Self::Khmer),
+            Hook::SetupMasks => { !matches!(self, Self::Hebrew | Self::MyanmarZawgyi | Self::Thai) }
+            Hook::ReorderMarks => matches!(self, Self::Arabic | Self::Hebrew),
+        }
+    }
+
     /// How the text is normalized before the font's mapping.
-    pub fn normalization_preference(self) -> NormalizationMode
+    pub const fn normalization_preference(self) -> NormalizationMode
         ensures { result ≡ normalizes self }
     {
         match self {
@@ -94,7 +151,7 @@ impl hb_ot_shaper_t {
     }
 
     /// The script that GPOS has to have chosen, so that the shaper trusts it to place marks.
-    pub fn gpos_tag(self) -> Option<hb_tag_t>
+    pub const fn gpos_tag(self) -> Option<hb_tag_t>
         ensures { result ≡ wants_gpos_script self }
     {
         match self {
@@ -104,7 +161,7 @@ impl hb_ot_shaper_t {
     }
 
     /// When the advances of marks become zero.
-    pub fn zero_width_marks(self) -> ZeroWidthMarks
+    pub const fn zero_width_marks(self) -> ZeroWidthMarks
         ensures { result ≡ zeroes_marks self }
     {
         match self {
@@ -115,7 +172,7 @@ impl hb_ot_shaper_t {
     }
 
     /// Whether marks are placed by their classes where the font doesn't place them.
-    pub fn fallback_position(self) -> bool
+    pub const fn fallback_position(self) -> bool
         ensures { result ≡ places_marks self }
     {
         matches!(self, Self::Arabic | Self::Hebrew)

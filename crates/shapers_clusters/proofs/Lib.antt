@@ -5,6 +5,7 @@ pub mod Cuts
 pub mod Elsewhere
 pub mod Falls
 pub mod FlagCalls
+pub mod FlagLaw
 pub mod Flagging
 pub mod FlagsThrough
 pub mod GatheredCuts

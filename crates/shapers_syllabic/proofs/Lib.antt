@@ -18,4 +18,5 @@ pub mod SyllabicLemmas
 mod SyllabicRows
 pub mod SyllableAlone
 pub mod SyllableThen
+pub mod SyllableWalks
 pub mod Views

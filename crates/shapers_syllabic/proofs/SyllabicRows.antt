@@ -1,5 +1,5 @@
 -- The kinds of syllables by their numbers, span set-up and clearing, computed on small texts.
-use Rattle.std.specs.Prelude.{◌≡◌, ℕ, true, List, [], ◌∷◌, map, refl}
+use Rattle.std.specs.Prelude.{◌≡◌, ℕ, true, false, List, [], ◌∷◌, map, refl}
 use Rattle.shapers_buffer.specs.declared.buffer.category.hb_unicode_general_category_t.TheVariants.{Mn}
 use Rattle.shapers_buffer.specs.declared.buffer.glyph.hb_glyph_info_t.{hb_glyph_info_t}
 use Rattle.shapers_syllabic.specs.declared.ot_shaper_syllabic.kinds.indic_syllable.TheConstants as indic
@@ -8,7 +8,7 @@ use Rattle.shapers_syllabic.specs.declared.ot_shaper_syllabic.kinds.myanmar_syll
 use Rattle.shapers_syllabic.specs.declared.ot_shaper_syllabic.kinds.use_syllable.TheConstants as universal
 use Rattle.shapers_buffer.specs.Buffer.{Buffer, new_buffer}
 use Rattle.shapers_buffer.specs.Glyph.{default_glyph}
-use Rattle.shapers_syllabic.specs.Syllabic.{in_unsafe_syllable, unsafe_spans, unsafe_syllables, unsubstituted, with_unsafe_syllables}
+use Rattle.shapers_syllabic.specs.Syllabic.{in_unsafe_syllable, set_up_by_bytes, unsafe_spans, unsafe_syllables, unsubstituted, with_unsafe_syllables}
 use Rattle.shapers_buffer.specs.Syllables.{in_syllable, kind_of, with_spans}
 
 -- the kinds, in the order of their numbers
@@ -63,3 +63,19 @@ unsafe_set_up = refl
 
 unsafe_in_one : in_unsafe_syllable 0x24 (of_rows ((0, 0) ∷ (1, 1) ∷ [])) ≡ record default_glyph { syllable = 0x24 } ∷ record default_glyph { syllable = 0x24; cluster = 1; mask = 3 } ∷ []
 unsafe_in_one = refl
+
+-- a text set up by the bytes that it has: flags inside each syllable whose clusters differ, the mark where one is of the broken kind
+abbrev by_bytes : ℕ → List (ℕ × ℕ) → Buffer
+by_bytes kind gs = set_up_by_bytes kind (record (new_buffer 9) { glyphs = map (λ (g : ℕ × ℕ). record default_glyph { cluster = g.0; syllable = g.1 }) gs })
+
+masks_by_bytes : map (λ (g : hb_glyph_info_t). g.mask) (by_bytes 4 ((0, 0x10) ∷ (1, 0x10) ∷ (2, 0x24) ∷ (2, 0x24) ∷ (5, 0x30) ∷ (4, 0x30) ∷ [])).glyphs ≡ 0 ∷ 3 ∷ 0 ∷ 0 ∷ 3 ∷ 0 ∷ []
+masks_by_bytes = refl
+
+marked_by_bytes : (by_bytes 4 ((0, 0x10) ∷ (1, 0x24) ∷ [])).broken ≡ true
+marked_by_bytes = refl
+
+unmarked_by_bytes : (by_bytes 4 ((0, 0x10) ∷ (1, 0x45) ∷ [])).broken ≡ false
+unmarked_by_bytes = refl
+
+still_marked : (set_up_by_bytes 4 (record (new_buffer 9) { broken = true })).broken ≡ true
+still_marked = refl

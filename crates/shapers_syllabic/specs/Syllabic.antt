@@ -1,12 +1,12 @@
 -- What the shapers of syllabic scripts do to the whole text.
-use Rattle.std.specs.Prelude.{ℕ, ◌≤◌, List, length, map, All, IsTrue}
-use Rattle.std.specs.List.{flat_map}
+use Rattle.std.specs.Prelude.{ℕ, ◌≤◌, ◌==◌, ◌||◌, List, length, map, All, IsTrue}
+use Rattle.std.specs.List.{flat_map, list_any}
 use Rattle.shapers_buffer.specs.declared.buffer.glyph.hb_glyph_info_t.{hb_glyph_info_t}
 use Rattle.shapers_buffer.specs.declared.buffer.syllables.Span.{Span}
 use Rattle.shapers_buffer.specs.Buffer.{Buffer}
 use Rattle.shapers_buffer.specs.GlyphFlags.{flagged}
 use Rattle.shapers_buffer.specs.Marks.{SUBSTITUTED, without_mark}
-use Rattle.shapers_buffer.specs.Syllables.{syllables, in_syllable, span_bytes, spans_cover, with_bytes}
+use Rattle.shapers_buffer.specs.Syllables.{kind_of, syllables, in_syllable, span_bytes, spans_cover, with_bytes}
 
 -- the glyphs with the inside of each syllable unsafe to break and to concatenate
 abbrev pub unsafe_syllables : List hb_glyph_info_t → List hb_glyph_info_t
@@ -15,6 +15,14 @@ unsafe_syllables gs = flat_map (flagged 3) (syllables gs)
 -- so for the buffer
 abbrev pub with_unsafe_syllables : Buffer → Buffer
 with_unsafe_syllables b = record b { glyphs = unsafe_syllables b.glyphs }
+
+-- the buffer set up by the syllable bytes that it has: with a syllable of the broken kind, it is
+-- marked
+abbrev pub set_up_by_bytes : ℕ → Buffer → Buffer
+set_up_by_bytes kind b = record b {
+  glyphs = unsafe_syllables b.glyphs;
+  broken = b.broken || list_any (λ g. kind_of g.syllable == kind) b.glyphs;
+}
 
 -- whether spans cut these glyphs: they cover them, and each has a kind that fits its four bits
 abbrev pub CanCut : List Span → List hb_glyph_info_t → Type 0

@@ -27,4 +27,4 @@ pub use laws::{
 };
 pub use pause::{ScriptCircles, reorder_pause};
 pub use reordering::{Reorder, reorder_syllables};
-pub use set_up::set_up_syllables;
+pub use set_up::{flag_syllables_in, set_up_by_bytes, set_up_syllables};

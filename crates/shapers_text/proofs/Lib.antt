@@ -2,7 +2,8 @@ pub mod HebrewLemmas
 mod HebrewRows
 mod SaraAmRows
 pub mod ThaiClusters
-pub mod ThaiFormLaws
+pub mod ThaiFlags
+mod ThaiFormLaws
 mod ThaiFormRows
 pub mod ThaiFormWalks
 pub mod ThaiInTwo

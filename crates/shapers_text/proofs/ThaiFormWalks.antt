@@ -28,7 +28,7 @@ in_order_at before u rest all =
       | false ↦ all
     ]
 
-in_order : (each : List (List ℕ × ℕ)) → AllByRecursion (λ st. st.0 ≤ st.1) (mark_stretches_of_each each)
+pub in_order : (each : List (List ℕ × ℕ)) → AllByRecursion (λ st. st.0 ≤ st.1) (mark_stretches_of_each each)
 in_order [] = tt
 in_order (p ∷ each) = in_order_at p.0 p.1 (mark_stretches_of_each each) (in_order each)
 

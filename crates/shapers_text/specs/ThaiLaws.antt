@@ -12,6 +12,7 @@ use Rattle.shapers_buffer.specs.Clusters.{merge_all, merges}
 use Rattle.shapers_clusters.specs.Cuts.{ShareCluster}
 use Rattle.shapers_buffer.specs.Places.{pick}
 use Rattle.shapers_clusters.specs.Flags.{FlagsFall}
+use Rattle.shapers_clusters.specs.FlagLaw.{AllFlagsStay}
 use Rattle.shapers_clusters.specs.Laws.{ClustersMade}
 use Rattle.shapers_text.specs.ThaiForms.{preprocessed_text}
 use Rattle.shapers_text.specs.Thai.{is_sara_am, is_above_base, in_parts, glyph_rule, glyphs_in_two, sources, sara_am_stretches}
@@ -54,6 +55,11 @@ abbrev pub InTwoLaw : Type 0
 InTwoLaw = (level : BufferClusterLevel) (gs : List hb_glyph_info_t) →
     InTwoHolds level gs
     (glyphs_in_two (merge_all level (sara_am_stretches level (characters gs)) gs))
+
+-- The flag law, of each glyph by its source, the flags of the private use forms included: no cluster
+-- rises, and unless it fell, no glyph flag of the source is lost.
+abbrev pub FlagsInTwo : List hb_glyph_info_t → List hb_glyph_info_t → Type 0
+FlagsInTwo gs rs = AllFlagsStay (pick (sources (characters gs)) gs) rs
 
 -- a glyph without what the private use forms change
 abbrev pub without_form : hb_glyph_info_t → hb_glyph_info_t

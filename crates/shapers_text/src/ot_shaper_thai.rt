@@ -6,7 +6,7 @@ ghost use Rattle.shapers_buffer.specs.Glyph.{clusters, characters};
 ghost use Rattle.shapers_buffer.specs.Refusals.{RefusesLength};
 ghost use Rattle.shapers_text.specs.Thai.{is_sara_am, glyphs_in_two, is_thai};
 ghost use Rattle.shapers_text.specs.ThaiForms.{asks_for_forms, preprocessed_in_thai};
-ghost use Rattle.shapers_text.specs.ThaiLaws.{ClustersInTwo, KeptInTwo};
+ghost use Rattle.shapers_text.specs.ThaiLaws.{ClustersInTwo, FlagsInTwo, KeptInTwo};
 
 use shapers_base::buffer::{Script, ShaperError, hb_buffer_t};
 use shapers_base::font::hb_font_t;
@@ -41,6 +41,7 @@ pub fn preprocess_text<F: hb_font_t>(
     ensures clusters { let us = characters buffer.old.glyphs in
         let cs = clusters buffer.old.glyphs in
         OnOk result (ClustersInTwo buffer.old.level us cs (clusters buffer.new.glyphs)) }
+    ensures flags { OnOk result (FlagsInTwo buffer.old.glyphs buffer.new.glyphs) }
     ensures kept { let forms = asks_for_forms plan.now in
         OnOk result (KeptInTwo forms buffer.old.glyphs buffer.new.glyphs) }
     ensures length { let wanted = length (glyphs_in_two buffer.old.glyphs) in

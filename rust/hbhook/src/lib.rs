@@ -22,6 +22,10 @@
 #![forbid(unsafe_code)]
 #![deny(missing_docs)]
 
+#[allow(
+    unused_imports,
+    reason = "the sources import a trait for methods that the types have of their own in Rust"
+)]
 mod generated {
     pub(crate) mod hbhook_draw;
     pub(crate) mod hbhook_lines;

@@ -82,7 +82,7 @@ typedef enum sengadlit_status_t {
 typedef enum sengadlit_argument_t {
     SENGADLIT_ARGUMENT_NONE = 0,     /* None: the status isn't SENGADLIT_ARGUMENT. */
     SENGADLIT_ARGUMENT_SHAPER = 1,   /* No shaper by this number. */
-    SENGADLIT_ARGUMENT_PLAN = 2,     /* Null. */
+    SENGADLIT_ARGUMENT_PLAN = 2,     /* Null. A null buffer has no place for an error: the status says all. */
     SENGADLIT_ARGUMENT_FONT = 3,     /* Null, or a function that the call asks is. */
     SENGADLIT_ARGUMENT_TABLES = 4,   /* Null, or a function that the call asks is. */
     SENGADLIT_ARGUMENT_MAP = 5,      /* Null, or one of its functions is. */
@@ -393,9 +393,9 @@ enum {
     SENGADLIT_UNICODE_GENERAL_CATEGORY_SPACE_SEPARATOR = 29      /* Zs */
 };
 
-/* A glyph, or before the font's mapping a character: 24 bytes. What is written here is what a hook reads. A hook that
-   isn't said to read a field carries it along with the glyph, so that it may hold anything of the caller's. In a dotted
-   circle that a hook adds, `var` is 0. */
+/* A glyph, or before the font's mapping a character: 24 bytes. What is written here is what a hook reads. What a
+   hook isn't said to read it carries along with the glyph, so that the field may hold anything of the caller's. In a dotted
+   circle that a pause adds, `var` is 0; two glyphs that are made of one both have what it had. */
 typedef struct sengadlit_glyph_info_t {
     uint32_t codepoint;              /* A character before the font's mapping, a glyph number after it. */
     uint32_t cluster;                /* The place in the text that it leads back to. */
@@ -472,10 +472,11 @@ sengadlit_glyph_info_t *sengadlit_buffer_get_glyph_infos(sengadlit_buffer_t *buf
    they are there, sengadlit_postprocess_glyphs alone takes the buffer. */
 sengadlit_glyph_position_t *sengadlit_buffer_get_glyph_positions(sengadlit_buffer_t *buffer, unsigned int *length);
 
-/* ARGUMENT: BUFFER, PROPERTIES, DIRECTION, CLUSTER_LEVEL. */
+/* ARGUMENT: PROPERTIES, DIRECTION, CLUSTER_LEVEL, and for a null buffer. */
 sengadlit_status_t sengadlit_buffer_set_properties(sengadlit_buffer_t *buffer, const sengadlit_buffer_properties_t *properties);
 /* The characters before the text and after it, the nearest first, of which five count on each side. Null if the length is
-   0. Read where letters join. ARGUMENT: BUFFER; CONTEXT, where `index` counts on from those before to those after. */
+   0. Read where letters join. ARGUMENT: CONTEXT, where `index` counts on from those before to those after; and for a null
+   buffer. */
 sengadlit_status_t sengadlit_buffer_set_context(sengadlit_buffer_t *buffer, const uint32_t *before, unsigned int before_length,
                                                 const uint32_t *after, unsigned int after_length);
 
@@ -495,18 +496,17 @@ void sengadlit_buffer_get_error(const sengadlit_buffer_t *buffer, sengadlit_erro
 
 /* ---- Hooks, in the order of a pipeline ---- */
 
-/* All of them: ARGUMENT for PLAN, BUFFER, POSITIONS and GENERAL_CATEGORY besides what stands at each. An argument is
-   refused before ABSENT is returned. TOO_LONG: the text is longer than max_length already. MEMORY: even a hook that takes
-   none may want room for the reordering of a text that is longer than all before it.
-   A cluster and a mask are written wherever glyphs merge or a glyph flag is set. */
+/* All of them: ARGUMENT for PLAN, POSITIONS and GENERAL_CATEGORY besides what stands at each, and for a null buffer. An
+   argument is refused before ABSENT is returned. TOO_LONG: the text is longer than max_length already. MEMORY only where
+   it is said. Where glyphs merge or move, or text may not be broken any more, `cluster` and the glyph flags of `mask` are
+   read and written besides what stands at each. */
 
 /* Thai: SARA AM is taken apart; and for a plan without found_script the forms of the Private Use Area, which ask
-   nominal_glyph. Hangul: jamo are composed and syllables decomposed as the font has them, and tones reordered: asks
+   nominal_glyph. Hangul: jamo are composed and syllables decomposed as the font has them, and tones reordered, which asks
    nominal_glyph and glyph_h_advance. Indic and universal: nothing changes, and `vowel_constraints`, which may be null, is
    set to 1, which asks the caller to run the vowel constraints; it is set to 0 otherwise, unless the call fails.
-   Reads codepoint, cluster, mask, general_category, marks; writes codepoint, auxiliary (Hangul), general_category, marks;
-   adds and removes glyphs. `font` may be null where it isn't asked. ARGUMENT: FONT; CODEPOINT (Hangul): no scalar value.
-   TOO_LONG, MEMORY. */
+   Reads codepoint; writes codepoint, Thai general_category and SENGADLIT_GLYPH_MARK_CONTINUATION, Hangul auxiliary; adds,
+   removes and moves glyphs. `font` may be null where it isn't asked. ARGUMENT: FONT. TOO_LONG, MEMORY. */
 sengadlit_status_t sengadlit_preprocess_text(const sengadlit_plan_t *plan, const sengadlit_font_t *font,
                                              sengadlit_buffer_t *buffer, sengadlit_bool_t *vowel_constraints);
 
@@ -519,16 +519,16 @@ sengadlit_status_t sengadlit_decompose(const sengadlit_plan_t *plan, const senga
 sengadlit_status_t sengadlit_compose(const sengadlit_plan_t *plan, const sengadlit_tables_t *tables, uint32_t a, uint32_t b,
                                      uint32_t *ab, sengadlit_error_t *error);
 
-/* Reorders the marks from place `start` to before `end` (Arabic, Hebrew). Reads codepoint (Arabic),
-   modified_combining_class, cluster; moves glyphs, and writes modified_combining_class (Arabic).
-   ARGUMENT: RANGE, which for Arabic is of at most 32 places. */
+/* Reorders the marks from place `start` to before `end` (Arabic, Hebrew). Reads modified_combining_class, moves glyphs;
+   Arabic also reads codepoint and writes modified_combining_class. ARGUMENT: RANGE, which for Arabic is of at most 32
+   places. */
 sengadlit_status_t sengadlit_reorder_marks(const sengadlit_plan_t *plan, sengadlit_buffer_t *buffer, unsigned int start,
                                            unsigned int end);
 
-/* Indic, Khmer, Myanmar: writes category, and Indic and Myanmar auxiliary; reads codepoint; asks indic_categories.
-   Universal: writes category; reads codepoint; asks use_category. Arabic, and universal where letters join: writes
-   auxiliary and mask; reads codepoint, cluster, general_category, the properties and the context; asks joining_type and
-   general_category. Hangul: writes mask; reads auxiliary, codepoint. `tables` may be null where they aren't asked.
+/* Indic, Khmer, Myanmar: reads codepoint; writes category, and Indic and Myanmar auxiliary; asks indic_categories.
+   Universal: reads codepoint; writes category; asks use_category. Arabic, and universal where letters join: reads codepoint,
+   general_category, the properties and the context; writes auxiliary and mask; asks joining_type and general_category, the
+   latter of the context. Hangul: reads auxiliary; writes mask. `tables` may be null where they aren't asked.
    ARGUMENT: TABLES; CODEPOINT: where letters join, no scalar value. */
 sengadlit_status_t sengadlit_setup_masks(const sengadlit_plan_t *plan, const sengadlit_tables_t *tables,
                                          sengadlit_buffer_t *buffer);
@@ -540,18 +540,19 @@ typedef struct sengadlit_span_t {
 } sengadlit_span_t;
 
 /* Does what a shaper does between two stages of GSUB.
-   SETUP_SYLLABLES_..: writes syllable, the state HAS_BROKEN_SYLLABLE, and universal mask; reads the spans, which cover the
-   text in its order, cluster, and universal category, mask. Needs no font. SPANS_DONT_COVER.
-   INITIAL_REORDERING, REORDER_..: moves glyphs, adds dotted circles where the state has HAS_BROKEN_SYLLABLE and the
-   properties allow it, and writes mask, auxiliary and the cluster of what moves; reads codepoint, cluster, mask, syllable,
-   category, auxiliary, marks, and REORDER_USE lig_comp. Asks nominal_glyph, and INITIAL_REORDERING would_substitute too.
-   MEMORY and TOO_LONG, and but for REORDER_USE UNKNOWN_SYLLABLE.
-   FINAL_REORDERING: moves glyphs, writes mask; reads the same. Asks nominal_glyph.
-   RECORD_STCH: writes auxiliary and the state HAS_STCH; reads marks, lig_comp. RECORD_RPHF, RECORD_PREF: write category;
-   read marks, syllable, and RECORD_RPHF mask. SYLLABIC_CLEAR_VAR: writes syllable. CLEAR_SUBSTITUTION_FLAGS: clears
+   SETUP_SYLLABLES_..: reads the spans, which cover the text in its order; writes syllable and, if one is of the kind of
+   broken ones, the state HAS_BROKEN_SYLLABLE. Universal also reads category and writes mask. SPANS_DONT_COVER.
+   INITIAL_REORDERING, REORDER_..: moves glyphs, and adds dotted circles where the state has HAS_BROKEN_SYLLABLE and the
+   properties allow it. Reads syllable, category, and INITIAL_REORDERING codepoint, auxiliary, marks, REORDER_USE marks,
+   lig_comp; writes mask, and INITIAL_REORDERING and REORDER_MYANMAR auxiliary. Asks nominal_glyph, and INITIAL_REORDERING
+   would_substitute too. MEMORY and TOO_LONG, of circles; UNKNOWN_SYLLABLE, but for REORDER_USE.
+   FINAL_REORDERING: moves glyphs; reads codepoint, syllable, category, auxiliary, general_category, marks; writes mask,
+   category, auxiliary, marks. Asks nominal_glyph.
+   RECORD_STCH: reads marks, lig_comp; writes auxiliary, the state HAS_STCH. RECORD_RPHF, RECORD_PREF: read syllable, marks,
+   and RECORD_RPHF mask; write category. SYLLABIC_CLEAR_VAR: writes 0 into syllable. CLEAR_SUBSTITUTION_FLAGS: clears
    SENGADLIT_GLYPH_MARK_SUBSTITUTED. ARABIC_FALLBACK_SHAPE: nothing.
    `font` may be null where it isn't asked, `spans` for all but the set-ups of a text that isn't empty. `circles`, which may
-   be null, is set to whether dotted circles were wanted, unless the call fails.
+   be null, is set to whether dotted circles were wanted and the font has one, unless the call fails.
    ARGUMENT: PAUSE, FONT, SPANS; CODEPOINT (INITIAL_REORDERING): above 65535. */
 sengadlit_status_t sengadlit_run_pause(const sengadlit_plan_t *plan, sengadlit_pause_t pause, const sengadlit_font_t *font,
                                        const sengadlit_span_t *spans, unsigned int spans_length, sengadlit_buffer_t *buffer,

@@ -36,8 +36,9 @@ pub fn preprocess_text(
         _ => 0,
     };
     let font = Asked::font(font, asks)?;
-    buffer.is_ready(u32::MAX)?;
-    let done = buffer.run(|inner| Ok(plan.shaper.preprocess_text(&plan.inner, &font, inner)?))?;
+    let done = buffer.run(u32::MAX, |inner| {
+        Ok(plan.shaper.preprocess_text(&plan.inner, &font, inner)?)
+    })?;
     Ok((
         done_if(done.is_some()),
         done == Some(Preprocess::CallerRunsVowelConstraints),
@@ -89,11 +90,12 @@ pub fn reorder_marks(
     start: usize,
     end: usize,
 ) -> Result<Status, Error> {
-    if start > end || end > buffer.glyphs().len() || !plan.shaper.marks_fit(start, end) {
+    if start > end || end > buffer.text.len() || !plan.shaper.marks_fit(start, end) {
         return Err(Error::argument(Argument::Range));
     }
-    buffer.is_ready(u32::MAX)?;
-    let done = buffer.run(|inner| Ok(plan.shaper.reorder_marks(&plan.inner, inner, start, end)))?;
+    let done = buffer.run(u32::MAX, |inner| {
+        Ok(plan.shaper.reorder_marks(&plan.inner, inner, start, end))
+    })?;
     Ok(done_if(done.is_some()))
 }
 
@@ -116,13 +118,13 @@ pub fn setup_masks(
         _ => 0,
     };
     let tables = Asked::tables(tables, asks)?;
-    buffer.is_ready(u32::MAX)?;
     if joins {
         buffer.are_characters()?;
     }
     let font = Asked::font(None, 0)?;
-    let done =
-        buffer.run(|inner| Ok(plan.shaper.setup_masks(&plan.inner, &font, &tables, inner)))?;
+    let done = buffer.run(u32::MAX, |inner| {
+        Ok(plan.shaper.setup_masks(&plan.inner, &font, &tables, inner))
+    })?;
     Ok(done_if(done.is_some()))
 }
 
@@ -146,8 +148,9 @@ pub fn run_pause(
     } else {
         u32::MAX
     };
-    buffer.is_ready(greatest)?;
-    buffer.run(|inner| Ok(run(pause, &plan.inner, &font, spans, inner)?))
+    buffer.run(greatest, |inner| {
+        Ok(run(pause, &plan.inner, &font, spans, inner)?)
+    })
 }
 
 // What a pause asks of the font.
@@ -179,8 +182,9 @@ pub fn postprocess_glyphs(
 ) -> Result<Status, Error> {
     let stretches = plan.shaper == Shaper::Arabic;
     let font = Asked::font(font, if stretches { FONT_ADVANCE } else { 0 })?;
-    buffer.is_positioned(if stretches { GREATEST_GLYPH } else { u32::MAX })?;
-    let done =
-        buffer.run(|inner| Ok(plan.shaper.postprocess_glyphs(&plan.inner, &font, inner)?))?;
+    let greatest = if stretches { GREATEST_GLYPH } else { u32::MAX };
+    let done = buffer.run_positioned(greatest, |inner| {
+        Ok(plan.shaper.postprocess_glyphs(&plan.inner, &font, inner)?)
+    })?;
     Ok(done_if(done.is_some()))
 }

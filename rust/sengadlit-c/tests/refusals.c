@@ -196,6 +196,43 @@ static void features_without_arguments(void)
     expect("features after all of Thai", sengadlit_override_features(SENGADLIT_SHAPER_THAI, THAI, &map, NULL), SENGADLIT_ABSENT);
 }
 
+/* A hook is absent exactly where the constants say so. */
+static void expect_hook(const char *what, uint32_t hooks, unsigned int hook, sengadlit_status_t status)
+{
+    check(what, (status == SENGADLIT_ABSENT) == ((hooks & hook) == 0));
+    check(what, status == SENGADLIT_ABSENT || status == SENGADLIT_DONE || status == SENGADLIT_NOT_FOUND);
+}
+
+static void hooks_of(sengadlit_shaper_t shaper)
+{
+    static const sengadlit_map_funcs_t funcs = {add_feature, add_gsub_pause};
+    const sengadlit_map_t map = {&funcs, NULL};
+    sengadlit_shaper_constants_t constants;
+    uint32_t hooks, a, b;
+
+    begin_world(shaper, ARAB, 0x0628, 3);
+    expect("constants", sengadlit_shaper_get_constants(shaper, &constants), SENGADLIT_DONE);
+    hooks = constants.hooks;
+    expect_hook("collect", hooks, SENGADLIT_HOOK_COLLECT_FEATURES,
+                sengadlit_collect_features(shaper, ARAB, &world.font, &map, NULL));
+    expect_hook("override", hooks, SENGADLIT_HOOK_OVERRIDE_FEATURES, sengadlit_override_features(shaper, ARAB, &map, NULL));
+    expect_hook("preprocess", hooks, SENGADLIT_HOOK_PREPROCESS_TEXT, preprocess());
+    expect_hook("decompose", hooks, SENGADLIT_HOOK_DECOMPOSE,
+                sengadlit_decompose(world.plan, &world.tables, 0x41, &a, &b, NULL));
+    expect_hook("compose", hooks, SENGADLIT_HOOK_COMPOSE,
+                sengadlit_compose(world.plan, &world.tables, 0x41, 0x42, &a, NULL));
+    expect_hook("masks", hooks, SENGADLIT_HOOK_SETUP_MASKS, masks());
+    expect_hook("marks", hooks, SENGADLIT_HOOK_REORDER_MARKS, marks(0, 1));
+    (void)positions();
+    expect_hook("postprocess", hooks, SENGADLIT_HOOK_POSTPROCESS_GLYPHS, postprocess());
+}
+
+static void hooks_of_all(void)
+{
+    for (unsigned int shaper = 0; shaper < NO_SHAPER; shaper++)
+        hooks_of((sengadlit_shaper_t)shaper);
+}
+
 /* ---- Plans ---- */
 
 static unsigned int destroyed;
@@ -729,6 +766,7 @@ int main(void)
     names_and_versions();
     shapers_that_are_none();
     features_without_arguments();
+    hooks_of_all();
     plans_of_missing_arrays();
     plans_of_wrong_arrays();
     plans_with_references();

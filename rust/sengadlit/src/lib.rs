@@ -32,7 +32,8 @@
 //!
 //! # The hooks in the order of a pipeline
 //!
-//! Each is a method of [`Shaper`]; one that the shaper lacks returns `None` and changes nothing.
+//! Each is a method of [`Shaper`]; one that the shaper lacks returns `None` and changes nothing, and
+//! [`Shaper::has_hook`] says which it has.
 //!
 //! 1. *Plan time*, once for a script and a font: [`collect_features`] and [`override_features`] fill
 //!    a [`Planner`] with features and pauses. The caller makes of them a [`Plan`], with
@@ -85,7 +86,7 @@
 //!   | [`postprocess_glyphs`] | a position a glyph; for Arabic, its data in the plan, and glyph numbers of at most 65535 |
 //!
 //!   [`Shaper::with_data`] and [`Plan::builder`] make plans that fit. Whoever can't know calls the
-//!   checked methods, which test the conditions before they change anything: see `shaper::checked`.
+//!   checked methods, which test the conditions before they change anything: see [`shaper::checked`].
 //! - **Answers.** A [`Font`] and [`Tables`] give the same answer to the same question.
 //! - **Refusals.** A call that returns a [`ShaperError`] has changed nothing.
 //!
@@ -117,7 +118,7 @@
 //! [`postprocess_glyphs`]: Shaper::postprocess_glyphs
 #![no_std]
 #![forbid(unsafe_code)]
-#![warn(missing_docs, missing_debug_implementations)]
+#![deny(missing_docs, missing_debug_implementations)]
 
 extern crate alloc as rust_alloc;
 #[cfg(any(test, feature = "std"))]
@@ -125,7 +126,6 @@ extern crate std;
 
 mod builder;
 mod fonts;
-mod numbers;
 mod references;
 mod support;
 mod text;

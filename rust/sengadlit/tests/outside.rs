@@ -3,21 +3,15 @@
 
 mod common;
 
-use common::buffers::{
-    Contents, Glyphs, copy_of, random_buffer, random_spans, set_random_positions,
-};
-use common::calls::{Call, Setting};
+use common::buffers::{Contents, Glyphs, copy_of};
 use common::fonts::{Changing, LotFont, LotTables, Lots, Steady};
+use common::misuse::Misuse;
 use common::numbers::Numbers;
-use common::plans::{SHAPERS, random_plan};
 use common::watchdog::{caught, in_time};
-use sengadlit::buffer::{Buffer, Span};
-use sengadlit::plan::Plan;
-use sengadlit::shaper::Shaper;
 use std::panic;
 
 /// How many calls are made of each kind of buffer.
-const CALLS: u64 = 60_000;
+const CALLS: u64 = 40_000;
 
 /// What became of calls.
 #[derive(Debug, Default)]
@@ -27,69 +21,15 @@ struct Counts {
     panicked: u64,
 }
 
-/// A call for which anything may be wrong: the plan may be of another shaper, positions absent or
-/// there, places outside, and kinds of spans above 15.
-struct Misuse {
-    call: Call,
-    shaper: Shaper,
-    plan: Plan,
-    spans: Vec<Span>,
-    buffer: Buffer,
-}
-
-impl Misuse {
-    fn random(numbers: &mut Numbers, kind: Glyphs) -> Self {
-        let shaper = numbers.one_of(&SHAPERS);
-        let other = numbers.one_of(&SHAPERS);
-        let planned = if numbers.once_in(3) { other } else { shaper };
-        let mut buffer = random_buffer(numbers, kind);
-        if numbers.once_in(3) {
-            set_random_positions(numbers, &mut buffer);
-        }
-        Misuse {
-            call: random_call(numbers, buffer.len()),
-            shaper,
-            plan: random_plan(numbers, planned),
-            spans: random_spans(numbers, buffer.len(), u8::MAX),
-            buffer,
-        }
+/// Makes the call, and counts what becomes of it. Whatever it leaves can be read.
+fn play<L: Lots>(misuse: &Misuse, font: &LotFont<L>, tables: &LotTables<L>, counts: &mut Counts) {
+    let mut buffer = copy_of(&misuse.buffer);
+    match caught(|| misuse.call.make(&misuse.setting(font, tables), &mut buffer)) {
+        Ok(Ok(_)) => counts.done += 1,
+        Ok(Err(_)) => counts.refused += 1,
+        Err(_) => counts.panicked += 1,
     }
-
-    fn setting<'a, L>(
-        &'a self,
-        font: &'a LotFont<L>,
-        tables: &'a LotTables<L>,
-    ) -> Setting<'a, LotFont<L>, LotTables<L>> {
-        Setting {
-            shaper: self.shaper,
-            plan: &self.plan,
-            font,
-            tables,
-            spans: &self.spans,
-        }
-    }
-
-    /// Makes the call, and counts what becomes of it. Whatever it leaves can be read.
-    fn play<L: Lots>(&self, font: &LotFont<L>, tables: &LotTables<L>, counts: &mut Counts) {
-        let mut buffer = copy_of(&self.buffer);
-        match caught(|| self.call.make(&self.setting(font, tables), &mut buffer)) {
-            Ok(Ok(_)) => counts.done += 1,
-            Ok(Err(_)) => counts.refused += 1,
-            Err(_) => counts.panicked += 1,
-        }
-        assert!(caught(|| Contents::of(&buffer)).is_ok());
-    }
-}
-
-/// A call for a buffer of so many glyphs whose places may lie outside.
-fn random_call(numbers: &mut Numbers, length: usize) -> Call {
-    let ends = [0, 1, length, length + 1, 33, usize::MAX];
-    match Call::random(numbers, length) {
-        Call::Marks(..) if numbers.once_in(2) => {
-            Call::Marks(numbers.one_of(&ends), numbers.one_of(&ends))
-        }
-        call => call,
-    }
+    assert!(caught(|| Contents::of(&buffer)).is_ok());
 }
 
 /// Makes the calls whose conditions hold, or those whose conditions fail, with these answers.
@@ -100,7 +40,7 @@ fn play_all<L: Lots>(kind: Glyphs, is_fit: bool, lots: impl Fn(u64) -> L) -> Cou
         let (font, tables) = (LotFont(lots(seed)), LotTables(lots(!seed)));
         let setting = misuse.setting(&font, &tables);
         if misuse.call.fits(&setting, &misuse.buffer) == is_fit {
-            misuse.play(&font, &tables, &mut counts);
+            play(&misuse, &font, &tables, &mut counts);
         }
     }
     counts

@@ -1,5 +1,5 @@
 //! What the hooks ask of their callers: the plan's data, and tests of the rest.
-ghost use Rattle.std.specs.Prelude.{◌≡◌, ◌≤◌, ◌↔◌, All, IsTrue, is_some};
+ghost use Rattle.std.specs.Prelude.{◌≡◌, ◌≤◌, ◌↔◌, [], All, IsTrue, is_some, length};
 ghost use Rattle.rustybuzz_shapers.specs.Pauses.{PauseFits};
 ghost use Rattle.shapers_arabic.specs.JoinedText.{AreCharacters};
 ghost use Rattle.shapers_arabic.specs.PlanData.{IsArabic};
@@ -7,7 +7,7 @@ ghost use Rattle.shapers_universal.specs.PlanData.{arabic_of};
 
 use super::hb_ot_shaper_t;
 use shapers_arabic::ot_shaper_arabic;
-use shapers_base::buffer::{hb_buffer_t, hb_glyph_info_t};
+use shapers_base::buffer::{Span, hb_buffer_t, hb_glyph_info_t};
 use shapers_base::plan::{Pause, PlanData, hb_ot_shape_plan_t};
 use shapers_hangul::ot_shaper_hangul;
 use shapers_indic::ot_shaper_indic;
@@ -34,6 +34,23 @@ impl hb_ot_shaper_t {
             Self::Hebrew | Self::Myanmar | Self::MyanmarZawgyi | Self::Thai => {}
         }
         plan
+    }
+
+    /// Whether the plan's data are of the kind that `setup_masks` reads. It takes constant time.
+    pub fn plan_fits(self, plan: &hb_ot_shape_plan_t) -> bool
+        ensures { IsTrue result ↔ PlanFits self plan.now }
+    {
+        match self {
+            Self::Arabic => matches!(plan.plan_data, PlanData::Arabic(_)),
+            Self::Hangul => matches!(plan.plan_data, PlanData::Hangul(_)),
+            Self::Universal => matches!(plan.plan_data, PlanData::Universal(_)),
+            Self::Hebrew
+            | Self::Indic
+            | Self::Khmer
+            | Self::Myanmar
+            | Self::MyanmarZawgyi
+            | Self::Thai => true,
+        }
     }
 
     /// Whether `reorder_marks` takes so many marks: for Arabic at most 32.
@@ -116,6 +133,29 @@ pub fn pause_fits(pause: Pause, plan: &hb_ot_shape_plan_t) -> bool
     }
 }
 
+/// Whether each span's kind is at most 15, as the pauses ask. It takes one pass over the spans.
+pub fn kinds_fit(spans: &[Span]) -> bool
+    ensures { IsTrue result ↔ All (λ span. span.kind ≤ 15) spans.now }
+{
+    spans.iter().all(|span| span.kind <= 15)
+}
+
+/// Whether the buffer has no positions, as the pauses and all hooks but `postprocess_glyphs` ask.
+/// It takes constant time.
+pub fn lacks_positions(buffer: &hb_buffer_t) -> bool
+    ensures { IsTrue result ↔ (buffer.now.positions ≡ []) }
+{
+    buffer.positions_len() == 0
+}
+
+/// Whether the buffer has a position for each glyph, as `postprocess_glyphs` asks. It takes
+/// constant time.
+pub fn has_positions(buffer: &hb_buffer_t) -> bool
+    ensures { IsTrue result ↔ (length buffer.now.positions ≡ length buffer.now.glyphs) }
+{
+    buffer.positions_len() == buffer.len()
+}
+
 // Whether the universal shaper has a plan of Arabic.
 fn joins_letters(plan_data: &PlanData) -> bool
     ensures { result ≡ is_some (arabic_of plan_data.now) }
@@ -135,15 +175,15 @@ fn are_characters(glyphs: &[hb_glyph_info_t]) -> bool
         .all(|glyph| char::from_u32(glyph.glyph_id).is_some())
 }
 
-// Whether these are the data of Arabic.
-fn is_arabic(plan_data: &PlanData) -> bool
+/// Whether these are the data of Arabic.
+pub(super) fn is_arabic(plan_data: &PlanData) -> bool
     ensures { IsTrue result ↔ IsArabic plan_data.now }
 {
     matches!(plan_data, PlanData::Arabic(_))
 }
 
-// Whether these glyphs are numbered as a font's are.
-fn are_glyph_numbers(glyphs: &[hb_glyph_info_t]) -> bool
+/// Whether these glyphs are numbered as a font's are.
+pub(super) fn are_glyph_numbers(glyphs: &[hb_glyph_info_t]) -> bool
     ensures { IsTrue result ↔ All (λ g. g.glyph_id ≤ 65535) glyphs.now }
 {
     glyphs.iter().all(|glyph| glyph.glyph_id <= 65535)

@@ -12,16 +12,21 @@ use arrayvec::ArrayVec;
 /// the marks that one hook leaves for a later one.
 #[derive(Clone, Copy, Debug, PartialEq, Eq)]
 pub struct BufferSettings<'a> {
+    /// The direction of the text.
     pub direction: Direction,
     /// The script, where it is known.
     pub script: Option<Script>,
+    /// How clusters merge.
     pub cluster_level: BufferClusterLevel,
+    /// What the caller asks of the shapers.
     pub flags: BufferFlags,
     /// The text before, nearest character first; the buffer keeps the five nearest.
     pub pre_context: &'a [char],
     /// The text after, nearest character first; the buffer keeps the five nearest.
     pub post_context: &'a [char],
+    /// Whether some span was of the broken kind.
     pub has_broken_syllable: bool,
+    /// Whether some glyph is a piece of a stretched mark.
     pub has_stch: bool,
     /// The greatest length that the buffer may have.
     pub max_len: usize,

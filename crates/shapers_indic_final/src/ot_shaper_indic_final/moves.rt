@@ -1,5 +1,5 @@
 //! One glyph moved to the other end of a stretch, by the placement list.
-ghost use Rattle.std.specs.Prelude.{◌≡◌, ◌+◌, ◌-◌, ◌<◌, ◌≤◌, length};
+ghost use Rattle.std.specs.Prelude.{◌≡◌, ℕ, ◌+◌, ◌-◌, ◌^◌, ◌<◌, ◌≤◌, length};
 ghost use Rattle.std.specs.List.{range_with_len};
 ghost use Rattle.shapers_buffer.specs.Lists.{first_last};
 ghost use Rattle.shapers_buffer.specs.Clusters.{with_stretch};
@@ -12,12 +12,13 @@ ghost use Rattle.shapers_indic_final.specs.FinalReph.{reph_step};
 
 use shapers_base::buffer::hb_buffer_t;
 
-// Merges the syllable from `s` to `e` up to its place `j`, and moves its first glyph, the reph, there.
+// Merges the syllable from `s` on up to its place `j`, and moves its first glyph, the reph, there.
 #[inline]
-pub(super) fn move_reph(buffer: &mut hb_buffer_t, s: usize, e: usize, j: usize)
-    requires in_order { s + j < e }
-    requires in_range { e ≤ length buffer.old.glyphs }
-    ensures { let step = widened s e (length buffer.old.glyphs) (reph_step (e - s) j) in
+pub(super) fn move_reph(buffer: &mut hb_buffer_t, s: usize, j: usize)
+    requires in_range { s + j < length buffer.old.glyphs }
+    requires fits { s + j + 1 < 2 ^ 64 }
+    ensures { (e : ℕ) → s + j < e → e ≤ length buffer.old.glyphs
+        → let step = widened s e (length buffer.old.glyphs) (reph_step (e - s) j) in
         buffer.new ≡ record buffer.old {
           glyphs = run_step buffer.old.level step buffer.old.glyphs;
           places = buffer.new.places;
@@ -27,14 +28,15 @@ pub(super) fn move_reph(buffer: &mut hb_buffer_t, s: usize, e: usize, j: usize)
     move_first_last(buffer, s, s + j + 1);
 }
 
-// Merges the syllable from `s` to `e` from its place `j` up to its place `i`, and moves the glyph
-// of place `i`, which `pref` formed, to `j`.
+// Merges the syllable from `s` on from its place `j` up to its place `i`, and moves the glyph of
+// place `i`, which `pref` formed, to `j`.
 #[inline]
-pub(super) fn move_pref(buffer: &mut hb_buffer_t, s: usize, e: usize, j: usize, i: usize)
+pub(super) fn move_pref(buffer: &mut hb_buffer_t, s: usize, j: usize, i: usize)
     requires before { j ≤ i }
-    requires in_order { s + i < e }
-    requires in_range { e ≤ length buffer.old.glyphs }
-    ensures { let step = widened s e (length buffer.old.glyphs) (pref_move (e - s) j i) in
+    requires in_range { s + i < length buffer.old.glyphs }
+    requires fits { s + i + 1 < 2 ^ 64 }
+    ensures { (e : ℕ) → s + i < e → e ≤ length buffer.old.glyphs
+        → let step = widened s e (length buffer.old.glyphs) (pref_move (e - s) j i) in
         buffer.new ≡ record buffer.old {
           glyphs = run_step buffer.old.level step buffer.old.glyphs;
           places = buffer.new.places;
@@ -44,16 +46,16 @@ pub(super) fn move_pref(buffer: &mut hb_buffer_t, s: usize, e: usize, j: usize, 
     move_last_first(buffer, s + j, s + i + 1);
 }
 
-// Moves the glyph of place `i` of the syllable from `s` to `e`, a left matra, to its place `j`, and
+// Moves the glyph of place `i` of the syllable from `s` on, a left matra, to its place `j`, and
 // merges from there up to its place `b`.
 #[inline]
-pub(super) fn move_matra(buffer: &mut hb_buffer_t, s: usize, e: usize, b: usize, i: usize, j: usize)
+pub(super) fn move_matra(buffer: &mut hb_buffer_t, s: usize, b: usize, i: usize, j: usize)
     requires before { i ≤ j }
-    requires base { j ≤ b }
-    requires base_in_order { s + b ≤ e }
-    requires in_order { s + j < e }
-    requires in_range { e ≤ length buffer.old.glyphs }
-    ensures { let step = widened s e (length buffer.old.glyphs) (matra_step (e - s) b i j) in
+    requires base { j < b }
+    requires in_range { s + b ≤ length buffer.old.glyphs }
+    requires fits { s + b < 2 ^ 64 }
+    ensures { (e : ℕ) → s + b ≤ e → e ≤ length buffer.old.glyphs
+        → let step = widened s e (length buffer.old.glyphs) (matra_step (e - s) b i j) in
         buffer.new ≡ record buffer.old {
           glyphs = run_step buffer.old.level step buffer.old.glyphs;
           places = buffer.new.places;

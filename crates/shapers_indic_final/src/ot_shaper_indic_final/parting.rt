@@ -3,7 +3,7 @@
 //! clusters that merges have given them: the matras that have gone with what follows them, and
 //! glyphs directly before them. These clusters are written behind the last merge, as the matras move
 //! behind it.
-ghost use Rattle.std.specs.Prelude.{◌≡◌, ℕ, ◌+◌, ◌-◌, ◌<◌, ◌≤◌, ◌++◌, drop, filter, length, map, true};
+ghost use Rattle.std.specs.Prelude.{◌≡◌, ℕ, ◌+◌, ◌-◌, ◌<◌, ◌≤◌, ◌++◌, drop, filter, length, map, true, ◌^◌};
 ghost use Rattle.std.specs.List.{list_any, prefix_len};
 ghost use Rattle.shapers_buffer.specs.declared.buffer.level.BufferClusterLevel.{BufferClusterLevel};
 ghost use Rattle.shapers_buffer.specs.Clusters.{has_cluster, in_one_cluster, merges, stretch_of, with_stretch};
@@ -44,23 +44,24 @@ pub(super) fn part_matras(p: usize, b: usize, buffer: &mut hb_buffer_t, s: usize
 {
     for i in (0..p).rev() {
         if is_left(&buffer.glyphs()[s + i]) {
-            move_matra(buffer, s, e, b, i, p);
-            part_further(i, p, b, buffer, s, e);
+            move_matra(buffer, s, b, i, p);
+            part_further(i, p, b, buffer, s);
             return;
         }
     }
 }
 
-// Moves the left matras before place `top` of the syllable from `s` to `e` to the places before
-// `p`, where one stands that has merged with all up to place `b`, and merges each.
-fn part_further(top: usize, p: usize, b: usize, buffer: &mut hb_buffer_t, s: usize, e: usize)
-    requires in_range { e ≤ length buffer.old.glyphs }
+// Moves the left matras before place `top` of the syllable from `s` on to the places before `p`,
+// where one stands that has merged with all up to place `b`, and merges each.
+fn part_further(top: usize, p: usize, b: usize, buffer: &mut hb_buffer_t, s: usize)
     requires behind { top < p }
     requires before { p < b }
-    requires base_in_order { s + b ≤ e }
+    requires in_range { s + b ≤ length buffer.old.glyphs }
+    requires fits { s + b < 2 ^ 64 }
     requires one { merges buffer.old.level ≡ true
         → in_one_cluster (stretch_of (s + p) (s + b) buffer.old.glyphs) ≡ true }
-    ensures glyphs { let steps = steps_to top (p - 1) b (stretch_of s e buffer.old.glyphs) in
+    ensures glyphs { (e : ℕ) → s + b ≤ e → e ≤ length buffer.old.glyphs
+        → let steps = steps_to top (p - 1) b (stretch_of s e buffer.old.glyphs) in
         let wide = map (widened s e (length buffer.old.glyphs)) steps in
         buffer.new ≡ record buffer.old {
           glyphs = run_steps buffer.old.level wide buffer.old.glyphs;

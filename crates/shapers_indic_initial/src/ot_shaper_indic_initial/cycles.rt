@@ -1,6 +1,6 @@
 //! What merges once a syllable is in its new order: the cycles of the order, or all from the base
 //! on.
-ghost use Rattle.std.specs.Prelude.{◌≡◌, ◌<◌, ◌≤◌, ◌-◌, ◌||◌, nat_lt, length, fold, max, min, slice_index, slice_set};
+ghost use Rattle.std.specs.Prelude.{◌≡◌, ℕ, ◌<◌, ◌≤◌, ◌+◌, ◌-◌, ◌^◌, ◌||◌, nat_lt, length, fold, max, min, slice_index, slice_set};
 ghost use Rattle.shapers_buffer.specs.Clusters.{merge_all};
 ghost use Rattle.shapers_clusters.specs.Steps.{shifted};
 ghost use Rattle.shapers_indic_initial.specs.CycleWalk.{EachOnce, places_from, with_spent};
@@ -10,23 +10,22 @@ ghost use Rattle.shapers_buffer.specs.Places.{ListsEachOnce};
 use shapers_base::buffer::hb_buffer_t;
 
 // The place that the glyph at `start + i` came from, from `start` on.
-fn old_place(buffer: &hb_buffer_t, start: usize, end: usize, i: usize) -> usize
-    requires in_order { start ≤ end }
-    requires in_range { end ≤ length buffer.now.glyphs }
-    requires inside { i < end - start }
-    ensures { result ≡ slice_index (places_from start end buffer.now.places) i }
+fn old_place(buffer: &hb_buffer_t, start: usize, i: usize) -> usize
+    requires in_range { start + i < length buffer.now.glyphs }
+    requires fits { start + i < 2 ^ 64 }
+    ensures { (e : ℕ) → i < e - start
+        → result ≡ slice_index (places_from start e buffer.now.places) i }
 {
     buffer.place(start + i).saturating_sub(start)
 }
 
 // Spends a place: it is a cycle of its own from now on.
-fn spend_place(buffer: &mut hb_buffer_t, start: usize, end: usize, i: usize)
-    requires in_order { start ≤ end }
-    requires in_range { end ≤ length buffer.old.glyphs }
-    requires inside { i < end - start }
+fn spend_place(buffer: &mut hb_buffer_t, start: usize, i: usize)
+    requires in_range { start + i < length buffer.old.glyphs }
+    requires fits { start + i < 2 ^ 64 }
     ensures others { buffer.new ≡ record buffer.old { places = buffer.new.places } }
-    ensures spent { places_from start end buffer.new.places ≡
-        slice_set (places_from start end buffer.old.places) i i }
+    ensures spent { (e : ℕ) → i < e - start → places_from start e buffer.new.places
+        ≡ slice_set (places_from start e buffer.old.places) i i }
 {
     buffer.set_place(start + i, start + i);
 }
@@ -48,14 +47,14 @@ fn spend_cycle(buffer: &mut hb_buffer_t, start: usize, end: usize, p: usize) -> 
 {
     let mut least = p;
     let mut greatest = p;
-    let mut q = old_place(buffer, start, end, p);
-    spend_place(buffer, start, end, p);
+    let mut q = old_place(buffer, start, p);
+    spend_place(buffer, start, p);
     for _ in start..end {
         if q == p {
             break;
         }
-        let next = old_place(buffer, start, end, q);
-        spend_place(buffer, start, end, q);
+        let next = old_place(buffer, start, q);
+        spend_place(buffer, start, q);
         least = least.min(q);
         greatest = greatest.max(q);
         q = next;
@@ -78,7 +77,7 @@ fn merge_cycles(buffer: &mut hb_buffer_t, start: usize, end: usize, base: usize)
         buffer.new.glyphs ≡ merge_all buffer.old.level (shifted start sts) buffer.old.glyphs }
 {
     for p in base..end - start {
-        if old_place(buffer, start, end, p) != p {
+        if old_place(buffer, start, p) != p {
             let (least, greatest) = spend_cycle(buffer, start, end, p);
             buffer.merge_clusters(start + base.max(least), start + greatest + 1);
         }

@@ -67,11 +67,17 @@ fn before_base(glyphs: &[hb_glyph_info_t]) -> usize
 }
 
 // The place of the first consonant.
-#[allow(clippy::redundant_closure)]
 fn first_consonant(glyphs: &[hb_glyph_info_t]) -> Option<usize>
     ensures { result ≡ position is_consonant glyphs.now }
 {
-    glyphs.iter().position(|glyph| is_consonant(glyph))
+    glyphs.iter().position(may_be_base)
+}
+
+// Whether a glyph may be the base.
+fn may_be_base(glyph: &hb_glyph_info_t) -> bool
+    ensures { result ≡ is_consonant glyph.now }
+{
+    is_consonant(glyph)
 }
 
 // The positions of the base and of what follows it.

@@ -1,17 +1,18 @@
 //! Cutting a text into syllables.
-ghost use Rattle.std.specs.Prelude.{◌≡◌, ◌≤◌, All, IsTrue, OnErr, OnOk, length, map};
+ghost use Rattle.std.specs.Prelude.{◌≡◌, ◌≤◌, ◌==◌, All, IsTrue, OnErr, OnOk, length, map};
+ghost use Rattle.std.specs.List.{list_any};
 ghost use Rattle.shapers_buffer.specs.Clusters.{with_stretch};
 ghost use Rattle.shapers_buffer.specs.Glyph.{clusters};
 ghost use Rattle.shapers_buffer.specs.GlyphFlags.{with_bits_off};
 ghost use Rattle.shapers_syllabic.specs.Borders.{SetUpCutsAtSpans};
-ghost use Rattle.shapers_syllabic.specs.Syllabic.{in_unsafe_syllable, unsafe_spans, with_unsafe_syllables};
+ghost use Rattle.shapers_syllabic.specs.Syllabic.{in_unsafe_syllable, set_up_by_bytes, unsafe_spans, unsafe_syllables, with_unsafe_syllables};
 ghost use Rattle.shapers_buffer.specs.Refusals.{RefusesInput};
-ghost use Rattle.shapers_buffer.specs.Syllables.{in_syllable, spans_cover, spans_refusal, with_spans};
+ghost use Rattle.shapers_buffer.specs.Syllables.{in_syllable, kind_of, spans_cover, spans_refusal, with_spans};
 
 use shapers_base::buffer::glyph_flag::{UNSAFE_TO_BREAK, UNSAFE_TO_CONCAT};
 use shapers_base::buffer::{
-    GlyphWalk, ShaperError, Span, has_span_of_kind, hb_buffer_t, hb_glyph_info_t, least_cluster,
-    spans_cover,
+    GlyphWalk, ShaperError, Span, first_syllable_len, has_span_of_kind, hb_buffer_t,
+    hb_glyph_info_t, least_cluster, spans_cover, unsafe_to_break_in,
 };
 
 /// Cuts the text into the syllables of these spans, marks whether one is of the broken kind, and
@@ -40,6 +41,53 @@ pub fn set_up_syllables(
         buffer.set_has_broken_syllable(true);
     }
     Ok(())
+}
+
+/// Sets up a text whose glyphs have their syllable bytes already: flags the inside of each syllable
+/// as unsafe to break, and marks whether one is of the broken kind. It takes no memory.
+pub fn set_up_by_bytes(broken_kind: u8, buffer: &mut hb_buffer_t)
+    ensures { buffer.new ≡ set_up_by_bytes broken_kind buffer.old }
+{
+    if has_syllable_of_kind(buffer.glyphs(), broken_kind) {
+        buffer.set_has_broken_syllable(true);
+    }
+    buffer.walk(&mut FlagSyllables);
+}
+
+/// Flags the inside of each syllable of these glyphs as unsafe to break and to concatenate.
+pub fn flag_syllables_in(glyphs: &mut [hb_glyph_info_t])
+    ensures { glyphs.new ≡ unsafe_syllables glyphs.old }
+{
+    let mut start = 0;
+    while start < glyphs.len() {
+        let end = start + first_syllable_len(&glyphs[start..]);
+        unsafe_to_break_in(glyphs, start, end);
+        start = end;
+    }
+}
+
+// Whether some syllable is of this kind.
+fn has_syllable_of_kind(glyphs: &[hb_glyph_info_t], kind: u8) -> bool
+    ensures { result ≡ list_any (λ g. kind_of g.syllable == kind) glyphs.now }
+{
+    glyphs.iter().any(|glyph| glyph.syllable % 16 == kind)
+}
+
+// The walk that flags the inside of each syllable.
+#[derive(Clone, Copy)]
+struct FlagSyllables;
+
+impl GlyphWalk for FlagSyllables {
+    ghost use Rattle.std.specs.Prelude.{◌≡◌, ⊤};
+    ghost use Rattle.shapers_syllabic.specs.Syllabic.{unsafe_syllables};
+
+    ghost can_walk = { λ _ _. ⊤ };
+
+    ghost walks = { λ _ _ old new. new ≡ unsafe_syllables old };
+
+    fn walk(&mut self, glyphs: &mut [hb_glyph_info_t]) {
+        flag_syllables_in(glyphs);
+    }
 }
 
 // The spans that a text is cut into.

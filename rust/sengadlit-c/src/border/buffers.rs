@@ -35,9 +35,9 @@ pub extern "C" fn sengadlit_buffer_set_length(
         return null_mut();
     };
     match buffer.set_length(length as usize) {
-        Ok(()) => buffer.glyphs().as_mut_ptr(),
-        Err(_) => {
-            buffer.error = Error::MEMORY;
+        Ok(()) => buffer.text.place(),
+        Err(error) => {
+            buffer.error = error;
             null_mut()
         }
     }
@@ -51,9 +51,8 @@ pub extern "C" fn sengadlit_buffer_get_glyph_infos(
     let Some(buffer) = buffer else {
         return null_mut();
     };
-    let glyphs = buffer.glyphs();
-    put(length, glyphs.len() as c_uint);
-    glyphs.as_mut_ptr()
+    put(length, buffer.text.len() as c_uint);
+    buffer.text.place()
 }
 
 #[unsafe(no_mangle)]

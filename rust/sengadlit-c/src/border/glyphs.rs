@@ -1,79 +1,270 @@
-//! Glyphs as C writes them, and as the crate has them: the same bytes.
+//! The glyphs of a buffer: C reads and writes them between calls, and the crate during one. They are the same bytes, but that a
+//! general category of C's may be any number, and one of the crate's is one of thirty: so the crate looks at the glyphs only
+//! after a pass over them has found no other.
 use crate::layout::Glyph;
-use core::mem::ManuallyDrop;
-use sengadlit::alloc::Vec as List;
-use sengadlit::buffer::{GeneralCategory, GlyphInfo};
+use crate::status::{Argument, Error};
+use core::slice;
+use sengadlit::alloc::Global;
+use sengadlit::buffer::{Buffer as Inner, BufferSettings, GeneralCategory, GlyphInfo, ShaperError};
 use std::vec::Vec;
 
-/// The crate's glyphs of C's; those of C with the place of the first general category that is none, if there is one.
-#[inline]
-pub fn as_infos(glyphs: List<Glyph>) -> Result<List<GlyphInfo>, (List<Glyph>, usize)> {
-    const GREATEST: u8 = GeneralCategory::Zs as u8;
-    if glyphs.iter().fold(false, |wrong, glyph| {
-        wrong | (glyph.general_category > GREATEST)
-    }) {
-        let wrong = glyphs
-            .iter()
-            .position(|glyph| glyph.general_category > GREATEST);
-        return Err((glyphs, wrong.unwrap_or(0)));
-    }
-    let mut glyphs = ManuallyDrop::new(Vec::from(glyphs));
-    let (first, length, capacity) = (glyphs.as_mut_ptr(), glyphs.len(), glyphs.capacity());
-    // SAFETY: the two have the same size, alignment and offsets (crate::layout); each field takes any number but for the
-    // general category, whose numbers are 0 to `GREATEST`; the allocation is handed on whole.
-    Ok(List::from(unsafe {
-        Vec::from_raw_parts(first.cast::<GlyphInfo>(), length, capacity)
-    }))
+/// The greatest length of a text for which none is set.
+const MAX_LENGTH: usize = u32::MAX as usize;
+
+/// The glyphs and their settings.
+pub struct Text {
+    // Its glyphs may have categories that are none: whatever looks at them is behind `is_known`.
+    inner: Inner,
+    // Where they stand. It is taken anew after whatever may move them.
+    first: *mut Glyph,
+    max_length: usize,
 }
 
-/// C's glyphs of the crate's.
+impl Text {
+    /// An empty text, which takes no memory.
+    pub fn new() -> Self {
+        Text::of(Inner::new(Global, MAX_LENGTH), MAX_LENGTH)
+    }
+
+    fn of(mut inner: Inner, max_length: usize) -> Self {
+        let first = place_of(&mut inner);
+        Text {
+            inner,
+            first,
+            max_length,
+        }
+    }
+
+    /// An empty text with the settings of this one, whose glyphs a panic left in any state.
+    #[cold]
+    pub fn recover(&mut self) {
+        let mut inner = Inner::new(Global, MAX_LENGTH);
+        inner.set_settings(&BufferSettings {
+            has_broken_syllable: false,
+            has_stch: false,
+            ..self.inner.settings()
+        });
+        *self = Text::of(inner, self.max_length);
+    }
+
+    /// The number of glyphs.
+    #[inline]
+    pub fn len(&self) -> usize {
+        self.inner.len()
+    }
+
+    /// The glyphs.
+    #[inline]
+    pub fn glyphs(&self) -> &[Glyph] {
+        // SAFETY: so many glyphs of the same layout stand there (crate::layout), and every number is a field of `Glyph`.
+        // `first` was taken after the last change by the crate, and nobody writes while `self` is borrowed.
+        unsafe { slice::from_raw_parts(self.first, self.inner.len()) }
+    }
+
+    /// Where the glyphs stand, for C to read and write until the next call that is given the text.
+    #[inline]
+    pub fn place(&mut self) -> *mut Glyph {
+        self.first
+    }
+
+    /// Keeps so many glyphs, or adds default ones.
+    #[inline]
+    pub fn set_len(&mut self, length: usize) -> Result<(), ShaperError> {
+        if length <= self.len() {
+            self.inner.truncate(length);
+            return Ok(());
+        }
+        if length > self.inner.max_len() {
+            self.inner.set_max_len(length);
+        }
+        if !self.is_known(u32::MAX) {
+            return self.grow_unknown(length);
+        }
+        self.inner.grow(length - self.len())?;
+        self.first = place_of(&mut self.inner);
+        Ok(())
+    }
+
+    // The same where some category is none: the crate sees default glyphs in the place of those that were there.
+    #[cold]
+    fn grow_unknown(&mut self, length: usize) -> Result<(), ShaperError> {
+        let mut kept: Vec<Glyph> = Vec::new();
+        kept.try_reserve_exact(self.len())
+            .map_err(|_| ShaperError::Memory)?;
+        kept.extend_from_slice(self.glyphs());
+        let mut longer = Inner::new(Global, MAX_LENGTH);
+        longer.grow(length)?;
+        longer.set_settings(&BufferSettings {
+            max_len: MAX_LENGTH,
+            ..self.inner.settings()
+        });
+        self.inner = longer;
+        self.first = place_of(&mut self.inner);
+        // SAFETY: there are `length` glyphs, which are more than those that were kept and not the same; none is borrowed.
+        unsafe {
+            self.first
+                .copy_from_nonoverlapping(kept.as_ptr(), kept.len())
+        };
+        Ok(())
+    }
+
+    /// Takes the direction, script, level, flags and greatest length of these settings.
+    pub fn set_properties(&mut self, settings: &BufferSettings<'_>) {
+        self.inner.set_direction(settings.direction);
+        self.inner.set_script(settings.script);
+        self.inner.set_cluster_level(settings.cluster_level);
+        self.inner.set_flags(settings.flags);
+        self.max_length = settings.max_len;
+        self.inner.set_max_len(settings.max_len.max(self.len()));
+    }
+
+    /// Sets the characters on both sides.
+    pub fn set_context(&mut self, before: &[char], after: &[char]) {
+        self.inner.set_pre_context(before);
+        self.inner.set_post_context(after);
+    }
+
+    /// What one hook leaves for a later one: that a syllable is broken, and that a mark stretches.
+    #[inline]
+    pub fn state(&self) -> (bool, bool) {
+        (self.inner.has_broken_syllable(), self.inner.has_stch())
+    }
+
+    /// Sets it.
+    #[inline]
+    pub fn set_state(&mut self, has_broken_syllable: bool, has_stch: bool) {
+        self.inner.set_has_broken_syllable(has_broken_syllable);
+        self.inner.set_has_stch(has_stch);
+    }
+
+    // Whether each general category is one, and no codepoint above this number. It doesn't branch at a glyph.
+    #[inline]
+    fn is_known(&self, greatest: u32) -> bool {
+        let is_wrong =
+            |glyph: &Glyph| !is_category(glyph.general_category) | (glyph.codepoint > greatest);
+        !self
+            .glyphs()
+            .iter()
+            .fold(false, |wrong, glyph| wrong | is_wrong(glyph))
+    }
+
+    #[cold]
+    fn wrong_glyph(&self, greatest: u32) -> Error {
+        let glyphs = self.glyphs();
+        if let Some(index) = glyphs
+            .iter()
+            .position(|glyph| !is_category(glyph.general_category))
+        {
+            return Error::argument_at(Argument::GeneralCategory, index);
+        }
+        let index = glyphs.iter().position(|glyph| glyph.codepoint > greatest);
+        Error::argument_at(Argument::Codepoint, index.unwrap_or(0))
+    }
+
+    /// Runs a hook of the crate's, if each general category is one and no codepoint above this number.
+    #[inline]
+    pub fn run<A>(
+        &mut self,
+        greatest: u32,
+        hook: impl FnOnce(&mut Inner) -> Result<A, Error>,
+    ) -> Result<A, Error> {
+        if !self.is_known(greatest) {
+            return Err(self.wrong_glyph(greatest));
+        }
+        if self.inner.max_len() != self.max_length {
+            self.limit()?;
+        }
+        let ended = hook(&mut self.inner);
+        self.first = place_of(&mut self.inner);
+        ended
+    }
+
+    // Holds the crate to the greatest length, if the text isn't longer already.
+    #[cold]
+    fn limit(&mut self) -> Result<(), Error> {
+        if self.len() > self.max_length {
+            return Err(ShaperError::TooLong.into());
+        }
+        self.inner.set_max_len(self.max_length);
+        Ok(())
+    }
+}
+
+// Where a buffer keeps its glyphs, which have categories.
 #[inline]
-pub fn as_glyphs(infos: List<GlyphInfo>) -> List<Glyph> {
-    let mut infos = ManuallyDrop::new(Vec::from(infos));
-    let (first, length, capacity) = (infos.as_mut_ptr(), infos.len(), infos.capacity());
-    // SAFETY: as above, and each field of `Glyph` takes any number.
-    List::from(unsafe { Vec::from_raw_parts(first.cast::<Glyph>(), length, capacity) })
+fn place_of(inner: &mut Inner) -> *mut Glyph {
+    inner.with_glyphs_mut(|glyphs: &mut [GlyphInfo]| glyphs.as_mut_ptr().cast())
+}
+
+#[inline]
+fn is_category(number: u8) -> bool {
+    const GREATEST: u8 = GeneralCategory::Zs as u8;
+    number <= GREATEST
 }
 
 #[cfg(test)]
 mod tests {
-    use super::{as_glyphs, as_infos};
-    use crate::layout::Glyph;
-    use sengadlit::alloc::{Global, Vec as List};
-    use sengadlit::buffer::GeneralCategory;
+    use super::Text;
+    use crate::status::Error;
+    use sengadlit::buffer::{BufferSettings, GeneralCategory};
 
-    fn of_categories(first: u8, last: u8) -> List<Glyph> {
-        let mut glyphs = List::new(Global);
-        for general_category in first..=last {
-            let glyph = Glyph {
-                codepoint: 7,
-                marks: 255,
-                general_category,
-                ..Glyph::default()
-            };
-            glyphs.push(glyph).unwrap();
-        }
-        glyphs
+    // Writes as C does.
+    fn write(text: &mut Text, index: usize, general_category: u8) {
+        assert!(index < text.len());
+        // SAFETY: a glyph of the text, which nobody borrows.
+        unsafe { (*text.place().add(index)).general_category = general_category }
     }
 
-    #[test]
-    fn every_category_crosses_and_comes_back() {
-        let infos = as_infos(of_categories(0, 29))
-            .unwrap_or_else(|(_, place)| panic!("category of {place}"));
-        let found: Vec<GeneralCategory> = infos.iter().map(|info| info.general_category).collect();
-        assert_eq!(found, GeneralCategory::ALL);
-        let glyphs = as_glyphs(infos);
-        assert!(
-            glyphs
+    fn categories(text: &mut Text) -> Result<Vec<GeneralCategory>, Error> {
+        text.run(u32::MAX, |inner| {
+            Ok(inner
+                .glyphs()
                 .iter()
-                .enumerate()
-                .all(|(i, glyph)| usize::from(glyph.general_category) == i && glyph.marks == 255)
-        );
+                .map(|glyph| glyph.general_category)
+                .collect())
+        })
     }
 
     #[test]
-    fn no_other_category_crosses() {
-        let (glyphs, place) = as_infos(of_categories(28, 255)).expect_err("categories above 29");
-        assert_eq!((glyphs.len(), place), (228, 2));
+    fn every_category_is_seen_and_no_other_number() {
+        let mut text = Text::new();
+        text.set_len(1).unwrap();
+        for number in 0..=255 {
+            write(&mut text, 0, number);
+            match GeneralCategory::from_number(number) {
+                Some(category) => assert_eq!(categories(&mut text), Ok(vec![category])),
+                None => assert!(categories(&mut text).is_err()),
+            }
+        }
+    }
+
+    #[test]
+    fn what_is_no_category_stays_where_the_text_grows() {
+        let mut text = Text::new();
+        text.set_len(2).unwrap();
+        write(&mut text, 0, 7);
+        write(&mut text, 1, 200);
+        text.set_len(100).unwrap();
+        let found: Vec<u8> = text
+            .glyphs()
+            .iter()
+            .map(|glyph| glyph.general_category)
+            .collect();
+        assert_eq!((found.len(), &found[..3]), (100, &[7, 200, 0][..]));
+        text.set_len(1).unwrap();
+        assert_eq!(categories(&mut text), Ok(vec![GeneralCategory::Lo]));
+    }
+
+    #[test]
+    fn a_text_is_no_longer_than_it_may_be() {
+        let mut text = Text::new();
+        text.set_len(3).unwrap();
+        text.set_properties(&BufferSettings::new(2));
+        assert!(categories(&mut text).is_err());
+        text.set_len(2).unwrap();
+        assert!(text.run(u32::MAX, |inner| Ok(inner.grow(1)?)).is_err());
+        text.set_len(5).unwrap();
+        assert!(categories(&mut text).is_err());
+        assert_eq!(text.glyphs().len(), 5);
     }
 }

@@ -5,6 +5,7 @@ use super::plans::PAUSES;
 use sengadlit::buffer::{Buffer, GlyphInfo, ShaperError, Span};
 use sengadlit::font::{Font, Tables};
 use sengadlit::plan::{Pause, Plan, PlanData, Preprocess};
+use sengadlit::shaper::checked::{CallError, checked_run_pause};
 use sengadlit::shaper::{Shaper, run_pause};
 
 /// A hook, or a pause, with its arguments.
@@ -83,13 +84,7 @@ impl Call {
             spans,
         } = setting;
         Ok(match self {
-            Call::Preprocess => match shaper.preprocess_text(plan, font, buffer)? {
-                Some(Preprocess::Done) => Returned::Done,
-                Some(Preprocess::CallerRunsVowelConstraints) => {
-                    Returned::CallerRunsVowelConstraints
-                }
-                None => Returned::Absent,
-            },
+            Call::Preprocess => preprocessed(shaper.preprocess_text(plan, font, buffer)?),
             Call::Masks => done(shaper.setup_masks(plan, font, tables, buffer)),
             Call::Marks(start, end) => done(shaper.reorder_marks(plan, buffer, start, end)),
             Call::Postprocess => done(shaper.postprocess_glyphs(plan, font, buffer)?),
@@ -100,6 +95,33 @@ impl Call {
                 .decompose(plan, tables, ab)
                 .map_or(Returned::Absent, Returned::Characters),
             Call::Pause(pause) => Returned::Changed(run_pause(pause, plan, font, spans, buffer)?),
+        })
+    }
+
+    /// Makes the checked call; questions have no conditions.
+    pub fn make_checked<F: Font, T: Tables>(
+        self,
+        setting: &Setting<F, T>,
+        buffer: &mut Buffer,
+    ) -> Result<Returned, CallError> {
+        let &Setting {
+            shaper,
+            plan,
+            font,
+            tables,
+            spans,
+        } = setting;
+        Ok(match self {
+            Call::Preprocess => preprocessed(shaper.checked_preprocess_text(plan, font, buffer)?),
+            Call::Masks => done(shaper.checked_setup_masks(plan, font, tables, buffer)?),
+            Call::Marks(start, end) => {
+                done(shaper.checked_reorder_marks(plan, buffer, start, end)?)
+            }
+            Call::Postprocess => done(shaper.checked_postprocess_glyphs(plan, font, buffer)?),
+            Call::Pause(pause) => {
+                Returned::Changed(checked_run_pause(pause, plan, font, spans, buffer)?)
+            }
+            Call::Compose(..) | Call::Decompose(_) => self.make(setting, buffer)?,
         })
     }
 
@@ -129,8 +151,10 @@ impl Call {
                     is_range && (setting.shaper != Shaper::Arabic || end - start <= 32)
                 }
                 Call::Postprocess => setting.shaper != Shaper::Arabic || are_numbers(glyphs),
-                Call::Pause(Pause::InitialReordering) => are_numbers(glyphs),
-                Call::Pause(_) => setting.spans.iter().all(|span| span.kind <= 15),
+                Call::Pause(pause) => {
+                    let kinds_fit = setting.spans.iter().all(|span| span.kind <= 15);
+                    kinds_fit && (pause != Pause::InitialReordering || are_numbers(glyphs))
+                }
                 Call::Compose(..) | Call::Decompose(_) => true,
             }
         }
@@ -182,6 +206,14 @@ fn are_characters(glyphs: &[GlyphInfo]) -> bool {
 
 fn are_numbers(glyphs: &[GlyphInfo]) -> bool {
     glyphs.iter().all(|glyph| glyph.glyph_id <= 65535)
+}
+
+fn preprocessed(returned: Option<Preprocess>) -> Returned {
+    match returned {
+        Some(Preprocess::Done) => Returned::Done,
+        Some(Preprocess::CallerRunsVowelConstraints) => Returned::CallerRunsVowelConstraints,
+        None => Returned::Absent,
+    }
 }
 
 fn done(returned: Option<()>) -> Returned {

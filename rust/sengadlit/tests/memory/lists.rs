@@ -5,9 +5,11 @@ use crate::common::fonts::PlainFont;
 use crate::common::plans::SHAPERS;
 use crate::trial::{Subject, Trial};
 use sengadlit::alloc::{Global, Vec as List};
-use sengadlit::buffer::{Buffer, GlyphInfo, Script, ShaperError, Tag};
+use sengadlit::buffer::{
+    Buffer, BufferSettings, GlyphInfo, GlyphPosition, Script, ShaperError, Tag,
+};
 use sengadlit::map::{F_NONE, FeatureMap, Map};
-use sengadlit::plan::{Pause, Planner, Request};
+use sengadlit::plan::{Pause, Plan, PlanError, Planner, Request};
 use sengadlit::shaper::Shaper;
 
 /// A trial that takes memory.
@@ -58,6 +60,43 @@ pub fn of_the_buffer(length: usize) -> Vec<Trial> {
             *subject.buffer() = subject.buffer().copy()?;
             Ok(())
         }),
+        trial(
+            named("push_str"),
+            Subject::Buffer(text(length)),
+            |subject| subject.buffer().push_str("a text of several characters"),
+        ),
+    ]
+}
+
+/// Each call that exchanges a caller's lists for those of the buffer. A refused one gives the lists
+/// back as they were.
+pub fn exchanging(length: usize) -> Vec<Trial> {
+    let named = |call: &str| format!("{call} with {length} glyphs");
+    vec![
+        trial(
+            named("exchange_glyphs"),
+            Subject::Buffer(text(length)),
+            |subject| {
+                let mut glyphs = List::from_elem(Global, letter(7, 7), 3000)?;
+                let returned = subject.buffer().exchange_glyphs(&mut glyphs);
+                assert_eq!(glyphs.len() == 3000, returned.is_err());
+                returned
+            },
+        ),
+        trial(
+            named("exchange_text"),
+            Subject::Buffer(text(length)),
+            |subject| {
+                let mut glyphs = List::from_elem(Global, letter(7, 7), 3000)?;
+                let mut positions = List::from_elem(Global, GlyphPosition::ZERO, 3000)?;
+                let settings = BufferSettings::new(5000);
+                let buffer = subject.buffer();
+                let returned = buffer.exchange_text(&mut glyphs, &mut positions, &settings);
+                let are_kept = glyphs.len() == 3000 && positions.len() == 3000;
+                assert_eq!(are_kept, returned.is_err());
+                returned
+            },
+        ),
     ]
 }
 
@@ -122,20 +161,33 @@ fn overriding(shaper: Shaper, length: usize) -> Trial {
     }
 }
 
-/// The map, made from slices.
+const FEATURE: FeatureMap = FeatureMap {
+    tag: TAG,
+    mask: 8,
+    stage: 0,
+};
+
+/// The map, made from slices, and the plan, built from them.
 pub fn of_the_map(length: usize) -> Vec<Trial> {
-    let feature = FeatureMap {
-        tag: TAG,
-        mask: 8,
-        stage: 0,
-    };
-    let name = format!("Map::from_slices with {length} lookups");
-    vec![trial(name, Subject::Nothing, move |_| {
-        let lookups = [7; 1024];
-        let stages = [0..length, 0..1];
-        let lookups = &lookups[..length];
-        let map = Map::from_slices(Global, &[feature], &stages, lookups, 0, None, true)?;
-        assert!(map.is_some());
-        Ok(())
-    })]
+    let from_slices = format!("Map::from_slices with {length} lookups");
+    let build = format!("PlanBuilder::build_for with {length} lookups");
+    vec![
+        trial(from_slices, Subject::Nothing, move |_| {
+            let (stages, lookups) = ([0..length, 0..1], &[7; 1024][..length]);
+            let map = Map::from_slices(Global, &[FEATURE], &stages, lookups, 0, None, true)?;
+            assert!(map.is_some());
+            Ok(())
+        }),
+        trial(build, Subject::Nothing, move |_| {
+            let (stages, lookups) = ([0..length, 0..1], &[7; 1024][..length]);
+            let builder = Plan::builder().features(&[FEATURE]).stages(&stages);
+            match builder.lookups(lookups).build_for(Shaper::Khmer) {
+                Ok(_) => Ok(()),
+                Err(error) => {
+                    assert_eq!(error, PlanError::Memory);
+                    Err(ShaperError::Memory)
+                }
+            }
+        }),
+    ]
 }

@@ -33,7 +33,8 @@ fn run(trials: &[Trial]) {
 #[test]
 fn hooks_and_pauses_that_may_refuse_memory() {
     for length in LENGTHS {
-        run(&hooks::growing(length));
+        run(&hooks::growing(false, length));
+        run(&hooks::growing(true, length));
     }
 }
 
@@ -48,6 +49,7 @@ fn hooks_and_pauses_that_take_no_memory() {
 fn calls_of_the_buffer() {
     for length in LENGTHS {
         run(&lists::of_the_buffer(length));
+        run(&lists::exchanging(length));
     }
 }
 

@@ -7,6 +7,7 @@ use crate::generated::shapers_base::buffer::{Buffer, ShaperError, Tag};
 use crate::generated::shapers_base::font::{Font, Tables};
 use crate::generated::shapers_base::plan::{Plan, Planner};
 
+pub mod checked;
 mod conditions;
 mod pauses;
 
@@ -21,7 +22,7 @@ use crate::generated::shapers_myanmar::ot_shaper_myanmar;
 use crate::generated::shapers_stretch::ot_shaper_arabic_stretch;
 use crate::generated::shapers_text::{ot_shaper_hebrew, ot_shaper_thai};
 use crate::generated::shapers_universal::ot_shaper_use;
-pub use conditions::pause_fits;
+pub use conditions::{has_positions, kinds_fit, lacks_positions, pause_fits};
 pub use pauses::run_pause;
 
 /// A script shaper.
@@ -45,6 +46,29 @@ pub enum Shaper {
     Thai,
     /// The scripts that the Universal Shaping Engine is for.
     Universal,
+}
+
+/// A hook of a shaper, by its method.
+#[derive(Clone, Copy, Debug, PartialEq, Eq)]
+pub enum Hook {
+    /// `collect_features`.
+    CollectFeatures,
+    /// `override_features`.
+    OverrideFeatures,
+    /// `create_data`.
+    CreateData,
+    /// `preprocess_text`.
+    PreprocessText,
+    /// `postprocess_glyphs`.
+    PostprocessGlyphs,
+    /// `compose`.
+    Compose,
+    /// `decompose`.
+    Decompose,
+    /// `setup_masks`.
+    SetupMasks,
+    /// `reorder_marks`.
+    ReorderMarks,
 }
 
 /// The shaper of Arabic and the scripts that join like it.
@@ -75,6 +99,49 @@ pub const THAI_SHAPER: Shaper = Shaper::Thai;
 pub const UNIVERSAL_SHAPER: Shaper = Shaper::Universal;
 
 impl Shaper {
+    /// Whether the shaper has a hook. Where it lacks one, the hook's method answers None and changes
+    /// nothing.
+    ///
+    /// <details><summary>Contract</summary>
+    ///
+    /// # Contract
+    ///
+    /// ```text
+    /// ensures { result ≡ has_hook self hook }
+    /// ```
+    ///
+    /// - `has_hook`: crates/rustybuzz_shapers/specs/Standing.antt
+    ///
+    /// </details>
+    pub const fn has_hook(self, hook: Hook) -> bool {
+        match hook {
+            Hook::CollectFeatures => {
+                !matches!(self, Self::Hebrew | Self::MyanmarZawgyi | Self::Thai)
+            }
+            Hook::OverrideFeatures => matches!(self, Self::Hangul | Self::Indic | Self::Khmer),
+            Hook::CreateData => matches!(
+                self,
+                Self::Arabic | Self::Hangul | Self::Indic | Self::Khmer | Self::Universal
+            ),
+            Hook::PreprocessText => {
+                matches!(
+                    self,
+                    Self::Hangul | Self::Indic | Self::Thai | Self::Universal
+                )
+            }
+            Hook::PostprocessGlyphs => matches!(self, Self::Arabic),
+            Hook::Compose => {
+                matches!(
+                    self,
+                    Self::Hebrew | Self::Indic | Self::Khmer | Self::Universal
+                )
+            }
+            Hook::Decompose => matches!(self, Self::Indic | Self::Khmer),
+            Hook::SetupMasks => !matches!(self, Self::Hebrew | Self::MyanmarZawgyi | Self::Thai),
+            Hook::ReorderMarks => matches!(self, Self::Arabic | Self::Hebrew),
+        }
+    }
+
     /// How the text is normalized before the font's mapping.
     ///
     /// <details><summary>Contract</summary>
@@ -88,7 +155,7 @@ impl Shaper {
     /// - `normalizes`: crates/rustybuzz_shapers/specs/Records.antt
     ///
     /// </details>
-    pub fn normalization_preference(self) -> NormalizationMode {
+    pub const fn normalization_preference(self) -> NormalizationMode {
         match self {
             Self::Hangul | Self::MyanmarZawgyi => NormalizationMode::NONE,
             Self::Arabic | Self::Hebrew | Self::Thai => NormalizationMode::AUTO,
@@ -109,7 +176,7 @@ impl Shaper {
     /// - `wants_gpos_script`: crates/rustybuzz_shapers/specs/Records.antt
     ///
     /// </details>
-    pub fn gpos_tag(self) -> Option<Tag> {
+    pub const fn gpos_tag(self) -> Option<Tag> {
         match self {
             Self::Hebrew => Some(Tag(*b"hebr")),
             _ => None,
@@ -129,7 +196,7 @@ impl Shaper {
     /// - `zeroes_marks`: crates/rustybuzz_shapers/specs/Records.antt
     ///
     /// </details>
-    pub fn zero_width_marks(self) -> ZeroWidthMarks {
+    pub const fn zero_width_marks(self) -> ZeroWidthMarks {
         match self {
             Self::Hangul | Self::Indic | Self::Khmer | Self::MyanmarZawgyi => ZeroWidthMarks::NONE,
             Self::Myanmar | Self::Universal => ZeroWidthMarks::GDEF_EARLY,
@@ -150,7 +217,7 @@ impl Shaper {
     /// - `places_marks`: crates/rustybuzz_shapers/specs/Records.antt
     ///
     /// </details>
-    pub fn fallback_position(self) -> bool {
+    pub const fn fallback_position(self) -> bool {
         matches!(self, Self::Arabic | Self::Hebrew)
     }
 

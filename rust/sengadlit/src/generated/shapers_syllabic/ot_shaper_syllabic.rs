@@ -24,4 +24,4 @@ pub use consonants::is_consonant;
 pub use kinds::{indic_syllable, khmer_syllable, myanmar_syllable, use_syllable};
 pub use pause::{ScriptCircles, reorder_pause};
 pub use reordering::{Reorder, reorder_syllables};
-pub use set_up::set_up_syllables;
+pub use set_up::{flag_syllables_in, set_up_by_bytes, set_up_syllables};

@@ -6,8 +6,8 @@ use Rattle.shapers_indic_final.proofs.FinalSteps.{merged_and_moved, reph_stepped
 use Rattle.shapers_indic_final.proofs.ot_shaper_indic_final.moves.move_reph.Goals as goal
 
 pub returns : goal.returns
-returns c =
+returns c = λ e order range.
     let a = c.args in
     let old = a.buffer.now in
     merged_and_moved old c.merge_clusters.new.self c.move_first_last.new.buffer (with_stretch a.s (a.s + a.j + 1) first_last) (merge old.level a.s (a.s + a.j + 1) old.glyphs) _ c.merge_clusters.ensures c.move_first_last.ensures
-    (reph_stepped old.level a.s a.e a.j old.glyphs c.requires.in_order c.requires.in_range)
+    (reph_stepped old.level a.s e a.j old.glyphs order range)

@@ -12,11 +12,11 @@ use Rattle.shapers_indic_final.proofs.PartingSteps.{Lies}
 use Rattle.shapers_indic_final.proofs.ot_shaper_indic_final.parting.part_further.Goals as goal
 
 pub returns-then-not-has_left-clause-glyphs : goal.returns-then-not-has_left-clause-glyphs
-returns-then-not-has_left-clause-glyphs c =
+returns-then-not-has_left-clause-glyphs c = λ e base_in within.
     let a = c.args in
     let r = c.requires in
     let none = ap (λ gs. list_any is_left (stretch_of a.s (a.s + a.top) gs)) (sym c.glyphs.ensures) ∙ sym c.has_left.ensures ∙ c.if-not-has_left.true in
-    not_stepped a.buffer.now a.s a.e a.top (a.p - 1) a.b (no_lefts a.s a.e a.top a.buffer.now.glyphs (omega (arith, r.behind, r.before, r.base_in_order)) r.in_range none)
+    not_stepped a.buffer.now a.s e a.top (a.p - 1) a.b (no_lefts a.s e a.top a.buffer.now.glyphs (omega (arith, r.behind, r.before, base_in)) within none)
 
 pub overflow_sub-at : goal.overflow_sub-at
 overflow_sub-at c =
@@ -69,7 +69,7 @@ put-requires-2-clause-in_range c =
     omega (arith, put, long, w.ensures.end, ap length same)
 
 pub returns-clause-glyphs : goal.returns-clause-glyphs
-returns-clause-glyphs c =
+returns-clause-glyphs c = λ e base_in within.
     let a = c.args in
     let r = c.requires in
     let w = c.merged_runs-runs in
@@ -78,8 +78,8 @@ returns-clause-glyphs c =
     let lies : Lies (a.s + a.p) (a.s + a.b) w.result gs = record { start = w.ensures.start; from = w.ensures.from; end = omega (arith, w.ensures.end, ap length same) } in
     let many = c.len_staying-len.ensures ∙ ap (λ xs. length (filter (has_stayed a.s (a.s + a.top) xs) (places w.result.start (a.s + a.p)))) c.glyphs-3.ensures in
     let written = written_there a.buffer.now c.move_matras-at.new.buffer c.put.new.buffer c.put-2.new.buffer a.s (a.s + a.top) (a.s + a.p) (a.s + a.b) c.move_matras-at.result c.len_staying-len.result w.result (omega arith) (omega (arith, r.before)) lies c.move_matras-at.ensures.moved c.move_matras-at.ensures.at many c.put.ensures c.put-2.ensures in
-    let parted = found a.buffer.now.level a.s a.e a.top a.p a.b w.result c.glyphs-2.result.now gs same (w.ensures.parted a.buffer.now.level a.e r.base_in_order (omega (arith, r.in_range, ap length same)) (one_there a.buffer.now.level (a.s + a.p) (a.s + a.b) c.glyphs-2.result.now gs same r.one)) in
-    as_steps a.buffer.now c.put-2.new.buffer a.s a.e a.top a.p a.b w.result written parted
+    let parted = found a.buffer.now.level a.s e a.top a.p a.b w.result c.glyphs-2.result.now gs same (w.ensures.parted a.buffer.now.level e base_in (omega (arith, within, ap length same)) (one_there a.buffer.now.level (a.s + a.p) (a.s + a.b) c.glyphs-2.result.now gs same r.one)) in
+    as_steps a.buffer.now c.put-2.new.buffer a.s e a.top a.p a.b w.result written parted
 
 pub returns-clause-same_length : goal.returns-clause-same_length
 returns-clause-same_length c =

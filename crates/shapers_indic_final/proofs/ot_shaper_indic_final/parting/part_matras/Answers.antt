@@ -1,5 +1,5 @@
 -- The last left matra moves, and then those before it.
-use Rattle.std.proofs.Common.{get_or, ◌+◌, ◌-◌, ◌≡◌, sym, ap, ◌∙◌, arith}
+use Rattle.std.proofs.Common.{get_or, length, ◌+◌, ◌-◌, ◌≡◌, sym, ap, ◌∙◌, arith}
 use Rattle.shapers_buffer.specs.Buffer.{Buffer}
 use Rattle.shapers_buffer.specs.Clusters.{stretch_of}
 use Rattle.shapers_buffer.specs.Glyph.{default_glyph}
@@ -16,8 +16,8 @@ part_further-requires-clause-in_range c =
     let k = l.i - 1 in
     let old = a.buffer.now in
     let mid = c.move_matra.new.buffer in
-    let is = first_moved old l.buffer mid a.s a.e a.b k a.p l.invariant.1.0 c.move_matra.ensures in
-    omega (arith, r.in_range, moved_as_long old mid a.s a.e a.b k a.p (omega (arith, l.invariant.0)) r.before r.base_in_order r.in_range is)
+    let is = first_moved old l.buffer mid a.s a.e a.b k a.p l.invariant.1.0 (c.move_matra.ensures a.e r.base_in_order (omega (arith, r.in_range, ap (λ (x : Buffer). length x.glyphs) l.invariant.1.0))) in
+    omega (arith, r.base_in_order, r.in_range, moved_as_long old mid a.s a.e a.b k a.p (omega (arith, l.invariant.0)) r.before r.base_in_order r.in_range is)
 
 pub part_further-requires-clause-one : goal.part_further-requires-clause-one
 part_further-requires-clause-one c =
@@ -27,7 +27,7 @@ part_further-requires-clause-one c =
     let k = l.i - 1 in
     let old = a.buffer.now in
     let mid = c.move_matra.new.buffer in
-    let is = first_moved old l.buffer mid a.s a.e a.b k a.p l.invariant.1.0 c.move_matra.ensures in
+    let is = first_moved old l.buffer mid a.s a.e a.b k a.p l.invariant.1.0 (c.move_matra.ensures a.e r.base_in_order (omega (arith, r.in_range, ap (λ (x : Buffer). length x.glyphs) l.invariant.1.0))) in
     one_in old mid a.s a.e a.b k a.p (omega (arith, l.invariant.0)) r.before r.base_in_order r.in_range is
 
 pub returns-then-is_left-clause-glyphs : goal.returns-then-is_left-clause-glyphs
@@ -38,13 +38,13 @@ returns-then-is_left-clause-glyphs c =
     let k = l.i - 1 in
     let old = a.buffer.now in
     let mid = c.move_matra.new.buffer in
-    let is = first_moved old l.buffer mid a.s a.e a.b k a.p l.invariant.1.0 c.move_matra.ensures in
+    let is = first_moved old l.buffer mid a.s a.e a.b k a.p l.invariant.1.0 (c.move_matra.ensures a.e r.base_in_order (omega (arith, r.in_range, ap (λ (x : Buffer). length x.glyphs) l.invariant.1.0))) in
     let part = stretch_of a.s a.e old.glyphs in
     let one : k + 1 ≡ l.i = omega (arith, c.loop-i-test.true) in
     let seen = ap (λ (x : Buffer). is_left (get_or x.glyphs (a.s + k) default_glyph)) (sym l.invariant.1.0) ∙ ap (λ gs. is_left (get_or gs (a.s + k) default_glyph)) (sym c.glyphs.ensures) ∙ sym c.is_left.ensures ∙ c.if-is_left.true in
     let holds = read_part a.s a.e k old.glyphs (omega (arith, l.invariant.0, c.loop-i-test.true, r.before, r.base_in_order)) r.in_range ∙ seen in
     let none = ap (λ j. lefts_from j a.p part) one ∙ l.invariant.1.1 in
-    both_moved old mid c.part_further.new.buffer a.s a.e a.b k a.p (omega (arith, l.invariant.0, c.loop-i-test.true)) r.before r.base_in_order r.in_range holds none is c.part_further.ensures.glyphs
+    both_moved old mid c.part_further.new.buffer a.s a.e a.b k a.p (omega (arith, l.invariant.0, c.loop-i-test.true)) r.before r.base_in_order r.in_range holds none is (c.part_further.ensures.glyphs a.e r.base_in_order (omega (arith, r.in_range, moved_as_long old mid a.s a.e a.b k a.p (omega (arith, l.invariant.0)) r.before r.base_in_order r.in_range is)))
 
 pub returns-then-is_left-clause-same_length : goal.returns-then-is_left-clause-same_length
 returns-then-is_left-clause-same_length c =
@@ -54,7 +54,7 @@ returns-then-is_left-clause-same_length c =
     let k = l.i - 1 in
     let old = a.buffer.now in
     let mid = c.move_matra.new.buffer in
-    let is = first_moved old l.buffer mid a.s a.e a.b k a.p l.invariant.1.0 c.move_matra.ensures in
+    let is = first_moved old l.buffer mid a.s a.e a.b k a.p l.invariant.1.0 (c.move_matra.ensures a.e r.base_in_order (omega (arith, r.in_range, ap (λ (x : Buffer). length x.glyphs) l.invariant.1.0))) in
     c.part_further.ensures.same_length ∙ moved_as_long old mid a.s a.e a.b k a.p (omega (arith, l.invariant.0)) r.before r.base_in_order r.in_range is
 
 pub loop-i-preserved : goal.loop-i-preserved

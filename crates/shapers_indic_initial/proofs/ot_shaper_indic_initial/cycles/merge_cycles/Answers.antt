@@ -66,6 +66,6 @@ loop-p-preserved c =
           record {
             from = omega (arith, l.invariant.from);
             others = subst Others (sym w.buffer-is) l.invariant.others;
-            merging = subst (Merging s e c.args.base (l.p + 1) b0) (sym w.buffer-is) (merging_stays s e c.args.base l.p b0 l.buffer l.invariant.from c.loop-p-test.true (sym c.old_place.ensures ∙ w.if-old_place-p.false) l.invariant.merging);
+            merging = subst (Merging s e c.args.base (l.p + 1) b0) (sym w.buffer-is) (merging_stays s e c.args.base l.p b0 l.buffer l.invariant.from c.loop-p-test.true (sym (c.old_place.ensures e (omega (arith, c.loop-p-test.true))) ∙ w.if-old_place-p.false) l.invariant.merging);
           }
     ]

@@ -5,6 +5,6 @@ use Rattle.shapers_indic_initial.proofs.CycleSteps.{places_from_written}
 use Rattle.shapers_indic_initial.proofs.ot_shaper_indic_initial.cycles.spend_place.Goals as goal
 
 pub returns-clause-spent : goal.returns-clause-spent
-returns-clause-spent c =
-    ap (λ b. places_from c.args.start c.args.end b.places) c.set_place.ensures
-    ∙ places_from_written c.args.start c.args.end c.args.buffer.now.places c.args.i c.args.i c.requires.inside
+returns-clause-spent c = λ e inside.
+    ap (λ b. places_from c.args.start e b.places) c.set_place.ensures
+    ∙ places_from_written c.args.start e c.args.buffer.now.places c.args.i c.args.i inside

@@ -2,7 +2,7 @@
 use Rattle.std.proofs.Common.{◌≡◌, ◌+◌, ◌-◌, ◌≤◌, length, take, drop, arith, ap, ◌∙◌}
 use Rattle.std.proofs.lemmas.List.{length-drop, take_rest}
 use Rattle.shapers_buffer.specs.Syllables.{first_syllable_len}
-use Rattle.shapers_universal.proofs.SyllableWalks.{change_next}
+use Rattle.shapers_syllabic.proofs.SyllableWalks.{change_next}
 use Rattle.shapers_universal.proofs.ot_shaper_use.syllable_walk.change_syllables.Goals as goal
 
 pub loop-start-preserved : goal.loop-start-preserved

@@ -4,7 +4,7 @@
 
 use super::Shaper;
 use crate::generated::shapers_arabic::ot_shaper_arabic;
-use crate::generated::shapers_base::buffer::{Buffer, GlyphInfo};
+use crate::generated::shapers_base::buffer::{Buffer, GlyphInfo, Span};
 use crate::generated::shapers_base::plan::{Pause, Plan, PlanData};
 use crate::generated::shapers_hangul::ot_shaper_hangul;
 use crate::generated::shapers_indic::ot_shaper_indic;
@@ -39,6 +39,33 @@ impl Shaper {
             Self::Hebrew | Self::Myanmar | Self::MyanmarZawgyi | Self::Thai => {}
         }
         plan
+    }
+
+    /// Whether the plan's data are of the kind that `setup_masks` reads. It takes constant time.
+    ///
+    /// <details><summary>Contract</summary>
+    ///
+    /// # Contract
+    ///
+    /// ```text
+    /// ensures { IsTrue result ↔ PlanFits self plan.now }
+    /// ```
+    ///
+    /// - `PlanFits`: crates/rustybuzz_shapers/specs/Hooks.antt
+    ///
+    /// </details>
+    pub fn plan_fits(self, plan: &Plan) -> bool {
+        match self {
+            Self::Arabic => matches!(plan.plan_data, PlanData::Arabic(_)),
+            Self::Hangul => matches!(plan.plan_data, PlanData::Hangul(_)),
+            Self::Universal => matches!(plan.plan_data, PlanData::Universal(_)),
+            Self::Hebrew
+            | Self::Indic
+            | Self::Khmer
+            | Self::Myanmar
+            | Self::MyanmarZawgyi
+            | Self::Thai => true,
+        }
     }
 
     /// Whether `reorder_marks` takes so many marks: for Arabic at most 32.
@@ -161,6 +188,53 @@ pub fn pause_fits(pause: Pause, plan: &Plan) -> bool {
     }
 }
 
+/// Whether each span's kind is at most 15, as the pauses ask. It takes one pass over the spans.
+///
+/// <details><summary>Contract</summary>
+///
+/// # Contract
+///
+/// ```text
+/// ensures { IsTrue result ↔ All (λ span. span.kind ≤ 15) spans.now }
+/// ```
+///
+/// </details>
+pub fn kinds_fit(spans: &[Span]) -> bool {
+    spans.iter().all(|span| span.kind <= 15)
+}
+
+/// Whether the buffer has no positions, as the pauses and all hooks but `postprocess_glyphs` ask.
+/// It takes constant time.
+///
+/// <details><summary>Contract</summary>
+///
+/// # Contract
+///
+/// ```text
+/// ensures { IsTrue result ↔ (buffer.now.positions ≡ []) }
+/// ```
+///
+/// </details>
+pub fn lacks_positions(buffer: &Buffer) -> bool {
+    buffer.positions_len() == 0
+}
+
+/// Whether the buffer has a position for each glyph, as `postprocess_glyphs` asks. It takes
+/// constant time.
+///
+/// <details><summary>Contract</summary>
+///
+/// # Contract
+///
+/// ```text
+/// ensures { IsTrue result ↔ (length buffer.now.positions ≡ length buffer.now.glyphs) }
+/// ```
+///
+/// </details>
+pub fn has_positions(buffer: &Buffer) -> bool {
+    buffer.positions_len() == buffer.len()
+}
+
 // Whether the universal shaper has a plan of Arabic.
 fn joins_letters(plan_data: &PlanData) -> bool {
     match plan_data {
@@ -176,12 +250,12 @@ fn are_characters(glyphs: &[GlyphInfo]) -> bool {
         .all(|glyph| char::from_u32(glyph.glyph_id).is_some())
 }
 
-// Whether these are the data of Arabic.
-fn is_arabic(plan_data: &PlanData) -> bool {
+/// Whether these are the data of Arabic.
+pub(super) fn is_arabic(plan_data: &PlanData) -> bool {
     matches!(plan_data, PlanData::Arabic(_))
 }
 
-// Whether these glyphs are numbered as a font's are.
-fn are_glyph_numbers(glyphs: &[GlyphInfo]) -> bool {
+/// Whether these glyphs are numbered as a font's are.
+pub(super) fn are_glyph_numbers(glyphs: &[GlyphInfo]) -> bool {
     glyphs.iter().all(|glyph| glyph.glyph_id <= 65535)
 }

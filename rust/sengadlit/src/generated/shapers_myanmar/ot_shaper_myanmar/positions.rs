@@ -52,9 +52,13 @@ fn before_base(glyphs: &[GlyphInfo]) -> usize {
 }
 
 // The place of the first consonant.
-#[allow(clippy::redundant_closure)]
 fn first_consonant(glyphs: &[GlyphInfo]) -> Option<usize> {
-    glyphs.iter().position(|glyph| is_consonant(glyph))
+    glyphs.iter().position(may_be_base)
+}
+
+// Whether a glyph may be the base.
+fn may_be_base(glyph: &GlyphInfo) -> bool {
+    is_consonant(glyph)
 }
 
 // The positions of the base and of what follows it.

@@ -4,7 +4,8 @@
 
 use crate::generated::shapers_base::buffer::glyph_flag::{UNSAFE_TO_BREAK, UNSAFE_TO_CONCAT};
 use crate::generated::shapers_base::buffer::{
-    Buffer, GlyphInfo, GlyphWalk, ShaperError, Span, has_span_of_kind, least_cluster, spans_cover,
+    Buffer, GlyphInfo, GlyphWalk, ShaperError, Span, first_syllable_len, has_span_of_kind,
+    least_cluster, spans_cover, unsafe_to_break_in,
 };
 
 /// Cuts the text into the syllables of these spans, marks whether one is of the broken kind, and
@@ -47,6 +48,64 @@ pub fn set_up_syllables(
         buffer.set_has_broken_syllable(true);
     }
     Ok(())
+}
+
+/// Sets up a text whose glyphs have their syllable bytes already: flags the inside of each syllable
+/// as unsafe to break, and marks whether one is of the broken kind. It takes no memory.
+///
+/// <details><summary>Contract</summary>
+///
+/// # Contract
+///
+/// ```text
+/// ensures { buffer.new ≡ set_up_by_bytes broken_kind buffer.old }
+/// ```
+///
+/// - `set_up_by_bytes`: crates/shapers_syllabic/specs/Syllabic.antt
+///
+/// </details>
+pub fn set_up_by_bytes(broken_kind: u8, buffer: &mut Buffer) {
+    if has_syllable_of_kind(buffer.glyphs(), broken_kind) {
+        buffer.set_has_broken_syllable(true);
+    }
+    buffer.walk(&mut FlagSyllables);
+}
+
+/// Flags the inside of each syllable of these glyphs as unsafe to break and to concatenate.
+///
+/// <details><summary>Contract</summary>
+///
+/// # Contract
+///
+/// ```text
+/// ensures { glyphs.new ≡ unsafe_syllables glyphs.old }
+/// ```
+///
+/// - `unsafe_syllables`: crates/shapers_syllabic/specs/Syllabic.antt
+///
+/// </details>
+pub fn flag_syllables_in(glyphs: &mut [GlyphInfo]) {
+    let mut start = 0;
+    while start < glyphs.len() {
+        let end = start + first_syllable_len(&glyphs[start..]);
+        unsafe_to_break_in(glyphs, start, end);
+        start = end;
+    }
+}
+
+// Whether some syllable is of this kind.
+fn has_syllable_of_kind(glyphs: &[GlyphInfo], kind: u8) -> bool {
+    glyphs.iter().any(|glyph| glyph.syllable % 16 == kind)
+}
+
+// The walk that flags the inside of each syllable.
+#[derive(Clone, Copy)]
+struct FlagSyllables;
+
+impl GlyphWalk for FlagSyllables {
+    fn walk(&mut self, glyphs: &mut [GlyphInfo]) {
+        flag_syllables_in(glyphs);
+    }
 }
 
 // The spans that a text is cut into.
