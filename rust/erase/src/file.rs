@@ -140,12 +140,6 @@ impl File {
         }
     }
 
-    /// Cuts out the whole item with its keyword at `i`.
-    pub fn cut_whole(&mut self, i: usize) -> Result<(), String> {
-        self.cut_item(self.start(i)..=self.end(i)?);
-        Ok(())
-    }
-
     /// The path of the file of a module that this file declares.
     pub fn path_of_module(&self, name: &str) -> String {
         let folder = self.path.trim_end_matches(".rt").trim_end_matches("/lib");

@@ -14,15 +14,13 @@ pub fn erase_file(file: &mut File) -> Result<(), String> {
         match file.text(i) {
             "fn" => erase_clauses(file, i),
             "prove" if file.text(i + 1) == "!" => file.cut_item(i..=file.end(i)?),
-            "Drop" => erase_bound(file, i),
+            "Drop" | "Error" => erase_trait(file, i),
             "#" => erase_attribute(file, i)?,
             _ => {}
         }
     }
-    for i in all("item").flat_map(|(name, _)| file.places(name)).collect::<Vec<usize>>() {
-        erase_item(file, i)?;
-    }
-    Ok(())
+    let items: Vec<usize> = all("item").flat_map(|(name, _)| file.places(name)).collect();
+    items.into_iter().try_for_each(|i| erase_item(file, i))
 }
 
 // Cuts `ghost use ..;`, `ghost NAME: {..};` or `ghost NAME = {..};`, and notes the names that it
@@ -61,10 +59,10 @@ fn erase_clauses(file: &mut File, function: usize) {
 
 fn erase_attribute(file: &mut File, i: usize) -> Result<(), String> {
     let open = if file.text(i + 1) == "!" { i + 2 } else { i + 1 };
-    let (name, end) = (file.text(open + 1), file.partner(open));
-    match get("attribute", name) {
+    let end = file.partner(open);
+    match get("attribute", file.text(open + 1)) {
         Some("goes") => file.cut(i..=end),
-        Some(_) if name == "derive" => erase_derives(file, i, end),
+        Some(_) if file.joined(i..=end) == "#[derive()]" => file.cut(i..=end),
         Some(_) => {}
         None if file.joined(i..=end) == "#[cfg(test)]" => file.cut_item(i..=file.end(end + 1)?),
         None => return Err(file.fault(i, "an unknown attribute")),
@@ -72,25 +70,17 @@ fn erase_attribute(file: &mut File, i: usize) -> Result<(), String> {
     Ok(())
 }
 
-fn erase_derives(file: &mut File, i: usize, end: usize) {
-    for derive in (i..end).rev() {
-        if get("derive", file.text(derive)).is_some() {
-            file.cut_element(derive);
-        }
-    }
-    if file.text(i + 4) == ")" {
-        file.cut(i..=i + 5);
-    }
-}
-
-// Cuts the bound `Drop`, and where it is all that a `where` clause asks of a type that type.
-fn erase_bound(file: &mut File, i: usize) {
-    let owner = file.nearest(i, &["where", "fn", "impl", "struct", "enum", "trait"]);
-    match (file.before(i), file.text(i + 1), owner.filter(|owner| file.text(*owner) == "where")) {
-        ("+", ..) => file.cut(i - 1..=i),
-        (":", "+", _) => file.cut(i..=i + 1),
-        (":", _, None) => file.cut(i - 1..=i),
-        (":", _, Some(owner)) => {
+// Cuts `Drop` and `Error` out of derives, and `Drop` out of bounds: where it is all that a `where`
+// clause asks of a type with that type.
+fn erase_trait(file: &mut File, i: usize) {
+    let list = file.nearest(i, &["("]).map_or("", |open| file.before(open));
+    let owner = file.nearest(i, &["where", "fn", "impl", "struct", "enum", "trait"]).unwrap_or(0);
+    match (file.before(i), file.text(i), file.text(i + 1)) {
+        ("(" | ",", ..) if list == "derive" => file.cut_element(i),
+        ("+", "Drop", _) => file.cut(i - 1..=i),
+        (":", "Drop", "+") => file.cut(i..=i + 1),
+        (":", "Drop", _) if file.text(owner) != "where" => file.cut(i - 1..=i),
+        (":", "Drop", _) => {
             file.cut_element(i);
             if matches!(file.text(owner + 1), "{" | ";") {
                 file.cut(owner..=owner);
@@ -103,9 +93,9 @@ fn erase_bound(file: &mut File, i: usize) {
 // Cuts the item that has this name, or the `impl` block that names it in its header.
 fn erase_item(file: &mut File, i: usize) -> Result<(), String> {
     let owner = file.nearest(i, &["impl", "fn", "struct", ";", "{", "}"]).unwrap_or(i);
-    match file.text(owner) {
-        "fn" | "struct" if owner + 1 == i => file.cut_whole(owner),
-        "impl" => file.cut_whole(owner),
-        _ => Ok(()),
+    let is_named = matches!(file.text(owner), "fn" | "struct") && owner + 1 == i;
+    if is_named || file.text(owner) == "impl" {
+        file.cut_item(file.start(owner)..=file.end(owner)?);
     }
+    Ok(())
 }

@@ -18,7 +18,7 @@ pub fn erase_laws(files: &mut [File]) -> Result<BTreeSet<String>, String> {
     for file in files {
         for i in file.places("fn") {
             match (is_law(file, i, &laws), laws.contains(file.text(i + 1))) {
-                (true, _) => file.cut_whole(i)?,
+                (true, _) => file.cut_item(file.start(i)..=file.end(i)?),
                 (false, true) => return Err(file.fault(i, "a function with the name of a law")),
                 _ => {}
             }
@@ -35,33 +35,32 @@ fn is_law(file: &File, i: usize, laws: &BTreeSet<String>) -> bool {
     file.joined(i + 2..=i + 4) == "(){" && body.split_terminator(';').all(is_call)
 }
 
-/// Cuts the parameters, fields, arguments and statements that are there for the count.
+/// Cuts the parameters, fields, arguments and statements that are there for the count, and gives the
+/// function that counts the documentation of the one that doesn't, which goes.
 pub fn erase_count(file: &mut File) -> Result<(), String> {
+    let place = |file: &File, name: &str| file.places(name).into_iter().find(|i| is_part(file, *i));
     if file.places("Ledger").is_empty() {
         return Ok(());
     }
-    merge_counted(file)?;
+    for (counted, plain) in all("counted") {
+        let function = |name: &str| file.places(name).into_iter().find(|i| file.before(*i) == "fn");
+        if let (Some(counted), Some(plain)) = (function(counted), function(plain)) {
+            let (start, other) = (file.start(counted - 1), file.start(plain - 1));
+            file.tokens[start].lead = file.tokens[other].lead.clone();
+            file.cut_item(other..=file.end(plain - 1)?);
+        }
+    }
     for (name, _) in all("ledger") {
-        let is_part = |file: &File, i: usize| file.before(i) != "::" && file.text(i + 1) != "(";
-        let is_such = |file: &File, i: usize| is_part(file, i) && !file.is_import(i);
-        while let Some(i) = file.places(name).into_iter().find(|i| is_such(file, *i)) {
+        while let Some(i) = place(file, name) {
             file.cut_element(i);
         }
     }
     Ok(())
 }
 
-// Gives the function that counts the documentation of the one that doesn't, and cuts that one.
-fn merge_counted(file: &mut File) -> Result<(), String> {
-    let place = |name: &str| file.places(name).into_iter().find(|i| file.before(*i) == "fn");
-    for (counted, plain) in all("counted") {
-        if let (Some(counted), Some(plain)) = (place(counted), place(plain)) {
-            let (start, other) = (file.start(counted - 1), file.start(plain - 1));
-            file.tokens[start].lead = file.tokens[other].lead.clone();
-            return file.cut_whole(plain - 1);
-        }
-    }
-    Ok(())
+// Whether a word can be the name of something of the ledger, and no import, variant or method.
+fn is_part(file: &File, i: usize) -> bool {
+    !file.is_import(i) && file.before(i) != "::" && file.text(i + 1) != "("
 }
 
 /// Cuts the imports of what is gone, those of what only erased code named, and the modules that have
@@ -78,7 +77,7 @@ pub fn erase_imports(files: &mut [File], laws: &BTreeSet<String>) -> Result<(), 
         }
         for i in file.places("mod") {
             if empty.contains(&file.path_of_module(file.text(i + 1))) {
-                file.cut_whole(i)?;
+                file.cut_item(file.start(i)..=file.end(i)?);
             }
         }
         if file.tokens.len() == 1 {

@@ -16,13 +16,12 @@ pub mod token;
 use file::File;
 use std::collections::BTreeMap;
 
+type Read<'a> = &'a dyn Fn(&str) -> Option<String>;
+
 /// Erases crates; `read` gives the text of a file of the repository. Returns the texts of the
 /// generated files by their paths, before rustfmt, or file, line and message of the first thing that
 /// isn't known.
-pub fn erase(
-    crates: &[&str],
-    read: &dyn Fn(&str) -> Option<String>,
-) -> Result<BTreeMap<String, String>, String> {
+pub fn erase(crates: &[&str], read: Read) -> Result<BTreeMap<String, String>, String> {
     let mut files = Vec::new();
     for krate in crates {
         load(format!("crates/{krate}/src/lib.rt"), read, &mut files)?;
@@ -35,11 +34,7 @@ pub fn erase(
 }
 
 // Reads a module and those below it, and erases each file for itself.
-fn load(
-    path: String,
-    read: &dyn Fn(&str) -> Option<String>,
-    files: &mut Vec<File>,
-) -> Result<(), String> {
+fn load(path: String, read: Read, files: &mut Vec<File>) -> Result<(), String> {
     let text = read(&path).ok_or_else(|| format!("{path}: no such file"))?;
     let mut file = File::new(&path, &text)?;
     for token in &mut file.tokens {

@@ -1,5 +1,5 @@
-//! `erase` makes the generated trees anew, `erase --check` tells whether they are up to date. Both
-//! print each file that differs, and run at the top of the repository.
+//! `erase` makes the generated trees anew; `erase --check` prints each file that isn't up to date. Both
+//! run at the top of the repository.
 
 #![forbid(unsafe_code)]
 
@@ -12,34 +12,42 @@ use std::{env, fs};
 
 fn main() -> ExitCode {
     let result = match env::args().nth(1).as_deref() {
-        None => update(false),
-        Some("--check") => update(true),
+        None => make(Path::new("")).map(|()| Vec::new()),
+        Some("--check") => check(),
         Some(_) => Err("usage: erase [--check]".into()),
     };
-    result.unwrap_or_else(|error| {
-        eprintln!("{error}");
-        ExitCode::FAILURE
-    })
+    match result {
+        Ok(paths) if paths.is_empty() => return ExitCode::SUCCESS,
+        Ok(paths) => paths.iter().for_each(|path| println!("{}", path.display())),
+        Err(error) => eprintln!("{error}"),
+    }
+    ExitCode::FAILURE
 }
 
-// Prints each file that differs by more than white space and the layout's commas and, unless this is
-// a check, writes or removes it.
-fn update(is_check: bool) -> Result<ExitCode, Box<dyn Error>> {
-    let (made, committed) = (generated()?, files_below(Path::new(""))?);
-    let paths: BTreeSet<&PathBuf> = made.keys().chain(committed.keys()).collect();
-    let mut status = ExitCode::SUCCESS;
-    for path in paths {
-        let (new, old) = (made.get(path), committed.get(path));
-        if new.map(|text| words(text)) != old.map(|text| words(text)) {
-            println!("{}", path.display());
-            match new {
-                _ if is_check => status = ExitCode::FAILURE,
-                Some(text) => write(path, text)?,
-                None => fs::remove_file(path)?,
-            }
-        }
+// Makes the trees below a folder, formatted, in place of what stands there.
+fn make(top: &Path) -> Result<(), Box<dyn Error>> {
+    let crates: Vec<&str> = table::all("crate").map(|(krate, _)| krate).collect();
+    let outputs = erase(&crates, &|path| fs::read_to_string(path).ok())?;
+    files_below(top)?.keys().try_for_each(|path| fs::remove_file(top.join(path)))?;
+    for (path, text) in &outputs {
+        let path = top.join(path);
+        fs::create_dir_all(path.parent().unwrap_or(top))?;
+        fs::write(path, text)?;
     }
-    Ok(status)
+    let roots = outputs.keys().filter(|path| path.ends_with("/mod.rs")).map(|path| top.join(path));
+    match Command::new("rustfmt").args(["--edition", "2024"]).args(roots).status()?.success() {
+        true => Ok(()),
+        false => Err("rustfmt failed".into()),
+    }
+}
+
+// The files that differ by more than white space and the layout's commas.
+fn check() -> Result<Vec<PathBuf>, Box<dyn Error>> {
+    let scratch = Path::new("target/erase");
+    make(scratch)?;
+    let (made, committed) = (files_below(scratch)?, files_below(Path::new(""))?);
+    let paths: BTreeSet<PathBuf> = made.keys().chain(committed.keys()).cloned().collect();
+    Ok(paths.into_iter().filter(|path| made.get(path) != committed.get(path)).collect())
 }
 
 // The words of a text's comments and its tokens, without commas before closing brackets.
@@ -51,41 +59,21 @@ fn words(text: &str) -> Vec<String> {
     (0..tokens.len()).flat_map(words).filter(|word| !word.is_empty()).collect()
 }
 
-// The files of all trees after rustfmt, by their paths.
-fn generated() -> Result<BTreeMap<PathBuf, String>, Box<dyn Error>> {
-    let crates: Vec<&str> = table::all("crate").map(|(krate, _)| krate).collect();
-    let outputs = erase(&crates, &|path| fs::read_to_string(path).ok())?;
-    let scratch = Path::new("target/erase");
-    if scratch.exists() {
-        fs::remove_dir_all(scratch)?;
-    }
-    outputs.iter().try_for_each(|(path, text)| write(&scratch.join(path), text))?;
-    let roots =
-        outputs.keys().filter(|path| path.ends_with("/mod.rs")).map(|path| scratch.join(path));
-    match Command::new("rustfmt").args(["--edition", "2024"]).args(roots).status()?.success() {
-        true => files_below(scratch),
-        false => Err("rustfmt failed".into()),
-    }
-}
-
-// The files of all trees below a folder, by their paths from there.
-fn files_below(top: &Path) -> Result<BTreeMap<PathBuf, String>, Box<dyn Error>> {
+// The words of the files of all trees below a folder, by their paths from there.
+fn files_below(top: &Path) -> Result<BTreeMap<PathBuf, Vec<String>>, Box<dyn Error>> {
     let mut files = BTreeMap::new();
-    let mut folders: Vec<PathBuf> = table::all("crate").map(|(_, tree)| top.join(tree)).collect();
+    let trees: BTreeSet<&str> = table::all("crate").map(|(_, tree)| tree).collect();
+    let mut folders: Vec<PathBuf> = trees.iter().map(|tree| top.join(tree)).collect();
     while let Some(folder) = folders.pop() {
         for entry in folder.read_dir().into_iter().flatten() {
             match entry?.path() {
                 path if path.is_dir() => folders.push(path),
                 path => {
-                    _ = files.insert(path.strip_prefix(top)?.into(), fs::read_to_string(&path)?)
+                    let words = words(&fs::read_to_string(&path)?);
+                    files.insert(path.strip_prefix(top)?.into(), words);
                 }
             }
         }
     }
     Ok(files)
-}
-
-fn write(path: &Path, text: &str) -> Result<(), Box<dyn Error>> {
-    fs::create_dir_all(path.parent().unwrap_or(path))?;
-    Ok(fs::write(path, text)?)
 }
