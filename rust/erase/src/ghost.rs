@@ -73,7 +73,8 @@ fn erase_attribute(file: &mut File, i: usize) -> Result<(), String> {
 // Cuts `Drop` and `Error` out of derives, and `Drop` out of bounds: where it is all that a `where`
 // clause asks of a type with that type.
 fn erase_trait(file: &mut File, i: usize) {
-    let list = file.nearest(i, &["("]).map_or("", |open| file.before(open));
+    let open = file.nearest(i, &["("]).filter(|open| file.partner(*open) > i);
+    let list = open.map_or("", |open| file.before(open));
     let owner = file.nearest(i, &["where", "fn", "impl", "struct", "enum", "trait"]).unwrap_or(0);
     match (file.before(i), file.text(i), file.text(i + 1)) {
         ("(" | ",", ..) if list == "derive" => file.cut_element(i),
