@@ -23,24 +23,31 @@ pub fn erase_file(file: &mut File) -> Result<(), String> {
     items.into_iter().try_for_each(|i| erase_item(file, i))
 }
 
-// Cuts `ghost use ..;`, `ghost NAME: {..};` or `ghost NAME = {..};`, and notes the names that it
-// imports from the specifications of this repository.
+// Cuts `ghost use ..;`, `ghost NAME: {..};` or `ghost NAME = {..};`.
 fn erase_ghost(file: &mut File, i: usize) -> Result<(), String> {
-    let is_member = matches!(file.text(i + 2), ":" | "=") && file.text(i + 3) == "{";
     let item = i..=file.end(i)?;
-    let import = file.joined(item.clone());
-    if let Some((path, names)) = import.trim_end_matches("};").split_once(".{") {
-        let path = path.strip_prefix("ghostuseRattle.").and_then(|path| path.split_once(".specs."));
-        let path = path.filter(|(krate, path)| *krate != "std" && !path.starts_with("declared."));
-        let file_of = |(krate, path): (&str, &str)| format!("crates/{krate}/specs/{path}.antt");
-        let place = path.map(|(krate, path)| file_of((krate, &path.replace('.', "/"))));
-        let names = names.split(',').map(str::to_string);
-        file.definitions.extend(names.filter_map(|name| Some((name, place.clone()?))));
-    }
-    if is_member || import.starts_with("ghostuse") {
+    let text = file.joined(item.clone());
+    let is_member = matches!(file.text(i + 2), ":" | "=") && file.text(i + 3) == "{";
+    if let Some(import) = text.strip_prefix("ghostuse") {
+        define(file, import);
+        file.cut_item(item);
+    } else if is_member {
         file.cut_item(item);
     }
     Ok(())
+}
+
+// Notes the names that `Rattle.CRATE.specs.FILE.{..};` imports, unless they are the kit's or stand
+// for something that the sources declare.
+fn define(file: &mut File, import: &str) {
+    let specification = import.strip_prefix("Rattle.").and_then(|path| path.split_once(".specs."));
+    let (krate, import) = specification.unwrap_or(("std", ""));
+    let (path, names) = import.split_once(".{").unwrap_or(("declared.", ""));
+    if krate != "std" && !path.starts_with("declared.") {
+        let place = format!("crates/{krate}/specs/{}.antt", path.replace('.', "/"));
+        let names = names.trim_end_matches(['}', ';']).split(',');
+        file.definitions.extend(names.map(|name| (name.to_string(), place.clone())));
+    }
 }
 
 // Cuts the clauses of a function; a public one keeps them as documentation.

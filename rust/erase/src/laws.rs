@@ -8,13 +8,7 @@ use std::collections::BTreeSet;
 /// Cuts the law functions: those without parameters and result that do nothing, or nothing but call
 /// such functions. Returns their names, or an error where another function has the name of one.
 pub fn erase_laws(files: &mut [File]) -> Result<BTreeSet<String>, String> {
-    let (mut laws, mut count) = (BTreeSet::new(), None);
-    while count.replace(laws.len()) != Some(laws.len()) {
-        for file in files.iter() {
-            let names = file.places("fn").into_iter().filter(|i| is_law(file, *i, &laws));
-            laws.extend(names.map(|i| file.text(i + 1).to_string()).collect::<Vec<String>>());
-        }
-    }
+    let laws = laws(files);
     for file in files {
         for i in file.places("fn") {
             match (is_law(file, i, &laws), laws.contains(file.text(i + 1))) {
@@ -27,6 +21,17 @@ pub fn erase_laws(files: &mut [File]) -> Result<BTreeSet<String>, String> {
     Ok(laws)
 }
 
+fn laws(files: &[File]) -> BTreeSet<String> {
+    let (mut laws, mut count) = (BTreeSet::new(), None);
+    while count.replace(laws.len()) != Some(laws.len()) {
+        for file in files {
+            let names = file.places("fn").into_iter().filter(|i| is_law(file, *i, &laws));
+            laws.extend(names.map(|i| file.text(i + 1).to_string()).collect::<Vec<String>>());
+        }
+    }
+    laws
+}
+
 // Whether a function without parameters and result does nothing but call these laws.
 fn is_law(file: &File, i: usize, laws: &BTreeSet<String>) -> bool {
     let name = |call: &str| call.strip_suffix("()")?.rsplit("::").next().map(str::to_string);
@@ -35,46 +40,41 @@ fn is_law(file: &File, i: usize, laws: &BTreeSet<String>) -> bool {
     file.joined(i + 2..=i + 4) == "(){" && body.split_terminator(';').all(is_call)
 }
 
-/// Cuts the parameters, fields, arguments and statements that are there for the count, and gives the
-/// function that counts the documentation of the one that doesn't, which goes.
+/// Cuts the parameters, fields, arguments and statements that are there for the count.
 pub fn erase_count(file: &mut File) -> Result<(), String> {
-    let place = |file: &File, name: &str| file.places(name).into_iter().find(|i| is_part(file, *i));
     if file.places("Ledger").is_empty() {
         return Ok(());
     }
-    for (counted, plain) in all("counted") {
-        let function = |name: &str| file.places(name).into_iter().find(|i| file.before(*i) == "fn");
-        if let (Some(counted), Some(plain)) = (function(counted), function(plain)) {
-            let (start, other) = (file.start(counted - 1), file.start(plain - 1));
-            file.tokens[start].lead = file.tokens[other].lead.clone();
-            file.cut_item(other..=file.end(plain - 1)?);
-        }
-    }
+    all("counted").try_for_each(|(counted, plain)| merge(file, counted, plain))?;
+    // A variant or a method isn't the ledger's, and imports go by name.
+    let is_other = |file: &File, i: usize| {
+        file.before(i) == "::" || file.text(i + 1) == "(" || file.is_import(i)
+    };
     for (name, _) in all("ledger") {
-        while let Some(i) = place(file, name) {
+        while let Some(i) = file.places(name).into_iter().find(|i| !is_other(file, *i)) {
             file.cut_element(i);
         }
     }
     Ok(())
 }
 
-// Whether a word can be the name of something of the ledger, and no import, variant or method.
-fn is_part(file: &File, i: usize) -> bool {
-    !file.is_import(i) && file.before(i) != "::" && file.text(i + 1) != "("
+// Gives the function that counts the documentation of the one that doesn't, and cuts that one.
+fn merge(file: &mut File, counted: &str, plain: &str) -> Result<(), String> {
+    let place = |name| file.places(name).into_iter().find(|i| file.before(*i) == "fn");
+    if let (Some(counted), Some(plain)) = (place(counted), place(plain)) {
+        let (start, other) = (file.start(counted - 1), file.start(plain - 1));
+        file.tokens[start].lead = file.tokens[other].lead.clone();
+        file.cut_item(other..=file.end(plain - 1)?);
+    }
+    Ok(())
 }
 
 /// Cuts the imports of what is gone, those of what only erased code named, and the modules that have
-/// no code then.
+/// no code then. Modules stand behind those that declare them.
 pub fn erase_imports(files: &mut [File], laws: &BTreeSet<String>) -> Result<(), String> {
     let mut empty = BTreeSet::new();
     for file in files.iter_mut().rev() {
-        for i in (0..file.tokens.len()).rev() {
-            let is_leaf = matches!(file.text(i + 1), "," | "}" | ";" | "as");
-            let is_left = file.text(i) == "{" && file.text(i + 1) == "}";
-            if file.is_import(i) && (is_left || is_leaf && is_dead(file, i, laws)) {
-                file.cut_element(i);
-            }
-        }
+        erase_uses(file, laws);
         for i in file.places("mod") {
             if empty.contains(&file.path_of_module(file.text(i + 1))) {
                 file.cut_item(file.start(i)..=file.end(i)?);
@@ -85,6 +85,16 @@ pub fn erase_imports(files: &mut [File], laws: &BTreeSet<String>) -> Result<(), 
         }
     }
     Ok(())
+}
+
+fn erase_uses(file: &mut File, laws: &BTreeSet<String>) {
+    for i in (0..file.tokens.len()).rev() {
+        let is_leaf = matches!(file.text(i + 1), "," | "}" | ";" | "as");
+        let is_left = file.text(i) == "{" && file.text(i + 1) == "}";
+        if file.is_import(i) && (is_left || is_leaf && is_dead(file, i, laws)) {
+            file.cut_element(i);
+        }
+    }
 }
 
 // Whether the name that is imported at `i` is gone, or has no use any more.
