@@ -165,9 +165,11 @@ impl Text {
     #[inline]
     fn is_known(&self, takes: Takes) -> bool {
         let (mut categories, mut codepoints) = (0, 0);
-        for glyph in self.glyphs() {
+        let mut left = self.glyphs();
+        while let [glyph, others @ ..] = left {
             categories |= u32::from(glyph.general_category) + (0x100 - CATEGORIES);
             codepoints |= glyph.codepoint;
+            left = others;
         }
         categories < 0x100 && codepoints & takes.outside() == 0
     }
