@@ -99,7 +99,7 @@ pub merge_all_stays : (level : BufferClusterLevel) (sts : List (ℕ × ℕ)) (gs
 merge_all_stays level sts gs h = all_falls gs (merge_all level sts gs) (merge_all-falls level sts gs h)
 
 -- flags that are added, one after another
-added_on : (x y z : hb_glyph_info_t) → FlagsAdded x y → FlagsAdded y z → FlagsAdded x z
+pub added_on : (x y z : hb_glyph_info_t) → FlagsAdded x y → FlagsAdded y z → FlagsAdded x z
 added_on x y z f g = record {
   same = g.same ∙ f.same;
   kept = λ k low. le_on (bit_at k x.mask) (bit_at k y.mask) (bit_at k z.mask) (f.kept k low) (g.kept k low);
