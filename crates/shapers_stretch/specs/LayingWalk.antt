@@ -82,8 +82,7 @@ pub record HasRoom (how : Laying) (gs : List hb_glyph_info_t) (ps : List GlyphPo
   pub glyph_numbers : AllByRecursion (λ g. g.glyph_id ≤ 65535) (take len gs)
   pub fits : overflows how (text_of len gs ps) ≡ false
 
--- the copies of one tile by these numbers, and those of the tiles of a run, from its last tile to its
--- first
+-- the copies of one tile by these numbers, and those of a run's tiles, from the last to the first
 abbrev pub copies_with : Font → ℕ → ℤ → Cell → List Copy
 copies_with font n o c =
     let width = width_of font c.0 in
