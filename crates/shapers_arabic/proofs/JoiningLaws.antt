@@ -94,7 +94,7 @@ holds-cut script text long n inner_after inner_before h s =
     let parts = in-parts (is_mongolian script) n text.characters (forms text.before text.types text.after) (take n text.characters) fs (drop n text.characters) gs (sym (take-append-drop n text.characters)) whole (length-take-le n text.characters (omega arith)) (length-forms text.before ts inner_after ∙ length-take-le n text.types h) in
     record { first = parts.first; second = parts.second }
 
-length-forms_of : (script : Option Script) (text : Text) → length text.characters ≡ length text.types → length (forms_of script text) ≡ length text.types
+pub length-forms_of : (script : Option Script) (text : Text) → length text.characters ≡ length text.types → length (forms_of script text) ≡ length text.types
 length-forms_of script text long =
     let by_rule = forms text.before text.types text.after in
     let all : length by_rule ≡ length text.types = length-forms text.before text.types text.after in
@@ -104,7 +104,7 @@ length-forms_of script text long =
     ]
 
 -- the auxiliary bytes that joining left are the forms of the text
-text_long : (joining : ℕ → hb_arabic_joining_type_t) (general : ℕ → hb_unicode_general_category_t) (old : Buffer) → let text = text_of joining general old in length text.characters ≡ length text.types
+pub text_long : (joining : ℕ → hb_arabic_joining_type_t) (general : ℕ → hb_unicode_general_category_t) (old : Buffer) → let text = text_of joining general old in length text.characters ≡ length text.types
 text_long joining general old = length-map old.glyphs (λ g. g.glyph_id) ∙ sym (length-map old.glyphs (λ g. resolved (joining g.glyph_id) g.general_category))
 
 pub forms_left : (masks : List ℕ) (script : Option Script) (joining : ℕ → hb_arabic_joining_type_t) (general : ℕ → hb_unicode_general_category_t) (old new : Buffer) → new ≡ joined masks script joining general old → map (λ g. g.auxiliary) new.glyphs ≡ forms_of script (text_of joining general old)

@@ -3,6 +3,7 @@ pub mod FlagLists
 mod FlagRows
 pub mod FlagWalk
 pub mod FlaggedGlyphs
+pub mod JoinedFlags
 pub mod JoinedGlyphs
 pub mod JoiningLaws
 pub mod JoiningLists

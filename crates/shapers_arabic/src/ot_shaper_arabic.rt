@@ -5,6 +5,7 @@ ghost use Rattle.shapers_base.specs.Planner.{with_requests};
 ghost use Rattle.shapers_arabic.specs.Requests.{arabic_list, is_arabic, joining_list, rclt};
 ghost use Rattle.shapers_arabic.specs.JoinedText.{AreCharacters, CutsAsHalves, joined, look_ups, text_of};
 ghost use Rattle.shapers_arabic.specs.PlanData.{IsArabic, masks_of};
+ghost use Rattle.shapers_clusters.specs.FlagLaw.{OnlyFlagsAdded};
 
 use arrayvec::ArrayVec;
 use shapers_base::buffer::{Script, hb_buffer_t, hb_tag_t};
@@ -133,6 +134,7 @@ pub fn setup_masks_counted<T: Tables, L: Ledger>(
         count.new ≡ count.old + look_ups (text_of table.joining table.general buffer.old) }
     ensures cut { let table = T.tables tables.now in
         CutsAsHalves script table.joining table.general buffer.old buffer.new }
+    ensures flags { OnlyFlagsAdded buffer.old.glyphs buffer.new.glyphs }
 {
     let before = nearest_in(buffer.pre_context(), tables, count);
     let after = nearest_in(buffer.post_context(), tables, count);
@@ -164,6 +166,7 @@ pub fn setup_masks_inner<T: Tables>(
         buffer.new ≡ joined masks script table.joining table.general buffer.old }
     ensures cut { let table = T.tables tables.now in
         CutsAsHalves script table.joining table.general buffer.old buffer.new }
+    ensures flags { OnlyFlagsAdded buffer.old.glyphs buffer.new.glyphs }
 {
     setup_masks_with::<T, Brand>(arabic_plan, script, buffer, tables, Blank::new(1));
 }
@@ -185,6 +188,7 @@ fn setup_masks_with<T: Tables, L: Ledger>(
         buffer.new ≡ joined masks script table.joining table.general buffer.old }
     ensures cut { let table = T.tables tables.now in
         CutsAsHalves script table.joining table.general buffer.old buffer.new }
+    ensures flags { OnlyFlagsAdded buffer.old.glyphs buffer.new.glyphs }
 {
     let mut count = LookUps::<L>::new(blank);
     setup_masks_counted(arabic_plan, script, buffer, tables, &mut count);
@@ -199,6 +203,7 @@ pub fn setup_masks<T: Tables>(plan: &hb_ot_shape_plan_t, tables: &T, buffer: &mu
         buffer.new ≡ joined masks plan.now.script table.joining table.general buffer.old }
     ensures cut { let table = T.tables tables.now in
         CutsAsHalves plan.now.script table.joining table.general buffer.old buffer.new }
+    ensures flags { OnlyFlagsAdded buffer.old.glyphs buffer.new.glyphs }
 {
     match &plan.plan_data {
         PlanData::Arabic(arabic_plan) => {

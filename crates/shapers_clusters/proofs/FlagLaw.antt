@@ -1,15 +1,16 @@
 -- The flag law through flag calls, merges, copies and other changes.
-use Rattle.std.proofs.Common.{ℕ, zero, suc, ◌%◌, ◌<◌, ◌≤◌, ◌≡◌, List, [], ◌∷◌, map, get_or, drop, length, sym, ◌∙◌, ap, subst, arith}
+use Rattle.std.proofs.Common.{ℕ, zero, suc, ◌%◌, ◌<◌, ◌≤◌, ◌≡◌, List, [], ◌∷◌, ◌++◌, map, get_or, take, drop, length, refl, sym, ◌∙◌, ap, subst, arith}
 use Rattle.std.specs.List.{AllByRecursion, AllZip}
 use Rattle.shapers_buffer.specs.declared.buffer.glyph.hb_glyph_info_t.{hb_glyph_info_t}
 use Rattle.shapers_buffer.specs.declared.buffer.level.BufferClusterLevel.{BufferClusterLevel}
-use Rattle.shapers_buffer.specs.Clusters.{merge_all}
+use Rattle.shapers_buffer.specs.Clusters.{merge_all, stretch_of, with_stretch}
 use Rattle.shapers_buffer.specs.Glyph.{clusters}
 use Rattle.shapers_buffer.specs.GlyphFlags.{unsafe_all, unsafe_inside}
 use Rattle.shapers_buffer.specs.Places.{pick}
 use Rattle.shapers_clusters.specs.Flags.{FallsTo, FlagsAlone, FlagsFall, KeepsBits, bit_at}
 use Rattle.shapers_clusters.specs.FlagLaw.{AllFlagsStay, FlagsAdded, FlagsStay, KeepsFlags, OnlyFlagsAdded}
-use Rattle.shapers_clusters.proofs.Falls.{all_over, flags_fall, merge_all-falls}
+use Rattle.shapers_clusters.proofs.Falls.{all_append, all_over, flags_fall, merge_all-falls}
+use Rattle.shapers_buffer.proofs.ClusterLemmas.{three_parts}
 use Rattle.shapers_clusters.proofs.FlagCalls.{unsafe_inside-alone}
 use Rattle.shapers_clusters.proofs.Picks.{AllZip-pick}
 
@@ -96,3 +97,31 @@ unsafe_all_stays (st ∷ sts) gs h =
 
 pub merge_all_stays : (level : BufferClusterLevel) (sts : List (ℕ × ℕ)) (gs : List hb_glyph_info_t) → AllByRecursion (λ st. st.1 ≤ length gs) sts → AllFlagsStay gs (merge_all level sts gs)
 merge_all_stays level sts gs h = all_falls gs (merge_all level sts gs) (merge_all-falls level sts gs h)
+
+-- flags that are added, one after another
+pub added_on : (x y z : hb_glyph_info_t) → FlagsAdded x y → FlagsAdded y z → FlagsAdded x z
+added_on x y z f g = record {
+  same = g.same ∙ f.same;
+  kept = λ k low. le_on (bit_at k x.mask) (bit_at k y.mask) (bit_at k z.mask) (f.kept k low) (g.kept k low);
+}
+
+pub all_added_on : (xs ys zs : List hb_glyph_info_t) → OnlyFlagsAdded xs ys → OnlyFlagsAdded ys zs → OnlyFlagsAdded xs zs
+all_added_on xs ys zs f g = all_over FlagsAdded FlagsAdded FlagsAdded added_on xs ys zs f g
+
+-- a change of other fields, or one that adds bits, of each glyph
+pub changed_added : (change : hb_glyph_info_t → hb_glyph_info_t) → ((g : hb_glyph_info_t) → FlagsAdded g (change g)) → (gs : List hb_glyph_info_t) → OnlyFlagsAdded gs (map change gs)
+changed_added change adds [] = tt
+changed_added change adds (g ∷ gs) = (adds g, changed_added change adds gs)
+
+pub added_same : (g h : hb_glyph_info_t) → h.cluster ≡ g.cluster → h.mask ≡ g.mask → FlagsAdded g h
+added_same g h c m = record { same = c; kept = flags_kept g h (ap (λ n. n % 8) m) }
+
+all_added_same : (gs : List hb_glyph_info_t) → OnlyFlagsAdded gs gs
+all_added_same [] = tt
+all_added_same (g ∷ gs) = (added_same g g refl refl, all_added_same gs)
+
+pub stretch_added : (s e : ℕ) (change : hb_glyph_info_t → hb_glyph_info_t) → ((g : hb_glyph_info_t) → FlagsAdded g (change g)) → (gs : List hb_glyph_info_t) → s ≤ e → OnlyFlagsAdded gs (with_stretch s e (map change) gs)
+stretch_added s e change adds gs h =
+    subst (λ xs. OnlyFlagsAdded xs (with_stretch s e (map change) gs)) (three_parts s e gs h)
+    (all_append FlagsAdded (take s gs) (take s gs) (stretch_of s e gs ++ drop e gs) (map change (stretch_of s e gs) ++ drop e gs) (all_added_same (take s gs))
+    (all_append FlagsAdded (stretch_of s e gs) (map change (stretch_of s e gs)) (drop e gs) (drop e gs) (changed_added change adds (stretch_of s e gs)) (all_added_same (drop e gs))))

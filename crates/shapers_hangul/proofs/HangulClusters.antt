@@ -42,7 +42,7 @@ tone_ends Absent s e n within = tt
 tone_ends Before s e n within = (within, tt)
 tone_ends Behind s e n within = tt
 
-item_ends : (level : BufferClusterLevel) (unit : Unit) (tone : JoinedTone) (s n : ℕ) → s + (taken unit + tone_len tone) ≤ n → EndWithin n (unit_stretch level unit s ++ tone_stretch tone s (s + taken unit))
+pub item_ends : (level : BufferClusterLevel) (unit : Unit) (tone : JoinedTone) (s n : ℕ) → s + (taken unit + tone_len tone) ≤ n → EndWithin n (unit_stretch level unit s ++ tone_stretch tone s (s + taken unit))
 item_ends level unit tone s n within =
     all-append (λ st. st.1 ≤ n) (unit_stretch level unit s) (tone_stretch tone s (s + taken unit)) (unit_ends (is_merged level unit) s (s + taken unit) n (omega arith)) (tone_ends tone s (s + taken unit) n (omega arith))
 

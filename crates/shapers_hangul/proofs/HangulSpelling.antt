@@ -1,6 +1,6 @@
 -- The rewriting spells the same text: syllable characters by their jamo.
 use Rattle.std.proofs.Common.{◌≡◌, inl, inr, ℕ, zero, suc, ◌+◌, ◌-◌, ◌*◌, ◌/◌, ◌%◌, ◌<◌, ◌≤◌, ◌==◌, ◌&&◌, ◌||◌, not, Bool, true, false, cond, List, [], ◌∷◌, ◌++◌, length, get_or, take, drop, refl, sym, ap, subst, ◌∙◌, ne_eqb, arith}
-use Rattle.std.specs.List.{filter}
+use Rattle.std.specs.List.{AllByRecursion, filter}
 use Rattle.std.proofs.lemmas.Bool.{leb-true, le-leb, eqb-true}
 use Rattle.std.proofs.lemmas.Bool.Decides.{leb_tells}
 use Rattle.std.proofs.lemmas.List.{append-nil, drop_more, take_more, take-append-drop, drop-drop}
@@ -18,7 +18,7 @@ use Rattle.shapers_hangul.specs.declared.ot_shaper_hangul.item.JoinedTone.TheVar
 use Rattle.shapers_hangul.specs.declared.ot_shaper_hangul.item.Unit.{Unit}
 use Rattle.shapers_hangul.specs.declared.ot_shaper_hangul.item.Unit.TheVariants.{ComposedTwo, ComposedThree, JamoTwo, JamoThree, PartsTwo, PartsThree, PartsBeforeT, Syllable, ToneCircle, CircleTone, Other}
 use Rattle.shapers_hangul.specs.Hangul.{is_between, is_l, is_v, is_t, combines_l, combines_v, combines_t, is_s, is_lv, is_tone, with_v, with_t, lead, vowel, trail, has_jamo_of, is_narrow, jamo_two, jamo_three, parts, syllable_unit, lone_tone, opening_unit, taken, is_syllable, joined_tone, first_item, tone_len, item_len, items_from, items, marked_from, unit_output, with_tone, item_output, outputs, all_joined, glyph_copies, character_copies, preprocessed, wants_circles, rewritten}
-use Rattle.shapers_hangul.specs.HangulLaws.{jamo_of, full, spelled, SpellingLaw, SpellsSame}
+use Rattle.shapers_hangul.specs.HangulLaws.{jamo_of, full, spelled, SpellingLaw, SpellsByUnits, SpellsSame, UnitSpells}
 use Rattle.shapers_hangul.proofs.Outputs.{Leads, outputs-map}
 use Rattle.shapers_hangul.proofs.Walks.{characters-all_joined}
 use Rattle.shapers_hangul.proofs.Items.{both, either, taken_some, there, above, unit_within}
@@ -311,3 +311,29 @@ same_spelled font circles level gs =
 pub on_spelled : {T : Type 0} (r : Result T ShaperError) (font : Font) (old new : Buffer) → OnOk r (new ≡ rewritten font old) → OnOk r (SpellsSame old new)
 on_spelled (Ok x) font old new is = subst (SpellsSame old) (sym is) (same_spelled font (wants_circles old) old.level old.glyphs)
 on_spelled (Err e) font old new is = tt
+
+-- each unit by itself
+units_spell : (font : Font) (circles : Bool) (all : List ℕ) (place skip : ℕ) (us : List ℕ) → drop place all ≡ us → AllByRecursion (UnitSpells all) (items_from (first_item font circles) place skip us)
+units_spell font circles all place skip [] is = tt
+units_spell font circles all place zero (u ∷ us) is =
+    let unit = opening_unit font circles (u ∷ us) in
+    let next : drop (place + 1) all ≡ us = sym (drop-drop 1 place all) ∙ ap (drop 1) is in (
+      subst (λ xs. is_tone (get_or xs 0 0) ≡ false → full (unit_output character_copies unit xs) ≡ full (take (taken unit) xs)) (sym is) (spells font circles (u ∷ us)).unit,
+      units_spell font circles all (place + 1) (item_len (first_item font circles (u ∷ us)) - 1) us next,
+    )
+units_spell font circles all place (suc skip) (u ∷ us) is = units_spell font circles all (place + 1) skip us (sym (drop-drop 1 place all) ∙ ap (drop 1) is)
+
+by_units : (font : Font) (b : Buffer) → SpellsByUnits font b (rewritten font b)
+by_units font b =
+    let us = characters b.glyphs in
+    let cut = items font (wants_circles b) us in
+    let ms = all_joined b.level cut b.glyphs in
+    let leads : Leads (λ g. g.glyph_id) glyph_copies character_copies = record { character = λ u g. refl; jamo = λ n g. refl } in
+    record {
+      outputs = outputs-map (λ g. g.glyph_id) glyph_copies character_copies leads cut ms ∙ ap (outputs character_copies cut) (characters-all_joined b.level cut b.glyphs);
+      units = units_spell font (wants_circles b) us 0 0 us refl;
+    }
+
+pub on_units : {T : Type 0} (r : Result T ShaperError) (font : Font) (old new : Buffer) → OnOk r (new ≡ rewritten font old) → OnOk r (SpellsByUnits font old new)
+on_units (Ok x) font old new is = subst (SpellsByUnits font old) (sym is) (by_units font old)
+on_units (Err e) font old new is = tt

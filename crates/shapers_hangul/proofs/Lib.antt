@@ -1,8 +1,10 @@
 pub mod Changes
 pub mod HangulClusters
+pub mod HangulFlags
 mod HangulRows
 pub mod HangulSpelling
 pub mod Items
+pub mod KeptTexts
 pub mod Outputs
 mod RequestRows
 pub mod Walks

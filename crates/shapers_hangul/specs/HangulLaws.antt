@@ -1,6 +1,6 @@
 -- What the rewriting makes of clusters and glyph flags, and that it spells the same text.
-use Rattle.std.specs.Prelude.{ℕ, Bool, ◌+◌, ◌==◌, ◌≤◌, ◌||◌, ◌≡◌, not, true, false, get_or, filter, List, [], ◌∷◌, ◌++◌, map, flat_map, take, length, if◌then◌else◌}
-use Rattle.std.specs.List.{AllZip, range_with_len}
+use Rattle.std.specs.Prelude.{ℕ, Bool, ◌+◌, ◌==◌, ◌≤◌, ◌||◌, ◌≡◌, not, true, false, get_or, filter, List, [], ◌∷◌, ◌++◌, map, flat_map, drop, take, length, if◌then◌else◌}
+use Rattle.std.specs.List.{AllByRecursion, AllZip, range_with_len}
 use Rattle.shapers_buffer.specs.declared.buffer.glyph.hb_glyph_info_t.{hb_glyph_info_t}
 use Rattle.shapers_buffer.specs.declared.buffer.level.BufferClusterLevel.{BufferClusterLevel}
 use Rattle.shapers_buffer.specs.Buffer.{Buffer}
@@ -9,10 +9,11 @@ use Rattle.shapers_base.specs.Font.{Font, dotted_circle}
 use Rattle.shapers_buffer.specs.Glyph.{clusters, characters}
 use Rattle.shapers_clusters.specs.Cuts.{ShareCluster}
 use Rattle.shapers_buffer.specs.Places.{pick}
+use Rattle.shapers_clusters.specs.FlagLaw.{AllFlagsStay}
 use Rattle.shapers_clusters.specs.Laws.{ClustersMade}
 use Rattle.shapers_hangul.specs.declared.ot_shaper_hangul.item.Item.{Item}
 use Rattle.shapers_hangul.specs.declared.ot_shaper_hangul.item.JoinedTone.TheVariants.{Before}
-use Rattle.shapers_hangul.specs.Hangul.{lead, vowel, trail, is_s, is_lv, is_tone, opening_unit, taken, Copying, unit_output, outputs, output_len, items, stretches, all_joined, character_copies, preprocessed, wants_circles}
+use Rattle.shapers_hangul.specs.Hangul.{lead, vowel, trail, is_s, is_lv, is_tone, opening_unit, taken, is_kept, Copying, unit_output, outputs, output_len, items, stretches, all_joined, character_copies, preprocessed, wants_circles}
 
 -- the rule on places: a copy has the place of what it copies
 abbrev pub place_copies : Copying ℕ
@@ -41,6 +42,13 @@ abbrev pub KeepsClusters : Font → Buffer → Buffer → Type 0
 KeepsClusters font old new =
     ClustersRewritten font (wants_circles old) old.level (characters old.glyphs)
     (clusters old.glyphs) (clusters new.glyphs)
+
+-- The flag law, of each glyph by its source: no cluster rises, and unless it fell, no glyph flag of
+-- the source is lost.
+abbrev pub KeepsGlyphFlags : Font → Buffer → Buffer → Type 0
+KeepsGlyphFlags font old new =
+    let cut = items font (wants_circles old) (characters old.glyphs) in
+    AllFlagsStay (pick (sources cut (length old.glyphs)) old.glyphs) new.glyphs
 
 -- a glyph without what the rewriting changes
 abbrev pub unnamed : hb_glyph_info_t → hb_glyph_info_t
@@ -82,6 +90,27 @@ pub record Spells (font : Font) (circles : Bool) (us : List ℕ) : Type 0 where
 
 abbrev pub SpellingLaw : Type 0
 SpellingLaw = (font : Font) (circles : Bool) (us : List ℕ) → Spells font circles us
+
+-- an item's unit, unless it is a tone, spells what it takes of the text
+abbrev pub UnitSpells : List ℕ → ℕ × Item → Type 0
+UnitSpells us p =
+    is_tone (get_or (drop p.0 us) 0 0) ≡ false →
+    full (unit_output character_copies p.1.unit (drop p.0 us))
+    ≡ full (take (taken p.1.unit) (drop p.0 us))
+
+-- The text after is the outputs of the items of the text before, one after another, and the unit of
+-- each spells what it takes.
+pub record SpellsByUnits (font : Font) (old new : Buffer) : Type 0 where
+  pub outputs : characters new.glyphs
+      ≡ outputs character_copies (items font (wants_circles old) (characters old.glyphs))
+      (characters old.glyphs)
+  pub units : AllByRecursion (UnitSpells (characters old.glyphs))
+      (items font (wants_circles old) (characters old.glyphs))
+
+-- every item of a text stays as it is
+abbrev pub AllKept : Font → Buffer → Type 0
+AllKept font b =
+    AllByRecursion (λ p. is_kept p.1 ≡ true) (items font (wants_circles b) (characters b.glyphs))
 
 -- the same of a buffer
 abbrev pub SpellsSame : Buffer → Buffer → Type 0

@@ -1,12 +1,13 @@
 //! The shaper of Hangul.
-ghost use Rattle.std.specs.Prelude.{◌≡◌, ◌%◌, OnOk, OnErr, IsOkUnless, true, length, []};
+ghost use Rattle.std.specs.Prelude.{◌≡◌, ◌%◌, OnOk, OnErr, IsOk, IsOkUnless, true, length, []};
 ghost use Rattle.shapers_buffer.specs.declared.buffer.refusal.ShaperError.TheVariants.{Memory};
 ghost use Rattle.shapers_base.specs.Planner.{with_requests};
 ghost use Rattle.std.specs.List.{All};
 ghost use Rattle.shapers_base.specs.declared.plan.PlanData.TheVariants.{Hangul};
 ghost use Rattle.shapers_buffer.specs.Refusals.{RefusesLength};
 ghost use Rattle.shapers_hangul.specs.Hangul.{rewritten};
-ghost use Rattle.shapers_hangul.specs.HangulLaws.{KeepsClusters, SpellsSame};
+ghost use Rattle.shapers_hangul.specs.HangulLaws.{AllKept, KeepsClusters, KeepsGlyphFlags, SpellsByUnits, SpellsSame};
+ghost use Rattle.shapers_clusters.specs.FlagLaw.{OnlyFlagsAdded};
 ghost use Rattle.shapers_hangul.specs.Masks.{jamo_masks, is_hangul_data, masks_in, with_jamo_masks};
 ghost use Rattle.shapers_hangul.specs.Requests.{hangul_list, hangul_overrides};
 
@@ -58,8 +59,9 @@ pub fn override_features(planner: &mut hb_ot_shape_planner_t) -> Result<(), Shap
 /// become one syllable character where the font has it, else they are marked for the features of
 /// jamo; so are the jamo of a syllable character that the font lacks. A tone moves before the
 /// syllable that it follows, unless it has advance 0; without one it gets a dotted circle. What a
-/// break would tear apart is flagged. Refuses as a growth to the length of the result does. (The
-/// Unicode Standard, "Conjoining Jamo Behavior"; OpenType's notes on Hangul.)
+/// break would tear apart is flagged. Refuses as a growth to the length of the result does, and
+/// never where every character stays as it is. (The Unicode Standard, "Conjoining Jamo
+/// Behavior"; OpenType's notes on Hangul.)
 pub fn preprocess_text<F: hb_font_t>(
     _plan: &hb_ot_shape_plan_t,
     face: &F,
@@ -68,10 +70,13 @@ pub fn preprocess_text<F: hb_font_t>(
     requires { buffer.old.positions ≡ [] }
     ensures ok { OnOk result (buffer.new ≡ rewritten (F.font face.now) buffer.old) }
     ensures clusters { OnOk result (KeepsClusters (F.font face.now) buffer.old buffer.new) }
+    ensures flags { OnOk result (KeepsGlyphFlags (F.font face.now) buffer.old buffer.new) }
     ensures spelling { OnOk result (SpellsSame buffer.old buffer.new) }
+    ensures units { OnOk result (SpellsByUnits (F.font face.now) buffer.old buffer.new) }
     ensures length { let text = (rewritten (F.font face.now) buffer.old).glyphs in
         RefusesLength buffer.old.max_len (length text) result }
     ensures err { OnErr result (buffer.new ≡ buffer.old) }
+    ensures kept { AllKept (F.font face.now) buffer.old → IsOk result }
 {
     rewrite(face, buffer)
 }
@@ -116,7 +121,8 @@ impl GlyphChange for JamoMasks {
 /// 0, then those of leading, vowel and trailing jamo. It takes no memory.
 pub fn setup_masks(plan: &hb_ot_shape_plan_t, buffer: &mut hb_buffer_t)
     requires { is_hangul_data plan.now.plan_data ≡ true }
-    ensures { buffer.new ≡ with_jamo_masks plan.now.plan_data buffer.old }
+    ensures masks { buffer.new ≡ with_jamo_masks plan.now.plan_data buffer.old }
+    ensures flags { OnlyFlagsAdded buffer.old.glyphs buffer.new.glyphs }
 {
     match &plan.plan_data {
         PlanData::Hangul(data) => {

@@ -17,6 +17,7 @@ pub mod Laying
 pub mod Lengths
 pub mod RunLaying
 pub mod Steps
+pub mod StretchFlags
 pub mod Postprocessing
 pub mod Sums
 pub mod TileWalk

@@ -1,11 +1,12 @@
 -- The law of widths: how wide the laid stretches of a text are, read from the text after.
 use Rattle.std.specs.Prelude.{◌≡◌, ℕ, suc, true, false, Bool, List, [], ◌∷◌, ◌++◌, length, map, flat_map, replicate, reverse, pos, ℤ, ◌+ℤ◌, ◌-ℤ◌, ◌≤ℤ◌, ◌<ℤ◌, ◌⊎◌, ◌+◌, if◌then◌else◌}
-use Rattle.std.specs.List.{AllZip}
+use Rattle.std.specs.List.{AllByRecursion, AllZip, Contains}
 use Rattle.shapers_buffer.specs.declared.buffer.glyph.hb_glyph_info_t.{hb_glyph_info_t}
 use Rattle.shapers_buffer.specs.Buffer.{Buffer}
 use Rattle.shapers_buffer.specs.Lists.{each_after}
 use Rattle.shapers_base.specs.declared.plan.arabic.StretchStart.{StretchStart}
 use Rattle.shapers_base.specs.Font.{Font}
+use Rattle.shapers_clusters.specs.FlagLaw.{FlagsAdded}
 use Rattle.shapers_stretch.specs.Cells.{Cell, before_tiles, glyphs_of, parts, positions_of, repeats, tiles_of}
 use Rattle.shapers_stretch.specs.CountingWalk.{run_moves}
 use Rattle.shapers_stretch.specs.declared.ot_shaper_arabic_stretch.measuring.Run.{Run}
@@ -90,3 +91,16 @@ WidthsHold = (font : Font) (choice : StretchStart) (old new : Buffer) →
     new ≡ marks_stretched font choice old →
     (length new.positions ≡ length new.glyphs)
     × TextIsLaid (laying font choice old) (cells_in_order old) (cells_in_order new)
+
+-- the same of a text before and after, where it is marked to have stretches
+abbrev pub IsLaidOver : Font → StretchStart → Buffer → Buffer → Type 0
+IsLaidOver font choice old new =
+    old.stch ≡ true →
+    TextIsLaid (laying font choice old) (cells_in_order old) (cells_in_order new)
+
+-- each glyph of the text after is a copy of one of the text before: it has its cluster and its glyph
+-- flags, and may have got others
+abbrev pub AreCopies : List hb_glyph_info_t → List hb_glyph_info_t → Type 0
+AreCopies olds news =
+    AllByRecursion
+    (λ new. (old : hb_glyph_info_t) × (Contains olds old × FlagsAdded old new)) news

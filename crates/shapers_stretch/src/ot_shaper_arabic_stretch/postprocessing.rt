@@ -7,6 +7,7 @@ ghost use Rattle.shapers_stretch.specs.CountingWalk.{text_refusal};
 ghost use Rattle.shapers_stretch.specs.LayingWalk.{laying_by};
 ghost use Rattle.shapers_stretch.specs.Recorded.{start_of};
 ghost use Rattle.shapers_stretch.specs.Stretch.{cells, copies_in, marks_stretched, stretch_refusal, stretched, with_cells};
+ghost use Rattle.shapers_stretch.specs.StretchLaws.{AreCopies, IsLaidOver};
 
 use super::counting::count_added;
 use super::laying::TileLaying;
@@ -35,6 +36,9 @@ pub fn postprocess_glyphs<F: hb_font_t>(
         (length after.glyphs) result }
     ensures longer { let added = copies_in (F.font face.now) buffer.old in
         OnOk result (length buffer.new.glyphs ≡ length buffer.old.glyphs + added) }
+    ensures copies { OnOk result (AreCopies buffer.old.glyphs buffer.new.glyphs) }
+    ensures widths { let choice = start_of plan.now.plan_data in
+        OnOk result (IsLaidOver (F.font face.now) choice buffer.old buffer.new) }
     ensures err { OnErr result (buffer.new ≡ buffer.old) }
     ensures unmarked { buffer.old.stch ≡ false → IsOk result }
 {

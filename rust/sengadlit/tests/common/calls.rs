@@ -225,7 +225,7 @@ fn random_char(numbers: &mut Numbers) -> char {
         0x41, 0x5D0, 0x5B0, 0x915, 0x93C, 0x1780, 0x17C0, 0x1100, 0xAC00,
     ];
     let number = match numbers.below(4) {
-        0 => numbers.next() as u32 % 0x11_0000,
+        0 => numbers.draw() as u32 % 0x11_0000,
         _ => numbers.one_of(&blocks) + numbers.below(32) as u32,
     };
     char::from_u32(number).unwrap_or('\u{FFFD}')

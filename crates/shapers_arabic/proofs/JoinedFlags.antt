@@ -1,0 +1,37 @@
+-- Joining only adds glyph flags.
+use Rattle.std.proofs.Common.{◌≡◌, ℕ, List, [], ◌∷◌, Option, length, refl, sym, ◌∙◌, subst, arith}
+use Rattle.std.specs.Prelude.{slice_index}
+use Rattle.std.proofs.lemmas.List.{length-map}
+use Rattle.shapers_buffer.specs.Buffer.{Buffer, flags_concat, flags_tatweel, has_flag}
+use Rattle.shapers_buffer.specs.GlyphFlags.{flags_called}
+use Rattle.shapers_buffer.specs.declared.buffer.category.hb_unicode_general_category_t.{hb_unicode_general_category_t}
+use Rattle.shapers_buffer.specs.declared.buffer.glyph.hb_glyph_info_t.{hb_glyph_info_t}
+use Rattle.shapers_buffer.specs.declared.buffer.tag.Script.{Script}
+use Rattle.shapers_base.specs.declared.plan.joining.hb_arabic_joining_type_t.{hb_arabic_joining_type_t}
+use Rattle.shapers_clusters.specs.FlagLaw.{OnlyFlagsAdded}
+use Rattle.shapers_clusters.proofs.FlagCalls.{flags_called-alone, keeps-with_bits}
+use Rattle.shapers_clusters.proofs.FlagLaw.{all_added_on, alone_added}
+use Rattle.shapers_arabic.specs.Joining.{resolved}
+use Rattle.shapers_arabic.specs.JoinedText.{forms_of, joined, text_of, with_forms}
+use Rattle.shapers_arabic.specs.JoiningFlags.{joining_flags}
+use Rattle.shapers_arabic.proofs.FlagLists.{joining-in_order}
+use Rattle.shapers_arabic.proofs.JoiningLaws.{length-forms_of, text_long}
+
+formed_added : (masks fs : List ℕ) (gs : List hb_glyph_info_t) → length fs ≡ length gs → OnlyFlagsAdded gs (with_forms masks fs gs)
+formed_added masks [] [] long = tt
+formed_added masks [] (g ∷ gs) long = absurd (omega arith)
+formed_added masks (f ∷ fs) [] long = absurd (omega arith)
+formed_added masks (f ∷ fs) (g ∷ gs) long = (record { same = refl; kept = λ k _. keeps-with_bits (slice_index masks f) g k }, formed_added masks fs gs (omega arith))
+
+pub joined_added : (masks : List ℕ) (script : Option Script) (joining : ℕ → hb_arabic_joining_type_t) (general : ℕ → hb_unicode_general_category_t) (old new : Buffer) → new ≡ joined masks script joining general old → OnlyFlagsAdded old.glyphs new.glyphs
+joined_added masks script joining general old new is =
+    let text = text_of joining general old in
+    let fs = forms_of script text in
+    let calls = joining_flags text.before text.types text.after in
+    let formed = with_forms masks fs old.glyphs in
+    let long = length-forms_of script text (text_long joining general old) ∙ length-map old.glyphs (λ g. resolved (joining g.glyph_id) g.general_category) in
+    let concat = has_flag flags_concat old.flags in
+    let tatweel = has_flag flags_tatweel old.flags in
+    let flagged = flags_called concat tatweel calls formed in
+    subst (λ (b : Buffer). OnlyFlagsAdded old.glyphs b.glyphs) (sym is)
+    (all_added_on old.glyphs formed flagged (formed_added masks fs old.glyphs long) (alone_added formed flagged (flags_called-alone concat tatweel calls formed (joining-in_order text.before text.types text.after))))
