@@ -352,12 +352,15 @@ enum {
 
 /* Bits of `marks`: what happened to the glyph in lookups, which the caller notes, and what its character is. */
 enum {
-    SENGADLIT_GLYPH_MARK_SUBSTITUTED = 0x01,  /* As HB_OT_LAYOUT_GLYPH_PROPS_SUBSTITUTED, shifted right by 4; */
-    SENGADLIT_GLYPH_MARK_LIGATED = 0x02,      /* so these two. */
+    SENGADLIT_GLYPH_MARK_SUBSTITUTED = 0x01,
+    SENGADLIT_GLYPH_MARK_LIGATED = 0x02,
     SENGADLIT_GLYPH_MARK_MULTIPLIED = 0x04,
     SENGADLIT_GLYPH_MARK_IGNORABLE = 0x08,    /* Default_Ignorable_Code_Point. */
     SENGADLIT_GLYPH_MARK_CONTINUATION = 0x10  /* It continues the grapheme of the one before. */
 };
+
+/* `marks` of what HarfBuzz keeps as glyph_props: SUBSTITUTED, LIGATED, MULTIPLIED. */
+#define SENGADLIT_GLYPH_MARKS_FROM_PROPS(glyph_props) ((uint8_t)((unsigned int)(glyph_props) >> 4 & 0x07))
 
 /* As hb_unicode_general_category_t. */
 enum {
@@ -533,10 +536,44 @@ sengadlit_status_t sengadlit_reorder_marks(const sengadlit_plan_t *plan, sengadl
 sengadlit_status_t sengadlit_setup_masks(const sengadlit_plan_t *plan, const sengadlit_tables_t *tables,
                                          sengadlit_buffer_t *buffer);
 
+/* The kinds of syllables, as HarfBuzz's machines have them but for Myanmar's: its number of a kind becomes ours by
+   SENGADLIT_MYANMAR_SYLLABLE_FROM_HARFBUZZ, since its machine has no punctuation clusters any more. */
+enum {
+    SENGADLIT_INDIC_SYLLABLE_CONSONANT = 0,
+    SENGADLIT_INDIC_SYLLABLE_VOWEL = 1,
+    SENGADLIT_INDIC_SYLLABLE_STANDALONE = 2,
+    SENGADLIT_INDIC_SYLLABLE_SYMBOL = 3,
+    SENGADLIT_INDIC_SYLLABLE_BROKEN = 4,
+    SENGADLIT_INDIC_SYLLABLE_NON_INDIC = 5
+};
+enum {
+    SENGADLIT_KHMER_SYLLABLE_CONSONANT = 0,
+    SENGADLIT_KHMER_SYLLABLE_BROKEN = 1,
+    SENGADLIT_KHMER_SYLLABLE_NON_KHMER = 2
+};
+enum {
+    SENGADLIT_MYANMAR_SYLLABLE_CONSONANT = 0,
+    SENGADLIT_MYANMAR_SYLLABLE_PUNCTUATION = 1,
+    SENGADLIT_MYANMAR_SYLLABLE_BROKEN = 2,
+    SENGADLIT_MYANMAR_SYLLABLE_NON_MYANMAR = 3
+};
+#define SENGADLIT_MYANMAR_SYLLABLE_FROM_HARFBUZZ(kind) ((uint8_t)((kind) == 0 ? 0 : (kind) + 1))
+enum {
+    SENGADLIT_USE_SYLLABLE_VIRAMA_TERMINATED = 0,
+    SENGADLIT_USE_SYLLABLE_SAKOT_TERMINATED = 1,
+    SENGADLIT_USE_SYLLABLE_STANDARD = 2,
+    SENGADLIT_USE_SYLLABLE_NUMBER_JOINER_TERMINATED = 3,
+    SENGADLIT_USE_SYLLABLE_NUMERAL = 4,
+    SENGADLIT_USE_SYLLABLE_SYMBOL = 5,
+    SENGADLIT_USE_SYLLABLE_HIEROGLYPH = 6,
+    SENGADLIT_USE_SYLLABLE_BROKEN = 7,
+    SENGADLIT_USE_SYLLABLE_NON_CLUSTER = 8
+};
+
 /* A syllable, as the caller's machine found it. */
 typedef struct sengadlit_span_t {
-    size_t length;                   /* In glyphs. */
-    uint8_t kind;                    /* 0 to 15: as the machines of rustybuzz and HarfBuzz number them. */
+    size_t length;                   /* In glyphs; not 0. */
+    uint8_t kind;                    /* One of the kinds above; up to 15 are taken by the set-ups. */
 } sengadlit_span_t;
 
 /* Does what a shaper does between two stages of GSUB.
