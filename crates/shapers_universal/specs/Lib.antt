@@ -1,4 +1,5 @@
 pub mod PlanData
+pub mod PlanMasks
 pub mod Requests
 pub mod Universal
 pub mod UniversalCuts

@@ -2,9 +2,10 @@
 ghost use Rattle.std.specs.Prelude.{◌≡◌, ◌%◌, None, Some, nat_eq, if◌then◌else◌};
 ghost use Rattle.shapers_arabic.specs.PlanData.{arabic_plan};
 ghost use Rattle.shapers_base.specs.declared.plan.PlanData.TheVariants.{Universal};
-ghost use Rattle.std.specs.List.{list_any};
+ghost use Rattle.std.specs.List.{AllByRecursion, list_any};
 ghost use Rattle.std.specs.Cmp.Lexicographic.{pointwise};
-ghost use Rattle.shapers_universal.specs.PlanData.{joining_scripts, joins_letters, rphf_of, universal_plan};
+ghost use Rattle.shapers_universal.specs.PlanData.{joining_scripts, joins_letters, universal_plan};
+ghost use Rattle.shapers_universal.specs.PlanMasks.{joining_masks, masks_in};
 
 use shapers_arabic::ot_shaper_arabic::data_create_arabic;
 use shapers_base::buffer::{Script, hb_tag_t};
@@ -28,11 +29,11 @@ const JOINING_SCRIPTS: [Script; 13] = [
 ];
 
 /// What the shaper keeps in the plan: the mask of `rphf` and, for a script whose letters join, the
-/// plan of Arabic. It can't refuse and takes no memory.
+/// plan of Arabic. No mask touches a glyph flag bit. It can't refuse and takes no memory.
 pub fn create_data(plan: &hb_ot_shape_plan_t) -> PlanData
     ensures data { let start = plan.now.stretch_start in
         result ≡ Universal (universal_plan start plan.now.script plan.now.ot_map) }
-    ensures off_flags { rphf_of result % 8 ≡ 0 }
+    ensures off_flags { AllByRecursion (λ mask. mask % 8 ≡ 0) (masks_in result) }
 {
     PlanData::Universal(use_shape_plan_t {
         rphf_mask: plan.ot_map.get_1_mask(hb_tag_t(*b"rphf")),
@@ -42,8 +43,9 @@ pub fn create_data(plan: &hb_ot_shape_plan_t) -> PlanData
 
 // The plan of Arabic, for a script whose letters join.
 fn arabic_plan_for(plan: &hb_ot_shape_plan_t) -> Option<arabic_shape_plan_t>
-    ensures { let plan_of_arabic = arabic_plan plan.now.stretch_start plan.now.ot_map in
+    ensures data { let plan_of_arabic = arabic_plan plan.now.stretch_start plan.now.ot_map in
         result ≡ (if joins_letters plan.now.script then Some plan_of_arabic else None) }
+    ensures off_flags { AllByRecursion (λ mask. mask % 8 ≡ 0) (joining_masks result) }
 {
     if has_arabic_joining(plan.script) {
         Some(data_create_arabic(plan))
