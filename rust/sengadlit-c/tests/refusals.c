@@ -123,6 +123,18 @@ static void names_and_versions(void)
     check("no argument", strcmp(sengadlit_argument_name((sengadlit_argument_t)21), "unknown") == 0);
 }
 
+/* Numbers of HarfBuzz's that are others here. */
+static void numbers_of_harfbuzz(void)
+{
+    check("marks of no props", SENGADLIT_GLYPH_MARKS_FROM_PROPS(0x0F) == 0);
+    check("marks of all props", SENGADLIT_GLYPH_MARKS_FROM_PROPS(0xFFFF) == 0x07);
+    check("a mark of a ligature", SENGADLIT_GLYPH_MARKS_FROM_PROPS(0x20) == SENGADLIT_GLYPH_MARK_LIGATED);
+    check("a consonant syllable of Myanmar",
+          SENGADLIT_MYANMAR_SYLLABLE_FROM_HARFBUZZ(0) == SENGADLIT_MYANMAR_SYLLABLE_CONSONANT);
+    check("a broken one", SENGADLIT_MYANMAR_SYLLABLE_FROM_HARFBUZZ(1) == SENGADLIT_MYANMAR_SYLLABLE_BROKEN);
+    check("another cluster", SENGADLIT_MYANMAR_SYLLABLE_FROM_HARFBUZZ(2) == SENGADLIT_MYANMAR_SYLLABLE_NON_MYANMAR);
+}
+
 /* ---- Shapers and features ---- */
 
 static void shapers_that_are_none(void)
@@ -764,6 +776,7 @@ static void stretches_that_are_none(void)
 int main(void)
 {
     names_and_versions();
+    numbers_of_harfbuzz();
     shapers_that_are_none();
     features_without_arguments();
     hooks_of_all();
