@@ -339,11 +339,11 @@ impl hb_ot_shaper_t {
     /// that fonts know whole, for Khmer also of split vowels.
     pub fn decompose<T: Tables>(
         self,
-        plan: &hb_ot_shape_plan_t,
+        _plan: &hb_ot_shape_plan_t,
         tables: &T,
         ab: char,
     ) -> Option<Option<(char, char)>>
-        ensures parts { Decomposed self plan.now (T.tables tables.now) ab result }
+        ensures parts { Decomposed self _plan.now (T.tables tables.now) ab result }
         ensures answer { is_some result ≡ (standing self).decompose }
     {
         match self {
@@ -366,7 +366,7 @@ impl hb_ot_shaper_t {
     pub fn setup_masks<F: hb_font_t, T: Tables>(
         self,
         plan: &hb_ot_shape_plan_t,
-        face: &F,
+        _face: &F,
         tables: &T,
         buffer: &mut hb_buffer_t,
     ) -> Option<()>
@@ -377,14 +377,15 @@ impl hb_ot_shaper_t {
         ensures masks { MasksSet self plan.now (T.tables tables.now) buffer.old buffer.new }
     {
         match self {
-            Self::Arabic => Some(ot_shaper_arabic::setup_masks(plan, tables, buffer)),
-            Self::Hangul => Some(ot_shaper_hangul::setup_masks(plan, buffer)),
-            Self::Indic => Some(ot_shaper_indic::setup_masks(tables, buffer)),
-            Self::Khmer => Some(ot_shaper_khmer::setup_masks(tables, buffer)),
-            Self::Myanmar => Some(ot_shaper_myanmar::setup_masks(tables, buffer)),
-            Self::Universal => Some(ot_shaper_use::setup_masks(plan, tables, buffer)),
-            Self::Hebrew | Self::MyanmarZawgyi | Self::Thai => None,
+            Self::Arabic => ot_shaper_arabic::setup_masks(plan, tables, buffer),
+            Self::Hangul => ot_shaper_hangul::setup_masks(plan, buffer),
+            Self::Indic => ot_shaper_indic::setup_masks(tables, buffer),
+            Self::Khmer => ot_shaper_khmer::setup_masks(tables, buffer),
+            Self::Myanmar => ot_shaper_myanmar::setup_masks(tables, buffer),
+            Self::Universal => ot_shaper_use::setup_masks(plan, tables, buffer),
+            Self::Hebrew | Self::MyanmarZawgyi | Self::Thai => return None,
         }
+        Some(())
     }
 
     /// Reorders the marks from `start` to `end`: for Hebrew, at the first three neighbours of its
@@ -406,15 +407,16 @@ impl hb_ot_shaper_t {
         ensures laws { MarksKeep self start end buffer.old buffer.new }
     {
         match self {
-            Self::Arabic => Some(ot_shaper_arabic::reorder_marks(plan, buffer, start, end)),
-            Self::Hebrew => Some(ot_shaper_hebrew::reorder_marks(plan, buffer, start, end)),
+            Self::Arabic => ot_shaper_arabic::reorder_marks(plan, buffer, start, end),
+            Self::Hebrew => ot_shaper_hebrew::reorder_marks(plan, buffer, start, end),
             Self::Hangul
             | Self::Indic
             | Self::Khmer
             | Self::Myanmar
             | Self::MyanmarZawgyi
             | Self::Thai
-            | Self::Universal => None,
+            | Self::Universal => return None,
         }
+        Some(())
     }
 }
