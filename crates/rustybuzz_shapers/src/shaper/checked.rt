@@ -40,8 +40,9 @@ pub enum CallError {
 
 impl From<Condition> for CallError {
     ghost use Rattle.std.specs.Prelude.{◌≡◌};
+    ghost use Rattle.rustybuzz_shapers.specs.declared.shaper.checked.CallError.TheVariants as call;
 
-    ghost from_gives = { λ condition e. e ≡ CallError.Condition condition };
+    ghost from_gives = { λ condition e. e ≡ call.Condition condition };
 
     fn from(condition: Condition) -> Self {
         CallError::Condition(condition)
@@ -50,8 +51,9 @@ impl From<Condition> for CallError {
 
 impl From<ShaperError> for CallError {
     ghost use Rattle.std.specs.Prelude.{◌≡◌};
+    ghost use Rattle.rustybuzz_shapers.specs.declared.shaper.checked.CallError.TheVariants as call;
 
-    ghost from_gives = { λ refusal e. e ≡ CallError.Refused refusal };
+    ghost from_gives = { λ refusal e. e ≡ call.Refused refusal };
 
     fn from(refusal: ShaperError) -> Self {
         CallError::Refused(refusal)
