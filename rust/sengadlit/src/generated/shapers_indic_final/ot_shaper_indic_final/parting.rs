@@ -25,7 +25,7 @@ struct Runs {
 // and merges each with all up to place `b`.
 pub(super) fn part_matras(p: usize, b: usize, buffer: &mut Buffer, s: usize, e: usize) {
     for i in (0..p).rev() {
-        if is_left(&buffer.glyphs()[s + i]) {
+        if is_left(&buffer.glyphs()[s..e][i]) {
             move_matra(buffer, s, b, i, p);
             part_further(i, p, b, buffer, s);
             return;
