@@ -1,7 +1,7 @@
 /* The plan, the callbacks, and the lists of features. Included by proved.cc alone. */
 
 #ifdef SENGADLIT_REMEMBERS
-/* What the face answered of two glyphs. */
+/* What the face answered of up to three glyphs. */
 struct remembered_t { uint64_t question; bool answer; };
 #endif
 
@@ -129,17 +129,32 @@ glyph_h_advance (void *user_data, uint32_t glyph)
   return sign_of (font) * font->get_glyph_h_advance (glyph);
 }
 
-/* The library is told of one lookup a stage, by its number: here it is asked of all of the stage. */
+static bool
+ask_face (const asked_t *asked, unsigned number, const uint32_t *glyphs, unsigned length)
+{
+  const stage_t &stage = asked->proved->asked.arrayZ[number];
+  for (unsigned i = 0; i < stage.length; i++)
+    if (hb_ot_layout_lookup_would_substitute (asked->font->face, stage.lookups[i].index, glyphs, length, asked->proved->zero_context))
+      return true;
+  return false;
+}
+
+/* The library is told of one lookup a stage, by the stage's number: the face is asked about all of the stage. Glyphs have
+   16 bits here. */
 static sengadlit_bool_t
 would_substitute (void *user_data, const uint16_t *lookups, unsigned lookups_length HB_UNUSED, const uint32_t *glyphs, unsigned length,
 		  sengadlit_bool_t zero_context HB_UNUSED)
 {
   const asked_t *asked = (const asked_t *) user_data;
-  const stage_t &stage = asked->proved->asked.arrayZ[lookups[0]];
-  for (unsigned i = 0; i < stage.length; i++)
-    if (hb_ot_layout_lookup_would_substitute (asked->font->face, stage.lookups[i].index, glyphs, length, asked->proved->zero_context))
-      return true;
-  return false;
+#ifdef SENGADLIT_REMEMBERS
+  uint64_t question = ((uint64_t) lookups[0] + 1) << 50 | (uint64_t) length << 48 | (uint64_t) glyphs[0] << 16 |
+		      (length > 1 ? glyphs[1] : 0) | (uint64_t) (length > 2 ? glyphs[2] : 0) << 32;
+  remembered_t &kept = asked->work->remembered[(question ^ question >> 13 ^ question >> 44) % 512];
+  if (unlikely (kept.question != question)) kept = {question, ask_face (asked, lookups[0], glyphs, length)};
+  return kept.answer;
+#else
+  return ask_face (asked, lookups[0], glyphs, length);
+#endif
 }
 
 static sengadlit_bool_t
@@ -165,20 +180,20 @@ static const sengadlit_tables_funcs_t tables_funcs =
 /* ---- Lists of features ---- */
 
 /* A feature or a pause, as a shaper asks for it. */
-struct sengadlit_request { uint32_t tag, flags, value, pause; };
+struct proved_request_t { uint32_t tag, flags, value, pause; };
 
-typedef hb_vector_t<sengadlit_request> requests_t;
+typedef hb_vector_t<proved_request_t> requests_t;
 
 static void
 list_feature (void *user_data, uint32_t tag, uint32_t flags, uint32_t value)
 {
-  ((requests_t *) user_data)->push (sengadlit_request {tag, flags, value, 0});
+  ((requests_t *) user_data)->push (proved_request_t {tag, flags, value, 0});
 }
 
 static void
 list_pause (void *user_data, sengadlit_pause_t pause)
 {
-  ((requests_t *) user_data)->push (sengadlit_request {0, 0, 0, pause == SENGADLIT_PAUSE_NONE ? SENGADLIT_NONE : (uint32_t) pause});
+  ((requests_t *) user_data)->push (proved_request_t {0, 0, 0, pause == SENGADLIT_PAUSE_NONE ? SENGADLIT_NONE : (uint32_t) pause});
 }
 
 static const sengadlit_map_funcs_t listing_funcs = {list_feature, list_pause};
@@ -202,7 +217,7 @@ make_requests (unsigned shaper, bool override, hb_ot_shape_planner_t *planner)
   hb_ot_map_builder_t *map = &planner->map;
   requests_t requests;
   list_requests (shaper, planner->props.script, override, map, requests);
-  for (const sengadlit_request &request : requests)
+  for (const proved_request_t &request : requests)
   {
     if (shaper == SENGADLIT_SHAPER_ARABIC && request.tag == HB_TAG ('r','l','i','g'))
       map->add_gsub_pause (free_joining_byte);
@@ -221,7 +236,7 @@ add_features (const hb_ot_shape_plan_t *plan, unsigned shaper, bool override, hb
 {
   requests_t requests;
   list_requests (shaper, plan->props.script, override, nullptr, requests);
-  for (const sengadlit_request &request : requests)
+  for (const proved_request_t &request : requests)
   {
     unsigned stage = request.tag ? plan->map.get_feature_stage (0, request.tag) : UINT_MAX;
     if (stage != UINT_MAX)

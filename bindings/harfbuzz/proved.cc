@@ -72,9 +72,7 @@ struct proved_hooks_t
     }
     if (shaper == SENGADLIT_SHAPER_HANGUL)
       HB_BUFFER_ALLOCATE_VAR (buffer, ot_shaper_var_u8_auxiliary);
-#ifdef SENGADLIT_SKIPS
-    if (shaper == SENGADLIT_SHAPER_THAI && plan->map.found_script[0] && !has_sara_am (buffer)) return;
-#endif
+    if (shaper == SENGADLIT_SHAPER_THAI && plan->map.found_script[0] && !has_sara_am (buffer)) return; /* no change, by contract */
     call_t call (plan, buffer, font);
     run_on_characters (call, 0, buffer->len, [&] ()
     {
@@ -84,10 +82,18 @@ struct proved_hooks_t
     });
   }
 
+  /* That of Thai or of Lao. */
   static bool has_sara_am (const hb_buffer_t *buffer)
   {
     for (unsigned i = 0; i < buffer->len; i++)
       if ((buffer->info[i].codepoint & ~0x80u) == 0x0E33u) return true;
+    return false;
+  }
+
+  static bool has_jamo (const hb_buffer_t *buffer)
+  {
+    for (unsigned i = 0; i < buffer->len; i++)
+      if (buffer->info[i].ot_shaper_var_u8_auxiliary ()) return true;
     return false;
   }
 
@@ -153,6 +159,11 @@ struct proved_hooks_t
 
   static void setup_masks (const hb_ot_shape_plan_t *plan, hb_buffer_t *buffer, hb_font_t *font)
   {
+    if (shaper == SENGADLIT_SHAPER_HANGUL && !has_jamo (buffer)) /* no change, by contract */
+    {
+      HB_BUFFER_DEALLOCATE_VAR (buffer, ot_shaper_var_u8_auxiliary);
+      return;
+    }
     call_t call (plan, buffer, font);
     bool joins = (shaper == SENGADLIT_SHAPER_ARABIC || shaper == SENGADLIT_SHAPER_UNIVERSAL) && call.proved->data.joins;
     bool has_auxiliary = has_position () || joins, has_masks = joins || shaper == SENGADLIT_SHAPER_HANGUL;

@@ -401,14 +401,14 @@ is_left_out (const request_t &request)
 }
 
 static bool
-same_request (const request_t &stock, const sengadlit_request &proved)
+same_request (const request_t &stock, const proved_request_t &proved)
 {
   if (stock.tag || proved.tag) return stock.tag == proved.tag && stock.flags == proved.flags && stock.value == proved.value;
   return pause_number (stock.pause) == proved.pause;
 }
 
 static reason_t
-compare_lists (const hb_vector_t<request_t> &stock, const hb_vector_t<sengadlit_request> &proved)
+compare_lists (const hb_vector_t<request_t> &stock, const hb_vector_t<proved_request_t> &proved)
 {
   bool any_is_left_out = false;
   unsigned place = 0;
@@ -424,7 +424,7 @@ static void
 shadow_list (unsigned shaper, bool override, hb_ot_shape_planner_t *planner)
 {
   listing_planner_t listing = {planner->props, {&planner->map, {}}};
-  hb_vector_t<sengadlit_request> requests;
+  hb_vector_t<proved_request_t> requests;
   if (override) stock_shapers[shaper]->override_features (&listing);
   else stock_shapers[shaper]->collect_features (&listing);
   list_requests (shaper, planner->props.script, override, &planner->map, requests);
@@ -578,7 +578,7 @@ shadow_pause (const hb_ot_shape_plan_t *plan, hb_font_t *font, hb_buffer_t *buff
   return ret;
 }
 
-/* By enum sengadlit_pause. */
+/* By enum sengadlit_pause_t. */
 static const hb_ot_map_t::pause_func_t shadow_pauses[] =
 {
   shadow_pause<0>, shadow_pause<1>, shadow_pause<2>, shadow_pause<3>, shadow_pause<4>, shadow_pause<5>, shadow_pause<6>,

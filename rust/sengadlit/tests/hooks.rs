@@ -7,9 +7,11 @@ use common::calls::{Call, Returned, Setting};
 use common::fonts::{PlainFont, PlainTables};
 use common::plans::{SHAPERS, plan_of};
 use sengadlit::alloc::Global;
-use sengadlit::buffer::{Buffer, Script, ShaperError};
+use sengadlit::buffer::{Buffer, Script, ShaperError, Tag};
+use sengadlit::font::FeaturesOnly;
 use sengadlit::plan::{PlanData, Planner};
 use sengadlit::shaper::{Hook, Shaper};
+use std::cell::RefCell;
 
 /// Makes a call of a shaper on a text.
 fn make(call: Call, shaper: Shaper, text: &mut Buffer) -> Result<Returned, ShaperError> {
@@ -119,6 +121,22 @@ fn shapers_ask_for_features() {
         let hooks = [Hook::CollectFeatures, Hook::OverrideFeatures];
         let present = hooks.map(|hook| shaper.has_hook(hook));
         assert_eq!(present, [collects.is_some(), overrides.is_some()]);
+    }
+}
+
+#[test]
+fn the_list_of_arabic_alone_asks_the_font() {
+    for shaper in SHAPERS {
+        let asked = RefCell::new(Vec::new());
+        let font = FeaturesOnly(|tag: Tag| {
+            asked.borrow_mut().push(tag);
+            false
+        });
+        let mut planner = Planner::new(Global, Some(Script(*b"Syrc")));
+        shaper.collect_features(&font, &mut planner).unwrap();
+        let asked = asked.borrow();
+        assert!(asked.iter().all(|tag| *tag == Tag(*b"rclt")));
+        assert_eq!(asked.is_empty(), shaper != Shaper::Arabic);
     }
 }
 
