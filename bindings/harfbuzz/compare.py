@@ -3,7 +3,7 @@
 
     compare.py OUT cases SOURCE    HarfBuzz's own shaping cases, one process each
     compare.py OUT words ROOT      words of Debian's packages, unpacked in ROOT
-    compare.py OUT speed ROOT      the time of both builds over lines of such words
+    compare.py OUT speed ROOT      the instructions of each build over such words, and lines of them
 
 OUT is the folder that `build` made. A table goes to standard output, by shaper. A case or a word whose output differs
 has a reason that the shadow saw, or it fails, as does a call whose fields differ without a known reason. The last line
@@ -18,7 +18,6 @@ import os
 import random
 import re
 import shlex
-import shutil
 import subprocess
 import sys
 import tempfile
@@ -354,19 +353,8 @@ def compare_words(out, root):
 
 # ---- Speed ----
 
-SPEED_SCRIPTS = ["Arabic", "Hebrew", "Thai", "Hangul", "Devanagari", "Tamil", "Khmer", "Myanmar", "Sinhala", "Tibetan"]
-ROUNDS = 5
-
-
-def seconds(out, which, font, path, iterations):
-    """The user time of shaping each line so many times."""
-    before = os.times().children_user
-    run(out, which, [font, "--num-iterations", str(iterations), "--text-file", path])
-    return os.times().children_user - before
-
-
-def time_of(out, which, font, path, iterations):
-    return seconds(out, which, font, path, iterations + 1) - seconds(out, which, font, path, 1)
+SPEED_SCRIPTS = ["Devanagari", "Tamil", "Hangul", "Sinhala", "Khmer", "Myanmar", "Thai", "Arabic", "Hebrew", "Tibetan"]
+BUILDS = ["stock", "proved", "remembered"]
 
 
 def counted(out, which, font, path, iterations):
@@ -386,30 +374,32 @@ def lines_of(words, number):
     return [" ".join(words[place : place + 10]) for place in range(0, len(words), 10)][:number]
 
 
+def texts_of(root, script):
+    """The file name of a font, and words and lines of a script."""
+    fonts, lists, languages, blocks = SCRIPTS[script]
+    words = words_of(root, lists, languages, blocks)
+    return path_of_font(root, fonts[0]), {"a word": words[:1000], "ten words": lines_of(words, 100)}
+
+
+def row_of(out, script, font, kind, texts, pool):
+    """A row of the table: the instructions of each build over the same texts."""
+    with tempfile.NamedTemporaryFile("w", encoding="utf-8") as file:
+        file.writelines(text + "\n" for text in texts)
+        file.flush()
+        stock, proved, remembered = pool.map(lambda which: instructions_of(out, which, font, file.name), BUILDS)
+    characters = sum(map(len, texts))
+    return (f"| {script} | {os.path.basename(font)} | {kind} | {characters} | {stock / len(texts):.0f} | "
+            f"{proved / stock:.3f} | {remembered / stock:.3f} |")
+
+
 def compare_speed(out, root):
-    has_valgrind = shutil.which("valgrind") is not None
-    print("| script | font | a text is | characters | as it is, ns a character | proved | ratio | ratio of instructions |")
-    print("|---|---|---|---|---|---|---|---|")
-    for script in SPEED_SCRIPTS:
-        fonts, lists, languages, blocks = SCRIPTS[script]
-        words = words_of(root, lists, languages, blocks)
-        font = path_of_font(root, fonts[0])
-        for kind, texts in (("a word", words[:1000]), ("ten words", lines_of(words, 100))):
-            with tempfile.NamedTemporaryFile("w", encoding="utf-8") as file:
-                file.writelines(text + "\n" for text in texts)
-                file.flush()
-                characters = sum(map(len, texts))
-                iterations = max(10, 400000 // characters)
-                times = {"stock": [], "proved": []}
-                for _ in range(ROUNDS):
-                    for which, taken in times.items():
-                        taken.append(time_of(out, which, font, file.name, iterations))
-                stock, proved = (min(times[which]) / iterations / characters * 1e9 for which in ("stock", "proved"))
-                ratio = "not counted"
-                if has_valgrind:
-                    ratio = f"{instructions_of(out, 'proved', font, file.name) / instructions_of(out, 'stock', font, file.name):.2f}"
-            print(f"| {script} | {os.path.basename(font)} | {kind} | {characters} | {stock:.0f} | {proved:.0f} | "
-                  f"{proved / stock:.2f} | {ratio} |", flush=True)
+    print("| script | font | a text is | characters | instructions a text, as it is | proved | answers remembered |")
+    print("|---|---|---|---|---|---|---|")
+    with concurrent.futures.ThreadPoolExecutor(2) as pool:
+        for script in SPEED_SCRIPTS:
+            font, texts = texts_of(root, script)
+            for kind, some in texts.items():
+                print(row_of(out, script, font, kind, some, pool), flush=True)
     return True
 
 

@@ -1,7 +1,9 @@
-# shellcheck shell=sh disable=SC2154,SC2034
-# What the scripts of this folder fetch from Debian: sourced by them, with `out` set. Lists of packages, downloads and
-# unpacked packages are all in $out: nothing is installed, and apt's own settings aren't read or written.
+# shellcheck shell=sh disable=SC2034
+# Where the scripts of this folder, which source this file, fetch and build everything, and how they fetch from Debian.
+# Lists of packages, downloads and unpacked packages are all in $out: nothing is installed, and apt's own settings aren't
+# read or written.
 
+out=${SENGADLIT_HARFBUZZ:-${XDG_CACHE_HOME:-$HOME/.cache}/sengadlit/harfbuzz}
 apt=$out/apt
 root=$out/root
 

@@ -1,42 +1,175 @@
 /* The pauses: set-ups of syllables, reorderings and the rest. Included by proved.cc alone. */
 
-/* ---- Set-ups and reorderings ---- */
-
-/* Reads the spans off the syllable bytes that HarfBuzz's machine wrote, and takes these away. */
-static bool
-take_spans (hb_buffer_t *buffer, const pause_t &pause, hb_vector_t<sengadlit_span> &spans)
+/* HarfBuzz's functions for a pause, and the kinds that its machine gives as ours have them. */
+struct pause_t
 {
-  hb_glyph_info_t *info = buffer->info;
-  if (unlikely (!spans.resize (buffer->len + 1))) return false;
-  unsigned count = 0;
-  foreach_syllable (buffer, start, end)
+  const char *name;                   /* of the script, in messages */
+  hb_ot_map_t::pause_func_t stock;
+  hb_ot_map_t::pause_func_t proved;
+  void (*find_syllables) (hb_buffer_t *buffer);
+  uint8_t kinds[16];
+};
+
+/* By enum sengadlit_pause_t. */
+extern const pause_t pauses[15];
+
+/* ---- Set-ups ---- */
+
+/* Reads the spans off the syllable bytes that HarfBuzz's machine wrote. */
+static bool
+take_spans (const hb_buffer_t *buffer, const pause_t &pause, hb_vector_t<sengadlit_span_t> &spans)
+{
+  const hb_glyph_info_t *info = buffer->info;
+  unsigned length = buffer->len, count = 0;
+  if (unlikely (spans.length < length && !spans.resize (length))) return false;
+  for (unsigned start = 0, end; start < length; start = end)
   {
+    unsigned byte = info[start].syllable ();
+    for (end = start + 1; end < length && info[end].syllable () == byte; end++) ;
     spans.arrayZ[count].length = end - start;
-    spans.arrayZ[count].kind = pause.kinds[info[start].syllable () & 0x0F];
+    spans.arrayZ[count].kind = pause.kinds[byte & 0x0F];
     count++;
   }
-  for (unsigned i = 0; i < buffer->len; i++)
-    info[i].syllable () = 0;
-  return spans.resize (count);
+  spans.length = count;
+  return true;
 }
 
+template <unsigned number>
 static bool
-run_pause (unsigned number, const hb_ot_shape_plan_t *plan, hb_font_t *font, hb_buffer_t *buffer,
-	   hb_vector_t<sengadlit_span> *spans)
+set_up_syllables (const hb_ot_shape_plan_t *plan, hb_font_t *font, hb_buffer_t *buffer)
 {
-  bool asks_font = number >= SENGADLIT_INITIAL_REORDERING && number <= SENGADLIT_FINAL_REORDERING;
-  taken_call_t taken (plan, font, buffer, asks_font);
-  call_t &call = taken.call;
-  sengadlit_span no_span;
-  uint32_t answered = 0;
-  run (call, 0, buffer->len, FIELDS_CODEPOINT | FIELDS_LOOKUPS, &answered, [&] (sengadlit_text *text)
+  HB_BUFFER_ALLOCATE_VAR (buffer, syllable);
+  hb_buffer_scratch_flags_t scratch_flags = buffer->scratch_flags;
+  pauses[number].find_syllables (buffer);
+  buffer->scratch_flags = scratch_flags;
+  call_t call (plan, buffer, font);
+  unsigned length = buffer->len;
+  hb_glyph_info_t *info = buffer->info;
+  sengadlit_glyph_info_t *glyphs = call.open (length);
+  if (unlikely (!glyphs)) return false;
+  if (unlikely (!take_spans (buffer, pauses[number], call.work->spans))) { call.fail (); return false; }
+  for (unsigned i = 0; i < length; i++)
   {
-    sengadlit_font f = call.sengadlit ();
-    return sengadlit_run_pause (number, call.proved->plan (pauses[number].reads), &f, spans && spans->length ? spans->arrayZ : &no_span,
-				spans ? spans->length : 0, text, call.glyphs (), call.room (),
-				call.questions (), call.questions_room ());
-  });
-  return answered;
+    glyphs[i].cluster = info[i].cluster;
+    glyphs[i].mask = info[i].mask;
+    if (number == SENGADLIT_PAUSE_SETUP_SYLLABLES_USE)
+      glyphs[i].category = info[i].ot_shaper_var_u8_category ();
+  }
+  sengadlit_buffer_set_state (call.work->buffer, 0);
+  sengadlit_font_t f = call.font ();
+  sengadlit_status_t status = sengadlit_run_pause (call.proved->plan, (sengadlit_pause_t) number, &f, call.work->spans.arrayZ,
+						   call.work->spans.length, call.work->buffer, nullptr);
+  const sengadlit_glyph_info_t *made = call.close (status, &length);
+  if (unlikely (!made)) return false;
+  hb_mask_t masks = 0;
+  for (unsigned i = 0; i < length; i++)
+  {
+    info[i].mask = made[i].mask;
+    info[i].syllable () = made[i].syllable;
+    masks |= made[i].mask;
+  }
+  note_flags (buffer, masks);
+  if (sengadlit_buffer_get_state (call.work->buffer) & SENGADLIT_BUFFER_STATE_HAS_BROKEN_SYLLABLE)
+    buffer->scratch_flags |= HB_BUFFER_SCRATCH_FLAG_HAS_BROKEN_SYLLABLE;
+  return false;
+}
+
+/* ---- Reorderings ---- */
+
+/* The message that HarfBuzz sends before or after a reordering. */
+static bool
+send_message (hb_buffer_t *buffer, hb_font_t *font, const char *when, unsigned number)
+{
+  return !buffer->messaging () || buffer->message (font, "%s reordering %s", when, pauses[number].name);
+}
+
+template <unsigned number>
+static bool
+reorder_glyphs (const hb_ot_shape_plan_t *plan, hb_font_t *font, hb_buffer_t *buffer)
+{
+  call_t call (plan, buffer, font);
+  unsigned length = buffer->len;
+  sengadlit_glyph_info_t *glyphs = call.open (length);
+  if (unlikely (!glyphs)) return false;
+  const hb_glyph_info_t *info = buffer->info;
+  for (unsigned i = 0; i < length; i++)
+    read_glyph (info[i], number == SENGADLIT_PAUSE_REORDER_USE, &glyphs[i]);
+  sengadlit_buffer_set_state (call.work->buffer, buffer->scratch_flags & HB_BUFFER_SCRATCH_FLAG_HAS_BROKEN_SYLLABLE ?
+			      SENGADLIT_BUFFER_STATE_HAS_BROKEN_SYLLABLE : 0);
+  sengadlit_font_t f = call.font ();
+  sengadlit_bool_t circles = 0;
+  sengadlit_status_t status = sengadlit_run_pause (call.proved->plan, (sengadlit_pause_t) number, &f, nullptr, 0, call.work->buffer,
+						   &circles);
+  const sengadlit_glyph_info_t *made = call.close (status, &length);
+  if (unlikely (!made)) return false;
+  hb_mask_t masks = 0;
+  for (unsigned i = 0; i < length; i++)
+  {
+    write_glyph (made[i], &buffer->info[i]);
+    masks |= made[i].mask;
+  }
+  buffer->len = length;
+  note_flags (buffer, masks);
+  return circles;
+}
+
+template <unsigned number>
+static bool
+reorder (const hb_ot_shape_plan_t *plan, hb_font_t *font, hb_buffer_t *buffer)
+{
+  if (!send_message (buffer, font, "start", number)) return false;
+  bool ret = reorder_glyphs<number> (plan, font, buffer);
+  (void) send_message (buffer, font, "end", number);
+  return ret;
+}
+
+/* ---- Records: glyphs stay where they are ---- */
+
+static inline uint8_t
+marks_of_lookups (const hb_glyph_info_t &info)
+{
+  return info.var1.u32 >> 4 & 7u;
+}
+
+template <unsigned number>
+static bool
+record (const hb_ot_shape_plan_t *plan, hb_font_t *font, hb_buffer_t *buffer)
+{
+  call_t call (plan, buffer, font);
+  unsigned length = buffer->len;
+  sengadlit_glyph_info_t *glyphs = call.open (length);
+  if (unlikely (!glyphs)) return false;
+  hb_glyph_info_t *info = buffer->info;
+  if (number != SENGADLIT_PAUSE_SYLLABIC_CLEAR_VAR)
+    for (unsigned i = 0; i < length; i++)
+    {
+      glyphs[i].mask = info[i].mask;
+      glyphs[i].syllable = info[i].syllable ();
+      glyphs[i].category = info[i].ot_shaper_var_u8_category ();
+      glyphs[i].auxiliary = info[i].ot_shaper_var_u8_auxiliary ();
+      glyphs[i].marks = marks_of_lookups (info[i]);
+      if (number == SENGADLIT_PAUSE_RECORD_STCH)
+	glyphs[i].lig_comp = _hb_glyph_info_get_lig_comp (&info[i]);
+    }
+  sengadlit_buffer_set_state (call.work->buffer, 0);
+  sengadlit_font_t f = call.font ();
+  sengadlit_status_t status = sengadlit_run_pause (call.proved->plan, (sengadlit_pause_t) number, &f, nullptr, 0, call.work->buffer,
+						   nullptr);
+  const sengadlit_glyph_info_t *made = call.close (status, &length);
+  if (unlikely (!made)) return false;
+  for (unsigned i = 0; i < length; i++)
+    switch (number)
+    {
+      case SENGADLIT_PAUSE_RECORD_RPHF: case SENGADLIT_PAUSE_RECORD_PREF: info[i].ot_shaper_var_u8_category () = made[i].category; break;
+      case SENGADLIT_PAUSE_RECORD_STCH: info[i].ot_shaper_var_u8_auxiliary () = made[i].auxiliary; break;
+      case SENGADLIT_PAUSE_SYLLABIC_CLEAR_VAR: info[i].syllable () = made[i].syllable; break;
+      case SENGADLIT_PAUSE_CLEAR_SUBSTITUTION_FLAGS:
+	if (!(made[i].marks & SENGADLIT_GLYPH_MARK_SUBSTITUTED)) _hb_glyph_info_clear_substituted (&info[i]);
+	break;
+    }
+  if (number == SENGADLIT_PAUSE_RECORD_STCH && sengadlit_buffer_get_state (call.work->buffer) & SENGADLIT_BUFFER_STATE_HAS_STCH)
+    buffer->scratch_flags |= HB_BUFFER_SCRATCH_FLAG_ARABIC_HAS_STCH;
+  return false;
 }
 
 static bool
@@ -48,69 +181,37 @@ any_is_substituted (const hb_buffer_t *buffer)
 }
 
 /* Whether a pause changes nothing, as its contract says: then there is no call to make. */
-static bool
+static inline bool
 changes_nothing (unsigned number, const hb_ot_shape_plan_t *plan, const hb_buffer_t *buffer)
 {
-  const sengadlit_data &data = proved_plan (plan)->plan (READS_DATA)->data;
+  const sengadlit_plan_data_t &data = proved_plan (plan)->data;
   switch (number)
   {
-    case SENGADLIT_RECORD_STCH: return !data.has_stch;
-    case SENGADLIT_RECORD_RPHF: return !data.rphf_mask || !any_is_substituted (buffer);
-    case SENGADLIT_RECORD_PREF: return !any_is_substituted (buffer);
-    case SENGADLIT_CLEAR_SUBSTITUTION_FLAGS: return !any_is_substituted (buffer);
-    case SENGADLIT_ARABIC_FALLBACK_SHAPE: return true;
+    case SENGADLIT_PAUSE_RECORD_STCH: return !data.has_stch;
+    case SENGADLIT_PAUSE_RECORD_RPHF: return !data.rphf_mask || !any_is_substituted (buffer);
+    case SENGADLIT_PAUSE_RECORD_PREF: return !any_is_substituted (buffer);
+    case SENGADLIT_PAUSE_CLEAR_SUBSTITUTION_FLAGS: return !any_is_substituted (buffer);
+    case SENGADLIT_PAUSE_ARABIC_FALLBACK_SHAPE: return true;
     default: return false;
   }
 }
 
-static bool
-set_up_syllables (unsigned number, const hb_ot_shape_plan_t *plan, hb_font_t *font, hb_buffer_t *buffer)
-{
-  HB_BUFFER_ALLOCATE_VAR (buffer, syllable);
-  hb_buffer_scratch_flags_t scratch_flags = buffer->scratch_flags;
-  pauses[number].find_syllables (buffer);
-  buffer->scratch_flags = scratch_flags;
-  hb_vector_t<sengadlit_span> spans;
-  if (unlikely (!take_spans (buffer, pauses[number], spans)))
-  {
-    buffer->successful = false;
-    return false;
-  }
-  return run_pause (number, plan, font, buffer, &spans);
-}
-
-/* The message that HarfBuzz sends before or after a reordering. */
-static bool
-send_message (hb_buffer_t *buffer, hb_font_t *font, const char *when, unsigned number)
-{
-  return !buffer->messaging () || buffer->message (font, "%s reordering %s", when, pauses[number].name);
-}
-
-static bool
-reorder (unsigned number, const hb_ot_shape_plan_t *plan, hb_font_t *font, hb_buffer_t *buffer)
-{
-  if (!send_message (buffer, font, "start", number)) return false;
-  bool ret = run_pause (number, plan, font, buffer, nullptr);
-  (void) send_message (buffer, font, "end", number);
-  return ret;
-}
-
 /* HarfBuzz frees the bytes of its glyphs that a shaper no longer needs. */
-static void
+static inline void
 free_bytes (unsigned number, hb_buffer_t *buffer)
 {
   switch (number)
   {
-    case SENGADLIT_REORDER_KHMER:
-    case SENGADLIT_REORDER_USE:
+    case SENGADLIT_PAUSE_REORDER_KHMER:
+    case SENGADLIT_PAUSE_REORDER_USE:
       HB_BUFFER_DEALLOCATE_VAR (buffer, ot_shaper_var_u8_category);
       break;
-    case SENGADLIT_REORDER_MYANMAR:
-    case SENGADLIT_FINAL_REORDERING:
+    case SENGADLIT_PAUSE_REORDER_MYANMAR:
+    case SENGADLIT_PAUSE_FINAL_REORDERING:
       HB_BUFFER_DEALLOCATE_VAR (buffer, ot_shaper_var_u8_category);
       HB_BUFFER_DEALLOCATE_VAR (buffer, ot_shaper_var_u8_auxiliary);
       break;
-    case SENGADLIT_SYLLABIC_CLEAR_VAR:
+    case SENGADLIT_PAUSE_SYLLABIC_CLEAR_VAR:
       HB_BUFFER_DEALLOCATE_VAR (buffer, syllable);
       break;
   }
@@ -121,15 +222,10 @@ template <unsigned number>
 static bool
 proved_pause (const hb_ot_shape_plan_t *plan, hb_font_t *font, hb_buffer_t *buffer)
 {
-  bool ret;
-  if (changes_nothing (number, plan, buffer))
-    ret = false;
-  else if (number <= SENGADLIT_SETUP_SYLLABLES_USE)
-    ret = set_up_syllables (number, plan, font, buffer);
-  else if (number <= SENGADLIT_FINAL_REORDERING)
-    ret = reorder (number, plan, font, buffer);
-  else
-    ret = run_pause (number, plan, font, buffer, nullptr);
+  bool ret = false;
+  if (!changes_nothing (number, plan, buffer))
+    ret = number <= SENGADLIT_PAUSE_SETUP_SYLLABLES_USE ? set_up_syllables<number> (plan, font, buffer) :
+	  number <= SENGADLIT_PAUSE_FINAL_REORDERING ? reorder<number> (plan, font, buffer) : record<number> (plan, font, buffer);
   free_bytes (number, buffer);
   return ret;
 }
@@ -138,34 +234,25 @@ proved_pause (const hb_ot_shape_plan_t *plan, hb_font_t *font, hb_buffer_t *buff
 static bool
 fallback_shape (const hb_ot_shape_plan_t *plan, hb_font_t *font, hb_buffer_t *buffer)
 {
-  (void) proved_pause<SENGADLIT_ARABIC_FALLBACK_SHAPE> (plan, font, buffer);
   return arabic_fallback_shape (proved_plan (plan)->stock_plan (), font, buffer);
-}
-
-/* After the joining forms HarfBuzz frees their byte. */
-static bool
-free_joining_byte (const hb_ot_shape_plan_t *plan HB_UNUSED, hb_font_t *font HB_UNUSED, hb_buffer_t *buffer)
-{
-  HB_BUFFER_DEALLOCATE_VAR (buffer, ot_shaper_var_u8_auxiliary);
-  return false;
 }
 
 /* HarfBuzz's own functions of a pause may be inline or in a header: they have names in this unit all the same. */
 const pause_t pauses[15] =
 {
-  {"", setup_syllables_indic, proved_pause<SENGADLIT_SETUP_SYLLABLES_INDIC>, READS_SCRIPT, find_syllables_indic, {0, 1, 2, 3, 4, 5}},
-  {"", setup_syllables_khmer, proved_pause<SENGADLIT_SETUP_SYLLABLES_KHMER>, READS_SCRIPT, find_syllables_khmer, {0, 1, 2}},
-  {"", setup_syllables_myanmar, proved_pause<SENGADLIT_SETUP_SYLLABLES_MYANMAR>, READS_SCRIPT, find_syllables_myanmar, {0, 2, 3}},
-  {"", setup_syllables_use, proved_pause<SENGADLIT_SETUP_SYLLABLES_USE>, READS_MAP, find_syllables_use, {0, 1, 2, 3, 4, 5, 6, 7, 8}},
-  {"indic initial", initial_reordering_indic, proved_pause<SENGADLIT_INITIAL_REORDERING>, READS_MAP, nullptr, {}},
-  {"khmer", reorder_khmer, proved_pause<SENGADLIT_REORDER_KHMER>, READS_DATA, nullptr, {}},
-  {"myanmar", reorder_myanmar, proved_pause<SENGADLIT_REORDER_MYANMAR>, READS_SCRIPT, nullptr, {}},
-  {"USE", reorder_use, proved_pause<SENGADLIT_REORDER_USE>, READS_SCRIPT, nullptr, {}},
-  {"indic final", final_reordering_indic, proved_pause<SENGADLIT_FINAL_REORDERING>, READS_MAP, nullptr, {}},
-  {"", record_stch, proved_pause<SENGADLIT_RECORD_STCH>, READS_DATA, nullptr, {}},
-  {"", record_rphf_use, proved_pause<SENGADLIT_RECORD_RPHF>, READS_DATA, nullptr, {}},
-  {"", record_pref_use, proved_pause<SENGADLIT_RECORD_PREF>, READS_SCRIPT, nullptr, {}},
-  {"", hb_syllabic_clear_var, proved_pause<SENGADLIT_SYLLABIC_CLEAR_VAR>, READS_SCRIPT, nullptr, {}},
-  {"", _hb_clear_substitution_flags, proved_pause<SENGADLIT_CLEAR_SUBSTITUTION_FLAGS>, READS_SCRIPT, nullptr, {}},
-  {"", arabic_fallback_shape, fallback_shape, READS_SCRIPT, nullptr, {}},
+  {"", setup_syllables_indic, proved_pause<SENGADLIT_PAUSE_SETUP_SYLLABLES_INDIC>, find_syllables_indic, {0, 1, 2, 3, 4, 5}},
+  {"", setup_syllables_khmer, proved_pause<SENGADLIT_PAUSE_SETUP_SYLLABLES_KHMER>, find_syllables_khmer, {0, 1, 2}},
+  {"", setup_syllables_myanmar, proved_pause<SENGADLIT_PAUSE_SETUP_SYLLABLES_MYANMAR>, find_syllables_myanmar, {0, 2, 3}},
+  {"", setup_syllables_use, proved_pause<SENGADLIT_PAUSE_SETUP_SYLLABLES_USE>, find_syllables_use, {0, 1, 2, 3, 4, 5, 6, 7, 8}},
+  {"indic initial", initial_reordering_indic, proved_pause<SENGADLIT_PAUSE_INITIAL_REORDERING>, nullptr, {}},
+  {"khmer", reorder_khmer, proved_pause<SENGADLIT_PAUSE_REORDER_KHMER>, nullptr, {}},
+  {"myanmar", reorder_myanmar, proved_pause<SENGADLIT_PAUSE_REORDER_MYANMAR>, nullptr, {}},
+  {"USE", reorder_use, proved_pause<SENGADLIT_PAUSE_REORDER_USE>, nullptr, {}},
+  {"indic final", final_reordering_indic, proved_pause<SENGADLIT_PAUSE_FINAL_REORDERING>, nullptr, {}},
+  {"", record_stch, proved_pause<SENGADLIT_PAUSE_RECORD_STCH>, nullptr, {}},
+  {"", record_rphf_use, proved_pause<SENGADLIT_PAUSE_RECORD_RPHF>, nullptr, {}},
+  {"", record_pref_use, proved_pause<SENGADLIT_PAUSE_RECORD_PREF>, nullptr, {}},
+  {"", hb_syllabic_clear_var, proved_pause<SENGADLIT_PAUSE_SYLLABIC_CLEAR_VAR>, nullptr, {}},
+  {"", _hb_clear_substitution_flags, proved_pause<SENGADLIT_PAUSE_CLEAR_SUBSTITUTION_FLAGS>, nullptr, {}},
+  {"", arabic_fallback_shape, fallback_shape, nullptr, {}},
 };

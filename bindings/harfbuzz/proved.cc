@@ -14,79 +14,45 @@
 
 #include "sengadlit.h"
 
+#define SENGADLIT_NONE 0xFFFFFFFFu
+
 #include "stock.hh"
-#include "answers.hh"
-#include "call.hh"
+
+/* After the joining forms HarfBuzz frees their byte. */
+static bool
+free_joining_byte (const hb_ot_shape_plan_t *plan HB_UNUSED, hb_font_t *font HB_UNUSED, hb_buffer_t *buffer)
+{
+  HB_BUFFER_DEALLOCATE_VAR (buffer, ot_shaper_var_u8_auxiliary);
+  return false;
+}
+
+#include "plan.hh"
 #include "text.hh"
 #include "pauses.hh"
-#include "plan.hh"
 
 /* ---- Hooks ---- */
 
-/* The bytes that HarfBuzz reserves in its glyphs for a shaper, from setup_masks on. */
+/* Hands over the places from `start` to before `end`, as characters, runs a hook, and writes back what it made. */
+template <typename Make>
 static void
-allocate_bytes (unsigned shaper, const proved_plan_t *proved, hb_buffer_t *buffer)
-{
-  bool category = shaper == SENGADLIT_INDIC || shaper == SENGADLIT_KHMER || shaper == SENGADLIT_MYANMAR ||
-		  shaper == SENGADLIT_UNIVERSAL;
-  bool auxiliary = shaper == SENGADLIT_ARABIC || shaper == SENGADLIT_INDIC || shaper == SENGADLIT_MYANMAR ||
-		   proved->plan (READS_DATA)->data.has_arabic_plan;
-  if (category) HB_BUFFER_ALLOCATE_VAR (buffer, ot_shaper_var_u8_category);
-  if (auxiliary) HB_BUFFER_ALLOCATE_VAR (buffer, ot_shaper_var_u8_auxiliary);
-}
-
-/* Joining forms and those of jamo are the plan's; other shapers set categories. */
-static reads_t
-masks_read (unsigned shaper)
-{
-  bool reads_data = shaper == SENGADLIT_ARABIC || shaper == SENGADLIT_HANGUL || shaper == SENGADLIT_UNIVERSAL;
-  return reads_data ? READS_DATA : READS_SCRIPT;
-}
-
-/* The place in a table of what was remembered of a question. */
-static remembered_t *
-remembered (remembered_t (&table)[512], hb_codepoint_t a, hb_codepoint_t b)
-{
-  return &table[(a ^ b * 31u) % ARRAY_LENGTH (table)];
-}
-
-static bool
-knows (const remembered_t *r, hb_codepoint_t a, hb_codepoint_t b)
-{
-  return r->is_known && r->question[0] == a && r->question[1] == b;
-}
-
-/* Hands the stretch its positions, as its direction counts. */
-static bool
-read_positions (const call_t &call)
-{
-  const hb_buffer_t *buffer = call.buffer;
-  work_t *work = call.work;
-  int sign = sign_of (call.font);
-  if (unlikely (!work->positions.resize (work->glyphs.length) || !work->placements.resize (buffer->len))) return false;
-  for (unsigned i = 0; i < buffer->len; i++)
-  {
-    const hb_glyph_position_t &pos = buffer->pos[i];
-    work->positions.arrayZ[i] = {sign * pos.x_advance, pos.y_advance, sign * pos.x_offset, pos.y_offset};
-    work->placements.arrayZ[i] = pos;
-  }
-  return true;
-}
-
-static void
-write_positions (const call_t &call)
+run_on_characters (call_t &call, unsigned start, unsigned end, Make make)
 {
   hb_buffer_t *buffer = call.buffer;
-  const work_t *work = call.work;
-  int sign = sign_of (call.font);
-  for (unsigned i = 0; i < buffer->len; i++)
+  unsigned length = end - start;
+  sengadlit_glyph_info_t *glyphs = call.open (length);
+  if (unlikely (!glyphs)) return;
+  for (unsigned i = 0; i < length; i++)
+    read_character (buffer->info[start + i], &glyphs[i]);
+  const sengadlit_glyph_info_t *made = call.close (make (), &length);
+  if (unlikely (!made)) return;
+  if (length != end - start) buffer->len = length; /* of the whole text alone */
+  hb_mask_t masks = 0;
+  for (unsigned i = 0; i < length; i++)
   {
-    const sengadlit_position &position = work->positions.arrayZ[i];
-    hb_glyph_position_t *pos = &buffer->pos[i];
-    *pos = work->placements.arrayZ[work->glyphs.arrayZ[i].var - 1];
-    pos->x_advance = sign * position.x_advance;
-    pos->x_offset = sign * position.x_offset;
+    write_character (made[i], &buffer->info[start + i]);
+    masks |= made[i].mask;
   }
+  note_flags (buffer, masks);
 }
 
 /* The hooks of a shaper, by its number. */
@@ -97,120 +63,160 @@ struct proved_hooks_t
   static void override_features (hb_ot_shape_planner_t *planner) { make_requests (shaper, true, planner); }
   static void *data_create (const hb_ot_shape_plan_t *plan) { return create_proved_plan (shaper, plan); }
 
-  /* Indic and the universal shaper answer alone, whatever the text. */
-  static bool rewrites_text () { return shaper == SENGADLIT_THAI || shaper == SENGADLIT_HANGUL; }
-
-  static bool rewrite_text (const hb_ot_shape_plan_t *plan, hb_buffer_t *buffer, hb_font_t *font)
-  {
-    taken_call_t taken (plan, font, buffer, true);
-    call_t &call = taken.call;
-    uint32_t caller_runs_vowel_constraints = 0;
-    unsigned length = rewrites_text () ? buffer->len : 0;
-    run (call, 0, length, FIELDS_CODEPOINT | FIELDS_PROPERTIES, &caller_runs_vowel_constraints, [&] (sengadlit_text *text)
-    {
-      sengadlit_font f = call.sengadlit ();
-      return sengadlit_preprocess_text (shaper, call.proved->plan (READS_SCRIPT), &f, text, call.glyphs (), call.room (),
-					call.questions (), call.questions_room ());
-    });
-    return caller_runs_vowel_constraints;
-  }
-
   static void preprocess_text (const hb_ot_shape_plan_t *plan, hb_buffer_t *buffer, hb_font_t *font)
   {
-    if (shaper == SENGADLIT_HANGUL)
-      HB_BUFFER_ALLOCATE_VAR (buffer, ot_shaper_var_u8_auxiliary);
-    if (rewrite_text (plan, buffer, font))
+    if (shaper != SENGADLIT_SHAPER_THAI && shaper != SENGADLIT_SHAPER_HANGUL) /* Indic and the universal shaper answer alone, whatever the text. */
+    {
       _hb_preprocess_text_vowel_constraints (plan, buffer, font);
+      return;
+    }
+    if (shaper == SENGADLIT_SHAPER_HANGUL)
+      HB_BUFFER_ALLOCATE_VAR (buffer, ot_shaper_var_u8_auxiliary);
+    if (shaper == SENGADLIT_SHAPER_THAI && plan->map.found_script[0] && !has_sara_am (buffer)) return; /* no change, by contract */
+    call_t call (plan, buffer, font);
+    run_on_characters (call, 0, buffer->len, [&] ()
+    {
+      sengadlit_bool_t constraints;
+      sengadlit_font_t f = call.font ();
+      return sengadlit_preprocess_text (call.proved->plan, &f, call.work->buffer, &constraints);
+    });
   }
 
+  /* That of Thai or of Lao. */
+  static bool has_sara_am (const hb_buffer_t *buffer)
+  {
+    for (unsigned i = 0; i < buffer->len; i++)
+      if ((buffer->info[i].codepoint & ~0x80u) == 0x0E33u) return true;
+    return false;
+  }
+
+  static bool has_jamo (const hb_buffer_t *buffer)
+  {
+    for (unsigned i = 0; i < buffer->len; i++)
+      if (buffer->info[i].ot_shaper_var_u8_auxiliary ()) return true;
+    return false;
+  }
+
+  /* Where a glyph comes from is its place, from 1: copies of tiles have no other fields of their own. */
   static void postprocess_glyphs (const hb_ot_shape_plan_t *plan, hb_buffer_t *buffer, hb_font_t *font)
   {
     if (!(buffer->scratch_flags & HB_BUFFER_SCRATCH_FLAG_ARABIC_HAS_STCH)) return; /* no change, by contract */
-    taken_call_t taken (plan, font, buffer, true);
-    call_t &call = taken.call;
-    bool is_read = false;
-    bool is_done = run (call, 0, buffer->len, FIELDS_CODEPOINT | FIELDS_LOOKUPS, nullptr, [&] (sengadlit_text *text)
+    call_t call (plan, buffer, font);
+    unsigned length = buffer->len;
+    int sign = sign_of (font);
+    hb_vector_t<hb_glyph_info_t> infos;
+    hb_vector_t<hb_glyph_position_t> places;
+    sengadlit_glyph_info_t *glyphs = call.open (length);
+    sengadlit_glyph_position_t *positions = glyphs ? sengadlit_buffer_get_glyph_positions (call.work->buffer, nullptr) : nullptr;
+    if (unlikely (!positions || !infos.resize (length) || !places.resize (length))) { call.fail (); return; }
+    for (unsigned i = 0; i < length; i++)
     {
-      if (!is_read && unlikely (!read_positions (call))) return sengadlit_outcome {SENGADLIT_MEMORY, 0, 0};
-      is_read = true;
-      sengadlit_font f = call.sengadlit ();
-      return sengadlit_postprocess_glyphs (shaper, call.proved->plan (READS_DATA), &f, text, call.glyphs (), call.room (),
-					   call.positions (), call.room (),
-					   call.questions (), call.questions_room ());
-    });
-    if (is_done) write_positions (call);
+      const hb_glyph_position_t &pos = buffer->pos[i];
+      read_glyph (infos.arrayZ[i] = buffer->info[i], false, &glyphs[i]);
+      if (buffer->info[i].unicode_props () & UPROPS_MASK_IGNORABLE) glyphs[i].marks |= SENGADLIT_GLYPH_MARK_IGNORABLE;
+      glyphs[i].var = i + 1;
+      places.arrayZ[i] = pos;
+      positions[i] = {sign * pos.x_advance, pos.y_advance, sign * pos.x_offset, pos.y_offset};
+    }
+    sengadlit_buffer_set_state (call.work->buffer, SENGADLIT_BUFFER_STATE_HAS_STCH);
+    sengadlit_font_t f = call.font ();
+    const sengadlit_glyph_info_t *made = call.close (sengadlit_postprocess_glyphs (call.proved->plan, &f, call.work->buffer), &length);
+    if (unlikely (!made)) return;
+    positions = sengadlit_buffer_get_glyph_positions (call.work->buffer, nullptr);
+    hb_mask_t masks = 0;
+    for (unsigned i = 0; i < length; i++)
+    {
+      hb_glyph_info_t *info = &buffer->info[i];
+      hb_glyph_position_t *pos = &buffer->pos[i];
+      *info = infos.arrayZ[made[i].var - 1];
+      info->codepoint = made[i].codepoint;
+      info->cluster = made[i].cluster;
+      info->mask = made[i].mask;
+      masks |= made[i].mask;
+      *pos = places.arrayZ[made[i].var - 1];
+      pos->x_advance = sign * positions[i].x_advance;
+      pos->x_offset = sign * positions[i].x_offset;
+    }
+    buffer->len = length;
+    note_flags (buffer, masks);
   }
 
   static bool decompose (const hb_ot_shape_normalize_context_t *c, hb_codepoint_t ab, hb_codepoint_t *a, hb_codepoint_t *b)
   {
-    taken_call_t taken (c->plan, c->font, c->buffer, false);
-    call_t &call = taken.call;
-    if (unlikely (!call.work)) return false;
-    remembered_t *r = remembered (call.work->decomposed, ab, 0);
-    if (!knows (r, ab, 0))
-    {
-      sengadlit_outcome outcome = settle (call, [&]
-      {
-	sengadlit_tables tables = call.tables ();
-	return sengadlit_decompose (shaper, call.proved->plan (READS_SCRIPT), &tables, ab, call.questions (), call.questions_room ());
-      });
-      bool is_done = outcome.status == SENGADLIT_DONE && outcome.answer != SENGADLIT_NONE;
-      *r = {{ab, 0}, {is_done ? outcome.answer : SENGADLIT_NONE, is_done ? (hb_codepoint_t) outcome.count : 0}, true};
-    }
-    if (r->answer[0] == SENGADLIT_NONE) return false;
-    *a = r->answer[0];
-    *b = r->answer[1];
-    return true;
+    sengadlit_tables_t tables = {&tables_funcs, c->unicode};
+    return sengadlit_decompose (proved_plan (c->plan)->plan, &tables, ab, a, b, nullptr) == SENGADLIT_DONE;
   }
 
   static bool compose (const hb_ot_shape_normalize_context_t *c, hb_codepoint_t a, hb_codepoint_t b, hb_codepoint_t *ab)
   {
-    taken_call_t taken (c->plan, c->font, c->buffer, false);
-    call_t &call = taken.call;
-    if (unlikely (!call.work)) return false;
-    remembered_t *r = remembered (call.work->composed, a, b);
-    if (!knows (r, a, b))
-    {
-      sengadlit_outcome outcome = settle (call, [&]
-      {
-	sengadlit_tables tables = call.tables ();
-	return sengadlit_compose (shaper, call.proved->plan (READS_SCRIPT), &tables, a, b, call.questions (), call.questions_room ());
-      });
-      *r = {{a, b}, {outcome.status == SENGADLIT_DONE ? outcome.answer : SENGADLIT_NONE, 0}, true};
-    }
-    *ab = r->answer[0];
-    return *ab != SENGADLIT_NONE;
+    sengadlit_tables_t tables = {&tables_funcs, c->unicode};
+    return sengadlit_compose (proved_plan (c->plan)->plan, &tables, a, b, ab, nullptr) == SENGADLIT_DONE;
   }
+
+  /* The bytes that HarfBuzz reserves in its glyphs for a shaper, from setup_masks on. */
+  static bool has_category () { return shaper == SENGADLIT_SHAPER_INDIC || shaper == SENGADLIT_SHAPER_KHMER || shaper == SENGADLIT_SHAPER_MYANMAR || shaper == SENGADLIT_SHAPER_UNIVERSAL; }
+  static bool has_position () { return shaper == SENGADLIT_SHAPER_INDIC; }
 
   static void setup_masks (const hb_ot_shape_plan_t *plan, hb_buffer_t *buffer, hb_font_t *font)
   {
-    taken_call_t taken (plan, font, buffer, false);
-    call_t &call = taken.call;
-    allocate_bytes (shaper, call.proved, buffer);
-    run (call, 0, buffer->len, FIELDS_NONE, nullptr, [&] (sengadlit_text *text)
+    if (shaper == SENGADLIT_SHAPER_HANGUL && !has_jamo (buffer)) /* no change, by contract */
     {
-      sengadlit_tables tables = call.tables ();
-      for (unsigned i = 0; i < text->length; i++)
-	call.work->glyphs.arrayZ[i].glyph_id = scalar_of (call.work->glyphs.arrayZ[i].glyph_id);
-      return sengadlit_setup_masks (shaper, call.proved->plan (masks_read (shaper)), &tables, text, call.glyphs (), call.room (),
-				    call.questions (), call.questions_room ());
-    });
-    if (shaper == SENGADLIT_HANGUL)
+      HB_BUFFER_DEALLOCATE_VAR (buffer, ot_shaper_var_u8_auxiliary);
+      return;
+    }
+    call_t call (plan, buffer, font);
+    bool joins = (shaper == SENGADLIT_SHAPER_ARABIC || shaper == SENGADLIT_SHAPER_UNIVERSAL) && call.proved->data.joins;
+    bool has_auxiliary = has_position () || joins, has_masks = joins || shaper == SENGADLIT_SHAPER_HANGUL;
+    if (has_category ()) HB_BUFFER_ALLOCATE_VAR (buffer, ot_shaper_var_u8_category);
+    if (has_auxiliary || shaper == SENGADLIT_SHAPER_MYANMAR) HB_BUFFER_ALLOCATE_VAR (buffer, ot_shaper_var_u8_auxiliary);
+    unsigned length = buffer->len;
+    hb_glyph_info_t *info = buffer->info;
+    sengadlit_glyph_info_t *glyphs = call.open (length);
+    if (unlikely (!glyphs)) return;
+    if (joins) call.set_contexts ();
+    for (unsigned i = 0; i < length; i++)
+    {
+      glyphs[i].codepoint = joins ? scalar_of (info[i].codepoint) : info[i].codepoint;
+      if (shaper == SENGADLIT_SHAPER_HANGUL)
+	glyphs[i].auxiliary = info[i].ot_shaper_var_u8_auxiliary ();
+      if (has_masks)
+      {
+	glyphs[i].cluster = info[i].cluster;
+	glyphs[i].mask = info[i].mask;
+      }
+      if (joins)
+	glyphs[i].general_category = _hb_glyph_info_get_general_category (&info[i]);
+    }
+    sengadlit_tables_t tables = call.tables ();
+    const sengadlit_glyph_info_t *made = call.close (sengadlit_setup_masks (call.proved->plan, &tables, call.work->buffer), &length);
+    if (unlikely (!made)) return;
+    hb_mask_t masks = 0;
+    for (unsigned i = 0; i < length; i++)
+    {
+      if (has_masks)
+      {
+	info[i].mask = made[i].mask;
+	masks |= made[i].mask;
+      }
+      if (has_category ()) info[i].ot_shaper_var_u8_category () = made[i].category;
+      if (has_auxiliary) info[i].ot_shaper_var_u8_auxiliary () = made[i].auxiliary;
+    }
+    note_flags (buffer, masks);
+    if (shaper == SENGADLIT_SHAPER_HANGUL)
       HB_BUFFER_DEALLOCATE_VAR (buffer, ot_shaper_var_u8_auxiliary);
   }
 
   /* Merges reach over neighbours of the same cluster, and no further: so far the call reads the buffer. */
   static void reorder_marks (const hb_ot_shape_plan_t *plan, hb_buffer_t *buffer, unsigned int start, unsigned int end)
   {
-    taken_call_t taken (plan, nullptr, buffer, false);
-    call_t &call = taken.call;
+    call_t call (plan, buffer, nullptr);
     const hb_glyph_info_t *info = buffer->info;
     unsigned first = start, last = end;
     while (first && info[first - 1].cluster == info[start].cluster) first--;
     while (last < buffer->len && info[last].cluster == info[end - 1].cluster) last++;
-    run (call, first, last, FIELDS_CODEPOINT | FIELDS_PROPERTIES, nullptr, [&] (sengadlit_text *text)
+    run_on_characters (call, first, last, [&] ()
     {
-      return sengadlit_reorder_marks (shaper, text, call.glyphs (), call.room (), start - first, end - first);
+      return sengadlit_reorder_marks (call.proved->plan, call.work->buffer, start - first, end - first);
     });
   }
 };
@@ -233,36 +239,14 @@ pause_function (unsigned number)
   return number < ARRAY_LENGTH (pauses) ? PAUSE (number) : nullptr;
 }
 
-static hb_ot_shape_normalization_mode_t
-normalization_of (const sengadlit_constants &constants)
-{
-  switch (constants.normalization)
-  {
-    case 0: return HB_OT_SHAPE_NORMALIZATION_MODE_NONE;
-    case 1: return HB_OT_SHAPE_NORMALIZATION_MODE_AUTO;
-    default: return HB_OT_SHAPE_NORMALIZATION_MODE_COMPOSED_DIACRITICS_NO_SHORT_CIRCUIT;
-  }
-}
-
-static hb_ot_shape_zero_width_marks_type_t
-zero_width_marks_of (const sengadlit_constants &constants)
-{
-  switch (constants.zero_width_marks)
-  {
-    case 0: return HB_OT_SHAPE_ZERO_WIDTH_MARKS_NONE;
-    case 1: return HB_OT_SHAPE_ZERO_WIDTH_MARKS_BY_GDEF_EARLY;
-    default: return HB_OT_SHAPE_ZERO_WIDTH_MARKS_BY_GDEF_LATE;
-  }
-}
-
 /* A shaper with ours for each hook that HarfBuzz's has, and data in every plan. */
 template <unsigned shaper>
 static hb_ot_shaper_t
 proved_shaper (const stock_shaper_t &stock)
 {
   typedef HOOKS<shaper> hooks;
-  sengadlit_constants constants = {};
-  (void) sengadlit_constants_of (shaper, &constants);
+  sengadlit_shaper_constants_t constants = {};
+  (void) sengadlit_shaper_get_constants ((sengadlit_shaper_t) shaper, &constants);
   return {
     stock.collect_features ? hooks::collect_features : nullptr,
     stock.override_features ? hooks::override_features : nullptr,
@@ -275,18 +259,18 @@ proved_shaper (const stock_shaper_t &stock)
     stock.setup_masks ? hooks::setup_masks : nullptr,
     stock.reorder_marks ? hooks::reorder_marks : nullptr,
     constants.gpos_tag,
-    normalization_of (constants),
-    zero_width_marks_of (constants),
+    (hb_ot_shape_normalization_mode_t) constants.normalization_preference,
+    (hb_ot_shape_zero_width_marks_type_t) constants.zero_width_marks,
     !!constants.fallback_position,
   };
 }
 
-const hb_ot_shaper_t _hb_ot_shaper_arabic = proved_shaper<SENGADLIT_ARABIC> (stock_arabic);
-const hb_ot_shaper_t _hb_ot_shaper_hangul = proved_shaper<SENGADLIT_HANGUL> (stock_hangul);
-const hb_ot_shaper_t _hb_ot_shaper_hebrew = proved_shaper<SENGADLIT_HEBREW> (stock_hebrew);
-const hb_ot_shaper_t _hb_ot_shaper_indic = proved_shaper<SENGADLIT_INDIC> (stock_indic);
-const hb_ot_shaper_t _hb_ot_shaper_khmer = proved_shaper<SENGADLIT_KHMER> (stock_khmer);
-const hb_ot_shaper_t _hb_ot_shaper_myanmar = proved_shaper<SENGADLIT_MYANMAR> (stock_myanmar);
-const hb_ot_shaper_t _hb_ot_shaper_myanmar_zawgyi = proved_shaper<SENGADLIT_MYANMAR_ZAWGYI> (stock_myanmar_zawgyi);
-const hb_ot_shaper_t _hb_ot_shaper_thai = proved_shaper<SENGADLIT_THAI> (stock_thai);
-const hb_ot_shaper_t _hb_ot_shaper_use = proved_shaper<SENGADLIT_UNIVERSAL> (stock_use);
+const hb_ot_shaper_t _hb_ot_shaper_arabic = proved_shaper<SENGADLIT_SHAPER_ARABIC> (stock_arabic);
+const hb_ot_shaper_t _hb_ot_shaper_hangul = proved_shaper<SENGADLIT_SHAPER_HANGUL> (stock_hangul);
+const hb_ot_shaper_t _hb_ot_shaper_hebrew = proved_shaper<SENGADLIT_SHAPER_HEBREW> (stock_hebrew);
+const hb_ot_shaper_t _hb_ot_shaper_indic = proved_shaper<SENGADLIT_SHAPER_INDIC> (stock_indic);
+const hb_ot_shaper_t _hb_ot_shaper_khmer = proved_shaper<SENGADLIT_SHAPER_KHMER> (stock_khmer);
+const hb_ot_shaper_t _hb_ot_shaper_myanmar = proved_shaper<SENGADLIT_SHAPER_MYANMAR> (stock_myanmar);
+const hb_ot_shaper_t _hb_ot_shaper_myanmar_zawgyi = proved_shaper<SENGADLIT_SHAPER_MYANMAR_ZAWGYI> (stock_myanmar_zawgyi);
+const hb_ot_shaper_t _hb_ot_shaper_thai = proved_shaper<SENGADLIT_SHAPER_THAI> (stock_thai);
+const hb_ot_shaper_t _hb_ot_shaper_use = proved_shaper<SENGADLIT_SHAPER_UNIVERSAL> (stock_use);

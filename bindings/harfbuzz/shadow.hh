@@ -295,10 +295,10 @@ broken_kind (unsigned hook)
 {
   switch (hook)
   {
-    case SENGADLIT_INITIAL_REORDERING: return indic_broken_cluster;
-    case SENGADLIT_REORDER_KHMER: return khmer_broken_cluster;
-    case SENGADLIT_REORDER_MYANMAR: return 2;
-    case SENGADLIT_REORDER_USE: return use_broken_cluster;
+    case SENGADLIT_PAUSE_INITIAL_REORDERING: return indic_broken_cluster;
+    case SENGADLIT_PAUSE_REORDER_KHMER: return khmer_broken_cluster;
+    case SENGADLIT_PAUSE_REORDER_MYANMAR: return 2;
+    case SENGADLIT_PAUSE_REORDER_USE: return use_broken_cluster;
     default: return SENGADLIT_NONE;
   }
 }
@@ -324,7 +324,7 @@ struct shadow_t
     snapshot_t proved (buffer);
     unsigned first;
     uint8_t var_bits = stock.state.allocated_var_bits;
-    if (hook != SENGADLIT_SYLLABIC_CLEAR_VAR) var_bits |= before.state.allocated_var_bits;
+    if (hook != SENGADLIT_PAUSE_SYLLABIC_CLEAR_VAR) var_bits |= before.state.allocated_var_bits;
     unsigned differ = compare_texts (stock, proved, var_bits, &first) | (answer != stock_answer ? ANSWER : 0);
     reason_t reason = differ ? reason_of (differ, proved, var_bits) : SAME;
     tally.counts[shaper][hook][reason]++;
@@ -339,10 +339,10 @@ struct shadow_t
     if (hook == SETUP_MASKS && buffer->flags & HB_BUFFER_FLAG_PRODUCE_UNSAFE_TO_CONCAT && !(differ & ~(CONCAT_FLAG | FLAGGED)))
       return JOINING_FLAGS;
     if (hook == POSTPROCESS_GLYPHS && differ == X_POSITION) return STRETCH;
-    if (hook == SENGADLIT_REORDER_USE && differ_only_in (stock, proved, var_bits, is_symbol_cluster)) return SYMBOL_CLUSTERS;
-    if (hook == SENGADLIT_INITIAL_REORDERING && differ_only_in (stock, proved, var_bits, has_medial)) return MEDIAL;
+    if (hook == SENGADLIT_PAUSE_REORDER_USE && differ_only_in (stock, proved, var_bits, is_symbol_cluster)) return SYMBOL_CLUSTERS;
+    if (hook == SENGADLIT_PAUSE_INITIAL_REORDERING && differ_only_in (stock, proved, var_bits, has_medial)) return MEDIAL;
     if (differ & LENGTH && proved.infos.length == stock.infos.length + circles_left_out (before, broken_kind (hook))) return CIRCLES;
-    if (hook == SENGADLIT_SETUP_SYLLABLES_USE && differ == SYLLABLE && !stock.infos[0].syllable () && same_syllables (stock, proved))
+    if (hook == SENGADLIT_PAUSE_SETUP_SYLLABLES_USE && differ == SYLLABLE && !stock.infos[0].syllable () && same_syllables (stock, proved))
       return SERIAL;
     return UNKNOWN;
   }
@@ -401,14 +401,14 @@ is_left_out (const request_t &request)
 }
 
 static bool
-same_request (const request_t &stock, const sengadlit_request &proved)
+same_request (const request_t &stock, const proved_request_t &proved)
 {
   if (stock.tag || proved.tag) return stock.tag == proved.tag && stock.flags == proved.flags && stock.value == proved.value;
   return pause_number (stock.pause) == proved.pause;
 }
 
 static reason_t
-compare_lists (const hb_vector_t<request_t> &stock, const hb_vector_t<sengadlit_request> &proved)
+compare_lists (const hb_vector_t<request_t> &stock, const hb_vector_t<proved_request_t> &proved)
 {
   bool any_is_left_out = false;
   unsigned place = 0;
@@ -424,10 +424,10 @@ static void
 shadow_list (unsigned shaper, bool override, hb_ot_shape_planner_t *planner)
 {
   listing_planner_t listing = {planner->props, {&planner->map, {}}};
-  hb_vector_t<sengadlit_request> requests;
+  hb_vector_t<proved_request_t> requests;
   if (override) stock_shapers[shaper]->override_features (&listing);
   else stock_shapers[shaper]->collect_features (&listing);
-  (void) list_requests (shaper, planner->props.script, override, &planner->map, requests);
+  list_requests (shaper, planner->props.script, override, &planner->map, requests);
   tally.counts[shaper][override ? OVERRIDE_FEATURES : COLLECT_FEATURES][compare_lists (listing.map.requests, requests)]++;
 }
 
@@ -438,26 +438,26 @@ same_masks (const uint32_t *a, const hb_mask_t *b, unsigned length)
 }
 
 static bool
-same_joining (const sengadlit_data &data, const arabic_shape_plan_t *stock)
+same_joining (const sengadlit_plan_data_t &data, const arabic_shape_plan_t *stock)
 {
   return same_masks (data.masks, stock->mask_array, ARRAY_LENGTH (stock->mask_array)) && data.has_stch == stock->has_stch;
 }
 
 static bool
-same_data (unsigned shaper, const sengadlit_data &data, const void *stock)
+same_data (unsigned shaper, const sengadlit_plan_data_t &data, const void *stock)
 {
   switch (shaper)
   {
-    case SENGADLIT_ARABIC:
+    case SENGADLIT_SHAPER_ARABIC:
       return same_joining (data, (const arabic_shape_plan_t *) stock);
-    case SENGADLIT_HANGUL:
+    case SENGADLIT_SHAPER_HANGUL:
       return same_masks (data.masks, ((const hangul_shape_plan_t *) stock)->mask_array, HANGUL_FEATURE_COUNT);
-    case SENGADLIT_KHMER:
+    case SENGADLIT_SHAPER_KHMER:
       return same_masks (data.masks, ((const khmer_shape_plan_t *) stock)->mask_array, KHMER_NUM_FEATURES);
-    case SENGADLIT_UNIVERSAL:
+    case SENGADLIT_SHAPER_UNIVERSAL:
     {
       const use_shape_plan_t *use = (const use_shape_plan_t *) stock;
-      return data.rphf_mask == use->rphf_mask && data.has_arabic_plan == !!use->arabic_plan &&
+      return data.rphf_mask == use->rphf_mask && data.joins == !!use->arabic_plan &&
 	     (!use->arabic_plan || same_joining (data, use->arabic_plan));
     }
     default:
@@ -489,7 +489,7 @@ struct shadow_hooks_t
   {
     proved_plan_t *made = (proved_plan_t *) proved::data_create (plan);
     if (made && made->stock_data)
-      tally.counts[shaper][CREATE_DATA][same_data (shaper, made->plan (READS_DATA)->data, made->stock_data) ? SAME : UNKNOWN]++;
+      tally.counts[shaper][CREATE_DATA][same_data (shaper, made->data, made->stock_data) ? SAME : UNKNOWN]++;
     return made;
   }
 
@@ -561,9 +561,9 @@ static bool
 stock_pause (unsigned number, const hb_ot_shape_plan_t *plan, hb_font_t *font, hb_buffer_t *buffer)
 {
   static const uint8_t theirs[4] = {0, 0, 1, 2}, ours[4] = {0, 2, 3, 0};
-  if (number == SENGADLIT_REORDER_MYANMAR) renumber_kinds (buffer, theirs);
+  if (number == SENGADLIT_PAUSE_REORDER_MYANMAR) renumber_kinds (buffer, theirs);
   bool ret = pauses[number].stock (proved_plan (plan)->stock_plan (), font, buffer);
-  if (number == SENGADLIT_REORDER_MYANMAR || number == SENGADLIT_SETUP_SYLLABLES_MYANMAR) renumber_kinds (buffer, ours);
+  if (number == SENGADLIT_PAUSE_REORDER_MYANMAR || number == SENGADLIT_PAUSE_SETUP_SYLLABLES_MYANMAR) renumber_kinds (buffer, ours);
   return ret;
 }
 
@@ -578,7 +578,7 @@ shadow_pause (const hb_ot_shape_plan_t *plan, hb_font_t *font, hb_buffer_t *buff
   return ret;
 }
 
-/* By enum sengadlit_pause. */
+/* By enum sengadlit_pause_t. */
 static const hb_ot_map_t::pause_func_t shadow_pauses[] =
 {
   shadow_pause<0>, shadow_pause<1>, shadow_pause<2>, shadow_pause<3>, shadow_pause<4>, shadow_pause<5>, shadow_pause<6>,

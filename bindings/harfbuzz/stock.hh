@@ -82,7 +82,7 @@ struct stock_shaper_t
 #undef _hb_ot_shaper_thai
 #undef _hb_ot_shaper_use
 
-/* By enum sengadlit_shaper. */
+/* By enum sengadlit_shaper_t. */
 static const stock_shaper_t *const stock_shapers[] =
 {
   &stock_arabic,

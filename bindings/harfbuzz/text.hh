@@ -1,196 +1,156 @@
-/* HarfBuzz's buffer to the text that a call takes, and back. Included by proved.cc alone. */
+/* HarfBuzz's glyphs to the library's buffer, and back. Included by proved.cc alone.
 
-/* ---- Text ---- */
-
-static uint8_t
-direction_of (hb_direction_t direction)
-{
-  switch (direction)
-  {
-    case HB_DIRECTION_LTR: return SENGADLIT_LEFT_TO_RIGHT;
-    case HB_DIRECTION_RTL: return SENGADLIT_RIGHT_TO_LEFT;
-    case HB_DIRECTION_TTB: return SENGADLIT_TOP_TO_BOTTOM;
-    case HB_DIRECTION_BTT: return SENGADLIT_BOTTOM_TO_TOP;
-    case HB_DIRECTION_INVALID: default: return SENGADLIT_DIRECTION_INVALID;
-  }
-}
-
-static uint32_t
-flags_of (hb_buffer_flags_t flags)
-{
-  return (flags & HB_BUFFER_FLAG_DO_NOT_INSERT_DOTTED_CIRCLE ? SENGADLIT_DO_NOT_INSERT_DOTTED_CIRCLE : 0) |
-	 (flags & HB_BUFFER_FLAG_PRODUCE_UNSAFE_TO_CONCAT ? SENGADLIT_PRODUCE_UNSAFE_TO_CONCAT : 0) |
-	 (flags & HB_BUFFER_FLAG_PRODUCE_SAFE_TO_INSERT_TATWEEL ? SENGADLIT_PRODUCE_SAFE_TO_INSERT_TATWEEL : 0);
-}
+   Nothing is kept aside: whatever a hook doesn't read travels in the bytes of the glyph that it doesn't read either. */
 
 /* What isn't a character joins as the replacement character does, which is not at all. */
-static hb_codepoint_t
+static inline hb_codepoint_t
 scalar_of (hb_codepoint_t u)
 {
   return likely (u < 0xD800u || (u >= 0xE000u && u <= 0x10FFFFu)) ? u : 0xFFFDu;
 }
 
-static uint8_t
-read_context (const hb_buffer_t *buffer, unsigned side, uint32_t *context)
+/* A call of a hook: takes what the plan keeps, until the end of a block. */
+struct call_t
 {
-  for (unsigned i = 0; i < buffer->context_len[side]; i++)
-    context[i] = scalar_of (buffer->context[side][i]);
-  return buffer->context_len[side];
-}
+  call_t (const hb_ot_shape_plan_t *plan, hb_buffer_t *buffer_, hb_font_t *font_)
+    : proved (proved_plan (plan)), buffer (buffer_), work (proved->work.take ()), asked {font_, proved, work} {}
+  ~call_t () { if (likely (work)) proved->work.put (work); }
+  call_t (const call_t &) = delete;
+  call_t &operator = (const call_t &) = delete;
 
-static void
-read_settings (const hb_buffer_t *buffer, unsigned length, sengadlit_text *text)
-{
-  *text = {};
-  text->length = length;
-  text->max_length = length + (buffer->max_len > buffer->len ? buffer->max_len - buffer->len : 0);
-  text->script = buffer->props.script;
-  text->flags = flags_of (buffer->flags);
-  text->before_length = read_context (buffer, 0, text->before);
-  text->after_length = read_context (buffer, 1, text->after);
-  text->level = buffer->cluster_level;
-  text->direction = direction_of (buffer->props.direction);
-  text->has_broken_syllable = !!(buffer->scratch_flags & HB_BUFFER_SCRATCH_FLAG_HAS_BROKEN_SYLLABLE);
-  text->has_stch = !!(buffer->scratch_flags & HB_BUFFER_SCRATCH_FLAG_ARABIC_HAS_STCH);
-}
+  /* Room for so many glyphs, with the settings of the text. */
+  sengadlit_glyph_info_t *open (unsigned length)
+  {
+    if (unlikely (!work || !work->buffer)) return fail ();
+    sengadlit_buffer_properties_t &told = work->properties;
+    unsigned max_length = hb_max (buffer->max_len, buffer->len);
+    sengadlit_direction_t direction = (sengadlit_direction_t) buffer->props.direction;
+    if (unlikely (told.script != buffer->props.script || told.max_length != max_length || told.direction != direction ||
+		  told.cluster_level != (sengadlit_buffer_cluster_level_t) buffer->cluster_level || told.flags != (uint32_t) buffer->flags))
+    {
+      told.script = buffer->props.script;
+      told.max_length = max_length;
+      told.direction = direction;
+      told.cluster_level = (sengadlit_buffer_cluster_level_t) buffer->cluster_level;
+      told.flags = buffer->flags;
+      (void) sengadlit_buffer_set_length (work->buffer, 0);
+      if (unlikely (sengadlit_buffer_set_properties (work->buffer, &told) != SENGADLIT_DONE)) return fail ();
+    }
+    sengadlit_glyph_info_t *glyphs = sengadlit_buffer_set_length (work->buffer, length);
+    return likely (glyphs) ? glyphs : fail ();
+  }
 
-static uint8_t
-marks_of_lookups (const hb_glyph_info_t &info)
-{
-  return (_hb_glyph_info_substituted (&info) ? SENGADLIT_SUBSTITUTED : 0) |
-	 (_hb_glyph_info_ligated (&info) ? SENGADLIT_LIGATED : 0) |
-	 (_hb_glyph_info_multiplied (&info) ? SENGADLIT_MULTIPLIED : 0);
-}
+  /* The texts on both sides. */
+  void set_contexts ()
+  {
+    bool has_context = buffer->context_len[0] || buffer->context_len[1];
+    if (!has_context && !work->has_context) return;
+    work->has_context = has_context;
+    uint32_t context[2][hb_buffer_t::CONTEXT_LENGTH];
+    for (unsigned side = 0; side < 2; side++)
+      for (unsigned i = 0; i < buffer->context_len[side]; i++)
+	context[side][i] = scalar_of (buffer->context[side][i]);
+    (void) sengadlit_buffer_set_context (work->buffer, context[0], buffer->context_len[0], context[1], buffer->context_len[1]);
+  }
 
-/* `var` is the place of the glyph, from 1: what isn't converted travels with it. */
+  /* The glyphs after the hook, with room for as many in HarfBuzz's buffer. A hook that refuses leaves that in error, as
+     HarfBuzz does where it can't grow. */
+  const sengadlit_glyph_info_t *close (sengadlit_status_t status, unsigned *length)
+  {
+    if (unlikely (status != SENGADLIT_DONE)) return status == SENGADLIT_ABSENT ? nullptr : fail ();
+    const sengadlit_glyph_info_t *glyphs = sengadlit_buffer_get_glyph_infos (work->buffer, length);
+    return likely (buffer->ensure (*length)) ? glyphs : fail ();
+  }
+
+  sengadlit_glyph_info_t *fail ()
+  {
+    buffer->successful = false;
+    return nullptr;
+  }
+
+  sengadlit_font_t font () { return {proved->shaper == SENGADLIT_SHAPER_INDIC ? &font_funcs_indic : &font_funcs, &asked}; }
+  sengadlit_tables_t tables () { return {&tables_funcs, buffer->unicode}; }
+
+  const proved_plan_t *proved;
+  hb_buffer_t *buffer;
+  work_t *work;
+  asked_t asked;
+};
+
 static inline void
-read_glyph (const hb_glyph_info_t &info, unsigned place, unsigned fields, sengadlit_glyph *glyph)
+note_flags (hb_buffer_t *buffer, hb_mask_t masks)
 {
-  glyph->glyph_id = info.codepoint;
-  glyph->cluster = info.cluster;
-  glyph->mask = info.mask;
-  glyph->var = place + 1;
-  glyph->syllable = fields & FIELDS_LOOKUPS ? info.syllable () : 0;
-  glyph->category = info.ot_shaper_var_u8_category ();
-  glyph->auxiliary = info.ot_shaper_var_u8_auxiliary ();
-  glyph->general_category = _hb_glyph_info_get_general_category (&info);
-  glyph->modified_combining_class = _hb_glyph_info_get_modified_combining_class (&info);
-  glyph->lig_comp = fields & FIELDS_LOOKUPS ? _hb_glyph_info_get_lig_comp (&info) : 0;
-  glyph->marks = (info.unicode_props () & UPROPS_MASK_IGNORABLE ? SENGADLIT_IGNORABLE : 0) |
-		 (_hb_glyph_info_is_continuation (&info) ? SENGADLIT_CONTINUATION : 0) |
-		 (fields & FIELDS_LOOKUPS ? marks_of_lookups (info) : 0);
-}
-
-/* Reads the places from `start` to before `end`. */
-static bool
-read_text (call_t &call, unsigned start, unsigned end, unsigned fields, sengadlit_text *text)
-{
-  const hb_buffer_t *buffer = call.buffer;
-  hb_vector_t<sengadlit_glyph> &glyphs = call.work->glyphs;
-  if (unlikely (glyphs.length <= end - start && !glyphs.resize (end - start + 32))) return false;
-  for (unsigned i = start; i < end; i++)
-    read_glyph (buffer->info[i], i - start, fields, &glyphs.arrayZ[i - start]);
-  read_settings (buffer, end - start, text);
-  return true;
-}
-
-/* Writes what a hook may change. */
-static inline void
-write_glyph (const sengadlit_glyph &glyph, unsigned fields, hb_glyph_info_t *info)
-{
-  info->cluster = glyph.cluster;
-  info->mask = glyph.mask;
-  info->ot_shaper_var_u8_category () = glyph.category;
-  info->ot_shaper_var_u8_auxiliary () = glyph.auxiliary;
-  if (fields & FIELDS_CODEPOINT)
-    info->codepoint = glyph.glyph_id;
-  if (fields & FIELDS_PROPERTIES)
-  {
-    if (glyph.general_category != _hb_glyph_info_get_general_category (info))
-      _hb_glyph_info_set_general_category (info, (hb_unicode_general_category_t) glyph.general_category);
-    if (glyph.modified_combining_class != _hb_glyph_info_get_modified_combining_class (info))
-      _hb_glyph_info_set_modified_combining_class (info, glyph.modified_combining_class);
-    if (glyph.marks & SENGADLIT_CONTINUATION)
-      _hb_glyph_info_set_continuation (info);
-  }
-  if (fields & FIELDS_LOOKUPS)
-  {
-    info->syllable () = glyph.syllable;
-    if (!(glyph.marks & SENGADLIT_SUBSTITUTED))
-      _hb_glyph_info_clear_substituted (info);
-    if (!(glyph.marks & (SENGADLIT_LIGATED | SENGADLIT_MULTIPLIED)))
-      _hb_glyph_info_clear_ligated_and_multiplied (info);
-  }
-}
-
-static bool
-stands (const call_t &call, unsigned length)
-{
-  for (unsigned i = 0; i < length; i++)
-    if (call.work->glyphs.arrayZ[i].var != i + 1) return false;
-  return true;
-}
-
-/* Makes the stretch from `start` to before `end` one of `length` glyphs, and keeps its glyphs in `infos`. */
-static bool
-make_stretch (call_t &call, unsigned start, unsigned end, unsigned length)
-{
-  hb_buffer_t *buffer = call.buffer;
-  unsigned rest = buffer->len - end;
-  if (unlikely (!call.work->infos.resize (end - start))) return false;
-  if (unlikely (!buffer->ensure (start + length + rest))) return false;
-  memcpy (call.work->infos.arrayZ, buffer->info + start, (end - start) * sizeof (buffer->info[0]));
-  memmove (buffer->info + start + length, buffer->info + end, rest * sizeof (buffer->info[0]));
-  buffer->len = start + length + rest;
-  return true;
-}
-
-/* Writes the result over the places from `start` to before `end`. */
-static bool
-write_text (call_t &call, unsigned start, unsigned end, unsigned fields, const sengadlit_text &text)
-{
-  hb_buffer_t *buffer = call.buffer;
-  const sengadlit_glyph *glyphs = call.work->glyphs.arrayZ;
-  bool moves = text.length != end - start || !stands (call, text.length);
-  if (moves && unlikely (!make_stretch (call, start, end, text.length))) return false;
-  hb_mask_t masks = 0;
-  for (unsigned i = 0; i < text.length; i++)
-  {
-    hb_glyph_info_t *info = &buffer->info[start + i];
-    if (moves)
-      *info = glyphs[i].var ? call.work->infos.arrayZ[glyphs[i].var - 1] : hb_glyph_info_t ();
-    write_glyph (glyphs[i], fields, info);
-    masks |= glyphs[i].mask;
-  }
   if (masks & HB_GLYPH_FLAG_DEFINED)
     buffer->scratch_flags |= HB_BUFFER_SCRATCH_FLAG_HAS_GLYPH_FLAGS;
-  if (text.has_broken_syllable)
-    buffer->scratch_flags |= HB_BUFFER_SCRATCH_FLAG_HAS_BROKEN_SYLLABLE;
-  if (text.has_stch)
-    buffer->scratch_flags |= HB_BUFFER_SCRATCH_FLAG_ARABIC_HAS_STCH;
-  return true;
 }
 
-/* Runs a hook over the places from `start` to before `end`. Whether it was done, and what it answered.
-   A hook that refuses leaves the buffer in error, as HarfBuzz does where its buffer can't grow. */
-template <typename Make>
-static bool
-run (call_t &call, unsigned start, unsigned end, unsigned fields, uint32_t *answered, Make make)
+/* ---- Characters, before they are glyphs ---- */
+
+/* The properties of the character travel in two bytes that no hook of characters reads. */
+static inline void
+read_character (const hb_glyph_info_t &info, sengadlit_glyph_info_t *glyph)
 {
-  sengadlit_text text;
-  hb_buffer_t *buffer = call.buffer;
-  if (unlikely (!call.work || !read_text (call, start, end, fields, &text)))
-  {
-    buffer->successful = false;
-    return false;
-  }
-  sengadlit_outcome outcome = settle (call, [&] { return make (&text); });
-  if (outcome.status == SENGADLIT_ABSENT) return false;
-  if (unlikely (outcome.status != SENGADLIT_DONE || !write_text (call, start, end, fields, text)))
-  {
-    buffer->successful = false;
-    return false;
-  }
-  if (answered) *answered = outcome.answer;
-  return true;
+  unsigned props = info.unicode_props ();
+  glyph->codepoint = info.codepoint;
+  glyph->cluster = info.cluster;
+  glyph->mask = info.mask;
+  glyph->var = info.var1.u32;
+  glyph->category = info.ot_shaper_var_u8_category ();
+  glyph->auxiliary = info.ot_shaper_var_u8_auxiliary ();
+  glyph->syllable = props;
+  glyph->lig_comp = props >> 8;
+  glyph->general_category = props & UPROPS_MASK_GEN_CAT;
+  glyph->modified_combining_class = _hb_glyph_info_get_modified_combining_class (&info);
+  glyph->marks = (props & UPROPS_MASK_IGNORABLE ? SENGADLIT_GLYPH_MARK_IGNORABLE : 0) | (props & UPROPS_MASK_CONTINUATION ? SENGADLIT_GLYPH_MARK_CONTINUATION : 0);
+}
+
+static inline void
+write_character (const sengadlit_glyph_info_t &glyph, hb_glyph_info_t *info)
+{
+  info->codepoint = glyph.codepoint;
+  info->cluster = glyph.cluster;
+  info->mask = glyph.mask;
+  info->var1.u32 = glyph.var;
+  info->ot_shaper_var_u8_category () = glyph.category;
+  info->ot_shaper_var_u8_auxiliary () = glyph.auxiliary;
+  info->unicode_props () = glyph.syllable | glyph.lig_comp << 8;
+  if (unlikely (glyph.general_category != _hb_glyph_info_get_general_category (info)))
+    _hb_glyph_info_set_general_category (info, (hb_unicode_general_category_t) glyph.general_category);
+  if (unlikely (glyph.modified_combining_class != _hb_glyph_info_get_modified_combining_class (info)))
+    _hb_glyph_info_set_modified_combining_class (info, glyph.modified_combining_class);
+  if (glyph.marks & SENGADLIT_GLYPH_MARK_CONTINUATION)
+    _hb_glyph_info_set_continuation (info);
+}
+
+/* ---- Glyphs ---- */
+
+/* Of `var1` the properties of the glyph and its ligature travel, and of `var2` those of the character: in `var`, and in
+   a byte that no pause reads. */
+static inline void
+read_glyph (const hb_glyph_info_t &info, bool lig_comp, sengadlit_glyph_info_t *glyph)
+{
+  uint32_t v1 = info.var1.u32, v2 = info.var2.u32;
+  glyph->codepoint = info.codepoint;
+  glyph->cluster = info.cluster;
+  glyph->mask = info.mask;
+  glyph->var = (v1 & 0xFFFFu) | v2 << 16;
+  /* syllable, category, auxiliary, general_category; modified_combining_class, lig_comp, marks: byte for byte, in order */
+  uint32_t bytes[2] = {
+    v1 >> 24 | (v2 >> 8 & 0xFFFF00u) | (v2 & UPROPS_MASK_GEN_CAT) << 24,
+    (v1 >> 16 & 0xFFu) | (lig_comp ? _hb_glyph_info_get_lig_comp (&info) : 0) << 8 | (v1 << 12 & 0x70000u),
+  };
+  memcpy (&glyph->syllable, bytes, sizeof (bytes));
+}
+
+static inline void
+write_glyph (const sengadlit_glyph_info_t &glyph, hb_glyph_info_t *info)
+{
+  uint32_t bytes;
+  memcpy (&bytes, &glyph.syllable, sizeof (bytes));
+  info->codepoint = glyph.codepoint;
+  info->cluster = glyph.cluster;
+  info->mask = glyph.mask;
+  info->var1.u32 = (glyph.var & (0xFFFFu & ~HB_OT_LAYOUT_GLYPH_PROPS_PRESERVE)) | (glyph.marks & 7u) << 4 |
+		   (uint32_t) glyph.modified_combining_class << 16 | bytes << 24;
+  info->var2.u32 = glyph.var >> 16 | (bytes << 8 & 0xFFFF0000u);
 }

@@ -151,7 +151,9 @@ fn applies(alloc: Global, fields: &[&str]) -> Result<Command, LineFault> {
 fn glyph_ids(alloc: Global, fields: &[&str]) -> Result<Vec<GlyphId>, LineFault> {
     let mut glyphs = Vec::with_capacity(alloc, fields.len())?;
     for field in fields {
-        glyphs.push(GlyphId(decimal(field, TWO_BYTES)?)).map_err(|_| AllocError)?;
+        glyphs
+            .push(GlyphId(decimal(field, TWO_BYTES)?))
+            .map_err(|_| AllocError)?;
     }
     Ok(glyphs)
 }

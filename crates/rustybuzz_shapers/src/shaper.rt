@@ -19,8 +19,8 @@ mod laws;
 mod pauses;
 
 pub use conditions::{has_positions, kinds_fit, lacks_positions, pause_fits};
-pub use laws::{cuts_at_borders_law, headline, stretches_cover_law};
-pub use pauses::{run_pause, syllables_regrouped_law};
+pub use laws::{cuts_at_borders_law, headline, stretches_cover_law, syllables_regrouped_law};
+pub use pauses::run_pause;
 use shapers_arabic::ot_shaper_arabic;
 pub use shapers_base::plan::{NormalizationMode, Pause, PlanData, Preprocess, ZeroWidthMarks};
 use shapers_hangul::ot_shaper_hangul;
@@ -344,11 +344,11 @@ impl hb_ot_shaper_t {
     /// that fonts know whole, for Khmer also of split vowels.
     pub fn decompose<T: Tables>(
         self,
-        plan: &hb_ot_shape_plan_t,
+        _plan: &hb_ot_shape_plan_t,
         tables: &T,
         ab: char,
     ) -> Option<Option<(char, char)>>
-        ensures parts { Decomposed self plan.now (T.tables tables.now) ab result }
+        ensures parts { Decomposed self _plan.now (T.tables tables.now) ab result }
         ensures answer { is_some result ≡ (standing self).decompose }
     {
         match self {
@@ -371,7 +371,7 @@ impl hb_ot_shaper_t {
     pub fn setup_masks<F: hb_font_t, T: Tables>(
         self,
         plan: &hb_ot_shape_plan_t,
-        face: &F,
+        _face: &F,
         tables: &T,
         buffer: &mut hb_buffer_t,
     ) -> Option<()>
@@ -383,14 +383,15 @@ impl hb_ot_shaper_t {
         ensures flags { OnlyFlagsAdded buffer.old.glyphs buffer.new.glyphs }
     {
         match self {
-            Self::Arabic => Some(ot_shaper_arabic::setup_masks(plan, tables, buffer)),
-            Self::Hangul => Some(ot_shaper_hangul::setup_masks(plan, buffer)),
-            Self::Indic => Some(ot_shaper_indic::setup_masks(tables, buffer)),
-            Self::Khmer => Some(ot_shaper_khmer::setup_masks(tables, buffer)),
-            Self::Myanmar => Some(ot_shaper_myanmar::setup_masks(tables, buffer)),
-            Self::Universal => Some(ot_shaper_use::setup_masks(plan, tables, buffer)),
-            Self::Hebrew | Self::MyanmarZawgyi | Self::Thai => None,
+            Self::Arabic => ot_shaper_arabic::setup_masks(plan, tables, buffer),
+            Self::Hangul => ot_shaper_hangul::setup_masks(plan, buffer),
+            Self::Indic => ot_shaper_indic::setup_masks(tables, buffer),
+            Self::Khmer => ot_shaper_khmer::setup_masks(tables, buffer),
+            Self::Myanmar => ot_shaper_myanmar::setup_masks(tables, buffer),
+            Self::Universal => ot_shaper_use::setup_masks(plan, tables, buffer),
+            Self::Hebrew | Self::MyanmarZawgyi | Self::Thai => return None,
         }
+        Some(())
     }
 
     /// Reorders the marks from `start` to `end`: for Hebrew, at the first three neighbours of its
@@ -412,15 +413,16 @@ impl hb_ot_shaper_t {
         ensures laws { MarksKeep self start end buffer.old buffer.new }
     {
         match self {
-            Self::Arabic => Some(ot_shaper_arabic::reorder_marks(plan, buffer, start, end)),
-            Self::Hebrew => Some(ot_shaper_hebrew::reorder_marks(plan, buffer, start, end)),
+            Self::Arabic => ot_shaper_arabic::reorder_marks(plan, buffer, start, end),
+            Self::Hebrew => ot_shaper_hebrew::reorder_marks(plan, buffer, start, end),
             Self::Hangul
             | Self::Indic
             | Self::Khmer
             | Self::Myanmar
             | Self::MyanmarZawgyi
             | Self::Thai
-            | Self::Universal => None,
+            | Self::Universal => return None,
         }
+        Some(())
     }
 }

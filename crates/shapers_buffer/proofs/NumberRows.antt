@@ -1,4 +1,4 @@
--- Every number of a general category, a level or a direction, and one past each end.
+-- Every number of a general category, a level or a direction, and one past each end; flags in all their combinations.
 use Rattle.std.specs.Prelude.{◌≡◌, ◌==◌, [], ◌∷◌, find, map, slice_get, None, Some, refl}
 use Rattle.shapers_buffer.specs.declared.buffer.category.hb_unicode_general_category_t.TheVariants as category
 use Rattle.shapers_buffer.specs.declared.buffer.category.TheConstants.hb_unicode_general_category_t as all_categories
@@ -6,7 +6,7 @@ use Rattle.shapers_buffer.specs.declared.buffer.level.BufferClusterLevel.TheVari
 use Rattle.shapers_buffer.specs.declared.buffer.level.Direction.TheVariants as direction
 use Rattle.shapers_buffer.specs.declared.buffer.level.TheConstants.BufferClusterLevel as all_levels
 use Rattle.shapers_buffer.specs.declared.buffer.level.TheConstants.Direction as all_directions
-use Rattle.shapers_buffer.specs.Numbers.{categories, direction_number, directions, levels}
+use Rattle.shapers_buffer.specs.Numbers.{categories, direction_number, directions, from_harfbuzz, levels, to_harfbuzz}
 
 -- general categories, 0 to 29, as HarfBuzz's hb_unicode_general_category_t has them
 first_categories : map (slice_get categories) (0 ∷ 1 ∷ 2 ∷ 3 ∷ 4 ∷ 5 ∷ 6 ∷ 7 ∷ 8 ∷ 9 ∷ []) ≡ Some category.Cc ∷ Some category.Cf ∷ Some category.Cn ∷ Some category.Co ∷ Some category.Cs ∷ Some category.Ll ∷ Some category.Lm ∷ Some category.Lo ∷ Some category.Lt ∷ Some category.Lu ∷ []
@@ -38,3 +38,13 @@ ALL_levels = refl
 
 ALL_directions : all_directions.ALL ≡ directions
 ALL_directions = refl
+
+-- HarfBuzz's flags: each bit by itself, the three in all combinations, all of a word
+flags_alone : map from_harfbuzz (0x01 ∷ 0x02 ∷ 0x04 ∷ 0x08 ∷ 0x10 ∷ 0x20 ∷ 0x40 ∷ 0x80 ∷ 0x100 ∷ []) ≡ 0 ∷ 0 ∷ 0 ∷ 0 ∷ 0x20 ∷ 0 ∷ 0x40 ∷ 0x80 ∷ 0 ∷ []
+flags_alone = refl
+
+flags_together : map from_harfbuzz (0 ∷ 0x50 ∷ 0x90 ∷ 0xC0 ∷ 0xD0 ∷ 0x2F ∷ 0xFFFFFFFF ∷ []) ≡ 0 ∷ 0x60 ∷ 0xA0 ∷ 0xC0 ∷ 0xE0 ∷ 0 ∷ 0xE0 ∷ []
+flags_together = refl
+
+flags_back : map to_harfbuzz (0 ∷ 0x10 ∷ 0x20 ∷ 0x40 ∷ 0x80 ∷ 0x60 ∷ 0xA0 ∷ 0xC0 ∷ 0xE0 ∷ 0xFFFFFFFF ∷ []) ≡ 0 ∷ 0 ∷ 0x10 ∷ 0x40 ∷ 0x80 ∷ 0x50 ∷ 0x90 ∷ 0xC0 ∷ 0xD0 ∷ 0xD0 ∷ []
+flags_back = refl

@@ -1,5 +1,6 @@
--- General categories, levels and directions by their numbers.
-use Rattle.std.specs.Prelude.{ℕ, List, [], ◌∷◌}
+-- General categories, levels, directions and flags by their numbers.
+use Rattle.std.specs.Prelude.{ℕ, ◌==◌, bit_and, bit_or, List, [], ◌∷◌, if◌then◌else◌}
+use Rattle.shapers_buffer.specs.Buffer.{no_dotted_circle, flags_concat, flags_tatweel}
 use Rattle.shapers_buffer.specs.declared.buffer.category.hb_unicode_general_category_t.{hb_unicode_general_category_t}
 use Rattle.shapers_buffer.specs.declared.buffer.category.hb_unicode_general_category_t.TheVariants.{Cc, Cf, Cn, Co, Cs, Ll, Lm, Lo, Lt, Lu, Mc, Me, Mn, Nd, Nl, No, Pc, Pd, Pe, Pf, Pi, Po, Ps, Sc, Sk, Sm, So, Zl, Zp, Zs}
 use Rattle.shapers_buffer.specs.declared.buffer.level.BufferClusterLevel.{BufferClusterLevel}
@@ -27,3 +28,21 @@ direction_number LeftToRight = 4
 direction_number RightToLeft = 5
 direction_number TopToBottom = 6
 direction_number BottomToTop = 7
+
+-- a flag, where this bit is among these
+abbrev pub flag_where : ℕ → ℕ → ℕ → ℕ
+flag_where bits asked flag = if bit_and bits asked == asked then flag else 0
+
+-- the flags of a buffer by HarfBuzz's bits of the same name: 10 for no dotted circle, 40 and 80
+-- (hexadecimal) as here; nothing else is read of them
+abbrev pub from_harfbuzz : ℕ → ℕ
+from_harfbuzz bits =
+    bit_or
+    (bit_or (flag_where bits 0x10 no_dotted_circle) (flag_where bits 0x40 flags_concat))
+    (flag_where bits 0x80 flags_tatweel)
+
+abbrev pub to_harfbuzz : ℕ → ℕ
+to_harfbuzz flags =
+    bit_or
+    (bit_or (flag_where flags no_dotted_circle 0x10) (flag_where flags flags_concat 0x40))
+    (flag_where flags flags_tatweel 0x80)

@@ -1,13 +1,12 @@
 -- A text of which every item stays as it is.
-use Rattle.std.proofs.Common.{◌≡◌, ℕ, zero, suc, ◌+◌, ◌-◌, ◌<◌, ◌≤◌, Bool, true, false, List, [], ◌∷◌, length, drop, sym, ap, ◌∙◌, subst, arith}
+use Rattle.std.proofs.Common.{◌≡◌, ℕ, zero, suc, ◌+◌, ◌-◌, ◌<◌, Bool, true, false, List, [], ◌∷◌, length, drop, sym, ap, ◌∙◌, subst, arith}
 use Rattle.std.specs.List.{AllByRecursion}
 use Rattle.std.proofs.lemmas.List.{drop-map}
 use Rattle.shapers_buffer.specs.declared.buffer.glyph.hb_glyph_info_t.{hb_glyph_info_t}
 use Rattle.shapers_buffer.specs.Buffer.{Buffer}
 use Rattle.shapers_buffer.specs.Glyph.{characters}
 use Rattle.shapers_base.specs.Font.{Font}
-use Rattle.shapers_hangul.specs.declared.ot_shaper_hangul.item.Item.{Item}
-use Rattle.shapers_hangul.specs.Hangul.{KeptBefore, first_item, is_kept, item_len, items, items_from, wants_circles}
+use Rattle.shapers_hangul.specs.Hangul.{first_item, is_kept, item_len, items, items_from, wants_circles}
 use Rattle.shapers_hangul.specs.HangulLaws.{AllKept}
 use Rattle.shapers_hangul.proofs.Walks.{kept_stays, length-characters}
 

@@ -10,12 +10,12 @@ use Rattle.shapers_buffer.specs.declared.buffer.glyph.GlyphPosition.{GlyphPositi
 use Rattle.shapers_buffer.specs.declared.buffer.glyph.hb_glyph_info_t.{hb_glyph_info_t}
 use Rattle.shapers_stretch.specs.declared.ot_shaper_arabic_stretch.laying.Pen.{Pen}
 use Rattle.shapers_base.specs.Font.{Font}
-use Rattle.shapers_stretch.specs.declared.ot_shaper_arabic_stretch.measuring.Run.{Run}
+use Rattle.shapers_stretch.specs.declared.ot_shaper_arabic_stretch.measuring.Lay.{Lay}
 use Rattle.shapers_stretch.specs.Cells.{Cell, repeats}
 use Rattle.shapers_stretch.specs.CountingWalk.{IsNumber, pen_behind, stands_at}
-use Rattle.shapers_stretch.specs.LayingWalk.{CanLay, Lays, laid_on, offsets}
-use Rattle.shapers_stretch.specs.Measure.{added, fits_i32, overlap}
-use Rattle.shapers_stretch.specs.Stretch.{Copy, copies_of, moves, width_of}
+use Rattle.shapers_stretch.specs.LayingWalk.{CanLay, Lays, copies_by, laid_on, offsets}
+use Rattle.shapers_stretch.specs.Measure.{fits_i32}
+use Rattle.shapers_stretch.specs.Stretch.{Copy, moves, width_of}
 use Rattle.shapers_stretch.proofs.Moves.{moves-append}
 use Rattle.shapers_stretch.proofs.Pen.{laid_on-append, no_move}
 use Rattle.shapers_stretch.proofs.Sums.{total_cons}
@@ -106,35 +106,35 @@ near_fits (pos n) near = record { sfits = omega (arith, ints, near.high) }
 near_fits (negsuc n) near = record { sfits = omega (arith, ints, near.low) }
 
 -- the copies of a tile, by whether it repeats
-copies_once : (font : Font) (z : Run) (c : Cell) (one : Copy) → one ≡ record { tile = c; move = width_of font c.0 } → repeats c.0 ≡ false → copies_of font z c ≡ one ∷ []
-copies_once font z c one e r = ap (λ b. let first : Copy = record { tile = c; move = width_of font c.0 } in let copy : Copy = record { tile = c; move = width_of font c.0 -ℤ overlap z } in first ∷ cond b (replicate (added z) copy) []) r ∙ ap (λ x. x ∷ []) (sym e)
+copies_once : (font : Font) (lay : Lay) (c : Cell) (one : Copy) → one ≡ record { tile = c; move = width_of font c.0 } → repeats c.0 ≡ false → copies_by font lay c ≡ one ∷ []
+copies_once font lay c one e r = ap (λ b. let first : Copy = record { tile = c; move = width_of font c.0 } in let copy : Copy = record { tile = c; move = width_of font c.0 -ℤ lay.overlap } in first ∷ cond b (replicate lay.added copy) []) r ∙ ap (λ x. x ∷ []) (sym e)
 
-copies_more : (font : Font) (z : Run) (c : Cell) (one two : Copy) (n : ℕ) → one ≡ record { tile = c; move = width_of font c.0 } → two ≡ record { tile = c; move = width_of font c.0 -ℤ overlap z } → n ≡ added z → repeats c.0 ≡ true → copies_of font z c ≡ (one ∷ []) ++ replicate n two
-copies_more font z c one two n e f g r = ap (λ b. let first : Copy = record { tile = c; move = width_of font c.0 } in let copy : Copy = record { tile = c; move = width_of font c.0 -ℤ overlap z } in first ∷ cond b (replicate (added z) copy) []) r ∙ ap (λ x. x ∷ replicate (added z) (record { tile = c; move = width_of font c.0 -ℤ overlap z })) (sym e) ∙ ap (λ x. one ∷ replicate (added z) x) (sym f) ∙ ap (λ k. one ∷ replicate k two) (sym g)
+copies_more : (font : Font) (lay : Lay) (c : Cell) (one two : Copy) (n : ℕ) → one ≡ record { tile = c; move = width_of font c.0 } → two ≡ record { tile = c; move = width_of font c.0 -ℤ lay.overlap } → n ≡ lay.added → repeats c.0 ≡ true → copies_by font lay c ≡ (one ∷ []) ++ replicate n two
+copies_more font lay c one two n e f g r = ap (λ b. let first : Copy = record { tile = c; move = width_of font c.0 } in let copy : Copy = record { tile = c; move = width_of font c.0 -ℤ lay.overlap } in first ∷ cond b (replicate lay.added copy) []) r ∙ ap (λ x. x ∷ replicate lay.added (record { tile = c; move = width_of font c.0 -ℤ lay.overlap })) (sym e) ∙ ap (λ x. one ∷ replicate lay.added x) (sym f) ∙ ap (λ k. one ∷ replicate k two) (sym g)
 
 moving : (c : Cell) (w v : ℤ) → w ≡ v → ◌≡◌ {A = Copy} (record { tile = c; move = w }) (record { tile = c; move = v })
 moving c w v e = ap (λ m. let copy : Copy = record { tile = c; move = m } in copy) e
 
 -- the steps of laying a tile
-tile_cut : (right_to_left : Bool) (font : Font) (z : Run) (c : Cell) (one : Copy) (pen : Pen) (gs : List hb_glyph_info_t) (ps : List GlyphPosition) → one ≡ record { tile = c; move = width_of font c.0 } → (b : Bool) → repeats c.0 ≡ b → CanLay right_to_left (copies_of font z c) pen gs ps → CanLay right_to_left (one ∷ []) pen gs ps
-tile_cut right_to_left font z c one pen gs ps e false r can = subst (λ copies. CanLay right_to_left copies pen gs ps) (copies_once font z c one e r) can
-tile_cut right_to_left font z c one pen gs ps e true r can = can_first right_to_left (one ∷ []) _ pen gs ps (subst (λ copies. CanLay right_to_left copies pen gs ps) (copies_more font z c one _ _ e refl refl r) can)
+tile_cut : (right_to_left : Bool) (font : Font) (lay : Lay) (c : Cell) (one : Copy) (pen : Pen) (gs : List hb_glyph_info_t) (ps : List GlyphPosition) → one ≡ record { tile = c; move = width_of font c.0 } → (b : Bool) → repeats c.0 ≡ b → CanLay right_to_left (copies_by font lay c) pen gs ps → CanLay right_to_left (one ∷ []) pen gs ps
+tile_cut right_to_left font lay c one pen gs ps e false r can = subst (λ copies. CanLay right_to_left copies pen gs ps) (copies_once font lay c one e r) can
+tile_cut right_to_left font lay c one pen gs ps e true r can = can_first right_to_left (one ∷ []) _ pen gs ps (subst (λ copies. CanLay right_to_left copies pen gs ps) (copies_more font lay c one _ _ e refl refl r) can)
 
-pub tile_first : (right_to_left : Bool) (font : Font) (z : Run) (c : Cell) (w : ℤ) (pen : Pen) (gs : List hb_glyph_info_t) (ps : List GlyphPosition) → w ≡ width_of font c.0 → CanLay right_to_left (copies_of font z c) pen gs ps → CanLay right_to_left (record { tile = c; move = w } ∷ []) pen gs ps
-tile_first right_to_left font z c w pen gs ps e can = tile_cut right_to_left font z c (record { tile = c; move = w }) pen gs ps (moving c w _ e) (repeats c.0) refl can
+pub tile_first : (right_to_left : Bool) (font : Font) (lay : Lay) (c : Cell) (w : ℤ) (pen : Pen) (gs : List hb_glyph_info_t) (ps : List GlyphPosition) → w ≡ width_of font c.0 → CanLay right_to_left (copies_by font lay c) pen gs ps → CanLay right_to_left (record { tile = c; move = w } ∷ []) pen gs ps
+tile_first right_to_left font lay c w pen gs ps e can = tile_cut right_to_left font lay c (record { tile = c; move = w }) pen gs ps (moving c w _ e) (repeats c.0) refl can
 
-pub tile_more : (right_to_left : Bool) (font : Font) (z : Run) (c : Cell) (w m : ℤ) (n : ℕ) (pen after : Pen) (gs hs : List hb_glyph_info_t) (ps qs : List GlyphPosition) (old now : List Cell) → repeats c.0 ≡ true → w ≡ width_of font c.0 → m ≡ width_of font c.0 -ℤ overlap z → n ≡ added z → CanLay right_to_left (copies_of font z c) pen gs ps → Lays right_to_left (record { tile = c; move = w } ∷ []) pen after old now → length hs ≡ length gs → length hs ≡ length qs → CanLay right_to_left (replicate n (record { tile = c; move = m })) after hs qs
-tile_more right_to_left font z c w m n pen after gs hs ps qs old now r e f g can laid same both =
+pub tile_more : (right_to_left : Bool) (font : Font) (lay : Lay) (c : Cell) (w m : ℤ) (n : ℕ) (pen after : Pen) (gs hs : List hb_glyph_info_t) (ps qs : List GlyphPosition) (old now : List Cell) → repeats c.0 ≡ true → w ≡ width_of font c.0 → m ≡ width_of font c.0 -ℤ lay.overlap → n ≡ lay.added → CanLay right_to_left (copies_by font lay c) pen gs ps → Lays right_to_left (record { tile = c; move = w } ∷ []) pen after old now → length hs ≡ length gs → length hs ≡ length qs → CanLay right_to_left (replicate n (record { tile = c; move = m })) after hs qs
+tile_more right_to_left font lay c w m n pen after gs hs ps qs old now r e f g can laid same both =
     let one : Copy = record { tile = c; move = w } in
     let two : Copy = record { tile = c; move = m } in
-    can_rest right_to_left (one ∷ []) (replicate n two) pen after gs hs ps qs old now (subst (λ copies. CanLay right_to_left copies pen gs ps) (copies_more font z c one two n (moving c w _ e) (moving c m _ f) g r) can) laid same both
+    can_rest right_to_left (one ∷ []) (replicate n two) pen after gs hs ps qs old now (subst (λ copies. CanLay right_to_left copies pen gs ps) (copies_more font lay c one two n (moving c w _ e) (moving c m _ f) g r) can) laid same both
 
-pub tile_once : (right_to_left : Bool) (font : Font) (z : Run) (c : Cell) (w : ℤ) (pen after : Pen) (old now : List Cell) → repeats c.0 ≡ false → w ≡ width_of font c.0 → Lays right_to_left (record { tile = c; move = w } ∷ []) pen after old now → Lays right_to_left (copies_of font z c) pen after old now
-tile_once right_to_left font z c w pen after old now r e laid =
-    subst (λ copies. Lays right_to_left copies pen after old now) (sym (copies_once font z c (record { tile = c; move = w }) (moving c w _ e) r)) laid
+pub tile_once : (right_to_left : Bool) (font : Font) (lay : Lay) (c : Cell) (w : ℤ) (pen after : Pen) (old now : List Cell) → repeats c.0 ≡ false → w ≡ width_of font c.0 → Lays right_to_left (record { tile = c; move = w } ∷ []) pen after old now → Lays right_to_left (copies_by font lay c) pen after old now
+tile_once right_to_left font lay c w pen after old now r e laid =
+    subst (λ copies. Lays right_to_left copies pen after old now) (sym (copies_once font lay c (record { tile = c; move = w }) (moving c w _ e) r)) laid
 
-pub tile_all : (right_to_left : Bool) (font : Font) (z : Run) (c : Cell) (w m : ℤ) (n : ℕ) (pen mid after : Pen) (old between now : List Cell) → repeats c.0 ≡ true → w ≡ width_of font c.0 → m ≡ width_of font c.0 -ℤ overlap z → n ≡ added z → Lays right_to_left (record { tile = c; move = w } ∷ []) pen mid old between → Lays right_to_left (replicate n (record { tile = c; move = m })) mid after between now → Lays right_to_left (copies_of font z c) pen after old now
-tile_all right_to_left font z c w m n pen mid after old between now r e f g first rest =
+pub tile_all : (right_to_left : Bool) (font : Font) (lay : Lay) (c : Cell) (w m : ℤ) (n : ℕ) (pen mid after : Pen) (old between now : List Cell) → repeats c.0 ≡ true → w ≡ width_of font c.0 → m ≡ width_of font c.0 -ℤ lay.overlap → n ≡ lay.added → Lays right_to_left (record { tile = c; move = w } ∷ []) pen mid old between → Lays right_to_left (replicate n (record { tile = c; move = m })) mid after between now → Lays right_to_left (copies_by font lay c) pen after old now
+tile_all right_to_left font lay c w m n pen mid after old between now r e f g first rest =
     let one : Copy = record { tile = c; move = w } in
     let two : Copy = record { tile = c; move = m } in
-    subst (λ copies. Lays right_to_left copies pen after old now) (sym (copies_more font z c one two n (moving c w _ e) (moving c m _ f) g r)) (lays_then right_to_left (one ∷ []) (replicate n two) pen mid after old between now first rest)
+    subst (λ copies. Lays right_to_left copies pen after old now) (sym (copies_more font lay c one two n (moving c w _ e) (moving c m _ f) g r)) (lays_then right_to_left (one ∷ []) (replicate n two) pen mid after old between now first rest)

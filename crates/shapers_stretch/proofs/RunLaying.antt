@@ -1,5 +1,5 @@
 -- A run laid, with its word flagged.
-use Rattle.std.proofs.Common.{◌≡◌, ◌≤◌, ◌+◌, ℕ, ℤ, Bool, true, List, ◌++◌, length, map, take, drop, reverse, None, Some, sym, ◌∙◌, ap, arith, subst, of_z, to_z}
+use Rattle.std.proofs.Common.{◌≡◌, ◌≤◌, ◌+◌, ℕ, ℤ, Bool, true, List, ◌++◌, length, map, flat_map, take, drop, reverse, None, Some, sym, ◌∙◌, ap, arith, subst, of_z, to_z}
 use Rattle.std.specs.List.{zip, list_all}
 use Rattle.std.proofs.lemmas.Int.{to_z-of_z}
 use Rattle.std.proofs.lemmas.List.{length-map, take-take}
@@ -18,9 +18,9 @@ use Rattle.shapers_stretch.specs.declared.ot_shaper_arabic_stretch.measuring.Lay
 use Rattle.shapers_stretch.specs.declared.ot_shaper_arabic_stretch.measuring.Run.{Run}
 use Rattle.shapers_stretch.specs.Cells.{Cell, glyphs_of, positions_of}
 use Rattle.shapers_stretch.specs.CountingWalk.{IsNumber}
-use Rattle.shapers_stretch.specs.LayingWalk.{CanLay, CanLayRun, IsLayOf, Lays, laid_on, offsets}
+use Rattle.shapers_stretch.specs.LayingWalk.{CanLay, CanLayRun, IsLayOf, Lays, copies_with, laid_on, offsets, run_copies}
 use Rattle.shapers_stretch.specs.Lays.{lay_if_fits}
-use Rattle.shapers_stretch.specs.Measure.{fits_i32, numbers, start}
+use Rattle.shapers_stretch.specs.Measure.{added, fits_i32, numbers, start}
 use Rattle.shapers_stretch.specs.Stretch.{Copy, Laying, copies, laid_run, measured, unbroken}
 use Rattle.shapers_stretch.proofs.Flagging.{flag_copies, flag_copy, flag_offsets, stretch_glyphs, stretch_positions, tiles_are}
 use Rattle.shapers_stretch.proofs.LayBounds.{found_lay, no_lay}
@@ -47,6 +47,11 @@ flagged_offsets right_to_left font z at word tiles =
 pub measured_is : (font : Font) (w t e : ℕ) (gs : List hb_glyph_info_t) (ps : List GlyphPosition) → t ≤ e → e ≤ length gs → length gs ≡ length ps → measured font (stretch_of w t ps) (stretch_of t e gs) ≡ measured font (positions_of (stretch_of w t (zip gs ps))) (glyphs_of (stretch_of t e (zip gs ps)))
 measured_is font w t e gs ps p q both =
     ap (λ x. measured font x (stretch_of t e gs)) (sym (stretch_positions w t gs ps both (omega arith))) ∙ ap (measured font (positions_of (stretch_of w t (zip gs ps)))) (sym (stretch_glyphs t e gs ps both q))
+
+-- the copies by the numbers of a run are the run's
+pub copies_same : (font : Font) (z : Run) (lay : Lay) (cs : List Cell) → IsLayOf z lay → run_copies font lay cs ≡ copies font z cs
+copies_same font z lay cs is =
+    ap (λ n. flat_map (copies_with font n lay.overlap) (reverse cs)) is.added ∙ ap (λ o. flat_map (copies_with font (added z) o) (reverse cs)) is.overlap
 
 -- the lay that was found
 pub lay_is : (choice : StretchStart) (right_to_left : Bool) (z : Run) (lay : Lay) → lay_if_fits choice right_to_left z ≡ Some lay → IsLayOf z lay

@@ -9,33 +9,36 @@ use Rattle.shapers_buffer.specs.declared.buffer.glyph.hb_glyph_info_t.{hb_glyph_
 use Rattle.shapers_buffer.specs.Clusters.{stretch_of}
 use Rattle.shapers_base.specs.Font.{Font}
 use Rattle.shapers_stretch.specs.declared.ot_shaper_arabic_stretch.laying.Pen.{Pen}
+use Rattle.shapers_stretch.specs.declared.ot_shaper_arabic_stretch.measuring.Lay.{Lay}
 use Rattle.shapers_stretch.specs.declared.ot_shaper_arabic_stretch.measuring.Run.{Run}
 use Rattle.shapers_stretch.specs.Cells.{Cell}
-use Rattle.shapers_stretch.specs.LayingWalk.{CanLay, Lays}
-use Rattle.shapers_stretch.specs.Stretch.{copies, copies_of}
+use Rattle.shapers_stretch.specs.LayingWalk.{CanLay, Lays, copies_by, run_copies}
+use Rattle.shapers_stretch.specs.Stretch.{Copy, copies, copies_of}
 use Rattle.shapers_stretch.proofs.Laying.{can_first, can_rest, lays_then, none_laid}
-use Rattle.shapers_stretch.proofs.Lengths.{length-copies}
 use Rattle.shapers_stretch.proofs.Zips.{length-zipped}
 
 -- The tiles from i to the end are laid, and those from the first to i can be, which stand yet.
-pub record TilesLeft (right_to_left : Bool) (font : Font) (z : Run) (first end i : ℕ) (start pen : Pen) (old : List Cell) (gs : List hb_glyph_info_t) (ps : List GlyphPosition) : Type 0 where
+pub record TilesLeft (right_to_left : Bool) (font : Font) (lay : Lay) (first end i : ℕ) (start pen : Pen) (old : List Cell) (gs : List hb_glyph_info_t) (ps : List GlyphPosition) : Type 0 where
   pub from : first ≤ i
   pub to : i ≤ end
   pub both : length gs ≡ length ps
   pub same : length gs ≡ length old
-  pub can : CanLay right_to_left (copies font z (stretch_of first i old)) pen gs ps
-  pub lays : Lays right_to_left (copies font z (stretch_of i end old)) start pen old (zip gs ps)
-  pub room : first + length (copies font z (stretch_of first i old)) ≤ pen.place
+  pub can : CanLay right_to_left (run_copies font lay (stretch_of first i old)) pen gs ps
+  pub lays : Lays right_to_left (run_copies font lay (stretch_of i end old)) start pen old (zip gs ps)
+  pub room : first + length (run_copies font lay (stretch_of first i old)) ≤ pen.place
   pub within : end ≤ length old
 
 reverse_cons : {X : Type 0} (x : X) (xs : List X) → reverse (x ∷ xs) ≡ reverse xs ++ x ∷ []
 reverse_cons x xs = reverse-append (x ∷ []) xs
 
-pub copies-push : (font : Font) (z : Run) (c : Cell) (cs : List Cell) → copies font z (c ∷ cs) ≡ copies font z cs ++ copies_of font z c
-copies-push font z c cs = ap (flat_map (copies_of font z)) (reverse_cons c cs) ∙ flat_map-append (copies_of font z) (reverse cs) (c ∷ []) ∙ ap (λ x. copies font z cs ++ x) (append-nil (copies_of font z c))
+pushed : (f : Cell → List Copy) (c : Cell) (cs : List Cell) → flat_map f (reverse (c ∷ cs)) ≡ flat_map f (reverse cs) ++ f c
+pushed f c cs = ap (flat_map f) (reverse_cons c cs) ∙ flat_map-append f (reverse cs) (c ∷ []) ∙ ap (λ x. flat_map f (reverse cs) ++ x) (append-nil (f c))
 
-copies-append : (font : Font) (z : Run) (cs : List Cell) (c : Cell) → copies font z (cs ++ c ∷ []) ≡ copies_of font z c ++ copies font z cs
-copies-append font z cs c = ap (flat_map (copies_of font z)) (reverse-append cs (c ∷ []))
+pub copies-push : (font : Font) (z : Run) (c : Cell) (cs : List Cell) → copies font z (c ∷ cs) ≡ copies font z cs ++ copies_of font z c
+copies-push font z c cs = pushed (copies_of font z) c cs
+
+copies-append : (font : Font) (lay : Lay) (cs : List Cell) (c : Cell) → run_copies font lay (cs ++ c ∷ []) ≡ copies_by font lay c ++ run_copies font lay cs
+copies-append font lay cs c = ap (flat_map (copies_by font lay)) (reverse-append cs (c ∷ []))
 
 next : (n m : ℕ) → suc (n + m) ≡ suc n + m
 next n m = omega arith
@@ -86,12 +89,13 @@ number_at P (suc end) [] i d all h w = absurd (omega arith)
 number_at P (suc end) (g ∷ gs) zero d all h w = all.0
 number_at P (suc end) (g ∷ gs) (suc i) d all h w = number_at P end gs i d all.1 (omega arith) (omega arith)
 
-copies_many : (font : Font) (z : Run) (cs : List Cell) → length cs ≤ length (copies font z cs)
-copies_many font z cs = omega (arith, length-copies font z cs)
+copies_many : (font : Font) (lay : Lay) (cs : List Cell) → length cs ≤ length (run_copies font lay cs)
+copies_many font lay [] = omega arith
+copies_many font lay (c ∷ cs) = omega (arith, ap length (pushed (copies_by font lay) c cs), length-append (run_copies font lay cs) (copies_by font lay c), copies_many font lay cs)
 
 -- the start: all tiles are left
-pub tiles_start : (right_to_left : Bool) (font : Font) (z : Run) (first end : ℕ) (pen : Pen) (gs : List hb_glyph_info_t) (ps : List GlyphPosition) → first ≤ end → end ≤ length gs → length gs ≡ length ps → CanLay right_to_left (copies font z (stretch_of first end (zip gs ps))) pen gs ps → first + length (copies font z (stretch_of first end (zip gs ps))) ≤ pen.place → TilesLeft right_to_left font z first end end pen pen (zip gs ps) gs ps
-tiles_start right_to_left font z first end pen gs ps p q both can room =
+pub tiles_start : (right_to_left : Bool) (font : Font) (lay : Lay) (first end : ℕ) (pen : Pen) (gs : List hb_glyph_info_t) (ps : List GlyphPosition) → first ≤ end → end ≤ length gs → length gs ≡ length ps → CanLay right_to_left (run_copies font lay (stretch_of first end (zip gs ps))) pen gs ps → first + length (run_copies font lay (stretch_of first end (zip gs ps))) ≤ pen.place → TilesLeft right_to_left font lay first end end pen pen (zip gs ps) gs ps
+tiles_start right_to_left font lay first end pen gs ps p q both can room =
     let none : end - end ≡ 0 = omega arith in
     record {
       from = p;
@@ -99,54 +103,54 @@ tiles_start right_to_left font z first end pen gs ps p q both can room =
       both = both;
       same = sym (length-zipped gs ps both);
       can = can;
-      lays = subst (λ n. Lays right_to_left (copies font z (take n (drop end (zip gs ps)))) pen pen (zip gs ps) (zip gs ps)) (sym none) (none_laid right_to_left pen (zip gs ps));
+      lays = subst (λ n. Lays right_to_left (run_copies font lay (take n (drop end (zip gs ps)))) pen pen (zip gs ps) (zip gs ps)) (sym none) (none_laid right_to_left pen (zip gs ps));
       room = room;
       within = omega (arith, length-zipped gs ps both);
     }
 
 -- there is a tile before i, it stands yet, and can be laid
-pub tile_left : (right_to_left : Bool) (font : Font) (z : Run) (first end i : ℕ) (start pen : Pen) (old : List Cell) (gs : List hb_glyph_info_t) (ps : List GlyphPosition) (g : hb_glyph_info_t) (q : GlyphPosition) → first < i → TilesLeft right_to_left font z first end i start pen old gs ps → (get_or gs (i - 1) g, get_or ps (i - 1) q) ≡ get_or old (i - 1) (g, q)
-tile_left right_to_left font z first end i start pen old gs ps g q p t =
+pub tile_left : (right_to_left : Bool) (font : Font) (lay : Lay) (first end i : ℕ) (start pen : Pen) (old : List Cell) (gs : List hb_glyph_info_t) (ps : List GlyphPosition) (g : hb_glyph_info_t) (q : GlyphPosition) → first < i → TilesLeft right_to_left font lay first end i start pen old gs ps → (get_or gs (i - 1) g, get_or ps (i - 1) q) ≡ get_or old (i - 1) (g, q)
+tile_left right_to_left font lay first end i start pen old gs ps g q p t =
     let cs = stretch_of first i old in
-    let many : i - first ≤ length (copies font z cs) = omega (arith, copies_many font z cs, length-take-le (i - first) (drop first old) (omega (arith, length-drop first old, t.to, t.within))) in
+    let many : i - first ≤ length (run_copies font lay cs) = omega (arith, copies_many font lay cs, length-take-le (i - first) (drop first old) (omega (arith, length-drop first old, t.to, t.within))) in
     read_kept (i - 1) pen.place old gs ps g q (omega (arith, t.room)) (omega (arith, t.to, t.within, t.same)) t.both t.lays.kept
 
-tile_cell : (right_to_left : Bool) (font : Font) (z : Run) (first end i : ℕ) (start pen : Pen) (old : List Cell) (gs : List hb_glyph_info_t) (ps : List GlyphPosition) (g : hb_glyph_info_t) (q : GlyphPosition) → first < i → TilesLeft right_to_left font z first end i start pen old gs ps → copies font z (stretch_of first i old) ≡ copies_of font z (get_or gs (i - 1) g, get_or ps (i - 1) q) ++ copies font z (stretch_of first (i - 1) old)
-tile_cell right_to_left font z first end i start pen old gs ps g q p t =
-    ap (copies font z) (stretch_last first i old (g, q) p (omega (arith, t.to, t.within))) ∙ copies-append font z (stretch_of first (i - 1) old) (get_or old (i - 1) (g, q)) ∙ ap (λ c. copies_of font z c ++ copies font z (stretch_of first (i - 1) old)) (sym (tile_left right_to_left font z first end i start pen old gs ps g q p t))
+tile_cell : (right_to_left : Bool) (font : Font) (lay : Lay) (first end i : ℕ) (start pen : Pen) (old : List Cell) (gs : List hb_glyph_info_t) (ps : List GlyphPosition) (g : hb_glyph_info_t) (q : GlyphPosition) → first < i → TilesLeft right_to_left font lay first end i start pen old gs ps → run_copies font lay (stretch_of first i old) ≡ copies_by font lay (get_or gs (i - 1) g, get_or ps (i - 1) q) ++ run_copies font lay (stretch_of first (i - 1) old)
+tile_cell right_to_left font lay first end i start pen old gs ps g q p t =
+    ap (run_copies font lay) (stretch_last first i old (g, q) p (omega (arith, t.to, t.within))) ∙ copies-append font lay (stretch_of first (i - 1) old) (get_or old (i - 1) (g, q)) ∙ ap (λ c. copies_by font lay c ++ run_copies font lay (stretch_of first (i - 1) old)) (sym (tile_left right_to_left font lay first end i start pen old gs ps g q p t))
 
-pub tile_can : (right_to_left : Bool) (font : Font) (z : Run) (first end i : ℕ) (start pen : Pen) (old : List Cell) (gs : List hb_glyph_info_t) (ps : List GlyphPosition) (g : hb_glyph_info_t) (q : GlyphPosition) → first < i → TilesLeft right_to_left font z first end i start pen old gs ps → CanLay right_to_left (copies_of font z (get_or gs (i - 1) g, get_or ps (i - 1) q)) pen gs ps
-tile_can right_to_left font z first end i start pen old gs ps g q p t =
-    can_first right_to_left _ (copies font z (stretch_of first (i - 1) old)) pen gs ps (subst (λ copies. CanLay right_to_left copies pen gs ps) (tile_cell right_to_left font z first end i start pen old gs ps g q p t) t.can)
+pub tile_can : (right_to_left : Bool) (font : Font) (lay : Lay) (first end i : ℕ) (start pen : Pen) (old : List Cell) (gs : List hb_glyph_info_t) (ps : List GlyphPosition) (g : hb_glyph_info_t) (q : GlyphPosition) → first < i → TilesLeft right_to_left font lay first end i start pen old gs ps → CanLay right_to_left (copies_by font lay (get_or gs (i - 1) g, get_or ps (i - 1) q)) pen gs ps
+tile_can right_to_left font lay first end i start pen old gs ps g q p t =
+    can_first right_to_left _ (run_copies font lay (stretch_of first (i - 1) old)) pen gs ps (subst (λ copies. CanLay right_to_left copies pen gs ps) (tile_cell right_to_left font lay first end i start pen old gs ps g q p t) t.can)
 
 -- it is laid
-pub tile_next : (right_to_left : Bool) (font : Font) (z : Run) (first end i : ℕ) (start pen after : Pen) (old : List Cell) (gs hs : List hb_glyph_info_t) (ps qs : List GlyphPosition) (g : hb_glyph_info_t) (q : GlyphPosition) → first < i → TilesLeft right_to_left font z first end i start pen old gs ps → Lays right_to_left (copies_of font z (get_or gs (i - 1) g, get_or ps (i - 1) q)) pen after (zip gs ps) (zip hs qs) → length hs ≡ length gs → length hs ≡ length qs → TilesLeft right_to_left font z first end (i - 1) start after old hs qs
-tile_next right_to_left font z first end i start pen after old gs hs ps qs g q p t laid same both =
-    let done = copies font z (stretch_of i end old) in
-    let left = copies font z (stretch_of first (i - 1) old) in
-    let split = tile_cell right_to_left font z first end i start pen old gs ps g q p t in
-    let more : copies font z (stretch_of (i - 1) end old) ≡ done ++ copies_of font z (get_or gs (i - 1) g, get_or ps (i - 1) q) =
-    ap (copies font z) (stretch_first i end old (g, q) (omega arith) t.to t.within) ∙ copies-push font z (get_or old (i - 1) (g, q)) (stretch_of i end old) ∙ ap (λ c. done ++ copies_of font z c) (sym (tile_left right_to_left font z first end i start pen old gs ps g q p t)) in
+pub tile_next : (right_to_left : Bool) (font : Font) (lay : Lay) (first end i : ℕ) (start pen after : Pen) (old : List Cell) (gs hs : List hb_glyph_info_t) (ps qs : List GlyphPosition) (g : hb_glyph_info_t) (q : GlyphPosition) → first < i → TilesLeft right_to_left font lay first end i start pen old gs ps → Lays right_to_left (copies_by font lay (get_or gs (i - 1) g, get_or ps (i - 1) q)) pen after (zip gs ps) (zip hs qs) → length hs ≡ length gs → length hs ≡ length qs → TilesLeft right_to_left font lay first end (i - 1) start after old hs qs
+tile_next right_to_left font lay first end i start pen after old gs hs ps qs g q p t laid same both =
+    let done = run_copies font lay (stretch_of i end old) in
+    let left = run_copies font lay (stretch_of first (i - 1) old) in
+    let split = tile_cell right_to_left font lay first end i start pen old gs ps g q p t in
+    let more : run_copies font lay (stretch_of (i - 1) end old) ≡ done ++ copies_by font lay (get_or gs (i - 1) g, get_or ps (i - 1) q) =
+    ap (run_copies font lay) (stretch_first i end old (g, q) (omega arith) t.to t.within) ∙ pushed (copies_by font lay) (get_or old (i - 1) (g, q)) (stretch_of i end old) ∙ ap (λ c. done ++ copies_by font lay c) (sym (tile_left right_to_left font lay first end i start pen old gs ps g q p t)) in
     record {
       from = omega arith;
       to = omega (arith, t.to);
       both = both;
       same = same ∙ t.same;
-      can = can_rest right_to_left (copies_of font z (get_or gs (i - 1) g, get_or ps (i - 1) q)) left pen after gs hs ps qs (zip gs ps) (zip hs qs) (subst (λ copies. CanLay right_to_left copies pen gs ps) split t.can) laid same both;
-      lays = subst (λ copies. Lays right_to_left copies start after old (zip hs qs)) (sym more) (lays_then right_to_left done (copies_of font z (get_or gs (i - 1) g, get_or ps (i - 1) q)) start pen after old (zip gs ps) (zip hs qs) t.lays laid);
-      room = omega (arith, t.room, laid.place, ap length split, length-append (copies_of font z (get_or gs (i - 1) g, get_or ps (i - 1) q)) left);
+      can = can_rest right_to_left (copies_by font lay (get_or gs (i - 1) g, get_or ps (i - 1) q)) left pen after gs hs ps qs (zip gs ps) (zip hs qs) (subst (λ copies. CanLay right_to_left copies pen gs ps) split t.can) laid same both;
+      lays = subst (λ copies. Lays right_to_left copies start after old (zip hs qs)) (sym more) (lays_then right_to_left done (copies_by font lay (get_or gs (i - 1) g, get_or ps (i - 1) q)) start pen after old (zip gs ps) (zip hs qs) t.lays laid);
+      room = omega (arith, t.room, laid.place, ap length split, length-append (copies_by font lay (get_or gs (i - 1) g, get_or ps (i - 1) q)) left);
       within = t.within;
     }
 
 -- the end: none is left
-pub tiles_end : (right_to_left : Bool) (font : Font) (z : Run) (first end i : ℕ) (start pen : Pen) (old : List Cell) (gs : List hb_glyph_info_t) (ps : List GlyphPosition) → i ≤ first → TilesLeft right_to_left font z first end i start pen old gs ps → Lays right_to_left (copies font z (stretch_of first end old)) start pen old (zip gs ps)
-tiles_end right_to_left font z first end i start pen old gs ps p t =
+pub tiles_end : (right_to_left : Bool) (font : Font) (lay : Lay) (first end i : ℕ) (start pen : Pen) (old : List Cell) (gs : List hb_glyph_info_t) (ps : List GlyphPosition) → i ≤ first → TilesLeft right_to_left font lay first end i start pen old gs ps → Lays right_to_left (run_copies font lay (stretch_of first end old)) start pen old (zip gs ps)
+tiles_end right_to_left font lay first end i start pen old gs ps p t =
     let same : i ≡ first = omega (arith, t.from) in
-    subst (λ n. Lays right_to_left (copies font z (stretch_of n end old)) start pen old (zip gs ps)) same t.lays
+    subst (λ n. Lays right_to_left (run_copies font lay (stretch_of n end old)) start pen old (zip gs ps)) same t.lays
 
 -- its glyph number is in range
-pub tile_number : (right_to_left : Bool) (font : Font) (z : Run) (first end i : ℕ) (start pen : Pen) (was gs : List hb_glyph_info_t) (before ps : List GlyphPosition) (g : hb_glyph_info_t) (q : GlyphPosition) → first < i → TilesLeft right_to_left font z first end i start pen (zip was before) gs ps → length was ≡ length before → AllByRecursion (λ g. g.glyph_id ≤ 65535) (take end was) → (get_or gs (i - 1) g).glyph_id ≤ 65535
-tile_number right_to_left font z first end i start pen was gs before ps g q p t both all =
+pub tile_number : (right_to_left : Bool) (font : Font) (lay : Lay) (first end i : ℕ) (start pen : Pen) (was gs : List hb_glyph_info_t) (before ps : List GlyphPosition) (g : hb_glyph_info_t) (q : GlyphPosition) → first < i → TilesLeft right_to_left font lay first end i start pen (zip was before) gs ps → length was ≡ length before → AllByRecursion (λ g. g.glyph_id ≤ 65535) (take end was) → (get_or gs (i - 1) g).glyph_id ≤ 65535
+tile_number right_to_left font lay first end i start pen was gs before ps g q p t both all =
     let within : i - 1 < length was = omega (arith, t.to, t.within, length-zipped was before both) in
-    let same : get_or gs (i - 1) g ≡ get_or was (i - 1) g = ap (λ (c : Cell). c.0) (tile_left right_to_left font z first end i start pen (zip was before) gs ps g q p t ∙ get_or-zip was before (i - 1) (g, q) within (omega (arith, both))) in
+    let same : get_or gs (i - 1) g ≡ get_or was (i - 1) g = ap (λ (c : Cell). c.0) (tile_left right_to_left font lay first end i start pen (zip was before) gs ps g q p t ∙ get_or-zip was before (i - 1) (g, q) within (omega (arith, both))) in
     subst (λ (x : hb_glyph_info_t). x.glyph_id ≤ 65535) (sym same) (number_at (λ g. g.glyph_id ≤ 65535) end was (i - 1) g all (omega (arith, t.to)) within)

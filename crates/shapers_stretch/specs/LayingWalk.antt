@@ -1,14 +1,14 @@
 -- How far the second pass has come, which lays the runs of a text from its end back.
-use Rattle.std.specs.Prelude.{◌≡◌, ◌≤◌, ◌≤ℤ◌, ◌^◌, pos, ◌+◌, ◌++◌, ℕ, ℤ, Bool, true, false, List, [], ◌∷◌, length, map, reverse, take, drop}
+use Rattle.std.specs.Prelude.{◌≡◌, ◌≤◌, ◌≤ℤ◌, ◌^◌, pos, ◌+◌, ◌-ℤ◌, ◌++◌, ℕ, ℤ, Bool, true, false, if◌then◌else◌, List, [], ◌∷◌, length, map, flat_map, replicate, reverse, take, drop}
 use Rattle.std.specs.List.{AllByRecursion, list_all, zip}
 use Rattle.shapers_buffer.specs.declared.buffer.glyph.GlyphPosition.{GlyphPosition}
 use Rattle.shapers_buffer.specs.declared.buffer.glyph.hb_glyph_info_t.{hb_glyph_info_t}
 use Rattle.shapers_base.specs.declared.plan.arabic.StretchStart.{StretchStart}
 use Rattle.shapers_base.specs.Font.{Font}
-use Rattle.shapers_stretch.specs.Cells.{Cell, glyphs_of, positions_of}
+use Rattle.shapers_stretch.specs.Cells.{Cell, glyphs_of, positions_of, repeats}
 use Rattle.shapers_stretch.specs.CountingWalk.{pen_behind, stands_at}
 use Rattle.shapers_stretch.specs.Measure.{added, fits_i32, numbers, overlap}
-use Rattle.shapers_stretch.specs.Stretch.{Copy, Laying, copies, laid_at, laid_run, measured, moves, overflows, stretched}
+use Rattle.shapers_stretch.specs.Stretch.{Copy, Laying, copies, laid_at, laid_run, measured, moves, overflows, stretched, width_of}
 use Rattle.shapers_stretch.specs.declared.ot_shaper_arabic_stretch.laying.Pen.{Pen}
 use Rattle.shapers_stretch.specs.declared.ot_shaper_arabic_stretch.measuring.Lay.{Lay}
 use Rattle.shapers_stretch.specs.declared.ot_shaper_arabic_stretch.measuring.Run.{Run}
@@ -81,6 +81,19 @@ pub record HasRoom (how : Laying) (gs : List hb_glyph_info_t) (ps : List GlyphPo
   pub room : length (stretched how (text_of len gs ps)) ≡ length gs
   pub glyph_numbers : AllByRecursion (λ g. g.glyph_id ≤ 65535) (take len gs)
   pub fits : overflows how (text_of len gs ps) ≡ false
+
+-- the copies of one tile by these numbers, and those of a run's tiles, from the last to the first
+abbrev pub copies_with : Font → ℕ → ℤ → Cell → List Copy
+copies_with font n o c =
+    let width = width_of font c.0 in
+    record { tile = c; move = width }
+    ∷ (if repeats c.0 then replicate n (record { tile = c; move = width -ℤ o }) else [])
+
+abbrev pub copies_by : Font → Lay → Cell → List Copy
+copies_by font lay c = copies_with font lay.added lay.overlap c
+
+abbrev pub run_copies : Font → Lay → List Cell → List Copy
+run_copies font lay tiles = flat_map (copies_by font lay) (reverse tiles)
 
 -- the numbers by which the copies of a run are laid
 pub record IsLayOf (z : Run) (lay : Lay) : Type 0 where

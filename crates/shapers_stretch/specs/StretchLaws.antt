@@ -98,8 +98,8 @@ IsLaidOver font choice old new =
     old.stch ≡ true →
     TextIsLaid (laying font choice old) (cells_in_order old) (cells_in_order new)
 
--- each glyph of the text after is a copy of one of the text before: it has its cluster and its glyph
--- flags, and may have got others
+-- each glyph of the text after is a copy of one of the text before: it has its cluster and its
+-- glyph flags, and may have got others
 abbrev pub AreCopies : List hb_glyph_info_t → List hb_glyph_info_t → Type 0
 AreCopies olds news =
     AllByRecursion

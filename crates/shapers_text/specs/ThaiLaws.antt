@@ -56,8 +56,8 @@ InTwoLaw = (level : BufferClusterLevel) (gs : List hb_glyph_info_t) →
     InTwoHolds level gs
     (glyphs_in_two (merge_all level (sara_am_stretches level (characters gs)) gs))
 
--- The flag law, of each glyph by its source, the flags of the private use forms included: no cluster
--- rises, and unless it fell, no glyph flag of the source is lost.
+-- The flag law, of each glyph by its source, the flags of the private use forms included: no
+-- cluster rises, and unless it fell, no glyph flag of the source is lost.
 abbrev pub FlagsInTwo : List hb_glyph_info_t → List hb_glyph_info_t → Type 0
 FlagsInTwo gs rs = AllFlagsStay (pick (sources (characters gs)) gs) rs
 

@@ -1,7 +1,7 @@
 //! The text of an erased file.
 
 use crate::file::File;
-use crate::table::{NAMES, PRELUDE, UNKNOWN, root_of};
+use crate::table::{all, get};
 use crate::token::is_part;
 
 /// The text of an erased file, with its names replaced. Returns an error at a contract that is left,
@@ -10,27 +10,24 @@ pub fn emit(file: &File) -> Result<String, String> {
     let mut body = String::new();
     for (i, token) in file.tokens.iter().enumerate() {
         check(file, i)?;
-        let text = renamed(file, i)?.unwrap_or_else(|| token.text.clone());
-        body = body + &token.lead + &text;
+        body = body + &token.lead + &renamed(file, i)?.unwrap_or_else(|| token.text.clone());
     }
-    let body = body.trim();
     let is_inner = |line: &&str| line.starts_with("//!");
-    let inner: String = body.split_inclusive('\n').take_while(is_inner).collect();
-    let rest = body[inner.len()..].trim_start();
+    let inner: String = body.trim().split_inclusive('\n').take_while(is_inner).collect();
+    let rest = body.trim()[inner.len()..].trim_start();
     let blank = if inner.is_empty() { "" } else { "//!\n" };
-    let is_known = |i: usize| PRELUDE.contains(&file.text(i)) && file.before(i) != "::";
+    let is_known = |i: usize| get("prelude", file.text(i)).is_some() && file.before(i) != "::";
     let needs_prelude = (0..file.tokens.len()).any(|i| is_known(i) || is_collected(file, i));
     let prelude = if needs_prelude { "use crate::support::prelude::*;\n\n" } else { "" };
     let head = format!("//! Generated from {} by rust/erase; edit the source.\n", file.path);
-    Ok(head + blank + &inner + "\n" + prelude + rest + "\n")
+    Ok(format!("{head}{blank}{inner}\n{prelude}{rest}\n"))
 }
 
 /// A comment with the table's names in it.
 pub fn in_comment(comment: &str) -> String {
     let renamed = |word: &str| {
         let name = word.trim_end_matches(|c| !is_part(c));
-        let found = NAMES.iter().find(|(old, _)| *old == name);
-        found.map_or(word.to_string(), |(_, new)| new.to_string() + &word[name.len()..])
+        get("name", name).unwrap_or(name).to_string() + &word[name.len()..]
     };
     comment.split_inclusive(|c| !is_part(c)).map(renamed).collect()
 }
@@ -38,11 +35,12 @@ pub fn in_comment(comment: &str) -> String {
 // Stops at what has no place in Rust.
 fn check(file: &File, i: usize) -> Result<(), String> {
     let (text, before) = (file.text(i), file.before(i));
-    let is_item = matches!(before, "struct" | "enum" | "trait" | "type" | "fn" | "mod" | "const");
-    if UNKNOWN.contains(&text) || !text.is_ascii() && !text.contains(['"', '\'']) {
+    let is_literal = text.contains(['"', '\'']);
+    if get("left", text).is_some() || !text.is_ascii() && !is_literal {
         return Err(file.fault(i, &format!("`{text}` is left")));
     }
-    if is_item && NAMES.iter().any(|(_, new)| *new == text) {
+    let is_item = matches!(before, "struct" | "enum" | "trait" | "type" | "fn" | "mod" | "const");
+    if is_item && all("name").any(|(_, new)| new == text) {
         return Err(file.fault(i, &format!("the table gives the name `{text}` to another item")));
     }
     let is_local =
@@ -57,15 +55,22 @@ fn check(file: &File, i: usize) -> Result<(), String> {
 // What the table makes of a word in its place, if that is something else.
 fn renamed(file: &File, i: usize) -> Result<Option<String>, String> {
     let word = file.text(i);
-    let name = NAMES.iter().find(|(old, _)| *old == word).map(|(_, new)| new.to_string());
-    let name = name.or(is_collected(file, i).then(|| "collect_in".to_string()));
+    let name = get("name", word).or(is_collected(file, i).then_some("collect_in"));
     if name.is_some() || file.text(i + 1) != "::" || file.before(i) == "::" {
-        return Ok(name);
+        return Ok(name.map(str::to_string));
     }
+    let own = file.path.split('/').nth(1).unwrap_or("");
+    let krate = if word == "crate" { own } else { word };
     let path = format!("{word}::{}", file.text(i + 2));
-    match root_of(word, &path, file.path.split('/').nth(1).unwrap_or("")) {
-        None if word == "std" => Err(file.fault(i, &format!("unknown path `{path}`"))),
-        root => Ok(root),
+    match get("crate", krate) {
+        Some(tree) if Some(tree) == get("crate", own) => {
+            Ok(Some(format!("crate::generated::{krate}")))
+        }
+        Some(_) => Ok(get("foreign", krate).map(str::to_string)),
+        None => match get("root", word).or(get("root", &path)) {
+            None if word == "std" => Err(file.fault(i, &format!("unknown path `{path}`"))),
+            root => Ok(root.map(str::to_string)),
+        },
     }
 }
 

@@ -16,9 +16,9 @@ pub struct File {
 impl File {
     /// Reads a file. Returns an error where a comment, a string or a bracket has no end.
     pub fn new(path: &str, text: &str) -> Result<Self, String> {
-        let tokens = tokens(text).map_err(|(line, message)| format!("{path}:{line}: {message}"))?;
-        let (erased, definitions) = (BTreeSet::new(), BTreeMap::new());
-        let file = File { path: path.to_string(), tokens, erased, definitions };
+        let open = |line| format!("{path}:{line}: a comment or a string without an end");
+        let (path, tokens) = (path.to_string(), tokens(text).map_err(open)?);
+        let file = File { path, tokens, erased: BTreeSet::new(), definitions: BTreeMap::new() };
         let kind = |i: usize| "([{)]}".find(file.text(i));
         let is_open =
             |i: &usize| kind(*i).is_some_and(|k| kind(file.partner(*i)) != Some((k + 3) % 6));
@@ -85,11 +85,11 @@ impl File {
     /// The last token of the item or statement with its keyword at `i`: a semicolon, or the closing
     /// brace of its body.
     pub fn end(&self, i: usize) -> Result<usize, String> {
-        let has_body = !matches!(self.text(i), "use" | "const" | "static" | "type" | "let");
+        let has_body = !matches!(self.text(i), "ghost" | "use" | "const" | "static" | "type");
         let mut j = i;
         while self.text(j) != ";" && !(has_body && self.text(j) == "{") {
-            j = self.partner(j).max(j) + 1;
-            if j >= self.tokens.len() {
+            j = self.partner(j) + 1;
+            if matches!(self.text(j), ")" | "]" | "}" | "") {
                 return Err(self.fault(i, "an item without an end"));
             }
         }
@@ -138,12 +138,6 @@ impl File {
             ("<", ">") => self.cut(first - 1..=last + 1),
             _ => self.cut_item(first..=last),
         }
-    }
-
-    /// Cuts out the whole item with its keyword at `i`.
-    pub fn cut_whole(&mut self, i: usize) -> Result<(), String> {
-        self.cut_item(self.start(i)..=self.end(i)?);
-        Ok(())
     }
 
     /// The path of the file of a module that this file declares.

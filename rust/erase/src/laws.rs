@@ -2,24 +2,17 @@
 //! modules that are empty after that.
 
 use crate::file::File;
-use crate::table::{COUNTED, ITEMS, LEDGER};
+use crate::table::{all, get};
 use std::collections::BTreeSet;
 
 /// Cuts the law functions: those without parameters and result that do nothing, or nothing but call
 /// such functions. Returns their names, or an error where another function has the name of one.
 pub fn erase_laws(files: &mut [File]) -> Result<BTreeSet<String>, String> {
-    let (mut laws, mut count) = (BTreeSet::new(), None);
-    while count != Some(laws.len()) {
-        count = Some(laws.len());
-        for file in files.iter() {
-            let names = file.places("fn").into_iter().filter(|i| is_law(file, *i, &laws));
-            laws.extend(names.map(|i| file.text(i + 1).to_string()).collect::<Vec<String>>());
-        }
-    }
+    let laws = laws(files);
     for file in files {
         for i in file.places("fn") {
             match (is_law(file, i, &laws), laws.contains(file.text(i + 1))) {
-                (true, _) => file.cut_whole(i)?,
+                (true, _) => file.cut_item(file.start(i)..=file.end(i)?),
                 (false, true) => return Err(file.fault(i, "a function with the name of a law")),
                 _ => {}
             }
@@ -28,12 +21,21 @@ pub fn erase_laws(files: &mut [File]) -> Result<BTreeSet<String>, String> {
     Ok(laws)
 }
 
+fn laws(files: &[File]) -> BTreeSet<String> {
+    let (mut laws, mut count) = (BTreeSet::new(), None);
+    while count.replace(laws.len()) != Some(laws.len()) {
+        for file in files {
+            let names = file.places("fn").into_iter().filter(|i| is_law(file, *i, &laws));
+            laws.extend(names.map(|i| file.text(i + 1).to_string()).collect::<Vec<String>>());
+        }
+    }
+    laws
+}
+
 // Whether a function without parameters and result does nothing but call these laws.
 fn is_law(file: &File, i: usize, laws: &BTreeSet<String>) -> bool {
-    let is_call = |call: &str| {
-        let path = call.strip_suffix("()").and_then(|path| path.rsplit("::").next());
-        path.is_some_and(|name| laws.contains(name))
-    };
+    let name = |call: &str| call.strip_suffix("()")?.rsplit("::").next().map(str::to_string);
+    let is_call = |call: &str| name(call).is_some_and(|name| laws.contains(&name));
     let body = file.joined(i + 5..=file.partner(i + 4).saturating_sub(1));
     file.joined(i + 2..=i + 4) == "(){" && body.split_terminator(';').all(is_call)
 }
@@ -43,11 +45,12 @@ pub fn erase_count(file: &mut File) -> Result<(), String> {
     if file.places("Ledger").is_empty() {
         return Ok(());
     }
-    merge_counted(file)?;
+    all("counted").try_for_each(|(counted, plain)| merge(file, counted, plain))?;
+    // A variant or a method isn't the ledger's, and imports go by name.
     let is_other = |file: &File, i: usize| {
-        file.is_import(i) || file.before(i) == "::" || file.text(i + 1) == "("
+        file.before(i) == "::" || file.text(i + 1) == "(" || file.is_import(i)
     };
-    for name in LEDGER {
+    for (name, _) in all("ledger") {
         while let Some(i) = file.places(name).into_iter().find(|i| !is_other(file, *i)) {
             file.cut_element(i);
         }
@@ -56,48 +59,51 @@ pub fn erase_count(file: &mut File) -> Result<(), String> {
 }
 
 // Gives the function that counts the documentation of the one that doesn't, and cuts that one.
-fn merge_counted(file: &mut File) -> Result<(), String> {
+fn merge(file: &mut File, counted: &str, plain: &str) -> Result<(), String> {
     let place = |name| file.places(name).into_iter().find(|i| file.before(*i) == "fn");
-    if let (Some(counted), Some(plain)) = (place(COUNTED.0), place(COUNTED.1)) {
+    if let (Some(counted), Some(plain)) = (place(counted), place(plain)) {
         let (start, other) = (file.start(counted - 1), file.start(plain - 1));
         file.tokens[start].lead = file.tokens[other].lead.clone();
-        file.cut_whole(plain - 1)?;
+        file.cut_item(other..=file.end(plain - 1)?);
     }
     Ok(())
 }
 
-/// Cuts the imports of what is gone, and the private ones of what only erased code named.
-pub fn erase_imports(file: &mut File, laws: &BTreeSet<String>) {
+/// Cuts the imports of what is gone, those of what only erased code named, and the modules that have
+/// no code then. Modules stand behind those that declare them.
+pub fn erase_imports(files: &mut [File], laws: &BTreeSet<String>) -> Result<(), String> {
+    let mut empty = BTreeSet::new();
+    for file in files.iter_mut().rev() {
+        erase_uses(file, laws);
+        for i in file.places("mod") {
+            if empty.contains(&file.path_of_module(file.text(i + 1))) {
+                file.cut_item(file.start(i)..=file.end(i)?);
+            }
+        }
+        if file.tokens.len() == 1 {
+            empty.insert(file.path.clone());
+        }
+    }
+    Ok(())
+}
+
+fn erase_uses(file: &mut File, laws: &BTreeSet<String>) {
     for i in (0..file.tokens.len()).rev() {
         let is_leaf = matches!(file.text(i + 1), "," | "}" | ";" | "as");
-        let is_empty = file.text(i) == "{" && file.text(i + 1) == "}";
-        if file.is_import(i) && (is_empty || is_leaf && is_dead(file, i, laws)) {
+        let is_left = file.text(i) == "{" && file.text(i + 1) == "}";
+        if file.is_import(i) && (is_left || is_leaf && is_dead(file, i, laws)) {
             file.cut_element(i);
         }
     }
 }
 
-// Whether the name that is imported at `i` is gone.
+// Whether the name that is imported at `i` is gone, or has no use any more.
 fn is_dead(file: &File, i: usize, laws: &BTreeSet<String>) -> bool {
     let module = file.nearest(i, &["{"]).filter(|_| file.text(i) == "self");
     let name = file.text(module.map_or(i, |open| open - 2));
     let import = file.nearest(i, &["use"]).unwrap_or(i);
-    let is_unused = || !file.places(name).iter().any(|i| !file.is_import(*i));
-    laws.contains(name)
-        || ITEMS.contains(&name)
-        || file.start(import) == import && file.erased.contains(name) && is_unused()
-}
-
-/// Cuts the modules without code, from all files.
-pub fn erase_modules(files: &mut [File]) -> Result<(), String> {
-    loop {
-        let empty = files.iter().filter(|file| file.tokens.len() == 1);
-        let empty: BTreeSet<String> = empty.map(|file| file.path.clone()).collect();
-        let is_empty = |file: &File, i| empty.contains(&file.path_of_module(file.text(i + 1)));
-        let module = |file: &File| file.places("mod").into_iter().find(|i| is_empty(file, *i));
-        match files.iter_mut().find_map(|file| module(file).map(|i| (file, i))) {
-            Some((file, i)) => file.cut_whole(i)?,
-            None => return Ok(()),
-        }
-    }
+    let was_used = file.erased.contains(name) || get("trait", name).is_some();
+    let is_used = || file.places(name).iter().any(|i| !file.is_import(*i));
+    let is_gone = laws.contains(name) || get("item", name).is_some();
+    is_gone || file.start(import) == import && was_used && !is_used()
 }

@@ -14,53 +14,43 @@ pub mod table;
 pub mod token;
 
 use file::File;
+use std::collections::BTreeMap;
 
-/// A generated file, before rustfmt.
-pub struct Output {
-    /// The path of its source, from the top of the repository.
-    pub source: String,
-    /// Its own path, from there.
-    pub path: String,
-    /// Its text.
-    pub text: String,
-}
+type Read<'a> = &'a dyn Fn(&str) -> Option<String>;
 
-/// Gives the text of a file of the repository, if there is such a file.
-pub type Read<'a> = &'a dyn Fn(&str) -> Option<String>;
-
-/// Erases crates. Returns their files, or file, line and message of the first thing that isn't known.
-pub fn erase(crates: &[&str], read: Read) -> Result<Vec<Output>, String> {
+/// Erases crates; `read` gives the text of a file of the repository. Returns the texts of the
+/// generated files by their paths, before rustfmt, or file, line and message of the first thing that
+/// isn't known.
+pub fn erase(crates: &[&str], read: Read) -> Result<BTreeMap<String, String>, String> {
     let mut files = Vec::new();
     for krate in crates {
-        load(krate, read, &mut files)?;
+        load(format!("crates/{krate}/src/lib.rt"), read, &mut files)?;
     }
     let laws = laws::erase_laws(&mut files)?;
     files.iter_mut().try_for_each(laws::erase_count)?;
-    files.iter_mut().for_each(|file| laws::erase_imports(file, &laws));
-    laws::erase_modules(&mut files)?;
-    files.iter().filter(|file| file.tokens.len() > 1).map(output).collect()
+    laws::erase_imports(&mut files, &laws)?;
+    let kept = files.iter().filter(|file| file.tokens.len() > 1);
+    kept.map(|file| Ok((path_of(file), emit::emit(file)?))).collect()
 }
 
-// Reads the modules of a crate, from its root on, and erases each file for itself.
-fn load(krate: &str, read: Read, files: &mut Vec<File>) -> Result<(), String> {
-    let mut paths = vec![format!("crates/{krate}/src/lib.rt")];
-    while let Some(path) = paths.pop() {
-        let text = read(&path).ok_or_else(|| format!("{path}: no such file"))?;
-        let mut file = File::new(&path, &text)?;
-        for token in &mut file.tokens {
-            token.lead = emit::in_comment(&token.lead);
-        }
-        ghost::erase_file(&mut file)?;
-        let modules = file.places("mod").into_iter().filter(|i| file.text(i + 2) == ";");
-        paths.extend(modules.map(|i| file.path_of_module(file.text(i + 1))));
-        files.push(file);
+// Reads a module and those below it, and erases each file for itself.
+fn load(path: String, read: Read, files: &mut Vec<File>) -> Result<(), String> {
+    let text = read(&path).ok_or_else(|| format!("{path}: no such file"))?;
+    let mut file = File::new(&path, &text)?;
+    for token in &mut file.tokens {
+        token.lead = emit::in_comment(&token.lead);
     }
-    Ok(())
+    ghost::erase_file(&mut file)?;
+    let modules = file.places("mod").into_iter().filter(|i| file.text(i + 2) == ";");
+    let paths: Vec<String> = modules.map(|i| file.path_of_module(file.text(i + 1))).collect();
+    files.push(file);
+    paths.into_iter().try_for_each(|path| load(path, read, files))
 }
 
-fn output(file: &File) -> Result<Output, String> {
-    let tree = file.path.split('/').nth(1).and_then(table::tree_of).unwrap_or("");
-    let path = file.path.replace("/src/lib.rt", "/src/mod.rt").replacen("/src/", "/", 1);
-    let path = path.replacen("crates", tree, 1).trim_end_matches(".rt").to_string() + ".rs";
-    Ok(Output { source: file.path.clone(), path, text: emit::emit(file)? })
+// The path of the file that is generated from a source.
+fn path_of(file: &File) -> String {
+    let path = file.path.trim_start_matches("crates/").trim_end_matches(".rt");
+    let (krate, module) = path.split_once("/src/").unwrap_or((path, "lib"));
+    let module = if module == "lib" { "mod" } else { module };
+    format!("{}/{krate}/{module}.rs", table::get("crate", krate).unwrap_or("."))
 }

@@ -1,98 +1,79 @@
-//! `erase` makes the generated trees anew, `erase --check` tells whether they are up to date. Both
-//! print each file that differs, and run at the top of the repository.
+//! `erase` makes the generated trees anew; `erase --check` prints each file that isn't up to date. Both
+//! run at the top of the repository.
 
 #![forbid(unsafe_code)]
 
-use erase::erase;
-use erase::table::TREES;
-use erase::token::tokens;
+use erase::{erase, table, token};
 use std::collections::{BTreeMap, BTreeSet};
 use std::error::Error;
 use std::path::{Path, PathBuf};
 use std::process::{Command, ExitCode};
 use std::{env, fs};
 
-type Files = BTreeMap<PathBuf, String>;
-
 fn main() -> ExitCode {
-    let arguments: Vec<String> = env::args().skip(1).collect();
-    let is_check = arguments == ["--check"];
-    let usage = || Err("usage: erase [--check]".into());
-    match if arguments.is_empty() || is_check { update(is_check) } else { usage() } {
-        Ok(true) => ExitCode::SUCCESS,
-        Ok(false) => ExitCode::FAILURE,
-        Err(error) => {
-            eprintln!("{error}");
-            ExitCode::FAILURE
-        }
+    let result = match env::args().nth(1).as_deref() {
+        None => make(Path::new("")).map(|()| Vec::new()),
+        Some("--check") => check(),
+        Some(_) => Err("usage: erase [--check]".into()),
+    };
+    match result {
+        Ok(paths) if paths.is_empty() => return ExitCode::SUCCESS,
+        Ok(paths) => paths.iter().for_each(|path| println!("{}", path.display())),
+        Err(error) => eprintln!("{error}"),
+    }
+    ExitCode::FAILURE
+}
+
+// Makes the trees below a folder, formatted, in place of what stands there.
+fn make(top: &Path) -> Result<(), Box<dyn Error>> {
+    let crates: Vec<&str> = table::all("crate").map(|(krate, _)| krate).collect();
+    let outputs = erase(&crates, &|path| fs::read_to_string(path).ok())?;
+    files_below(top)?.keys().try_for_each(|path| fs::remove_file(top.join(path)))?;
+    for (path, text) in &outputs {
+        let path = top.join(path);
+        fs::create_dir_all(path.parent().unwrap_or(top))?;
+        fs::write(path, text)?;
+    }
+    let roots = outputs.keys().filter(|path| path.ends_with("/mod.rs")).map(|path| top.join(path));
+    match Command::new("rustfmt").args(["--edition", "2024"]).args(roots).status()?.success() {
+        true => Ok(()),
+        false => Err("rustfmt failed".into()),
     }
 }
 
-// Prints each file that differs by more than white space and the layout's commas and, unless this is
-// a check, writes or removes it. Returns whether all is up to date then.
-fn update(is_check: bool) -> Result<bool, Box<dyn Error>> {
-    let (made, committed) = (generated()?, files_below(Path::new(""))?);
-    let words = |files: &Files, path: &PathBuf| files.get(path).map(|text| words(text));
-    let differs = |path: &&PathBuf| words(&made, path) != words(&committed, path);
-    let paths: BTreeSet<&PathBuf> = made.keys().chain(committed.keys()).collect();
-    let different: Vec<&PathBuf> = paths.into_iter().filter(differs).collect();
-    for path in &different {
-        println!("{}", path.display());
-        match made.get(*path) {
-            _ if is_check => {}
-            Some(text) => write(path, text)?,
-            None => fs::remove_file(path)?,
-        }
-    }
-    Ok(!is_check || different.is_empty())
+// The files that differ by more than white space and the layout's commas.
+fn check() -> Result<Vec<PathBuf>, Box<dyn Error>> {
+    let scratch = Path::new("target/erase");
+    make(scratch)?;
+    let (made, committed) = (files_below(scratch)?, files_below(Path::new(""))?);
+    let paths: BTreeSet<PathBuf> = made.keys().chain(committed.keys()).cloned().collect();
+    Ok(paths.into_iter().filter(|path| made.get(path) != committed.get(path)).collect())
 }
 
 // The words of a text's comments and its tokens, without commas before closing brackets.
 fn words(text: &str) -> Vec<String> {
-    let tokens = tokens(text).unwrap_or_default();
+    let tokens = token::tokens(text).unwrap_or_default();
     let is_layout = |i: usize| tokens[i].text == "," && ")]}>".contains(&tokens[i + 1].text);
     let text = |i: usize| if is_layout(i) { "" } else { &tokens[i].text };
     let words = |i: usize| tokens[i].lead.split_whitespace().chain([text(i)]).map(str::to_string);
     (0..tokens.len()).flat_map(words).filter(|word| !word.is_empty()).collect()
 }
 
-// The files of all trees after rustfmt, by their paths.
-fn generated() -> Result<Files, Box<dyn Error>> {
-    let crates: Vec<&str> = TREES.iter().flat_map(|(_, crates)| crates.split(' ')).collect();
-    let outputs = erase(&crates, &|path| fs::read_to_string(path).ok())?;
-    let scratch = Path::new("target/erase");
-    if scratch.exists() {
-        fs::remove_dir_all(scratch)?;
-    }
-    for output in &outputs {
-        write(&scratch.join(&output.path), &output.text)?;
-    }
-    let roots = outputs.iter().map(|output| scratch.join(&output.path));
-    let roots = roots.filter(|path| path.ends_with("mod.rs"));
-    match Command::new("rustfmt").args(["--edition", "2024"]).args(roots).status()?.success() {
-        true => files_below(scratch),
-        false => Err("rustfmt failed".into()),
-    }
-}
-
-// The files of all trees below a folder, by their paths from there.
-fn files_below(top: &Path) -> Result<Files, Box<dyn Error>> {
-    let mut files = Files::new();
-    let mut folders: Vec<PathBuf> = TREES.iter().map(|(folder, _)| top.join(folder)).collect();
+// The words of the files of all trees below a folder, by their paths from there.
+fn files_below(top: &Path) -> Result<BTreeMap<PathBuf, Vec<String>>, Box<dyn Error>> {
+    let mut files = BTreeMap::new();
+    let trees: BTreeSet<&str> = table::all("crate").map(|(_, tree)| tree).collect();
+    let mut folders: Vec<PathBuf> = trees.iter().map(|tree| top.join(tree)).collect();
     while let Some(folder) = folders.pop() {
         for entry in folder.read_dir().into_iter().flatten() {
-            let path = entry?.path();
-            if path.is_dir() {
-                folders.push(path);
-            } else {
-                files.insert(path.strip_prefix(top)?.to_path_buf(), fs::read_to_string(&path)?);
+            match entry?.path() {
+                path if path.is_dir() => folders.push(path),
+                path => {
+                    let words = words(&fs::read_to_string(&path)?);
+                    files.insert(path.strip_prefix(top)?.into(), words);
+                }
             }
         }
     }
     Ok(files)
-}
-
-fn write(path: &Path, text: &str) -> Result<(), Box<dyn Error>> {
-    fs::create_dir_all(path.parent().unwrap_or(path))?;
-    Ok(fs::write(path, text)?)
 }

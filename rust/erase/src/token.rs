@@ -1,9 +1,9 @@
 //! The tokens of Rust and of the contracts beside it.
 
-/// A token of code, with the white space and the comments before it.
+/// A token of code.
 #[derive(Clone, Debug)]
 pub struct Token {
-    /// What stands before it.
+    /// The white space and the comments before it.
     pub lead: String,
     /// Its characters.
     pub text: String,
@@ -12,15 +12,13 @@ pub struct Token {
 }
 
 /// The tokens of a text; the last one is empty and has what stands behind the others. Returns the
-/// line and a message where a comment or a string has no end.
-pub fn tokens(text: &str) -> Result<Vec<Token>, (usize, &'static str)> {
+/// line of a comment or a string without an end.
+pub fn tokens(text: &str) -> Result<Vec<Token>, usize> {
     let (mut tokens, mut rest, mut line) = (Vec::new(), text, 1);
     while tokens.last().is_none_or(|token: &Token| !token.text.is_empty()) {
         let (lead, code) = rest.split_at(lead_len(rest));
         line += lead.matches('\n').count();
-        let len = if code.starts_with("/*") { None } else { code_len(code) };
-        let (text, behind) =
-            code.split_at(len.ok_or((line, "a comment or a string without an end"))?);
+        let (text, behind) = code.split_at(code_len(code).ok_or(line)?);
         tokens.push(Token { lead: lead.to_string(), text: text.to_string(), line });
         line += text.matches('\n').count();
         rest = behind;
@@ -47,39 +45,36 @@ fn lead_len(text: &str) -> usize {
 
 // The length of the token of code that a text begins with; None where it has no end.
 fn code_len(text: &str) -> Option<usize> {
-    let bare = text.strip_prefix('b').unwrap_or(text);
-    let raw = bare.strip_prefix('r').unwrap_or("");
-    let hashes = raw.len() - raw.trim_start_matches('#').len();
-    if let Some(body) = raw.get(hashes..).and_then(|raw| raw.strip_prefix('"')) {
-        let end = format!("\"{}", &raw[..hashes]);
-        return body.find(&end).map(|i| text.len() - body.len() + i + end.len());
+    let quoted = text.trim_start_matches(['b', 'r']).trim_start_matches('#');
+    let prefix = text.len() - quoted.len();
+    let hashes = text[..prefix].matches('#').count();
+    let mut chars = quoted.chars();
+    match (chars.next(), chars.next(), chars.next()) {
+        (Some('"'), ..) if text[..prefix].contains('r') => {
+            let end = format!("\"{}", "#".repeat(hashes));
+            return quoted[1..].find(&end).map(|i| prefix + 1 + i + end.len());
+        }
+        (Some('"'), ..) if hashes == 0 => return quoted_len(quoted, '"').map(|len| prefix + len),
+        (Some('\''), Some('\\'), _) | (Some('\''), _, Some('\'')) if hashes == 0 => {
+            return quoted_len(quoted, '\'').map(|len| prefix + len);
+        }
+        _ if text.starts_with("/*") => return None,
+        _ => {}
     }
-    if let Some(body) = bare.strip_prefix('"') {
-        return quoted_len(body, '"').map(|len| text.len() - body.len() + len);
-    }
-    if let Some(body) = bare.strip_prefix('\'').filter(|body| is_char(body)) {
-        return quoted_len(body, '\'').map(|len| text.len() - body.len() + len);
-    }
-    let word = |text: &str| text.find(|c| !is_part(c)).unwrap_or(text.len());
-    let lifetime = text.strip_prefix('\'').map_or(0, word);
+    let word_len = |text: &str| text.find(|c| !is_part(c)).unwrap_or(text.len());
+    let lifetime = text.strip_prefix('\'').map_or(0, |name| 1 + word_len(name));
     let sign = text.chars().next().map_or(0, char::len_utf8);
     let is_double = ["::", "->", "=>"].iter().any(|sign| text.starts_with(sign));
-    Some(word(text).max(sign + lifetime).max(if is_double { 2 } else { 0 }))
+    Some(if is_double { 2 } else { sign.max(lifetime).max(word_len(text)) })
 }
 
-// Whether what stands behind a quote is a character, and not a lifetime.
-fn is_char(body: &str) -> bool {
-    let mut chars = body.chars();
-    chars.next() == Some('\\') || chars.next() == Some('\'')
-}
-
-// The length of the body of a literal with its closing quote.
-fn quoted_len(body: &str, quote: char) -> Option<usize> {
+// The length of a literal between quotes that a text begins with.
+fn quoted_len(text: &str, quote: char) -> Option<usize> {
     let mut is_escaped = false;
-    let is_end = |(_, c): &(usize, char)| {
-        let is_end = *c == quote && !is_escaped;
+    let is_end = |(i, c): &(usize, char)| {
+        let is_end = *i > 0 && *c == quote && !is_escaped;
         is_escaped = *c == '\\' && !is_escaped;
         is_end
     };
-    body.char_indices().find(is_end).map(|(i, _)| i + 1)
+    text.char_indices().find(is_end).map(|(i, _)| i + 1)
 }

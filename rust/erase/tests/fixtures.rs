@@ -32,10 +32,9 @@ fn difference(fixture: &str) -> Option<String> {
         Err(error) => return (Some(&error) != expected_error.as_ref()).then_some(error),
         Ok(outputs) => outputs,
     };
-    for output in outputs {
-        let text = expected.remove(&output.path).unwrap_or_default();
-        if words(&output.text) != words(&text) {
-            return Some(output.text);
+    for (path, text) in outputs {
+        if words(&text) != words(&expected.remove(&path).unwrap_or_default()) {
+            return Some(text);
         }
     }
     let is_missing = !expected.is_empty() || expected_error.is_some();

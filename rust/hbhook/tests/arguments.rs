@@ -2,8 +2,7 @@
 
 mod common;
 
-use common::{Run, from_top, start};
-use std::io::Write;
+use common::{Run, from_top};
 
 // The program rejects the arguments with a message.
 fn expect_rejected(arguments: &[&str], message: &str) {
@@ -67,25 +66,7 @@ fn ends_as_the_lines_say() {
     );
 }
 
-// A pipe whose reader is gone: the status is that of an output that can't be written.
-#[test]
-fn ends_where_no_one_reads_the_output() {
-    for arguments in [&[][..], &["--why"], &["--draw"]] {
-        let mut child = start(arguments);
-        drop(child.stdout.take());
-        let mut stdin = child.stdin.take().unwrap();
-        stdin.write_all(b"text 41").unwrap();
-        drop(stdin);
-        let run = Run::end_of(child);
-        assert_eq!(
-            (run.status, run.told.as_str()),
-            (Some(2), ""),
-            "{arguments:?}"
-        );
-    }
-}
-
-// A device that is always full: the same status.
+// A device that is always full: the status is that of an output that can't be written.
 #[cfg(target_os = "linux")]
 #[test]
 fn ends_where_the_output_is_full() {

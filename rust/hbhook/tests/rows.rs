@@ -32,6 +32,11 @@ impl Row {
         text.push('\n');
     }
 
+    // Whether the row has a length that only usize of 64 bits holds.
+    fn is_wide(&self) -> bool {
+        self.script.contains(&u64::MAX.to_string())
+    }
+
     fn check(&self, file: &str) {
         let (mut printed, mut told) = (Vec::new(), Vec::new());
         let script = self.script.as_bytes();
@@ -80,7 +85,8 @@ fn every_worked_row_holds() {
     for line in counts.lines() {
         let (file, _) = line.split_once(": ").unwrap();
         let rows = rows_of(&fs::read_to_string(program.join("data").join(file)).unwrap());
-        rows.iter().for_each(|row| row.check(file));
+        let is_held = |row: &&Row| usize::BITS == 64 || !row.is_wide();
+        rows.iter().filter(is_held).for_each(|row| row.check(file));
         assert_eq!(line, format!("{file}: {} rows", rows.len()));
         files += 1;
     }

@@ -24,7 +24,8 @@ static sengadlit_bool_t nominal_glyph(void *user_data, uint32_t unicode, uint32_
 int main(void)
 {
     static const uint32_t word[] = {0x1780, 0x17D2, 0x179A, 0x1780, 0x17C1};
-    static const sengadlit_span_t syllables[] = {{3, 0}, {2, 0}}; /* Kind 0: a consonant syllable. */
+    static const sengadlit_span_t syllables[] = {{3, SENGADLIT_KHMER_SYLLABLE_CONSONANT},
+                                                 {2, SENGADLIT_KHMER_SYLLABLE_CONSONANT}};
     static const sengadlit_feature_t pref = {SENGADLIT_TAG('p', 'r', 'e', 'f'), 0x08, 0};
     static const sengadlit_font_funcs_t font_funcs = {.nominal_glyph = nominal_glyph};
     static const sengadlit_tables_funcs_t tables_funcs = {.indic_categories = indic_categories};

@@ -74,7 +74,8 @@ typedef enum sengadlit_status_t {
     SENGADLIT_STRETCH_OVERFLOW = 7,  /* A sum of advances doesn't fit 32 bits. */
     SENGADLIT_NOT_FOUND = 8,         /* The characters don't compose, or the character doesn't decompose. */
     SENGADLIT_INTERNAL = 9,          /* A fault of the library, or of a callback that changed its answer: the buffer of
-                                        the call is empty and may be used again. A message went to stderr. */
+                                        the call is empty, with its properties, and may be used again. A message went to
+                                        stderr. */
     SENGADLIT_STATUS_MAX_VALUE = 0x7FFFFFFF
 } sengadlit_status_t;
 
@@ -89,7 +90,7 @@ typedef enum sengadlit_argument_t {
     SENGADLIT_ARGUMENT_RESULT = 6,   /* A pointer to write a result to is null. */
     SENGADLIT_ARGUMENT_PAUSE = 7,    /* No pause by this number, or one that the plan's shaper doesn't have. */
     SENGADLIT_ARGUMENT_RANGE = 8,    /* Places that aren't in order, beyond the text, or too many. */
-    SENGADLIT_ARGUMENT_SPANS = 9,   /* Null, or the kind of span `index` is above 15. */
+    SENGADLIT_ARGUMENT_SPANS = 9,    /* Null, or the kind of span `index` is above 15. */
     SENGADLIT_ARGUMENT_CODEPOINT = 10, /* That of glyph `index` is none that the hook takes; or an argument is none. */
     SENGADLIT_ARGUMENT_GENERAL_CATEGORY = 11, /* That of glyph `index` is above 29. */
     SENGADLIT_ARGUMENT_POSITIONS = 12, /* There are positions where the hook wants none, or none where it wants them. */
@@ -352,12 +353,15 @@ enum {
 
 /* Bits of `marks`: what happened to the glyph in lookups, which the caller notes, and what its character is. */
 enum {
-    SENGADLIT_GLYPH_MARK_SUBSTITUTED = 0x01,  /* As HB_OT_LAYOUT_GLYPH_PROPS_SUBSTITUTED, shifted right by 4; */
-    SENGADLIT_GLYPH_MARK_LIGATED = 0x02,      /* so these two. */
+    SENGADLIT_GLYPH_MARK_SUBSTITUTED = 0x01,
+    SENGADLIT_GLYPH_MARK_LIGATED = 0x02,
     SENGADLIT_GLYPH_MARK_MULTIPLIED = 0x04,
     SENGADLIT_GLYPH_MARK_IGNORABLE = 0x08,    /* Default_Ignorable_Code_Point. */
     SENGADLIT_GLYPH_MARK_CONTINUATION = 0x10  /* It continues the grapheme of the one before. */
 };
+
+/* `marks` of what HarfBuzz keeps as glyph_props: SUBSTITUTED, LIGATED, MULTIPLIED. */
+#define SENGADLIT_GLYPH_MARKS_FROM_PROPS(glyph_props) ((uint8_t)((unsigned int)(glyph_props) >> 4 & 0x07))
 
 /* As hb_unicode_general_category_t. */
 enum {
@@ -406,7 +410,7 @@ typedef struct sengadlit_glyph_info_t {
     uint8_t auxiliary;               /* ot_shaper_var_u8_auxiliary: a joining form, a jamo's kind or a position. */
     uint8_t general_category;        /* 0 to 29, at every hook. */
     uint8_t modified_combining_class; /* As HarfBuzz modifies it. */
-    uint8_t lig_comp;                /* The component of a ligature that a mark stands on, from 1; 0 if it stands on none. */
+    uint8_t lig_comp;                /* As _hb_glyph_info_get_lig_comp: 0 to 15. */
     uint8_t marks;                   /* SENGADLIT_GLYPH_MARK_.. */
 } sengadlit_glyph_info_t;
 
@@ -512,8 +516,8 @@ sengadlit_status_t sengadlit_preprocess_text(const sengadlit_plan_t *plan, const
 
 /* Whether the shaper composes two characters, or decomposes one: DONE, and what they make is written; NOT_FOUND; or ABSENT,
    where Unicode's own composition holds. Asks compose (and for Indic, Khmer and universal general_category), or decompose.
-   `error` may be null; it is written where ARGUMENT is returned: PLAN, TABLES, RESULT, or CODEPOINT, which is no scalar
-   value. */
+   `error` may be null; it is written where anything else is returned. ARGUMENT: PLAN, TABLES, RESULT, or CODEPOINT, which
+   is no scalar value. */
 sengadlit_status_t sengadlit_decompose(const sengadlit_plan_t *plan, const sengadlit_tables_t *tables, uint32_t ab,
                                        uint32_t *a, uint32_t *b, sengadlit_error_t *error);
 sengadlit_status_t sengadlit_compose(const sengadlit_plan_t *plan, const sengadlit_tables_t *tables, uint32_t a, uint32_t b,
@@ -533,10 +537,44 @@ sengadlit_status_t sengadlit_reorder_marks(const sengadlit_plan_t *plan, sengadl
 sengadlit_status_t sengadlit_setup_masks(const sengadlit_plan_t *plan, const sengadlit_tables_t *tables,
                                          sengadlit_buffer_t *buffer);
 
+/* The kinds of syllables, as HarfBuzz's machines have them but for Myanmar's: its number of a kind becomes ours by
+   SENGADLIT_MYANMAR_SYLLABLE_FROM_HARFBUZZ, since its machine has no punctuation clusters any more. */
+enum {
+    SENGADLIT_INDIC_SYLLABLE_CONSONANT = 0,
+    SENGADLIT_INDIC_SYLLABLE_VOWEL = 1,
+    SENGADLIT_INDIC_SYLLABLE_STANDALONE = 2,
+    SENGADLIT_INDIC_SYLLABLE_SYMBOL = 3,
+    SENGADLIT_INDIC_SYLLABLE_BROKEN = 4,
+    SENGADLIT_INDIC_SYLLABLE_NON_INDIC = 5
+};
+enum {
+    SENGADLIT_KHMER_SYLLABLE_CONSONANT = 0,
+    SENGADLIT_KHMER_SYLLABLE_BROKEN = 1,
+    SENGADLIT_KHMER_SYLLABLE_NON_KHMER = 2
+};
+enum {
+    SENGADLIT_MYANMAR_SYLLABLE_CONSONANT = 0,
+    SENGADLIT_MYANMAR_SYLLABLE_PUNCTUATION = 1,
+    SENGADLIT_MYANMAR_SYLLABLE_BROKEN = 2,
+    SENGADLIT_MYANMAR_SYLLABLE_NON_MYANMAR = 3
+};
+#define SENGADLIT_MYANMAR_SYLLABLE_FROM_HARFBUZZ(kind) ((uint8_t)((kind) == 0 ? 0 : (kind) + 1))
+enum {
+    SENGADLIT_USE_SYLLABLE_VIRAMA_TERMINATED = 0,
+    SENGADLIT_USE_SYLLABLE_SAKOT_TERMINATED = 1,
+    SENGADLIT_USE_SYLLABLE_STANDARD = 2,
+    SENGADLIT_USE_SYLLABLE_NUMBER_JOINER_TERMINATED = 3,
+    SENGADLIT_USE_SYLLABLE_NUMERAL = 4,
+    SENGADLIT_USE_SYLLABLE_SYMBOL = 5,
+    SENGADLIT_USE_SYLLABLE_HIEROGLYPH = 6,
+    SENGADLIT_USE_SYLLABLE_BROKEN = 7,
+    SENGADLIT_USE_SYLLABLE_NON_CLUSTER = 8
+};
+
 /* A syllable, as the caller's machine found it. */
 typedef struct sengadlit_span_t {
-    size_t length;                   /* In glyphs. */
-    uint8_t kind;                    /* 0 to 15: as the machines of rustybuzz and HarfBuzz number them. */
+    size_t length;                   /* In glyphs; not 0. */
+    uint8_t kind;                    /* One of the kinds above; up to 15 are taken by the set-ups. */
 } sengadlit_span_t;
 
 /* Does what a shaper does between two stages of GSUB.

@@ -1,5 +1,5 @@
 //! The buffer of C: a text, its positions, and why the last call failed.
-use crate::border::glyphs::Text;
+use crate::border::glyphs::{Takes, Text};
 use crate::layout::Properties;
 use crate::numbers;
 use crate::status::{Argument, Error};
@@ -98,30 +98,30 @@ impl Buffer {
         }
     }
 
-    /// Runs a hook on glyphs without positions, whose codepoints are at most this number.
+    /// Runs a hook that takes such codepoints on glyphs without positions.
     #[inline]
     pub fn run<A>(
         &mut self,
-        greatest: u32,
+        takes: Takes,
         hook: impl FnOnce(&mut Inner) -> Result<A, Error>,
     ) -> Result<A, Error> {
         if !self.positions.is_empty() {
             return Err(Error::argument(Argument::Positions));
         }
-        self.text.run(greatest, hook)
+        self.text.run(takes, hook)
     }
 
     /// The same with a position for each glyph.
     pub fn run_positioned<A>(
         &mut self,
-        greatest: u32,
+        takes: Takes,
         hook: impl FnOnce(&mut Inner) -> Result<A, Error>,
     ) -> Result<A, Error> {
         if self.positions.len() != self.text.len() {
             return Err(Error::argument(Argument::Positions));
         }
         let positions = &mut self.positions;
-        self.text.run(greatest, |inner| {
+        self.text.run(takes, |inner| {
             inner.exchange_positions(positions);
             let ended = hook(inner);
             *positions = inner.take_positions();

@@ -3,6 +3,7 @@ use crate::border::callbacks::{
     Asked, FONT_ADVANCE, FONT_NOMINAL, FONT_WOULD, Font, TABLES_COMPOSE, TABLES_DECOMPOSE,
     TABLES_GENERAL, TABLES_INDIC, TABLES_JOINING, TABLES_USE, Tables,
 };
+use crate::border::glyphs::Takes;
 use crate::buffer::Buffer;
 use crate::numbers;
 use crate::plan::Plan;
@@ -11,8 +12,6 @@ use sengadlit::buffer::Span;
 use sengadlit::plan::{Pause, Preprocess};
 use sengadlit::shaper::{Shaper, pause_fits, run_pause as run};
 
-/// The greatest number of a glyph.
-const GREATEST_GLYPH: u32 = 0xFFFF;
 /// The greatest kind of a syllable.
 const GREATEST_KIND: u8 = 15;
 
@@ -36,7 +35,7 @@ pub fn preprocess_text(
         _ => 0,
     };
     let font = Asked::font(font, asks)?;
-    let done = buffer.run(u32::MAX, |inner| {
+    let done = buffer.run(Takes::Numbers, |inner| {
         Ok(plan.shaper.preprocess_text(&plan.inner, &font, inner)?)
     })?;
     Ok((
@@ -93,7 +92,7 @@ pub fn reorder_marks(
     if start > end || end > buffer.text.len() || !plan.shaper.marks_fit(start, end) {
         return Err(Error::argument(Argument::Range));
     }
-    let done = buffer.run(u32::MAX, |inner| {
+    let done = buffer.run(Takes::Numbers, |inner| {
         Ok(plan.shaper.reorder_marks(&plan.inner, inner, start, end))
     })?;
     Ok(done_if(done.is_some()))
@@ -122,7 +121,7 @@ pub fn setup_masks(
         buffer.are_characters()?;
     }
     let font = Asked::font(None, 0)?;
-    let done = buffer.run(u32::MAX, |inner| {
+    let done = buffer.run(Takes::Numbers, |inner| {
         Ok(plan.shaper.setup_masks(&plan.inner, &font, &tables, inner))
     })?;
     Ok(done_if(done.is_some()))
@@ -143,12 +142,12 @@ pub fn run_pause(
     if let Some(index) = spans.iter().position(|span| span.kind > GREATEST_KIND) {
         return Err(Error::argument_at(Argument::Spans, index));
     }
-    let greatest = if pause == Pause::InitialReordering {
-        GREATEST_GLYPH
+    let takes = if pause == Pause::InitialReordering {
+        Takes::GlyphNumbers
     } else {
-        u32::MAX
+        Takes::Numbers
     };
-    buffer.run(greatest, |inner| {
+    buffer.run(takes, |inner| {
         Ok(run(pause, &plan.inner, &font, spans, inner)?)
     })
 }
@@ -182,8 +181,12 @@ pub fn postprocess_glyphs(
 ) -> Result<Status, Error> {
     let stretches = plan.shaper == Shaper::Arabic;
     let font = Asked::font(font, if stretches { FONT_ADVANCE } else { 0 })?;
-    let greatest = if stretches { GREATEST_GLYPH } else { u32::MAX };
-    let done = buffer.run_positioned(greatest, |inner| {
+    let takes = if stretches {
+        Takes::GlyphNumbers
+    } else {
+        Takes::Numbers
+    };
+    let done = buffer.run_positioned(takes, |inner| {
         Ok(plan.shaper.postprocess_glyphs(&plan.inner, &font, inner)?)
     })?;
     Ok(done_if(done.is_some()))

@@ -1,7 +1,7 @@
 //! The header's numbers, as the types of `sengadlit` and back.
 use sengadlit::buffer::{GeneralCategory, Script, Tag};
 use sengadlit::plan::{JoiningType, Pause};
-use sengadlit::shaper::{NormalizationMode, Shaper, ZeroWidthMarks};
+use sengadlit::shaper::{Hook, NormalizationMode, Shaper, ZeroWidthMarks};
 
 /// `SENGADLIT_PAUSE_NONE`.
 pub const NO_PAUSE: u32 = 0xFF;
@@ -89,24 +89,17 @@ pub fn script(number: u32) -> Option<Script> {
 
 /// The hooks of `SENGADLIT_HOOK_..` that a shaper has.
 pub fn hooks(shaper: Shaper) -> u32 {
-    const COLLECT: u32 = 0x01;
-    const OVERRIDE: u32 = 0x02;
-    const DATA: u32 = 0x04;
-    const PREPROCESS: u32 = 0x08;
-    const POSTPROCESS: u32 = 0x10;
-    const DECOMPOSE: u32 = 0x20;
-    const COMPOSE: u32 = 0x40;
-    const MASKS: u32 = 0x80;
-    const MARKS: u32 = 0x100;
-    match shaper {
-        Shaper::Arabic => COLLECT | DATA | POSTPROCESS | MASKS | MARKS,
-        Shaper::Hangul => COLLECT | OVERRIDE | DATA | PREPROCESS | MASKS,
-        Shaper::Hebrew => COMPOSE | MARKS,
-        Shaper::Indic => COLLECT | OVERRIDE | DATA | PREPROCESS | DECOMPOSE | COMPOSE | MASKS,
-        Shaper::Khmer => COLLECT | OVERRIDE | DATA | DECOMPOSE | COMPOSE | MASKS,
-        Shaper::Myanmar => COLLECT | MASKS,
-        Shaper::MyanmarZawgyi => 0,
-        Shaper::Thai => PREPROCESS,
-        Shaper::Universal => COLLECT | DATA | PREPROCESS | COMPOSE | MASKS,
-    }
+    const HOOKS: [(Hook, u32); 9] = [
+        (Hook::CollectFeatures, 0x01),
+        (Hook::OverrideFeatures, 0x02),
+        (Hook::CreateData, 0x04),
+        (Hook::PreprocessText, 0x08),
+        (Hook::PostprocessGlyphs, 0x10),
+        (Hook::Decompose, 0x20),
+        (Hook::Compose, 0x40),
+        (Hook::SetupMasks, 0x80),
+        (Hook::ReorderMarks, 0x100),
+    ];
+    let there = HOOKS.iter().filter(|(hook, _)| shaper.has_hook(*hook));
+    there.fold(0, |bits, (_, bit)| bits | bit)
 }

@@ -123,6 +123,18 @@ static void names_and_versions(void)
     check("no argument", strcmp(sengadlit_argument_name((sengadlit_argument_t)21), "unknown") == 0);
 }
 
+/* Numbers of HarfBuzz's that are others here. */
+static void numbers_of_harfbuzz(void)
+{
+    check("marks of no props", SENGADLIT_GLYPH_MARKS_FROM_PROPS(0x0F) == 0);
+    check("marks of all props", SENGADLIT_GLYPH_MARKS_FROM_PROPS(0xFFFF) == 0x07);
+    check("a mark of a ligature", SENGADLIT_GLYPH_MARKS_FROM_PROPS(0x20) == SENGADLIT_GLYPH_MARK_LIGATED);
+    check("a consonant syllable of Myanmar",
+          SENGADLIT_MYANMAR_SYLLABLE_FROM_HARFBUZZ(0) == SENGADLIT_MYANMAR_SYLLABLE_CONSONANT);
+    check("a broken one", SENGADLIT_MYANMAR_SYLLABLE_FROM_HARFBUZZ(1) == SENGADLIT_MYANMAR_SYLLABLE_BROKEN);
+    check("another cluster", SENGADLIT_MYANMAR_SYLLABLE_FROM_HARFBUZZ(2) == SENGADLIT_MYANMAR_SYLLABLE_NON_MYANMAR);
+}
+
 /* ---- Shapers and features ---- */
 
 static void shapers_that_are_none(void)
@@ -194,6 +206,43 @@ static void features_without_arguments(void)
     expect("features after all of Khmer", sengadlit_override_features(SENGADLIT_SHAPER_KHMER, KHMR, &map, NULL), SENGADLIT_DONE);
     expect("features of Thai", sengadlit_collect_features(SENGADLIT_SHAPER_THAI, THAI, NULL, &map, NULL), SENGADLIT_ABSENT);
     expect("features after all of Thai", sengadlit_override_features(SENGADLIT_SHAPER_THAI, THAI, &map, NULL), SENGADLIT_ABSENT);
+}
+
+/* A hook is absent exactly where the constants say so. */
+static void expect_hook(const char *what, uint32_t hooks, unsigned int hook, sengadlit_status_t status)
+{
+    check(what, (status == SENGADLIT_ABSENT) == ((hooks & hook) == 0));
+    check(what, status == SENGADLIT_ABSENT || status == SENGADLIT_DONE || status == SENGADLIT_NOT_FOUND);
+}
+
+static void hooks_of(sengadlit_shaper_t shaper)
+{
+    static const sengadlit_map_funcs_t funcs = {add_feature, add_gsub_pause};
+    const sengadlit_map_t map = {&funcs, NULL};
+    sengadlit_shaper_constants_t constants;
+    uint32_t hooks, a, b;
+
+    begin_world(shaper, ARAB, 0x0628, 3);
+    expect("constants", sengadlit_shaper_get_constants(shaper, &constants), SENGADLIT_DONE);
+    hooks = constants.hooks;
+    expect_hook("collect", hooks, SENGADLIT_HOOK_COLLECT_FEATURES,
+                sengadlit_collect_features(shaper, ARAB, &world.font, &map, NULL));
+    expect_hook("override", hooks, SENGADLIT_HOOK_OVERRIDE_FEATURES, sengadlit_override_features(shaper, ARAB, &map, NULL));
+    expect_hook("preprocess", hooks, SENGADLIT_HOOK_PREPROCESS_TEXT, preprocess());
+    expect_hook("decompose", hooks, SENGADLIT_HOOK_DECOMPOSE,
+                sengadlit_decompose(world.plan, &world.tables, 0x41, &a, &b, NULL));
+    expect_hook("compose", hooks, SENGADLIT_HOOK_COMPOSE,
+                sengadlit_compose(world.plan, &world.tables, 0x41, 0x42, &a, NULL));
+    expect_hook("masks", hooks, SENGADLIT_HOOK_SETUP_MASKS, masks());
+    expect_hook("marks", hooks, SENGADLIT_HOOK_REORDER_MARKS, marks(0, 1));
+    (void)positions();
+    expect_hook("postprocess", hooks, SENGADLIT_HOOK_POSTPROCESS_GLYPHS, postprocess());
+}
+
+static void hooks_of_all(void)
+{
+    for (unsigned int shaper = 0; shaper < NO_SHAPER; shaper++)
+        hooks_of((sengadlit_shaper_t)shaper);
 }
 
 /* ---- Plans ---- */
@@ -727,8 +776,10 @@ static void stretches_that_are_none(void)
 int main(void)
 {
     names_and_versions();
+    numbers_of_harfbuzz();
     shapers_that_are_none();
     features_without_arguments();
+    hooks_of_all();
     plans_of_missing_arrays();
     plans_of_wrong_arrays();
     plans_with_references();

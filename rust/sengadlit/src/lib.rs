@@ -126,7 +126,6 @@ extern crate std;
 
 mod builder;
 mod fonts;
-mod numbers;
 mod references;
 mod support;
 mod text;

@@ -7,9 +7,11 @@ use common::calls::{Call, Returned, Setting};
 use common::fonts::{PlainFont, PlainTables};
 use common::plans::{SHAPERS, plan_of};
 use sengadlit::alloc::Global;
-use sengadlit::buffer::{Buffer, Script, ShaperError};
+use sengadlit::buffer::{Buffer, Script, ShaperError, Tag};
+use sengadlit::font::FeaturesOnly;
 use sengadlit::plan::{PlanData, Planner};
-use sengadlit::shaper::Shaper;
+use sengadlit::shaper::{Hook, Shaper};
+use std::cell::RefCell;
 
 /// Makes a call of a shaper on a text.
 fn make(call: Call, shaper: Shaper, text: &mut Buffer) -> Result<Returned, ShaperError> {
@@ -56,6 +58,15 @@ fn hooks_of(shaper: Shaper) -> [bool; 6] {
     }
 }
 
+const HOOK_NAMES: [Hook; 6] = [
+    Hook::PreprocessText,
+    Hook::SetupMasks,
+    Hook::ReorderMarks,
+    Hook::PostprocessGlyphs,
+    Hook::Compose,
+    Hook::Decompose,
+];
+
 const HOOKS: [Call; 6] = [
     Call::Preprocess,
     Call::Masks,
@@ -79,6 +90,7 @@ fn a_hook_that_a_shaper_lacks_changes_nothing() {
             !is_absent
         });
         assert_eq!(present, hooks_of(shaper), "{shaper:?}");
+        assert_eq!(HOOK_NAMES.map(|hook| shaper.has_hook(hook)), present);
     }
 }
 
@@ -106,6 +118,25 @@ fn shapers_ask_for_features() {
             (collects.is_some(), overrides.is_some()),
             (wanted.0 > 0, wanted.1 > 0)
         );
+        let hooks = [Hook::CollectFeatures, Hook::OverrideFeatures];
+        let present = hooks.map(|hook| shaper.has_hook(hook));
+        assert_eq!(present, [collects.is_some(), overrides.is_some()]);
+    }
+}
+
+#[test]
+fn the_list_of_arabic_alone_asks_the_font() {
+    for shaper in SHAPERS {
+        let asked = RefCell::new(Vec::new());
+        let font = FeaturesOnly(|tag: Tag| {
+            asked.borrow_mut().push(tag);
+            false
+        });
+        let mut planner = Planner::new(Global, Some(Script(*b"Syrc")));
+        shaper.collect_features(&font, &mut planner).unwrap();
+        let asked = asked.borrow();
+        assert!(asked.iter().all(|tag| *tag == Tag(*b"rclt")));
+        assert_eq!(asked.is_empty(), shaper != Shaper::Arabic);
     }
 }
 
@@ -122,6 +153,7 @@ fn shapers_keep_data() {
             _ => kept == PlanData::None,
         };
         assert!(is_kept, "{shaper:?}");
+        assert_eq!(shaper.has_hook(Hook::CreateData), kept != PlanData::None);
     }
 }
 

@@ -117,3 +117,15 @@ fn glyph_flags_are_harfbuzzs() {
     ];
     assert_eq!(flags, [1, 2, 4]);
 }
+
+#[test]
+fn flags_have_harfbuzzs_numbers_both_ways() {
+    for bits in 0..0x200 {
+        let flags = BufferFlags::from_harfbuzz(bits);
+        assert_eq!(flags.to_harfbuzz(), bits & 0xD0);
+    }
+    let circles = BufferFlags::DO_NOT_INSERT_DOTTED_CIRCLE;
+    assert_eq!(BufferFlags::from_harfbuzz(0x10), circles);
+    assert_eq!(BufferFlags::from_harfbuzz(0x20), BufferFlags::empty());
+    assert_eq!(BufferFlags::all().to_harfbuzz(), 0xD0);
+}

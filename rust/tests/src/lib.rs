@@ -7,5 +7,6 @@
 #![deny(missing_docs)]
 
 pub mod lines;
-pub mod numbers;
+#[path = "../../sengadlit/tests/common/numbers.rs"]
+mod numbers;
 pub mod scripts;

@@ -7,7 +7,6 @@ mod runs;
 mod settings;
 
 use crate::numbers::Numbers;
-use characters::Writing;
 use std::fmt::Arguments;
 
 /// The script of a seed: lines that mostly can be read, and that mostly run the hooks of one shaper
@@ -44,19 +43,8 @@ impl Draft {
     }
 
     /// True in so many of a hundred cases.
-    fn percent(&mut self, percent: u64) -> bool {
+    fn percent(&mut self, percent: usize) -> bool {
         self.numbers.below(100) < percent
-    }
-
-    /// A number of 32 bits, often one at an end of what they hold.
-    fn number(&mut self) -> u32 {
-        match self.numbers.below(3) {
-            0 => self
-                .numbers
-                .one_of(&[0, 1, 0x7FFF_FFFF, 0x8000_0000, u32::MAX]),
-            1 => self.numbers.below(1000) as u32,
-            _ => self.numbers.next() as u32,
-        }
     }
 }
 

@@ -29,6 +29,11 @@ impl Row {
         }
     }
 
+    /// Whether the row has a length that only usize of 64 bits holds.
+    fn is_wide(&self) -> bool {
+        self.script.contains(&u64::MAX.to_string())
+    }
+
     /// Takes in a line of the file.
     fn add(&mut self, line: &str) {
         if let Some(line) = line.strip_prefix('>') {
@@ -91,13 +96,16 @@ fn every_row_ends_as_it_says() {
     let mut count = 0;
     for file in files() {
         for row in rows_of(&fs::read_to_string(&file).unwrap()) {
+            count += 1;
+            if usize::BITS < 64 && row.is_wide() {
+                continue;
+            }
             let place = format!("{}, line {}", file.display(), row.begins_on);
             let end = run_script(row.script.as_bytes());
             let [printed, wanted] =
                 [&end, &row.end].map(|end| String::from_utf8_lossy(&end.printed));
             assert_eq!(printed, wanted, "{place}");
             assert_eq!(end, row.end, "{place}");
-            count += 1;
         }
     }
     assert_eq!(count, rows_of_the_program());

@@ -7,7 +7,7 @@ use sengadlit_tests::scripts::script;
 use std::collections::BTreeMap;
 
 /// How many scripts are run.
-const SCRIPTS: u64 = 20_000;
+const SCRIPTS: u64 = 8_000;
 
 /// How the run of a script by the program's library ends.
 fn run_by_program(script: &[u8]) -> End {
@@ -47,7 +47,7 @@ fn both_ways_end_alike() {
 #[test]
 fn scripts_reach_every_hook() {
     let mut runs = BTreeMap::<String, usize>::new();
-    for seed in 0..SCRIPTS / 4 {
+    for seed in 0..SCRIPTS / 2 {
         let script = script(seed);
         if run_by_program(script.as_bytes()).status == 0 {
             for line in script.lines().filter(|line| line.starts_with("run ")) {

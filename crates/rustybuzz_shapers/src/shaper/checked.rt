@@ -1,6 +1,6 @@
-//! The hooks for callers that can't know whether their conditions are met: each call tests them in
-//! the order of `Condition`, before it writes anything, and returns the first that isn't met. The
-//! hooks that aren't here have none.
+//! Calls for callers that can't know whether a hook's conditions are met. Each tests them in the
+//! order of `Condition` before it writes anything, and returns the first that isn't met; the buffer
+//! is then unchanged. The hooks that aren't here have no conditions.
 ghost use Rattle.std.specs.Prelude.{◌≡◌, OnOk, OnErr, IfOk, Ok, Err, is_some, if◌then◌else◌};
 ghost use Rattle.rustybuzz_shapers.specs.Checked.{AsRefused, FirstUnmet, StopsAt, pause_asks};
 ghost use Rattle.rustybuzz_shapers.specs.Pauses.{PauseKeeps, Paused, RefusesPause, circles_of};
@@ -67,7 +67,7 @@ impl hb_ot_shaper_t {
     ghost use Rattle.rustybuzz_shapers.specs.Standing.{standing};
     ghost use Rattle.rustybuzz_shapers.specs.Stretched.{glyphs_added};
 
-    /// `preprocess_text` behind a test of its condition, which takes constant time.
+    /// Tests the condition of `preprocess_text`, in constant time, and calls it.
     pub fn checked_preprocess_text<F: hb_font_t>(
         self,
         plan: &hb_ot_shape_plan_t,
@@ -87,8 +87,8 @@ impl hb_ot_shaper_t {
         Ok(self.preprocess_text(plan, face, buffer)?)
     }
 
-    /// `setup_masks` behind a test of its conditions: for Arabic, and for the universal shaper where
-    /// letters join, it takes one pass over the glyphs, else constant time.
+    /// Tests the conditions of `setup_masks` and calls it. The test takes one pass over the glyphs
+    /// for Arabic, and for the universal shaper where letters join; else constant time.
     pub fn checked_setup_masks<F: hb_font_t, T: Tables>(
         self,
         plan: &hb_ot_shape_plan_t,
@@ -108,7 +108,7 @@ impl hb_ot_shaper_t {
         Ok(self.setup_masks(plan, face, tables, buffer))
     }
 
-    /// `reorder_marks` behind a test of its conditions, which takes constant time.
+    /// Tests the conditions of `reorder_marks`, in constant time, and calls it.
     pub fn checked_reorder_marks(
         self,
         plan: &hb_ot_shape_plan_t,
@@ -128,8 +128,8 @@ impl hb_ot_shaper_t {
         Ok(self.reorder_marks(plan, buffer, start, end))
     }
 
-    /// `postprocess_glyphs` behind a test of its conditions: for Arabic it takes one pass over the
-    /// glyphs, else constant time.
+    /// Tests the conditions of `postprocess_glyphs` and calls it. The test takes one pass over the
+    /// glyphs for Arabic, else constant time.
     pub fn checked_postprocess_glyphs<F: hb_font_t>(
         self,
         plan: &hb_ot_shape_plan_t,
@@ -195,7 +195,7 @@ impl hb_ot_shaper_t {
     }
 }
 
-/// `run_pause` behind a test of its conditions, which takes one pass over the spans.
+/// Tests the conditions of `run_pause`, in one pass over the spans, and calls it.
 pub fn checked_run_pause<F: hb_font_t>(
     pause: Pause,
     plan: &hb_ot_shape_plan_t,

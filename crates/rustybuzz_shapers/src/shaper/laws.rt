@@ -51,3 +51,10 @@ pub fn cuts_at_borders_law()
     order_by_font_reads_no_serials();
     final_cuts_between_spans();
 }
+
+/// Every pause that reorders makes of each syllable by itself what its definition says, of that
+/// syllable, the plan, the font and the buffer's script alone, but for the mask of `init`, which
+/// also looks at the glyph before; and it loses no glyph.
+pub fn syllables_regrouped_law()
+    ensures { SyllablesRegrouped }
+{}

@@ -1,6 +1,5 @@
 //! The pauses behind one dispatcher.
 ghost use Rattle.std.specs.Prelude.{◌≡◌, ◌≤◌, [], All, IfOk, OnOk, OnErr, is_some};
-ghost use Rattle.rustybuzz_shapers.specs.Regrouped.{SyllablesRegrouped};
 ghost use Rattle.rustybuzz_shapers.specs.Pauses.{PauseFits, PauseKeeps, Paused, RefusesPause, circles_of};
 
 use shapers_base::buffer::{ShaperError, Span, hb_buffer_t};
@@ -68,10 +67,3 @@ pub fn run_pause<F: hb_font_t>(
     }
     Ok(false)
 }
-
-/// Every pause that reorders makes of each syllable by itself what its definition says, of that
-/// syllable, the plan, the font and the buffer's script alone, but for the mask of `init`, which
-/// also looks at the glyph before; and it loses no glyph.
-pub fn syllables_regrouped_law()
-    ensures { SyllablesRegrouped }
-{}

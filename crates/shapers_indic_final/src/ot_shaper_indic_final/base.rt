@@ -104,6 +104,7 @@ fn find_base(rules: &Rules, script: Option<Script>, glyphs: &mut [hb_glyph_info_
 }
 
 // The first glyph whose position is the base's or one after it, else the end.
+#[allow(clippy::needless_range_loop)]
 fn first_base(glyphs: &[hb_glyph_info_t]) -> usize
     ensures place { result ≡ first_base glyphs.now }
     ensures within { result ≤ length glyphs.now }
@@ -297,6 +298,7 @@ fn set_links(script: Option<Script>, base: usize, glyphs: &mut [hb_glyph_info_t]
 }
 
 // The same in Malayalam.
+#[allow(clippy::needless_range_loop)]
 fn set_along_links(base: usize, glyphs: &mut [hb_glyph_info_t]) -> usize
     requires in_range { base ≤ length glyphs.old }
     ensures glyphs { glyphs.new ≡ links_written base glyphs.old }

@@ -51,6 +51,7 @@ pub(super) fn end_of_base(base: usize, glyphs: &[hb_glyph_info_t]) -> usize
 }
 
 // The first left matra before the base.
+#[allow(clippy::manual_find, clippy::needless_range_loop)]
 pub(super) fn first_left(base: usize, glyphs: &[hb_glyph_info_t]) -> Option<usize>
     requires { base ≤ length glyphs.now }
     ensures place { result ≡ least_place (passes is_left glyphs.now) 0 base }

@@ -43,7 +43,7 @@ pub(super) fn part_matras(p: usize, b: usize, buffer: &mut hb_buffer_t, s: usize
     ensures same_length { length buffer.new.glyphs ≡ length buffer.old.glyphs }
 {
     for i in (0..p).rev() {
-        if is_left(&buffer.glyphs()[s + i]) {
+        if is_left(&buffer.glyphs()[s..e][i]) {
             move_matra(buffer, s, b, i, p);
             part_further(i, p, b, buffer, s);
             return;

@@ -13,6 +13,7 @@ use shapers_base::buffer::{Script, hb_glyph_info_t};
 use shapers_indic::ot_shaper_indic::glyphs::is_joiner;
 
 // The first glyph after the base with the mask of `pref`.
+#[allow(clippy::manual_find, clippy::needless_range_loop)]
 pub(super) fn pref_place(pref: u32, base: usize, glyphs: &[hb_glyph_info_t]) -> Option<usize>
     requires in_range { base ≤ length glyphs.now }
     ensures place { result ≡ pref_place pref base glyphs.now }

@@ -60,6 +60,7 @@ pub(super) fn base_after_reph(base: usize, target: usize) -> usize
 }
 
 // The first halant between the start and the base.
+#[allow(clippy::manual_find, clippy::needless_range_loop)]
 fn halant_after_start(base: usize, glyphs: &[hb_glyph_info_t]) -> Option<usize>
     requires { base ≤ length glyphs.now }
     ensures place { result ≡ halant_after_start base glyphs.now }

@@ -116,6 +116,7 @@ fn search_from(lo: usize, glyphs: &[hb_glyph_info_t]) -> usize
 }
 
 // The first consonant that may be the base from place `start` on.
+#[allow(clippy::manual_find, clippy::needless_range_loop)]
 fn first_candidate(start: usize, glyphs: &[hb_glyph_info_t]) -> Option<usize>
     requires { start ≤ length glyphs.now }
     ensures { result ≡ least_place (may_be_base glyphs.now) start (length glyphs.now) }

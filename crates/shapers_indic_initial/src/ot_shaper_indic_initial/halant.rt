@@ -33,6 +33,7 @@ pub(super) fn halant_move(
 }
 
 // The place of the first H after the base.
+#[allow(clippy::manual_find, clippy::needless_range_loop)]
 fn halant_after(base: usize, glyphs: &[hb_glyph_info_t]) -> Option<usize>
     ensures place { result ≡ halant_after base glyphs.now }
     ensures within { IfSome result (λ place. place < length glyphs.now) }
@@ -49,6 +50,7 @@ fn halant_after(base: usize, glyphs: &[hb_glyph_info_t]) -> Option<usize>
 }
 
 // The place of the last glyph after an H at this place over which the H goes.
+#[allow(clippy::manual_find)]
 fn last_after_halant(
     script: Option<Script>,
     halant: usize,

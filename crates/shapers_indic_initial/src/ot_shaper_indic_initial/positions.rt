@@ -18,6 +18,7 @@ use shapers_indic::ot_shaper_indic::glyphs::is_matra;
 use shapers_syllabic::ot_shaper_syllabic::is_consonant;
 
 /// Sets the positions of the reph, of what stands before the base, and of the base.
+#[allow(clippy::needless_range_loop)]
 pub(super) fn set_positions_by_base(base: Base, glyphs: &mut [hb_glyph_info_t])
     ensures { glyphs.new ≡ by_base base.place base.has_reph glyphs.old }
 {

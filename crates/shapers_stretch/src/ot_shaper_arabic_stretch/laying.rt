@@ -5,17 +5,18 @@ ghost use Rattle.std.specs.List.{AllByRecursion, zip};
 ghost use Rattle.shapers_buffer.specs.Clusters.{stretch_of};
 ghost use Rattle.shapers_stretch.specs.Cells.{Cell, glyphs_of, positions_of};
 ghost use Rattle.shapers_stretch.specs.CountingWalk.{IsNumber, stands_at};
-ghost use Rattle.shapers_stretch.specs.LayingWalk.{CanLay, CanLayRun, HasRoom, IsLaidFrom, IsLayOf, IsUnlaid, Lays, laying_by, text_of, whole_of};
+ghost use Rattle.shapers_stretch.specs.LayingWalk.{CanLay, CanLayRun, HasRoom, IsLaidFrom, IsUnlaid, Lays, copies_by, laying_by, run_copies, text_of, whole_of};
 ghost use Rattle.shapers_stretch.specs.Lays.{lay_of};
 ghost use Rattle.shapers_stretch.specs.Measure.{added, fits_i32, overlap};
-ghost use Rattle.shapers_stretch.specs.Stretch.{Copy, copies, copies_of, laid_run, measured, stretched, unbroken};
+ghost use Rattle.shapers_stretch.specs.Stretch.{Copy, copies, laid_run, measured, stretched, unbroken};
 
 use super::counting::moved;
-use super::measuring::{Lay, Run, advance_of, lay_of, measure};
+use super::measuring::{Lay, advance_of, lay_of, measure};
 use super::parts::{LastPart, last_part, repeats};
 use shapers_base::buffer::{GlyphPosition, PositionedWalk, hb_glyph_info_t, unsafe_to_break_in};
 use shapers_base::font::hb_font_t;
 use shapers_base::plan::StretchStart;
+use std::ops::Range;
 
 /// How the tiles of a text are laid, over slices whose first `len` cells are the text in working
 /// order, and which are just as long as the stretched text.
@@ -196,20 +197,8 @@ fn lay_run<F: hb_font_t>(
                 at: lay.start,
                 place: unlaid.place,
             };
-            let tiles = part.tiles;
-            let end = unlaid.end;
-            lay_tiles(
-                face,
-                right_to_left,
-                run,
-                lay,
-                glyphs,
-                positions,
-                tiles,
-                end,
-                pen,
-            )
-            .place
+            let tiles = part.tiles..unlaid.end;
+            lay_tiles(face, right_to_left, lay, glyphs, positions, tiles, pen).place
         }
         None => unreachable!(),
     }
@@ -229,40 +218,39 @@ struct Tile {
     position: GlyphPosition,
 }
 
-// Lays the tiles from `tiles` to `end`, the last one first.
+// Lays these tiles, the last one first.
 fn lay_tiles<F: hb_font_t>(
     face: &F,
     right_to_left: bool,
-    run: Run,
     lay: Lay,
     glyphs: &mut [hb_glyph_info_t],
     positions: &mut [GlyphPosition],
-    tiles: usize,
-    end: usize,
+    tiles: Range<usize>,
     pen: Pen,
 ) -> Pen
-    requires lay { IsLayOf run lay }
+    requires overlap_low { pos 0 ≤ℤ lay.overlap }
+    requires overlap_high { lay.overlap ≤ℤ pos (2 ^ 66) }
     requires near { IsNumber pen.at }
-    requires in_order { tiles ≤ end }
-    requires ahead { end ≤ pen.place }
-    requires numbers { AllByRecursion (λ g. g.glyph_id ≤ 65535) (take end glyphs.old) }
-    requires can { let cs = stretch_of tiles end (zip glyphs.old positions.old) in
-        CanLay right_to_left (copies (F.font face.now) run cs) pen glyphs.old positions.old }
-    requires room { let cs = stretch_of tiles end (zip glyphs.old positions.old) in
-        tiles + length (copies (F.font face.now) run cs) ≤ pen.place }
+    requires in_order { tiles.start ≤ tiles.end }
+    requires ahead { tiles.end ≤ pen.place }
+    requires numbers { AllByRecursion (λ g. g.glyph_id ≤ 65535) (take tiles.end glyphs.old) }
+    requires can { let cs = stretch_of tiles.start tiles.end (zip glyphs.old positions.old) in
+        CanLay right_to_left (run_copies (F.font face.now) lay cs) pen glyphs.old positions.old }
+    requires room { let cs = stretch_of tiles.start tiles.end (zip glyphs.old positions.old) in
+        tiles.start + length (run_copies (F.font face.now) lay cs) ≤ pen.place }
     ensures both { length glyphs.new ≡ length positions.new }
     ensures same_length { length glyphs.new ≡ length glyphs.old }
     ensures lays { let old = zip glyphs.old positions.old in
-        let laid = copies (F.font face.now) run (stretch_of tiles end old) in
+        let laid = run_copies (F.font face.now) lay (stretch_of tiles.start tiles.end old) in
         Lays right_to_left laid pen result old (zip glyphs.new positions.new) }
 {
     let mut pen = pen;
-    for i in (tiles..end).rev() {
+    for i in (tiles.start..tiles.end).rev() {
         let tile = Tile {
             glyph: glyphs[i],
             position: positions[i],
         };
-        pen = lay_tile(face, right_to_left, run, lay, glyphs, positions, tile, pen);
+        pen = lay_tile(face, right_to_left, lay, glyphs, positions, tile, pen);
     }
     pen
 }
@@ -271,23 +259,23 @@ fn lay_tiles<F: hb_font_t>(
 fn lay_tile<F: hb_font_t>(
     face: &F,
     right_to_left: bool,
-    run: Run,
     lay: Lay,
     glyphs: &mut [hb_glyph_info_t],
     positions: &mut [GlyphPosition],
     tile: Tile,
     pen: Pen,
 ) -> Pen
-    requires lay { IsLayOf run lay }
+    requires overlap_low { pos 0 ≤ℤ lay.overlap }
+    requires overlap_high { lay.overlap ≤ℤ pos (2 ^ 66) }
     requires near { IsNumber pen.at }
     requires number { tile.glyph.glyph_id ≤ 65535 }
     requires can { let cell : Cell = (tile.glyph, tile.position) in
-        CanLay right_to_left (copies_of (F.font face.now) run cell) pen glyphs.old positions.old }
+        CanLay right_to_left (copies_by (F.font face.now) lay cell) pen glyphs.old positions.old }
     ensures both { length glyphs.new ≡ length positions.new }
     ensures same_length { length glyphs.new ≡ length glyphs.old }
     ensures near { IsNumber result.at }
     ensures lays { let cell : Cell = (tile.glyph, tile.position) in
-        let laid = copies_of (F.font face.now) run cell in
+        let laid = copies_by (F.font face.now) lay cell in
         Lays right_to_left laid pen result
         (zip glyphs.old positions.old) (zip glyphs.new positions.new) }
 {

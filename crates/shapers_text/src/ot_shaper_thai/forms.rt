@@ -10,6 +10,7 @@ use shapers_base::buffer::{GlyphWalk, hb_buffer_t, hb_glyph_info_t, unsafe_to_br
 use shapers_base::font::hb_font_t;
 
 /// The type of a consonant.
+#[allow(clippy::enum_variant_names)]
 #[derive(Clone, Copy)]
 enum Consonant {
     /// No ascender and no descender.
@@ -25,6 +26,7 @@ enum Consonant {
 }
 
 /// The type of a mark.
+#[allow(clippy::enum_variant_names)]
 #[derive(Clone, Copy)]
 enum Mark {
     /// A vowel above.
@@ -38,6 +40,7 @@ enum Mark {
 }
 
 /// What a mark does.
+#[allow(clippy::upper_case_acronyms)]
 #[derive(Clone, Copy)]
 enum Action {
     /// Nothing.

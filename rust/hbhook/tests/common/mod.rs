@@ -2,7 +2,7 @@
 
 use std::io::Write;
 use std::path::PathBuf;
-use std::process::{Child, Command, Stdio};
+use std::process::{Command, Stdio};
 
 /// A run of the program: what it printed, what it told on standard error, and its status.
 #[derive(Debug, PartialEq, Eq)]
@@ -15,16 +15,17 @@ pub struct Run {
 impl Run {
     /// Runs the program with these arguments on this input.
     pub fn new(arguments: &[&str], input: &str) -> Self {
-        let mut child = start(arguments);
+        let mut child = Command::new(env!("CARGO_BIN_EXE_hbhook"))
+            .args(arguments)
+            .stdin(Stdio::piped())
+            .stdout(Stdio::piped())
+            .stderr(Stdio::piped())
+            .spawn()
+            .unwrap();
         let mut stdin = child.stdin.take().unwrap();
         // A run that reads no input may have ended before it is written.
         let _ = stdin.write_all(input.as_bytes());
         drop(stdin);
-        Run::end_of(child)
-    }
-
-    /// What a run did, once it has ended.
-    pub fn end_of(child: Child) -> Self {
         let output = child.wait_with_output().unwrap();
         Run {
             printed: String::from_utf8(output.stdout).unwrap(),
@@ -32,17 +33,6 @@ impl Run {
             status: output.status.code(),
         }
     }
-}
-
-/// Starts the program with pipes for its three streams.
-pub fn start(arguments: &[&str]) -> Child {
-    Command::new(env!("CARGO_BIN_EXE_hbhook"))
-        .args(arguments)
-        .stdin(Stdio::piped())
-        .stdout(Stdio::piped())
-        .stderr(Stdio::piped())
-        .spawn()
-        .unwrap()
 }
 
 /// A path from the top of the repository.

@@ -8,8 +8,31 @@ use sengadlit::alloc::Global;
 use sengadlit::buffer::{Buffer as Inner, BufferSettings, GeneralCategory, GlyphInfo, ShaperError};
 use std::vec::Vec;
 
+/// The number of general categories.
+const CATEGORIES: u32 = GeneralCategory::ALL.len() as u32;
+
 /// The greatest length of a text for which none is set.
 const MAX_LENGTH: usize = u32::MAX as usize;
+
+/// The codepoints that a hook takes.
+#[derive(Clone, Copy)]
+pub enum Takes {
+    /// All numbers.
+    Numbers,
+    /// The numbers that a font's glyphs have, up to 65535.
+    GlyphNumbers,
+}
+
+impl Takes {
+    // The bits that none of them has.
+    #[inline]
+    fn outside(self) -> u32 {
+        match self {
+            Takes::Numbers => 0,
+            Takes::GlyphNumbers => 0xFFFF_0000,
+        }
+    }
+}
 
 /// The glyphs and their settings.
 pub struct Text {
@@ -77,7 +100,7 @@ impl Text {
         if length > self.inner.max_len() {
             self.inner.set_max_len(length);
         }
-        if !self.is_known(u32::MAX) {
+        if !self.is_known(Takes::Numbers) {
             return self.grow_unknown(length);
         }
         self.inner.grow(length - self.len())?;
@@ -137,39 +160,41 @@ impl Text {
         self.inner.set_has_stch(has_stch);
     }
 
-    // Whether each general category is one, and no codepoint above this number. It doesn't branch at a glyph.
+    // Whether each general category is one, and each codepoint is taken. It doesn't branch at a glyph: what is too great
+    // leaves a bit in a sum.
     #[inline]
-    fn is_known(&self, greatest: u32) -> bool {
-        let is_wrong =
-            |glyph: &Glyph| !is_category(glyph.general_category) | (glyph.codepoint > greatest);
-        !self
-            .glyphs()
-            .iter()
-            .fold(false, |wrong, glyph| wrong | is_wrong(glyph))
+    fn is_known(&self, takes: Takes) -> bool {
+        let (mut categories, mut codepoints) = (0, 0);
+        let mut left = self.glyphs();
+        while let [glyph, others @ ..] = left {
+            categories |= u32::from(glyph.general_category) + (0x100 - CATEGORIES);
+            codepoints |= glyph.codepoint;
+            left = others;
+        }
+        categories < 0x100 && codepoints & takes.outside() == 0
     }
 
     #[cold]
-    fn wrong_glyph(&self, greatest: u32) -> Error {
-        let glyphs = self.glyphs();
-        if let Some(index) = glyphs
-            .iter()
-            .position(|glyph| !is_category(glyph.general_category))
-        {
+    fn wrong_glyph(&self, takes: Takes) -> Error {
+        let mut glyphs = self.glyphs().iter();
+        let is_none = |glyph: &Glyph| u32::from(glyph.general_category) >= CATEGORIES;
+        if let Some(index) = glyphs.position(is_none) {
             return Error::argument_at(Argument::GeneralCategory, index);
         }
-        let index = glyphs.iter().position(|glyph| glyph.codepoint > greatest);
+        let mut glyphs = self.glyphs().iter();
+        let index = glyphs.position(|glyph| glyph.codepoint & takes.outside() != 0);
         Error::argument_at(Argument::Codepoint, index.unwrap_or(0))
     }
 
-    /// Runs a hook of the crate's, if each general category is one and no codepoint above this number.
+    /// Runs a hook of the crate's, if each general category is one and each codepoint is taken.
     #[inline]
     pub fn run<A>(
         &mut self,
-        greatest: u32,
+        takes: Takes,
         hook: impl FnOnce(&mut Inner) -> Result<A, Error>,
     ) -> Result<A, Error> {
-        if !self.is_known(greatest) {
-            return Err(self.wrong_glyph(greatest));
+        if !self.is_known(takes) {
+            return Err(self.wrong_glyph(takes));
         }
         if self.inner.max_len() != self.max_length {
             self.limit()?;
@@ -196,15 +221,9 @@ fn place_of(inner: &mut Inner) -> *mut Glyph {
     inner.with_glyphs_mut(|glyphs: &mut [GlyphInfo]| glyphs.as_mut_ptr().cast())
 }
 
-#[inline]
-fn is_category(number: u8) -> bool {
-    const GREATEST: u8 = GeneralCategory::Zs as u8;
-    number <= GREATEST
-}
-
 #[cfg(test)]
 mod tests {
-    use super::Text;
+    use super::{Takes, Text};
     use crate::status::Error;
     use sengadlit::buffer::{BufferSettings, GeneralCategory};
 
@@ -216,7 +235,7 @@ mod tests {
     }
 
     fn categories(text: &mut Text) -> Result<Vec<GeneralCategory>, Error> {
-        text.run(u32::MAX, |inner| {
+        text.run(Takes::Numbers, |inner| {
             Ok(inner
                 .glyphs()
                 .iter()
@@ -262,7 +281,10 @@ mod tests {
         text.set_properties(&BufferSettings::new(2));
         assert!(categories(&mut text).is_err());
         text.set_len(2).unwrap();
-        assert!(text.run(u32::MAX, |inner| Ok(inner.grow(1)?)).is_err());
+        assert!(
+            text.run(Takes::Numbers, |inner| Ok(inner.grow(1)?))
+                .is_err()
+        );
         text.set_len(5).unwrap();
         assert!(categories(&mut text).is_err());
         assert_eq!(text.glyphs().len(), 5);

@@ -133,9 +133,11 @@ pub fn random_buffer(numbers: &mut Numbers, kind: Glyphs) -> Buffer {
     let length = numbers.below(most);
     let block = numbers.one_of(&BLOCKS);
     let clusters = random_clusters(numbers, length);
+    let syllables = random_syllables(numbers, kind, length);
     let glyphs: Vec<_> = (0..length)
         .map(|i| GlyphInfo {
             cluster: clusters[i],
+            syllable: syllables[i],
             var: i as u32,
             ..random_glyph(numbers, kind, block)
         })
@@ -184,7 +186,6 @@ fn random_glyph(numbers: &mut Numbers, kind: Glyphs, block: u32) -> GlyphInfo {
     GlyphInfo {
         glyph_id,
         mask: numbers.number(),
-        syllable: random_syllable(numbers, kind),
         category: random_byte(numbers, kind, 56),
         auxiliary: random_byte(numbers, kind, 15),
         general_category: numbers.one_of(&GeneralCategory::ALL),
@@ -195,14 +196,24 @@ fn random_glyph(numbers: &mut Numbers, kind: Glyphs, block: u32) -> GlyphInfo {
     }
 }
 
-/// A syllable byte: few serials, so that syllables have several glyphs, and any kind once in a
-/// while.
-fn random_syllable(numbers: &mut Numbers, kind: Glyphs) -> u8 {
-    match kind {
-        Glyphs::Letters => (numbers.below(2) * 16 + numbers.below(3)) as u8,
-        Glyphs::Any if numbers.once_in(30) => numbers.byte(),
-        Glyphs::Any => (numbers.below(2) * 16 + numbers.below(8)) as u8,
+/// Syllable bytes drawn by lot: runs of up to 12 glyphs of kinds that shapers know, once in a while
+/// any byte.
+fn random_syllables(numbers: &mut Numbers, kind: Glyphs, length: usize) -> Vec<u8> {
+    let longest = numbers.one_of(&[2, 5, 12]);
+    let kinds = match kind {
+        Glyphs::Letters => 3,
+        Glyphs::Any => 8,
+    };
+    let mut bytes = Vec::new();
+    while bytes.len() < length {
+        let byte = match kind {
+            Glyphs::Any if numbers.once_in(30) => numbers.byte(),
+            _ => (numbers.below(16) * 16 + numbers.below(kinds)) as u8,
+        };
+        let end = length.min(bytes.len() + 1 + numbers.below(longest));
+        bytes.resize(end, byte);
     }
+    bytes
 }
 
 /// A byte below `end`, or any.

@@ -5,6 +5,7 @@ use super::plans::PAUSES;
 use sengadlit::buffer::{Buffer, GlyphInfo, ShaperError, Span};
 use sengadlit::font::{Font, Tables};
 use sengadlit::plan::{Pause, Plan, PlanData, Preprocess};
+use sengadlit::shaper::checked::{CallError, checked_run_pause};
 use sengadlit::shaper::{Shaper, run_pause};
 
 /// A hook, or a pause, with its arguments.
@@ -83,13 +84,7 @@ impl Call {
             spans,
         } = setting;
         Ok(match self {
-            Call::Preprocess => match shaper.preprocess_text(plan, font, buffer)? {
-                Some(Preprocess::Done) => Returned::Done,
-                Some(Preprocess::CallerRunsVowelConstraints) => {
-                    Returned::CallerRunsVowelConstraints
-                }
-                None => Returned::Absent,
-            },
+            Call::Preprocess => preprocessed(shaper.preprocess_text(plan, font, buffer)?),
             Call::Masks => done(shaper.setup_masks(plan, font, tables, buffer)),
             Call::Marks(start, end) => done(shaper.reorder_marks(plan, buffer, start, end)),
             Call::Postprocess => done(shaper.postprocess_glyphs(plan, font, buffer)?),
@@ -100,6 +95,33 @@ impl Call {
                 .decompose(plan, tables, ab)
                 .map_or(Returned::Absent, Returned::Characters),
             Call::Pause(pause) => Returned::Changed(run_pause(pause, plan, font, spans, buffer)?),
+        })
+    }
+
+    /// Makes the checked call; questions have no conditions.
+    pub fn make_checked<F: Font, T: Tables>(
+        self,
+        setting: &Setting<F, T>,
+        buffer: &mut Buffer,
+    ) -> Result<Returned, CallError> {
+        let &Setting {
+            shaper,
+            plan,
+            font,
+            tables,
+            spans,
+        } = setting;
+        Ok(match self {
+            Call::Preprocess => preprocessed(shaper.checked_preprocess_text(plan, font, buffer)?),
+            Call::Masks => done(shaper.checked_setup_masks(plan, font, tables, buffer)?),
+            Call::Marks(start, end) => {
+                done(shaper.checked_reorder_marks(plan, buffer, start, end)?)
+            }
+            Call::Postprocess => done(shaper.checked_postprocess_glyphs(plan, font, buffer)?),
+            Call::Pause(pause) => {
+                Returned::Changed(checked_run_pause(pause, plan, font, spans, buffer)?)
+            }
+            Call::Compose(..) | Call::Decompose(_) => self.make(setting, buffer)?,
         })
     }
 
@@ -186,6 +208,14 @@ fn are_numbers(glyphs: &[GlyphInfo]) -> bool {
     glyphs.iter().all(|glyph| glyph.glyph_id <= 65535)
 }
 
+fn preprocessed(returned: Option<Preprocess>) -> Returned {
+    match returned {
+        Some(Preprocess::Done) => Returned::Done,
+        Some(Preprocess::CallerRunsVowelConstraints) => Returned::CallerRunsVowelConstraints,
+        None => Returned::Absent,
+    }
+}
+
 fn done(returned: Option<()>) -> Returned {
     returned.map_or(Returned::Absent, |()| Returned::Done)
 }
@@ -195,7 +225,7 @@ fn random_char(numbers: &mut Numbers) -> char {
         0x41, 0x5D0, 0x5B0, 0x915, 0x93C, 0x1780, 0x17C0, 0x1100, 0xAC00,
     ];
     let number = match numbers.below(4) {
-        0 => numbers.next() as u32 % 0x11_0000,
+        0 => numbers.draw() as u32 % 0x11_0000,
         _ => numbers.one_of(&blocks) + numbers.below(32) as u32,
     };
     char::from_u32(number).unwrap_or('\u{FFFD}')

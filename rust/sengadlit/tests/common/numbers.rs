@@ -10,8 +10,8 @@ impl Numbers {
         Numbers(mixed(seed) | 1)
     }
 
-    /// The next number.
-    pub fn next(&mut self) -> u64 {
+    /// The next number, of 48 bits.
+    pub fn draw(&mut self) -> u64 {
         self.0 ^= self.0 << 13;
         self.0 ^= self.0 >> 7;
         self.0 ^= self.0 << 17;
@@ -20,7 +20,7 @@ impl Numbers {
 
     /// A number below `end`, which isn't 0.
     pub fn below(&mut self, end: usize) -> usize {
-        (self.next() % end as u64) as usize
+        (self.draw() % end as u64) as usize
     }
 
     /// One of these elements.
@@ -37,13 +37,13 @@ impl Numbers {
     pub fn number(&mut self) -> u32 {
         match self.below(4) {
             0 => self.one_of(&[0, 1, 0x7FFF_FFFF, 0x8000_0000, u32::MAX - 1, u32::MAX]),
-            _ => self.next() as u32,
+            _ => self.draw() as u32,
         }
     }
 
     /// A byte.
     pub fn byte(&mut self) -> u8 {
-        self.next() as u8
+        self.draw() as u8
     }
 }
 

@@ -36,8 +36,8 @@ impl Scene {
             call,
             shaper,
             plan: random_plan(numbers, shaper),
-            font: LotFont(Steady(numbers.next())),
-            tables: LotTables(Steady(numbers.next())),
+            font: LotFont(Steady(numbers.draw())),
+            tables: LotTables(Steady(numbers.draw())),
             spans: random_spans(numbers, buffer.len(), 15),
             buffer,
         }

@@ -11,6 +11,7 @@ use sengadlit::ot_shaper_syllabic::{
 };
 use sengadlit::plan::Pause;
 use sengadlit::shaper::Shaper;
+use sengadlit::shaper::checked::CallError;
 
 /// The pauses that insert dotted circles, with a shaper that makes them and the kind of its broken
 /// syllables.
@@ -51,10 +52,22 @@ fn script_of(shaper: Shaper) -> &'static [u8; 4] {
     }
 }
 
+/// Whether a call may refuse memory, and whether it is the checked one.
+#[derive(Clone, Copy, Debug)]
+struct Kind {
+    may_refuse: bool,
+    is_checked: bool,
+}
+
 /// A trial of a call on a buffer, with a font that has the dotted circle.
-fn trial(may_refuse: bool, call: Call, shaper: Shaper, spans: Vec<Span>, text: Buffer) -> Trial {
+fn trial(kind: Kind, call: Call, shaper: Shaper, spans: Vec<Span>, text: Buffer) -> Trial {
     let plan = plan_of(shaper, script_of(shaper));
-    let name = format!("{call:?} of {shaper:?} on {} glyphs", text.len());
+    let Kind {
+        may_refuse,
+        is_checked,
+    } = kind;
+    let way = if is_checked { "checked " } else { "" };
+    let name = format!("{way}{call:?} of {shaper:?} on {} glyphs", text.len());
     let make = move |subject: &mut Subject| {
         let setting = Setting {
             shaper,
@@ -64,7 +77,17 @@ fn trial(may_refuse: bool, call: Call, shaper: Shaper, spans: Vec<Span>, text: B
             spans: &spans,
         };
         assert!(call.fits(&setting, subject.buffer()));
-        call.make(&setting, subject.buffer()).map(drop)
+        let returned = match is_checked {
+            true => call.make_checked(&setting, subject.buffer()),
+            false => call
+                .make(&setting, subject.buffer())
+                .map_err(CallError::Refused),
+        };
+        match returned {
+            Ok(_) => Ok(()),
+            Err(CallError::Refused(error)) => Err(error),
+            Err(error) => unreachable!("a condition that holds: {error:?}"),
+        }
     };
     Trial {
         name,
@@ -81,35 +104,39 @@ fn text(length: usize, glyph: impl Fn(u32) -> GlyphInfo) -> Buffer {
 }
 
 /// Each hook and pause that may refuse memory, on a text that it makes longer.
-pub fn growing(length: usize) -> Vec<Trial> {
+pub fn growing(is_checked: bool, length: usize) -> Vec<Trial> {
+    let kind = Kind {
+        may_refuse: true,
+        is_checked,
+    };
     let mut trials = vec![
         trial(
-            true,
+            kind,
             Call::Preprocess,
             Shaper::Thai,
             Vec::new(),
             text(length, |i| letter(0x0E33, i)),
         ),
         trial(
-            true,
+            kind,
             Call::Preprocess,
             Shaper::Hangul,
             Vec::new(),
             text(length, |i| letter(0xAC00, i)),
         ),
     ];
-    for (pause, shaper, kind) in CIRCLES {
+    for (pause, shaper, broken) in CIRCLES {
         let mut text = text(length, |i| GlyphInfo {
-            syllable: (i as u8 % 2 + 1) << 4 | kind,
+            syllable: (i as u8 % 2 + 1) << 4 | broken,
             ..letter(i % 3, i)
         });
         text.set_has_broken_syllable(true);
-        trials.push(trial(true, Call::Pause(pause), shaper, Vec::new(), text));
+        trials.push(trial(kind, Call::Pause(pause), shaper, Vec::new(), text));
     }
     for direction in [Direction::LeftToRight, Direction::RightToLeft] {
         let text = stretched_text(length, direction);
         trials.push(trial(
-            true,
+            kind,
             Call::Postprocess,
             Shaper::Arabic,
             Vec::new(),
@@ -131,6 +158,12 @@ fn stretched_text(length: usize, direction: Direction) -> Buffer {
     text
 }
 
+/// A call that takes no memory.
+const STANDING: Kind = Kind {
+    may_refuse: false,
+    is_checked: false,
+};
+
 /// Each hook and pause of each shaper on a text that it leaves as long as it is: none takes memory.
 pub fn standing(length: usize) -> Vec<Trial> {
     let mut trials = Vec::new();
@@ -148,7 +181,7 @@ pub fn standing(length: usize) -> Vec<Trial> {
             if call.wants_positions() {
                 set_advances(&mut text, &vec![1000; length]);
             }
-            trials.push(trial(false, call, shaper, Vec::new(), text));
+            trials.push(trial(STANDING, call, shaper, Vec::new(), text));
         }
     }
     trials.extend(PAUSES.map(|pause| standing_pause(pause, length)));
@@ -174,5 +207,5 @@ fn standing_pause(pause: Pause, length: usize) -> Trial {
     };
     let spans = vec![Span { len: 2, kind: 0 }; length / 2];
     let text = text(length, glyph);
-    trial(false, Call::Pause(pause), shaper, spans, text)
+    trial(STANDING, Call::Pause(pause), shaper, spans, text)
 }

@@ -33,7 +33,8 @@ fn run(trials: &[Trial]) {
 #[test]
 fn hooks_and_pauses_that_may_refuse_memory() {
     for length in LENGTHS {
-        run(&hooks::growing(length));
+        run(&hooks::growing(false, length));
+        run(&hooks::growing(true, length));
     }
 }
 

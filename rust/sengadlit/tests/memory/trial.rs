@@ -67,13 +67,16 @@ impl Subject {
     }
 }
 
+/// What a trial calls.
+pub type Call = dyn Fn(&mut Subject) -> Result<(), ShaperError>;
+
 /// A call, and what it is made on.
 pub struct Trial {
     pub name: String,
     /// Whether the call takes memory; if not, there must be no request.
     pub may_refuse: bool,
     pub subject: Subject,
-    pub call: Box<dyn Fn(&mut Subject) -> Result<(), ShaperError>>,
+    pub call: Box<Call>,
 }
 
 /// Refuses each request of a trial in turn: how many there are.

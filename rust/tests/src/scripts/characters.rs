@@ -193,7 +193,7 @@ fn add_glyph(draft: &mut Draft, character: u32) {
         _ => draft.numbers.below(40) as u16,
     };
     let advance = match draft.numbers.below(12) {
-        0 => draft.number() as i32,
+        0 => draft.numbers.number() as i32,
         1 => 0,
         _ => draft.numbers.below(1500) as i32,
     };

@@ -3,7 +3,7 @@
 use super::Draft;
 
 /// Adds a text of these characters, and for some of its glyphs lines `at`: its length.
-pub fn write_text(draft: &mut Draft, characters: &[u32]) -> u64 {
+pub fn write_text(draft: &mut Draft, characters: &[u32]) -> usize {
     let longest = draft.numbers.one_of(&[2, 8, 8, 8, 16, 16, 40]);
     let length = draft.numbers.below(longest + 1);
     let text: String = (0..length)
@@ -19,24 +19,24 @@ pub fn write_text(draft: &mut Draft, characters: &[u32]) -> u64 {
 }
 
 /// Clusters that rise by more than one, fall, or are in no order.
-fn change_clusters(draft: &mut Draft, length: u64) {
+fn change_clusters(draft: &mut Draft, length: usize) {
     let kind = draft.numbers.below(3);
     for place in 0..length {
         let cluster = match kind {
             0 => place / 2,
             1 => length - place,
-            _ => u64::from(draft.number()),
+            _ => draft.numbers.number() as usize,
         };
         draft.add(format_args!("at {place} cluster {cluster}"));
     }
 }
 
 /// Whatever fits in the fields.
-fn change_any_fields(draft: &mut Draft, length: u64) {
+fn change_any_fields(draft: &mut Draft, length: usize) {
     for place in 0..length {
         for _ in 0..draft.numbers.below(4) {
-            let byte = draft.numbers.below(256);
-            let number = draft.number();
+            let byte = draft.numbers.byte();
+            let number = draft.numbers.number();
             match draft.numbers.below(9) {
                 0 => draft.add(format_args!("at {place} glyph {number}")),
                 1 => draft.add(format_args!("at {place} cluster {number}")),
@@ -53,7 +53,7 @@ fn change_any_fields(draft: &mut Draft, length: u64) {
 }
 
 /// What a substitution leaves in a glyph: marks, and the component of a ligature.
-pub fn substitute(draft: &mut Draft, place: u64) {
+pub fn substitute(draft: &mut Draft, place: usize) {
     let marks = draft
         .numbers
         .one_of(&["s", "sl", "sm", "l", "m", "i", "c", "slmic", "-"]);
@@ -65,7 +65,7 @@ pub fn substitute(draft: &mut Draft, place: u64) {
 }
 
 /// Substitutions of some glyphs of a text.
-pub fn substitute_some(draft: &mut Draft, length: u64) {
+pub fn substitute_some(draft: &mut Draft, length: usize) {
     for place in 0..length {
         if draft.percent(35) {
             substitute(draft, place);
@@ -74,7 +74,7 @@ pub fn substitute_some(draft: &mut Draft, length: u64) {
 }
 
 /// Classes of combining marks.
-pub fn set_classes(draft: &mut Draft, length: u64) {
+pub fn set_classes(draft: &mut Draft, length: usize) {
     for place in 0..length {
         let class = draft
             .numbers
@@ -84,7 +84,7 @@ pub fn set_classes(draft: &mut Draft, length: u64) {
 }
 
 /// Categories and positions as the tables or an earlier pause would have set them.
-pub fn set_categories(draft: &mut Draft, length: u64) {
+pub fn set_categories(draft: &mut Draft, length: usize) {
     for place in 0..length {
         let category = draft
             .numbers
@@ -96,13 +96,13 @@ pub fn set_categories(draft: &mut Draft, length: u64) {
 }
 
 /// Positions, some with advances of their own.
-pub fn add_positions(draft: &mut Draft, length: u64) {
+pub fn add_positions(draft: &mut Draft, length: usize) {
     draft.add(format_args!("set positions yes"));
     let is_extreme = draft.percent(10);
     for place in 0..length {
         if draft.percent(60) {
             let advance = match is_extreme {
-                true => draft.number() as i32,
+                true => draft.numbers.number() as i32,
                 false => draft.numbers.below(4000) as i32 - 100,
             };
             draft.add(format_args!("at {place} adv {advance}"));
@@ -112,7 +112,7 @@ pub fn add_positions(draft: &mut Draft, length: u64) {
 
 /// Spans that mostly cover the text. Mostly they are of the kinds that shapers know, and few are
 /// broken.
-pub fn add_spans(draft: &mut Draft, length: u64) {
+pub fn add_spans(draft: &mut Draft, length: usize) {
     let kinds = draft.numbers.one_of(&[2, 3, 5, 7, 8, 16]);
     let longest = draft.numbers.one_of(&[2, 5, 5, 12]);
     let mut rest = length;
@@ -123,7 +123,7 @@ pub fn add_spans(draft: &mut Draft, length: u64) {
         rest -= span;
     }
     if draft.percent(2) {
-        let length = draft.numbers.one_of(&[0, 1, u64::from(u32::MAX)]);
+        let length = draft.numbers.one_of(&[0, 1, u32::MAX as usize]);
         draft.add(format_args!("span {length} 0"));
     }
 }

@@ -99,7 +99,7 @@ fn steps_of(shaper: &str) -> &'static [Step] {
 }
 
 /// Adds the lines of a pipeline, or of hooks in any order.
-pub fn run(draft: &mut Draft, writing: &Writing, length: u64) {
+pub fn run(draft: &mut Draft, writing: &Writing, length: usize) {
     if draft.percent(85) {
         for step in steps_of(writing.shaper) {
             if draft.percent(95) {
@@ -115,7 +115,7 @@ pub fn run(draft: &mut Draft, writing: &Writing, length: u64) {
 }
 
 /// Hooks and pauses in any order, some of which the shaper lacks.
-fn run_in_any_order(draft: &mut Draft, length: u64) {
+fn run_in_any_order(draft: &mut Draft, length: usize) {
     for _ in 0..1 + draft.numbers.below(5) {
         let step = draft.numbers.one_of(&[
             Spans,
@@ -136,7 +136,7 @@ fn run_in_any_order(draft: &mut Draft, length: u64) {
     }
 }
 
-fn run_any(draft: &mut Draft, length: u64) {
+fn run_any(draft: &mut Draft, length: usize) {
     if draft.percent(20) {
         add_spans(draft, length);
     }
@@ -144,7 +144,7 @@ fn run_any(draft: &mut Draft, length: u64) {
     draft.add(format_args!("run pause {pause}"));
 }
 
-fn take(draft: &mut Draft, step: Step, length: u64) {
+fn take(draft: &mut Draft, step: Step, length: usize) {
     match step {
         Run(hook) => draft.add(format_args!("run {hook}")),
         Spans => add_spans(draft, length),
@@ -158,7 +158,7 @@ fn take(draft: &mut Draft, step: Step, length: u64) {
 }
 
 /// Marks of some places, seldom of none that are there.
-fn run_marks(draft: &mut Draft, length: u64) {
+fn run_marks(draft: &mut Draft, length: usize) {
     let start = draft.numbers.below(length + 1);
     let end = start + draft.numbers.below(length - start + 1);
     match draft.percent(2) {

@@ -24,7 +24,7 @@ pub fn set(draft: &mut Draft, writing: &Writing) {
     sometimes(draft, 60, format_args!("set level {level}"));
     let flags = draft.numbers.below(8) * 0x20;
     sometimes(draft, 50, format_args!("set flags {flags:x}"));
-    let global = draft.number();
+    let global = draft.numbers.number();
     sometimes(draft, 20, format_args!("set global {global:X}"));
     let stretch = draft.numbers.one_of(&["code", "centred"]);
     sometimes(draft, 40, format_args!("set stretch {stretch}"));
@@ -34,7 +34,7 @@ pub fn set(draft: &mut Draft, writing: &Writing) {
     add_contexts(draft);
 }
 
-fn sometimes(draft: &mut Draft, percent: u64, line: std::fmt::Arguments) {
+fn sometimes(draft: &mut Draft, percent: usize, line: std::fmt::Arguments) {
     if draft.percent(percent) {
         draft.add(line);
     }
@@ -59,7 +59,7 @@ fn add_features(draft: &mut Draft) {
         if draft.percent(percent) {
             let mask = match draft.percent(90) {
                 true => 8 << (bit % 29),
-                false => draft.number() & !7,
+                false => draft.numbers.number() & !7,
             };
             draft.add(format_args!("mask {feature} {mask:x}"));
         }

@@ -451,7 +451,7 @@ impl Shaper {
     /// # Contract
     ///
     /// ```text
-    /// ensures parts { Decomposed self plan.now (T.tables tables.now) ab result }
+    /// ensures parts { Decomposed self _plan.now (T.tables tables.now) ab result }
     /// ensures answer { is_some result ≡ (standing self).decompose }
     /// ```
     ///
@@ -461,7 +461,7 @@ impl Shaper {
     /// </details>
     pub fn decompose<T: Tables>(
         self,
-        plan: &Plan,
+        _plan: &Plan,
         tables: &T,
         ab: char,
     ) -> Option<Option<(char, char)>> {
@@ -502,19 +502,20 @@ impl Shaper {
     pub fn setup_masks<F: Font, T: Tables>(
         self,
         plan: &Plan,
-        face: &F,
+        _face: &F,
         tables: &T,
         buffer: &mut Buffer,
     ) -> Option<()> {
         match self {
-            Self::Arabic => Some(ot_shaper_arabic::setup_masks(plan, tables, buffer)),
-            Self::Hangul => Some(ot_shaper_hangul::setup_masks(plan, buffer)),
-            Self::Indic => Some(ot_shaper_indic::setup_masks(tables, buffer)),
-            Self::Khmer => Some(ot_shaper_khmer::setup_masks(tables, buffer)),
-            Self::Myanmar => Some(ot_shaper_myanmar::setup_masks(tables, buffer)),
-            Self::Universal => Some(ot_shaper_use::setup_masks(plan, tables, buffer)),
-            Self::Hebrew | Self::MyanmarZawgyi | Self::Thai => None,
+            Self::Arabic => ot_shaper_arabic::setup_masks(plan, tables, buffer),
+            Self::Hangul => ot_shaper_hangul::setup_masks(plan, buffer),
+            Self::Indic => ot_shaper_indic::setup_masks(tables, buffer),
+            Self::Khmer => ot_shaper_khmer::setup_masks(tables, buffer),
+            Self::Myanmar => ot_shaper_myanmar::setup_masks(tables, buffer),
+            Self::Universal => ot_shaper_use::setup_masks(plan, tables, buffer),
+            Self::Hebrew | Self::MyanmarZawgyi | Self::Thai => return None,
         }
+        Some(())
     }
 
     /// Reorders the marks from `start` to `end`: for Hebrew, at the first three neighbours of its
@@ -547,15 +548,16 @@ impl Shaper {
         end: usize,
     ) -> Option<()> {
         match self {
-            Self::Arabic => Some(ot_shaper_arabic::reorder_marks(plan, buffer, start, end)),
-            Self::Hebrew => Some(ot_shaper_hebrew::reorder_marks(plan, buffer, start, end)),
+            Self::Arabic => ot_shaper_arabic::reorder_marks(plan, buffer, start, end),
+            Self::Hebrew => ot_shaper_hebrew::reorder_marks(plan, buffer, start, end),
             Self::Hangul
             | Self::Indic
             | Self::Khmer
             | Self::Myanmar
             | Self::MyanmarZawgyi
             | Self::Thai
-            | Self::Universal => None,
+            | Self::Universal => return None,
         }
+        Some(())
     }
 }

@@ -126,9 +126,11 @@ fn joining_requests(flags: u32) -> [Request; 14] {
 ///     buffer.new ≡ joined masks script table.joining table.general buffer.old }
 /// ensures cut { let table = T.tables tables.now in
 ///     CutsAsHalves script table.joining table.general buffer.old buffer.new }
+/// ensures flags { OnlyFlagsAdded buffer.old.glyphs buffer.new.glyphs }
 /// ```
 ///
 /// - `AreCharacters`, `CutsAsHalves`, `joined`: crates/shapers_arabic/specs/JoinedText.antt
+/// - `OnlyFlagsAdded`: crates/shapers_clusters/specs/FlagLaw.antt
 ///
 /// </details>
 pub fn setup_masks_inner<T: Tables>(
@@ -165,10 +167,12 @@ pub fn setup_masks_inner<T: Tables>(
 ///     buffer.new ≡ joined masks plan.now.script table.joining table.general buffer.old }
 /// ensures cut { let table = T.tables tables.now in
 ///     CutsAsHalves plan.now.script table.joining table.general buffer.old buffer.new }
+/// ensures flags { OnlyFlagsAdded buffer.old.glyphs buffer.new.glyphs }
 /// ```
 ///
 /// - `AreCharacters`, `CutsAsHalves`, `joined`: crates/shapers_arabic/specs/JoinedText.antt
 /// - `IsArabic`, `masks_of`: crates/shapers_arabic/specs/PlanData.antt
+/// - `OnlyFlagsAdded`: crates/shapers_clusters/specs/FlagLaw.antt
 ///
 /// </details>
 pub fn setup_masks<T: Tables>(plan: &Plan, tables: &T, buffer: &mut Buffer) {

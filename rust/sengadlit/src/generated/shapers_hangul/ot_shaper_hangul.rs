@@ -70,8 +70,9 @@ pub fn override_features(planner: &mut Planner) -> Result<(), ShaperError> {
 /// become one syllable character where the font has it, else they are marked for the features of
 /// jamo; so are the jamo of a syllable character that the font lacks. A tone moves before the
 /// syllable that it follows, unless it has advance 0; without one it gets a dotted circle. What a
-/// break would tear apart is flagged. Refuses as a growth to the length of the result does. (The
-/// Unicode Standard, "Conjoining Jamo Behavior"; OpenType's notes on Hangul.)
+/// break would tear apart is flagged. Refuses as a growth to the length of the result does, and
+/// never where every character stays as it is. (The Unicode Standard, "Conjoining Jamo
+/// Behavior"; OpenType's notes on Hangul.)
 ///
 /// <details><summary>Contract</summary>
 ///
@@ -81,15 +82,18 @@ pub fn override_features(planner: &mut Planner) -> Result<(), ShaperError> {
 /// requires { buffer.old.positions ≡ [] }
 /// ensures ok { OnOk result (buffer.new ≡ rewritten (F.font face.now) buffer.old) }
 /// ensures clusters { OnOk result (KeepsClusters (F.font face.now) buffer.old buffer.new) }
+/// ensures flags { OnOk result (KeepsGlyphFlags (F.font face.now) buffer.old buffer.new) }
 /// ensures spelling { OnOk result (SpellsSame buffer.old buffer.new) }
+/// ensures units { OnOk result (SpellsByUnits (F.font face.now) buffer.old buffer.new) }
 /// ensures length { let text = (rewritten (F.font face.now) buffer.old).glyphs in
 ///     RefusesLength buffer.old.max_len (length text) result }
 /// ensures err { OnErr result (buffer.new ≡ buffer.old) }
+/// ensures kept { AllKept (F.font face.now) buffer.old → IsOk result }
 /// ```
 ///
 /// - `RefusesLength`: crates/shapers_buffer/specs/Refusals.antt
 /// - `rewritten`: crates/shapers_hangul/specs/Hangul.antt
-/// - `KeepsClusters`, `SpellsSame`: crates/shapers_hangul/specs/HangulLaws.antt
+/// - `AllKept`, `KeepsClusters`, `KeepsGlyphFlags`, `SpellsByUnits`, `SpellsSame`: crates/shapers_hangul/specs/HangulLaws.antt
 ///
 /// </details>
 pub fn preprocess_text<F: Font>(
@@ -147,9 +151,11 @@ impl GlyphChange for JamoMasks {
 ///
 /// ```text
 /// requires { is_hangul_data plan.now.plan_data ≡ true }
-/// ensures { buffer.new ≡ with_jamo_masks plan.now.plan_data buffer.old }
+/// ensures masks { buffer.new ≡ with_jamo_masks plan.now.plan_data buffer.old }
+/// ensures flags { OnlyFlagsAdded buffer.old.glyphs buffer.new.glyphs }
 /// ```
 ///
+/// - `OnlyFlagsAdded`: crates/shapers_clusters/specs/FlagLaw.antt
 /// - `is_hangul_data`, `with_jamo_masks`: crates/shapers_hangul/specs/Masks.antt
 ///
 /// </details>

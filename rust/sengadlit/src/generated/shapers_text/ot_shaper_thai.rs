@@ -35,6 +35,7 @@ const THAI: Script = Script(*b"Thai");
 /// ensures clusters { let us = characters buffer.old.glyphs in
 ///     let cs = clusters buffer.old.glyphs in
 ///     OnOk result (ClustersInTwo buffer.old.level us cs (clusters buffer.new.glyphs)) }
+/// ensures flags { OnOk result (FlagsInTwo buffer.old.glyphs buffer.new.glyphs) }
 /// ensures kept { let forms = asks_for_forms plan.now in
 ///     OnOk result (KeptInTwo forms buffer.old.glyphs buffer.new.glyphs) }
 /// ensures length { let wanted = length (glyphs_in_two buffer.old.glyphs) in
@@ -48,7 +49,7 @@ const THAI: Script = Script(*b"Thai");
 /// - `RefusesLength`: crates/shapers_buffer/specs/Refusals.antt
 /// - `glyphs_in_two`, `is_sara_am`: crates/shapers_text/specs/Thai.antt
 /// - `asks_for_forms`, `preprocessed_in_thai`: crates/shapers_text/specs/ThaiForms.antt
-/// - `ClustersInTwo`, `KeptInTwo`: crates/shapers_text/specs/ThaiLaws.antt
+/// - `ClustersInTwo`, `FlagsInTwo`, `KeptInTwo`: crates/shapers_text/specs/ThaiLaws.antt
 ///
 /// </details>
 pub fn preprocess_text<F: Font>(

@@ -9,5 +9,5 @@ abbrev pub invariant-loop-i : goal.invariant-loop-i
 invariant-loop-i g l = record {
   same_length : length l.glyphs ≡ length l.initial.glyphs;
   near : IsNumber l.pen.at;
-  walk : TilesLeft l.right_to_left (g.F.hb_font_t.font l.face) l.run l.tiles l.end l.i l.fn.pen l.pen (zip l.initial.glyphs l.initial.positions) l.glyphs l.positions;
+  walk : TilesLeft l.right_to_left (g.F.hb_font_t.font l.face) l.lay l.fn.tiles.start l.fn.tiles.end l.i l.fn.pen l.pen (zip l.initial.glyphs l.initial.positions) l.glyphs l.positions;
 }

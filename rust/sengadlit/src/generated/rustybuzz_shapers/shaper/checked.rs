@@ -1,8 +1,8 @@
 //! Generated from crates/rustybuzz_shapers/src/shaper/checked.rt by rust/erase; edit the source.
 //!
-//! The hooks for callers that can't know whether their conditions are met: each call tests them in
-//! the order of `Condition`, before it writes anything, and returns the first that isn't met. The
-//! hooks that aren't here have none.
+//! Calls for callers that can't know whether a hook's conditions are met. Each tests them in the
+//! order of `Condition` before it writes anything, and returns the first that isn't met; the buffer
+//! is then unchanged. The hooks that aren't here have no conditions.
 
 use super::conditions::{are_glyph_numbers, is_arabic};
 use super::{Shaper, has_positions, kinds_fit, lacks_positions, pause_fits, run_pause};
@@ -50,7 +50,7 @@ impl From<ShaperError> for CallError {
 }
 
 impl Shaper {
-    /// `preprocess_text` behind a test of its condition, which takes constant time.
+    /// Tests the condition of `preprocess_text`, in constant time, and calls it.
     ///
     /// <details><summary>Contract</summary>
     ///
@@ -81,8 +81,8 @@ impl Shaper {
         Ok(self.preprocess_text(plan, face, buffer)?)
     }
 
-    /// `setup_masks` behind a test of its conditions: for Arabic, and for the universal shaper where
-    /// letters join, it takes one pass over the glyphs, else constant time.
+    /// Tests the conditions of `setup_masks` and calls it. The test takes one pass over the glyphs
+    /// for Arabic, and for the universal shaper where letters join; else constant time.
     ///
     /// <details><summary>Contract</summary>
     ///
@@ -114,7 +114,7 @@ impl Shaper {
         Ok(self.setup_masks(plan, face, tables, buffer))
     }
 
-    /// `reorder_marks` behind a test of its conditions, which takes constant time.
+    /// Tests the conditions of `reorder_marks`, in constant time, and calls it.
     ///
     /// <details><summary>Contract</summary>
     ///
@@ -146,8 +146,8 @@ impl Shaper {
         Ok(self.reorder_marks(plan, buffer, start, end))
     }
 
-    /// `postprocess_glyphs` behind a test of its conditions: for Arabic it takes one pass over the
-    /// glyphs, else constant time.
+    /// Tests the conditions of `postprocess_glyphs` and calls it. The test takes one pass over the
+    /// glyphs for Arabic, else constant time.
     ///
     /// <details><summary>Contract</summary>
     ///
@@ -216,7 +216,7 @@ impl Shaper {
     }
 }
 
-/// `run_pause` behind a test of its conditions, which takes one pass over the spans.
+/// Tests the conditions of `run_pause`, in one pass over the spans, and calls it.
 ///
 /// <details><summary>Contract</summary>
 ///

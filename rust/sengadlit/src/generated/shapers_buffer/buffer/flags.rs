@@ -36,3 +36,66 @@ impl Flags for BufferFlags {
         BufferFlags(bits)
     }
 }
+
+// HarfBuzz's bits for the same flags.
+const HARFBUZZ_CIRCLE: u32 = 0x10;
+
+const HARFBUZZ_CONCAT: u32 = 0x40;
+
+const HARFBUZZ_TATWEEL: u32 = 0x80;
+
+impl BufferFlags {
+    /// The flags among HarfBuzz's of the same name (`hb_buffer_flags_t`), whose bits are 0x10, 0x40
+    /// and 0x80; all other bits of it are left out.
+    ///
+    /// <details><summary>Contract</summary>
+    ///
+    /// # Contract
+    ///
+    /// ```text
+    /// ensures { result.0 ≡ from_harfbuzz bits }
+    /// ```
+    ///
+    /// - `from_harfbuzz`: crates/shapers_buffer/specs/Numbers.antt
+    ///
+    /// </details>
+    pub fn from_harfbuzz(bits: u32) -> Self {
+        let circle = flag_where(bits, HARFBUZZ_CIRCLE, Self::DO_NOT_INSERT_DOTTED_CIRCLE.0);
+        let concat = flag_where(bits, HARFBUZZ_CONCAT, Self::PRODUCE_UNSAFE_TO_CONCAT.0);
+        let tatweel = flag_where(
+            bits,
+            HARFBUZZ_TATWEEL,
+            Self::PRODUCE_SAFE_TO_INSERT_TATWEEL.0,
+        );
+        BufferFlags(circle | concat | tatweel)
+    }
+
+    /// HarfBuzz's bits of these flags.
+    ///
+    /// <details><summary>Contract</summary>
+    ///
+    /// # Contract
+    ///
+    /// ```text
+    /// ensures { result ≡ to_harfbuzz self.0 }
+    /// ```
+    ///
+    /// - `to_harfbuzz`: crates/shapers_buffer/specs/Numbers.antt
+    ///
+    /// </details>
+    pub fn to_harfbuzz(self) -> u32 {
+        let circle = flag_where(self.0, Self::DO_NOT_INSERT_DOTTED_CIRCLE.0, HARFBUZZ_CIRCLE);
+        let concat = flag_where(self.0, Self::PRODUCE_UNSAFE_TO_CONCAT.0, HARFBUZZ_CONCAT);
+        let tatweel = flag_where(
+            self.0,
+            Self::PRODUCE_SAFE_TO_INSERT_TATWEEL.0,
+            HARFBUZZ_TATWEEL,
+        );
+        circle | concat | tatweel
+    }
+}
+
+// The flag, where this bit is asked for.
+fn flag_where(bits: u32, asked: u32, flag: u32) -> u32 {
+    if bits & asked == asked { flag } else { 0 }
+}

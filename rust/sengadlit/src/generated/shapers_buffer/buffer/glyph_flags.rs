@@ -6,7 +6,6 @@
 use super::glyph::GlyphInfo;
 use super::merging::least_cluster;
 use super::{Buffer, BufferFlags};
-use crate::support::bitflags::Flags;
 
 /// The glyph flags, by their bits.
 pub mod glyph_flag {

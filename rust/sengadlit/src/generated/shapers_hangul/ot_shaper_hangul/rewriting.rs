@@ -10,7 +10,6 @@ use crate::generated::shapers_base::buffer::{
 };
 use crate::generated::shapers_base::font::Font;
 use crate::support::alloc::Global;
-use crate::support::bitflags::Flags;
 
 // The item at a place of the text.
 fn item_at<F: Font>(face: &F, circles: bool, glyphs: &[GlyphInfo], place: usize) -> Item {

@@ -73,6 +73,7 @@ fn find_base(rules: &Rules, script: Option<Script>, glyphs: &mut [GlyphInfo]) ->
 }
 
 // The first glyph whose position is the base's or one after it, else the end.
+#[allow(clippy::needless_range_loop)]
 fn first_base(glyphs: &[GlyphInfo]) -> usize {
     for i in 0..glyphs.len() {
         if is_from_base_on(&glyphs[i]) {
@@ -205,6 +206,7 @@ fn set_links(script: Option<Script>, base: usize, glyphs: &mut [GlyphInfo]) -> u
 }
 
 // The same in Malayalam.
+#[allow(clippy::needless_range_loop)]
 fn set_along_links(base: usize, glyphs: &mut [GlyphInfo]) -> usize {
     let mut last = base;
     let mut halant = false;

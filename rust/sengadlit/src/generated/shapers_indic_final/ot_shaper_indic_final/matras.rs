@@ -37,6 +37,7 @@ pub(super) fn end_of_base(base: usize, glyphs: &[GlyphInfo]) -> usize {
 }
 
 // The first left matra before the base.
+#[allow(clippy::manual_find, clippy::needless_range_loop)]
 pub(super) fn first_left(base: usize, glyphs: &[GlyphInfo]) -> Option<usize> {
     for i in 0..base {
         if is_left(&glyphs[i]) {

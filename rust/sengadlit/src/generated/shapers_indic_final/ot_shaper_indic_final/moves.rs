@@ -4,25 +4,25 @@
 
 use crate::generated::shapers_base::buffer::Buffer;
 
-// Merges the syllable from `s` to `e` up to its place `j`, and moves its first glyph, the reph, there.
+// Merges the syllable from `s` on up to its place `j`, and moves its first glyph, the reph, there.
 #[inline]
-pub(super) fn move_reph(buffer: &mut Buffer, s: usize, e: usize, j: usize) {
+pub(super) fn move_reph(buffer: &mut Buffer, s: usize, j: usize) {
     buffer.merge_clusters(s, s + j + 1);
     move_first_last(buffer, s, s + j + 1);
 }
 
-// Merges the syllable from `s` to `e` from its place `j` up to its place `i`, and moves the glyph
-// of place `i`, which `pref` formed, to `j`.
+// Merges the syllable from `s` on from its place `j` up to its place `i`, and moves the glyph of
+// place `i`, which `pref` formed, to `j`.
 #[inline]
-pub(super) fn move_pref(buffer: &mut Buffer, s: usize, e: usize, j: usize, i: usize) {
+pub(super) fn move_pref(buffer: &mut Buffer, s: usize, j: usize, i: usize) {
     buffer.merge_clusters(s + j, s + i + 1);
     move_last_first(buffer, s + j, s + i + 1);
 }
 
-// Moves the glyph of place `i` of the syllable from `s` to `e`, a left matra, to its place `j`, and
+// Moves the glyph of place `i` of the syllable from `s` on, a left matra, to its place `j`, and
 // merges from there up to its place `b`.
 #[inline]
-pub(super) fn move_matra(buffer: &mut Buffer, s: usize, e: usize, b: usize, i: usize, j: usize) {
+pub(super) fn move_matra(buffer: &mut Buffer, s: usize, b: usize, i: usize, j: usize) {
     move_first_last(buffer, s + i, s + j + 1);
     buffer.merge_clusters(s + j, s + b);
 }

@@ -25,17 +25,17 @@ struct Runs {
 // and merges each with all up to place `b`.
 pub(super) fn part_matras(p: usize, b: usize, buffer: &mut Buffer, s: usize, e: usize) {
     for i in (0..p).rev() {
-        if is_left(&buffer.glyphs()[s + i]) {
-            move_matra(buffer, s, e, b, i, p);
-            part_further(i, p, b, buffer, s, e);
+        if is_left(&buffer.glyphs()[s..e][i]) {
+            move_matra(buffer, s, b, i, p);
+            part_further(i, p, b, buffer, s);
             return;
         }
     }
 }
 
-// Moves the left matras before place `top` of the syllable from `s` to `e` to the places before
-// `p`, where one stands that has merged with all up to place `b`, and merges each.
-fn part_further(top: usize, p: usize, b: usize, buffer: &mut Buffer, s: usize, e: usize) {
+// Moves the left matras before place `top` of the syllable from `s` on to the places before `p`,
+// where one stands that has merged with all up to place `b`, and merges each.
+fn part_further(top: usize, p: usize, b: usize, buffer: &mut Buffer, s: usize) {
     if !has_left(&buffer.glyphs()[s..s + top]) {
         return;
     }

@@ -23,7 +23,7 @@ pub(super) fn place_reph(
         return base;
     }
     let target = reph_target(position, base, &buffer.glyphs()[s..e]);
-    move_reph(buffer, s, e, target);
+    move_reph(buffer, s, target);
     base_after_reph(base, target)
 }
 
@@ -40,7 +40,7 @@ pub(super) fn place_pref(
     let formed = formed_pref(pref, base, &buffer.glyphs()[s..e]);
     if let Some(i) = formed {
         let target = pref_target(script, base, &buffer.glyphs()[s..e]);
-        move_pref(buffer, s, e, target, i);
+        move_pref(buffer, s, target, i);
     }
 }
 

@@ -9,6 +9,7 @@ use crate::generated::shapers_base::buffer::{GlyphInfo, Script};
 use crate::generated::shapers_indic::ot_shaper_indic::glyphs::is_joiner;
 
 // The first glyph after the base with the mask of `pref`.
+#[allow(clippy::manual_find, clippy::needless_range_loop)]
 pub(super) fn pref_place(pref: u32, base: usize, glyphs: &[GlyphInfo]) -> Option<usize> {
     for i in base + 1..glyphs.len() {
         if has_mask(pref, &glyphs[i]) {

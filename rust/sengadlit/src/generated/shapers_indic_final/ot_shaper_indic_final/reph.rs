@@ -45,6 +45,7 @@ pub(super) fn base_after_reph(base: usize, target: usize) -> usize {
 }
 
 // The first halant between the start and the base.
+#[allow(clippy::manual_find, clippy::needless_range_loop)]
 fn halant_after_start(base: usize, glyphs: &[GlyphInfo]) -> Option<usize> {
     for i in 1..base {
         if is_halant(&glyphs[i]) {

@@ -89,6 +89,7 @@ fn search_from(lo: usize, glyphs: &[GlyphInfo]) -> usize {
 }
 
 // The first consonant that may be the base from place `start` on.
+#[allow(clippy::manual_find, clippy::needless_range_loop)]
 fn first_candidate(start: usize, glyphs: &[GlyphInfo]) -> Option<usize> {
     for i in start..glyphs.len() {
         if is_base_candidate(&glyphs[i]) {

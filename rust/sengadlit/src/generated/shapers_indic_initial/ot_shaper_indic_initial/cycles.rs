@@ -6,12 +6,12 @@
 use crate::generated::shapers_base::buffer::Buffer;
 
 // The place that the glyph at `start + i` came from, from `start` on.
-fn old_place(buffer: &Buffer, start: usize, end: usize, i: usize) -> usize {
+fn old_place(buffer: &Buffer, start: usize, i: usize) -> usize {
     buffer.place(start + i).saturating_sub(start)
 }
 
 // Spends a place: it is a cycle of its own from now on.
-fn spend_place(buffer: &mut Buffer, start: usize, end: usize, i: usize) {
+fn spend_place(buffer: &mut Buffer, start: usize, i: usize) {
     buffer.set_place(start + i, start + i);
 }
 
@@ -20,14 +20,14 @@ fn spend_place(buffer: &mut Buffer, start: usize, end: usize, i: usize) {
 fn spend_cycle(buffer: &mut Buffer, start: usize, end: usize, p: usize) -> (usize, usize) {
     let mut least = p;
     let mut greatest = p;
-    let mut q = old_place(buffer, start, end, p);
-    spend_place(buffer, start, end, p);
+    let mut q = old_place(buffer, start, p);
+    spend_place(buffer, start, p);
     for _ in start..end {
         if q == p {
             break;
         }
-        let next = old_place(buffer, start, end, q);
-        spend_place(buffer, start, end, q);
+        let next = old_place(buffer, start, q);
+        spend_place(buffer, start, q);
         least = least.min(q);
         greatest = greatest.max(q);
         q = next;
@@ -39,7 +39,7 @@ fn spend_cycle(buffer: &mut Buffer, start: usize, end: usize, p: usize) -> (usiz
 // greater, to its greatest. `base` counts from `start`.
 fn merge_cycles(buffer: &mut Buffer, start: usize, end: usize, base: usize) {
     for p in base..end - start {
-        if old_place(buffer, start, end, p) != p {
+        if old_place(buffer, start, p) != p {
             let (least, greatest) = spend_cycle(buffer, start, end, p);
             buffer.merge_clusters(start + base.max(least), start + greatest + 1);
         }

@@ -26,6 +26,7 @@ pub(super) fn halant_move(
 }
 
 // The place of the first H after the base.
+#[allow(clippy::manual_find, clippy::needless_range_loop)]
 fn halant_after(base: usize, glyphs: &[GlyphInfo]) -> Option<usize> {
     if base >= glyphs.len() {
         return None;
@@ -39,6 +40,7 @@ fn halant_after(base: usize, glyphs: &[GlyphInfo]) -> Option<usize> {
 }
 
 // The place of the last glyph after an H at this place over which the H goes.
+#[allow(clippy::manual_find)]
 fn last_after_halant(script: Option<Script>, halant: usize, glyphs: &[GlyphInfo]) -> Option<usize> {
     for i in (halant + 1..glyphs.len()).rev() {
         if is_passed_by_halant(script, &glyphs[i]) {

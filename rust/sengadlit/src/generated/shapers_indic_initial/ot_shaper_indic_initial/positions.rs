@@ -15,6 +15,7 @@ use crate::generated::shapers_indic::ot_shaper_indic::glyphs::is_matra;
 use crate::generated::shapers_syllabic::ot_shaper_syllabic::is_consonant;
 
 /// Sets the positions of the reph, of what stands before the base, and of the base.
+#[allow(clippy::needless_range_loop)]
 pub(super) fn set_positions_by_base(base: Base, glyphs: &mut [GlyphInfo]) {
     let end = if base.place < glyphs.len() {
         base.place + 1

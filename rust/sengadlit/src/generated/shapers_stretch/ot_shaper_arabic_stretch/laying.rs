@@ -4,13 +4,14 @@
 //! its word. The writer never overtakes the reader.
 
 use super::counting::moved;
-use super::measuring::{Lay, Run, advance_of, lay_of, measure};
+use super::measuring::{Lay, advance_of, lay_of, measure};
 use super::parts::{LastPart, last_part, repeats};
 use crate::generated::shapers_base::buffer::{
     GlyphInfo, GlyphPosition, PositionedWalk, unsafe_to_break_in,
 };
 use crate::generated::shapers_base::font::Font;
 use crate::generated::shapers_base::plan::StretchStart;
+use core::ops::Range;
 
 /// How the tiles of a text are laid, over slices whose first `len` cells are the text in working
 /// order, and which are just as long as the stretched text.
@@ -124,20 +125,8 @@ fn lay_run<F: Font>(
                 at: lay.start,
                 place: unlaid.place,
             };
-            let tiles = part.tiles;
-            let end = unlaid.end;
-            lay_tiles(
-                face,
-                right_to_left,
-                run,
-                lay,
-                glyphs,
-                positions,
-                tiles,
-                end,
-                pen,
-            )
-            .place
+            let tiles = part.tiles..unlaid.end;
+            lay_tiles(face, right_to_left, lay, glyphs, positions, tiles, pen).place
         }
         None => unreachable!(),
     }
@@ -157,25 +146,23 @@ struct Tile {
     position: GlyphPosition,
 }
 
-// Lays the tiles from `tiles` to `end`, the last one first.
+// Lays these tiles, the last one first.
 fn lay_tiles<F: Font>(
     face: &F,
     right_to_left: bool,
-    run: Run,
     lay: Lay,
     glyphs: &mut [GlyphInfo],
     positions: &mut [GlyphPosition],
-    tiles: usize,
-    end: usize,
+    tiles: Range<usize>,
     pen: Pen,
 ) -> Pen {
     let mut pen = pen;
-    for i in (tiles..end).rev() {
+    for i in (tiles.start..tiles.end).rev() {
         let tile = Tile {
             glyph: glyphs[i],
             position: positions[i],
         };
-        pen = lay_tile(face, right_to_left, run, lay, glyphs, positions, tile, pen);
+        pen = lay_tile(face, right_to_left, lay, glyphs, positions, tile, pen);
     }
     pen
 }
@@ -184,7 +171,6 @@ fn lay_tiles<F: Font>(
 fn lay_tile<F: Font>(
     face: &F,
     right_to_left: bool,
-    run: Run,
     lay: Lay,
     glyphs: &mut [GlyphInfo],
     positions: &mut [GlyphPosition],

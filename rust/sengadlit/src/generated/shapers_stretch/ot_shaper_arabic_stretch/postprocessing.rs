@@ -30,6 +30,9 @@ use crate::generated::shapers_base::plan::{Plan, PlanData, StretchStart};
 ///     (length after.glyphs) result }
 /// ensures longer { let added = copies_in (F.font face.now) buffer.old in
 ///     OnOk result (length buffer.new.glyphs ≡ length buffer.old.glyphs + added) }
+/// ensures copies { OnOk result (AreCopies buffer.old.glyphs buffer.new.glyphs) }
+/// ensures widths { let choice = start_of plan.now.plan_data in
+///     OnOk result (IsLaidOver (F.font face.now) choice buffer.old buffer.new) }
 /// ensures err { OnErr result (buffer.new ≡ buffer.old) }
 /// ensures unmarked { buffer.old.stch ≡ false → IsOk result }
 /// ```
@@ -38,6 +41,7 @@ use crate::generated::shapers_base::plan::{Plan, PlanData, StretchStart};
 /// - `Refuses`: crates/shapers_buffer/specs/Refusals.antt
 /// - `start_of`: crates/shapers_stretch/specs/Recorded.antt
 /// - `copies_in`, `marks_stretched`, `stretch_refusal`: crates/shapers_stretch/specs/Stretch.antt
+/// - `AreCopies`, `IsLaidOver`: crates/shapers_stretch/specs/StretchLaws.antt
 ///
 /// </details>
 pub fn postprocess_glyphs<F: Font>(

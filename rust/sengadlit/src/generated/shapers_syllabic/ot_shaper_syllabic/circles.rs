@@ -6,7 +6,6 @@ use crate::generated::shapers_base::buffer::{
     Buffer, BufferFlags, GlyphInfo, GlyphWalk, ShaperError, first_syllable_len,
 };
 use crate::generated::shapers_base::font::Font;
-use crate::support::bitflags::Flags;
 
 // The character of the dotted circle.
 const DOTTED_CIRCLE: u32 = 0x25CC;

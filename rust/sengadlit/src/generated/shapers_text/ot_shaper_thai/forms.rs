@@ -7,6 +7,7 @@ use crate::generated::shapers_base::buffer::{Buffer, GlyphInfo, GlyphWalk, unsaf
 use crate::generated::shapers_base::font::Font;
 
 /// The type of a consonant.
+#[allow(clippy::enum_variant_names)]
 #[derive(Clone, Copy)]
 enum Consonant {
     /// No ascender and no descender.
@@ -22,6 +23,7 @@ enum Consonant {
 }
 
 /// The type of a mark.
+#[allow(clippy::enum_variant_names)]
 #[derive(Clone, Copy)]
 enum Mark {
     /// A vowel above.
@@ -35,6 +37,7 @@ enum Mark {
 }
 
 /// What a mark does.
+#[allow(clippy::upper_case_acronyms)]
 #[derive(Clone, Copy)]
 enum Action {
     /// Nothing.

@@ -24,7 +24,7 @@ const JOINING_SCRIPTS: [Script; 13] = [
 ];
 
 /// What the shaper keeps in the plan: the mask of `rphf` and, for a script whose letters join, the
-/// plan of Arabic. It can't refuse and takes no memory.
+/// plan of Arabic. No mask touches a glyph flag bit. It can't refuse and takes no memory.
 ///
 /// <details><summary>Contract</summary>
 ///
@@ -33,10 +33,11 @@ const JOINING_SCRIPTS: [Script; 13] = [
 /// ```text
 /// ensures data { let start = plan.now.stretch_start in
 ///     result ≡ Universal (universal_plan start plan.now.script plan.now.ot_map) }
-/// ensures off_flags { rphf_of result % 8 ≡ 0 }
+/// ensures off_flags { AllByRecursion (λ mask. mask % 8 ≡ 0) (masks_in result) }
 /// ```
 ///
-/// - `rphf_of`, `universal_plan`: crates/shapers_universal/specs/PlanData.antt
+/// - `universal_plan`: crates/shapers_universal/specs/PlanData.antt
+/// - `masks_in`: crates/shapers_universal/specs/PlanMasks.antt
 ///
 /// </details>
 pub fn create_data(plan: &Plan) -> PlanData {

@@ -1,5 +1,0 @@
-mod DataRows
-mod LikelyRows
-mod NumberRows
-mod StopRows
-mod Stopping

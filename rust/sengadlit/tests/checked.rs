@@ -1,0 +1,240 @@
+//! The checked calls: each names the first condition that fails, changes nothing then, never
+//! panics, and otherwise does what the call that isn't checked does.
+
+mod common;
+
+use common::buffers::{Contents, Glyphs, copy_of, set_advances, text_of};
+use common::calls::{Call, Returned, Setting};
+use common::fonts::{LotFont, LotTables, PlainFont, PlainTables, Steady};
+use common::misuse::Misuse;
+use common::numbers::Numbers;
+use common::plans::{PAUSES, SHAPERS, bare_plan, plan_of};
+use common::watchdog::in_time;
+use sengadlit::buffer::{Buffer, ShaperError, Span};
+use sengadlit::plan::{Pause, Plan};
+use sengadlit::shaper::Shaper;
+use sengadlit::shaper::checked::{CallError, Condition};
+
+/// Makes a checked call with a plain font and these spans.
+fn make(
+    call: Call,
+    shaper: Shaper,
+    plan: &Plan,
+    spans: &[Span],
+    buffer: &mut Buffer,
+) -> Result<Returned, CallError> {
+    let setting = Setting {
+        shaper,
+        plan,
+        font: &PlainFont(100),
+        tables: &PlainTables,
+        spans,
+    };
+    call.make_checked(&setting, buffer)
+}
+
+/// Asserts that a checked call stops at this condition, and leaves the buffer as it was.
+#[track_caller]
+fn assert_stops(
+    condition: Condition,
+    buffer: &Buffer,
+    call: impl Fn(&mut Buffer) -> Result<Returned, CallError>,
+) {
+    let mut changed = copy_of(buffer);
+    assert_eq!(call(&mut changed), Err(CallError::Condition(condition)));
+    assert_eq!(
+        Contents::with_places(&changed),
+        Contents::with_places(buffer)
+    );
+}
+
+/// A text of two letters, with positions.
+fn positioned_text() -> Buffer {
+    let mut text = text_of(&[0x628, 0x628], 10);
+    set_advances(&mut text, &[500, 500]);
+    text
+}
+
+#[test]
+fn positions_are_there_too_early_or_missing() {
+    for shaper in SHAPERS {
+        let plan = plan_of(shaper, b"Mong");
+        let pauses = PAUSES.map(Call::Pause);
+        let early = [Call::Preprocess, Call::Masks, Call::Marks(0, 1)];
+        for call in early.into_iter().chain(pauses) {
+            assert_stops(Condition::Positions, &positioned_text(), |buffer| {
+                make(call, shaper, &plan, &[], buffer)
+            });
+        }
+        let text = text_of(&[0x628, 0x628], 10);
+        assert_stops(Condition::Positions, &text, |buffer| {
+            make(Call::Postprocess, shaper, &plan, &[], buffer)
+        });
+    }
+}
+
+#[test]
+fn a_range_lies_outside() {
+    for shaper in SHAPERS {
+        let plan = plan_of(shaper, b"Hebr");
+        let text = text_of(&[0x5D0; 3], 10);
+        for (start, end) in [(0, 4), (4, 4), (2, 1), (usize::MAX, 0), (0, usize::MAX)] {
+            assert_stops(Condition::Range, &text, |buffer| {
+                make(Call::Marks(start, end), shaper, &plan, &[], buffer)
+            });
+        }
+        let mut text = text;
+        assert!(make(Call::Marks(3, 3), shaper, &plan, &[], &mut text).is_ok());
+    }
+}
+
+#[test]
+fn marks_are_too_many_for_arabic() {
+    for shaper in SHAPERS {
+        let plan = plan_of(shaper, b"Arab");
+        let mut text = text_of(&[0x64B; 40], 40);
+        let mut run = |start, end| {
+            let call = Call::Marks(start, end);
+            make(call, shaper, &plan, &[], &mut text)
+        };
+        assert!(run(4, 36).is_ok());
+        let many = run(4, 37);
+        match shaper {
+            Shaper::Arabic => assert_eq!(many, Err(CallError::Condition(Condition::Marks))),
+            _ => assert!(many.is_ok()),
+        }
+    }
+}
+
+/// The hooks and pauses that read a plan's data, with the shaper that makes these.
+const READERS: [(Call, Shaper); 10] = [
+    (Call::Masks, Shaper::Arabic),
+    (Call::Masks, Shaper::Hangul),
+    (Call::Masks, Shaper::Universal),
+    (Call::Postprocess, Shaper::Arabic),
+    (Call::Pause(Pause::SetupSyllablesUse), Shaper::Universal),
+    (Call::Pause(Pause::InitialReordering), Shaper::Indic),
+    (Call::Pause(Pause::FinalReordering), Shaper::Indic),
+    (Call::Pause(Pause::ReorderKhmer), Shaper::Khmer),
+    (Call::Pause(Pause::RecordStch), Shaper::Arabic),
+    (Call::Pause(Pause::RecordRphf), Shaper::Universal),
+];
+
+#[test]
+fn a_plan_has_no_data_or_anothers() {
+    let spans = [Span { len: 2, kind: 0 }];
+    for (call, shaper) in READERS {
+        let text = match call.wants_positions() {
+            true => positioned_text(),
+            false => text_of(&[0x628, 0x628], 10),
+        };
+        let others = SHAPERS.into_iter().filter(|other| *other != shaper);
+        let plans = others.map(|other| plan_of(other, b"Mong"));
+        for plan in plans.chain([bare_plan(b"Mong", &[])]) {
+            assert_stops(Condition::PlanData, &text, |buffer| {
+                make(call, shaper, &plan, &spans, buffer)
+            });
+        }
+        let mut text = text;
+        assert!(make(call, shaper, &plan_of(shaper, b"Mong"), &spans, &mut text).is_ok());
+    }
+}
+
+#[test]
+fn glyphs_are_no_characters() {
+    for number in [0xD800, 0xDFFF, 0x11_0000, u32::MAX] {
+        for shaper in [Shaper::Arabic, Shaper::Universal] {
+            let plan = plan_of(shaper, b"Mong");
+            let text = text_of(&[0x1820, number], 10);
+            assert_stops(Condition::Glyphs, &text, |buffer| {
+                make(Call::Masks, shaper, &plan, &[], buffer)
+            });
+        }
+        let unjoined = plan_of(Shaper::Universal, b"Bali");
+        let mut text = text_of(&[0x1B05, number], 10);
+        assert!(make(Call::Masks, Shaper::Universal, &unjoined, &[], &mut text).is_ok());
+    }
+}
+
+#[test]
+fn glyphs_have_no_numbers_of_a_font() {
+    let plan = plan_of(Shaper::Arabic, b"Syrc");
+    let mut text = text_of(&[0xFFFF, 0x1_0000], 10);
+    set_advances(&mut text, &[500, 500]);
+    assert_stops(Condition::Glyphs, &text, |buffer| {
+        make(Call::Postprocess, Shaper::Arabic, &plan, &[], buffer)
+    });
+}
+
+#[test]
+fn spans_have_no_kinds() {
+    for shaper in SHAPERS {
+        let plan = plan_of(shaper, b"Mong");
+        for pause in PAUSES {
+            let spans = [Span { len: 1, kind: 15 }, Span { len: 1, kind: 16 }];
+            let text = text_of(&[0x1820, 0x1821], 10);
+            let mut changed = copy_of(&text);
+            let call = Call::Pause(pause);
+            let returned = make(call, shaper, &plan, &spans, &mut changed);
+            // Data come first.
+            assert!(matches!(
+                returned,
+                Err(CallError::Condition(
+                    Condition::SpanKinds | Condition::PlanData
+                ))
+            ));
+            assert_eq!(Contents::of(&changed), Contents::of(&text));
+        }
+    }
+}
+
+#[test]
+fn a_hook_refuses_behind_its_conditions() {
+    let plan = plan_of(Shaper::Thai, b"Thai");
+    let mut text = text_of(&[0xE01, 0xE33], 2);
+    let returned = make(Call::Preprocess, Shaper::Thai, &plan, &[], &mut text);
+    assert_eq!(returned, Err(CallError::Refused(ShaperError::TooLong)));
+}
+
+/// How many calls are drawn by lot of each kind of buffer.
+const CALLS: u64 = 60_000;
+
+/// Makes a call that may be a misuse, checked: it stops or refuses without a change, or does what
+/// the call that isn't checked does. Whether it stopped.
+fn play(seed: u64, kind: Glyphs) -> bool {
+    let misuse = Misuse::random(&mut Numbers::new(seed), kind);
+    let (font, tables) = (LotFont(Steady(seed)), LotTables(Steady(!seed)));
+    let setting = misuse.setting(&font, &tables);
+    let mut checked = copy_of(&misuse.buffer);
+    let returned = misuse.call.make_checked(&setting, &mut checked);
+    if returned.is_err() {
+        assert_eq!(
+            Contents::with_places(&checked),
+            Contents::with_places(&misuse.buffer)
+        );
+    }
+    if let Err(CallError::Condition(_)) = returned {
+        assert!(!misuse.call.fits(&setting, &misuse.buffer), "seed {seed}");
+        return true;
+    }
+    let mut unchecked = copy_of(&misuse.buffer);
+    let wanted = misuse.call.make(&setting, &mut unchecked);
+    assert_eq!(returned, wanted.map_err(CallError::Refused), "seed {seed}");
+    assert_eq!(
+        Contents::of(&checked),
+        Contents::of(&unchecked),
+        "seed {seed}"
+    );
+    false
+}
+
+#[test]
+fn whatever_a_caller_does_checked_calls_return() {
+    in_time(|| {
+        for kind in [Glyphs::Letters, Glyphs::Any] {
+            let stopped = (0..CALLS).filter(|seed| play(*seed, kind)).count();
+            println!("{kind:?}: {stopped} of {CALLS} calls stopped at a condition");
+            assert!((CALLS as usize / 4..CALLS as usize / 2).contains(&stopped));
+        }
+    });
+}
