@@ -143,6 +143,7 @@ struct proved_hooks_t
 
   static bool decompose (const hb_ot_shape_normalize_context_t *c, hb_codepoint_t ab, hb_codepoint_t *a, hb_codepoint_t *b)
   {
+    if (shaper == SENGADLIT_SHAPER_INDIC && !c->unicode->decompose (ab, a, b)) return false; /* Indic has no others, by contract. */
     sengadlit_tables_t tables = {&tables_funcs, c->unicode};
     return sengadlit_decompose (proved_plan (c->plan)->plan, &tables, ab, a, b, nullptr) == SENGADLIT_DONE;
   }
