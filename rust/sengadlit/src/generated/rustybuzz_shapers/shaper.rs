@@ -289,7 +289,7 @@ impl Shaper {
         }
     }
 
-    /// What the shaper keeps in the plan.
+    /// What the shaper keeps in the plan. No mask in it touches a glyph flag bit.
     ///
     /// <details><summary>Contract</summary>
     ///
@@ -298,9 +298,10 @@ impl Shaper {
     /// ```text
     /// ensures data { result ≡ data_created self plan.now }
     /// ensures answer { is_some result ≡ (standing self).create_data }
+    /// ensures off_flags { IfSome result MasksOffFlags }
     /// ```
     ///
-    /// - `data_created`: crates/rustybuzz_shapers/specs/Hooks.antt
+    /// - `MasksOffFlags`, `data_created`: crates/rustybuzz_shapers/specs/Hooks.antt
     /// - `standing`: crates/rustybuzz_shapers/specs/Standing.antt
     ///
     /// </details>
@@ -364,7 +365,7 @@ impl Shaper {
     }
 
     /// Rewrites the glyphs after positioning: for Arabic, marks stretch over the words before them,
-    /// by the widths of `stretches_cover_law`.
+    /// as wide as these or wider by less than a unit an added copy, where their tiles fit.
     ///
     /// <details><summary>Contract</summary>
     ///
@@ -377,13 +378,15 @@ impl Shaper {
     ///     IfOk result (λ answer. is_some answer ≡ there) }
     /// ensures ok { let font = F.font face.now in
     ///     OnOk result (Postprocessed self plan.now font buffer.old buffer.new) }
+    /// ensures laws { let font = F.font face.now in
+    ///     OnOk result (PostprocessKeeps self plan.now font buffer.old buffer.new) }
     /// ensures longer { let added = glyphs_added self (F.font face.now) buffer.old in
     ///     OnOk result (length buffer.new.glyphs ≡ length buffer.old.glyphs + added) }
     /// ensures refusal { RefusesPostprocess self plan.now (F.font face.now) buffer.old result }
     /// ensures err { OnErr result (buffer.new ≡ buffer.old) }
     /// ```
     ///
-    /// - `PostprocessFits`, `Postprocessed`, `RefusesPostprocess`: crates/rustybuzz_shapers/specs/Hooks.antt
+    /// - `PostprocessFits`, `PostprocessKeeps`, `Postprocessed`, `RefusesPostprocess`: crates/rustybuzz_shapers/specs/Hooks.antt
     /// - `standing`: crates/rustybuzz_shapers/specs/Standing.antt
     /// - `glyphs_added`: crates/rustybuzz_shapers/specs/Stretched.antt
     ///
@@ -493,10 +496,12 @@ impl Shaper {
     /// requires glyphs { GlyphsFit self plan.now buffer.old.glyphs }
     /// ensures answer { is_some result ≡ (standing self).setup_masks }
     /// ensures masks { MasksSet self plan.now (T.tables tables.now) buffer.old buffer.new }
+    /// ensures flags { OnlyFlagsAdded buffer.old.glyphs buffer.new.glyphs }
     /// ```
     ///
     /// - `GlyphsFit`, `MasksSet`, `PlanFits`: crates/rustybuzz_shapers/specs/Hooks.antt
     /// - `standing`: crates/rustybuzz_shapers/specs/Standing.antt
+    /// - `OnlyFlagsAdded`: crates/shapers_clusters/specs/FlagLaw.antt
     ///
     /// </details>
     pub fn setup_masks<F: Font, T: Tables>(

@@ -5,7 +5,9 @@
 use crate::generated::shapers_base::buffer::{Buffer, Tag};
 use crate::generated::shapers_base::font::Tables;
 use crate::generated::shapers_base::map::{F_GLOBAL, F_MANUAL_JOINERS, F_PER_SYLLABLE};
-pub use crate::generated::shapers_base::plan::{Category, Position, ot_category_t, ot_position_t};
+pub use crate::generated::shapers_base::plan::{
+    Category, IndicWouldSubstituteFeature, Position, ot_category_t, ot_position_t,
+};
 use crate::generated::shapers_base::plan::{Pause, Planner, Request, ShaperError};
 use crate::generated::shapers_syllabic::ot_shaper_syllabic;
 
