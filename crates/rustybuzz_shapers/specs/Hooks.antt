@@ -123,8 +123,8 @@ PreprocessKeeps Thai plan font old new =
 PreprocessKeeps Universal plan font old new = new ≡ old
 PreprocessKeeps shaper plan font old new = Lacking (standing shaper).preprocess_text (new ≡ old)
 
--- when it refuses: Hangul and Thai as a growth to the result's length does, Hangul never where every
--- item stays as it is, Thai never without a SARA AM; the others never
+-- when it refuses: Hangul and Thai as a growth to the result's length does, Hangul never where
+-- every item stays as it is, Thai never without a SARA AM; the others never
 abbrev pub RefusesPreprocess :
     {T : Type 0} → hb_ot_shaper_t → Font → Buffer → Result T ShaperError → Type 0
 RefusesPreprocess Hangul font old r =

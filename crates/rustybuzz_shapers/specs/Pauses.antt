@@ -188,10 +188,10 @@ MergedFirst r old new =
 abbrev pub ClustersStay : Buffer → Buffer → Type 0
 ClustersStay old new = clusters new.glyphs ≡ clusters old.glyphs
 
--- The laws of a pause: spans may be cut between any two, and texts at any border of syllables; what
--- becomes of clusters and glyph flags. What doesn't reorder leaves clusters, and only adds flags. In
--- the initial reordering of Indic they merge by the cycles of its order, in
--- the final one by its moves.
+-- The laws of a pause: spans may be cut between any two, and texts at any border of syllables;
+-- what becomes of clusters and glyph flags. What doesn't reorder leaves clusters, and only adds
+-- flags. In the initial reordering of Indic clusters merge by the cycles of its order, in the final
+-- one by its moves.
 abbrev pub PauseKeeps : Pause → hb_ot_shape_plan_t → Font → List Span → Buffer → Buffer → Type 0
 PauseKeeps SetupSyllablesIndic plan font spans old new =
     SetUpCutsAtSpans spans 4 old new × ClustersStay old new
