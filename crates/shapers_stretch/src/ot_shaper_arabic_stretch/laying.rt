@@ -363,9 +363,6 @@ fn offset_of(right_to_left: bool, at: i128, step: i128) -> i32
     requires fits { fits_i32 (stands_at right_to_left at step) ≡ true }
     ensures { result ≡ stands_at right_to_left at step }
 {
-    if right_to_left {
-        (at - step) as i32
-    } else {
-        at as i32
-    }
+    let offset = if right_to_left { at - step } else { at };
+    i32::try_from(offset).unwrap()
 }

@@ -78,7 +78,7 @@ pub(super) fn advance_of<F: hb_font_t>(face: &F, glyph: &hb_glyph_info_t) -> i32
     requires { glyph.now.glyph_id ≤ 65535 }
     ensures { result ≡ width_of (F.font face.now) glyph.now }
 {
-    face.glyph_h_advance(GlyphId(glyph.glyph_id as u16))
+    face.glyph_h_advance(GlyphId(u16::try_from(glyph.glyph_id).unwrap()))
 }
 
 // The advance of a word.

@@ -227,9 +227,6 @@ fn lay_copy(
 
 // Where a copy stands.
 fn offset_of(right_to_left: bool, at: i128, step: i128) -> i32 {
-    if right_to_left {
-        (at - step) as i32
-    } else {
-        at as i32
-    }
+    let offset = if right_to_left { at - step } else { at };
+    i32::try_from(offset).unwrap()
 }

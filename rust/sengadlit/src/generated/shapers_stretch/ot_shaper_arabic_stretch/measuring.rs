@@ -59,7 +59,7 @@ pub(super) fn measure<F: Font>(face: &F, word: &[GlyphPosition], tiles: &[GlyphI
 /// How far a glyph of the font moves the pen.
 #[inline]
 pub(super) fn advance_of<F: Font>(face: &F, glyph: &GlyphInfo) -> i32 {
-    face.glyph_h_advance(GlyphId(glyph.glyph_id as u16))
+    face.glyph_h_advance(GlyphId(u16::try_from(glyph.glyph_id).unwrap()))
 }
 
 // The advance of a word.
