@@ -1,6 +1,6 @@
 //! Where the glyphs that a hook left stood before it.
-use hbhook_lines::Session;
-use rustybuzz_shapers::buffer::{BufferClusterLevel, hb_buffer_t, hb_glyph_info_t};
+use hbhook_lines::{LineFault, Session};
+use rustybuzz_shapers::buffer::{BufferClusterLevel, ShaperError, hb_buffer_t, hb_glyph_info_t};
 use std::alloc::AllocError;
 use std::mem;
 
@@ -33,15 +33,19 @@ pub(crate) struct Traced {
 impl Traced {
     /// Carries out the line of a hook on a copy of the buffer in which each glyph has its place for
     /// its cluster. At the level of characters clusters only move: so what is left of them tells
-    /// where each glyph came from. The session stays as it was.
+    /// where each glyph came from. The session stays as it was. Of what ends the line only `Memory`
+    /// ends this; the rest ends the line again when it is carried out itself.
     pub(crate) fn new(session: &mut Session, line: &[u8]) -> Result<Self, AllocError> {
         let before = Vec::from_slice(session.buffer.alloc(), session.buffer.glyphs())?;
         let labelled = labelled(&session.buffer)?;
         let buffer = mem::replace(&mut session.buffer, labelled);
-        let _ = session.carry_out(line);
+        let carried_out = session.carry_out(line);
         drop(session.take_answers());
         let after = mem::replace(&mut session.buffer, buffer);
-        Ok(Traced { before, after })
+        match carried_out {
+            Err(LineFault::Refused(ShaperError::Memory)) => Err(AllocError),
+            Ok(()) | Err(_) => Ok(Traced { before, after }),
+        }
     }
 
     /// The places of the glyphs that the hook left, if these are the glyphs that were traced.
