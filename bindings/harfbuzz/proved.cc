@@ -141,15 +141,21 @@ struct proved_hooks_t
     note_flags (buffer, masks);
   }
 
+  /* Whether the shaper may have, of a character or a pair, what Unicode hasn't: by contract Hebrew, and these alone. */
+  static bool has_parts (hb_codepoint_t ab) { return shaper == SENGADLIT_SHAPER_KHMER && hb_in_range (ab, 0x17BEu, 0x17C5u); }
+  static bool has_pair (hb_codepoint_t a)
+  { return shaper == SENGADLIT_SHAPER_HEBREW || (shaper == SENGADLIT_SHAPER_INDIC && a == 0x09AFu); }
+
   static bool decompose (const hb_ot_shape_normalize_context_t *c, hb_codepoint_t ab, hb_codepoint_t *a, hb_codepoint_t *b)
   {
-    if (shaper == SENGADLIT_SHAPER_INDIC && !c->unicode->decompose (ab, a, b)) return false; /* Indic has no others, by contract. */
+    if (!has_parts (ab) && !c->unicode->decompose (ab, a, b)) return false;
     sengadlit_tables_t tables = {&tables_funcs, c->unicode};
     return sengadlit_decompose (proved_plan (c->plan)->plan, &tables, ab, a, b, nullptr) == SENGADLIT_DONE;
   }
 
   static bool compose (const hb_ot_shape_normalize_context_t *c, hb_codepoint_t a, hb_codepoint_t b, hb_codepoint_t *ab)
   {
+    if (!has_pair (a) && !c->unicode->compose (a, b, ab)) return false;
     sengadlit_tables_t tables = {&tables_funcs, c->unicode};
     return sengadlit_compose (proved_plan (c->plan)->plan, &tables, a, b, ab, nullptr) == SENGADLIT_DONE;
   }
