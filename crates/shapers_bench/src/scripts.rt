@@ -6,9 +6,7 @@ use crate::font::Font;
 use rustybuzz_shapers::buffer::{Script, ShaperError, hb_buffer_t, hb_glyph_info_t};
 use rustybuzz_shapers::font::GlyphId;
 use rustybuzz_shapers::map::hb_ot_map_t;
-use rustybuzz_shapers::plan::{
-    Category, Pause, Position, hb_ot_shape_plan_t,
-};
+use rustybuzz_shapers::plan::{Category, Pause, Position, hb_ot_shape_plan_t};
 use rustybuzz_shapers::shaper::{INDIC_SHAPER, run_pause};
 use std::alloc::Global;
 use std::test::Fail;

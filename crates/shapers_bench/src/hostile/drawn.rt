@@ -132,7 +132,5 @@ pub fn plan(
     let mut lookups = Vec::new(alloc);
     lookups.push(0)?;
     let map = hb_ot_map_t::new(features, stages, lookups, 0, None, true);
-    Ok(map.map(|ot_map| {
-        shaper.with_data(hb_ot_shape_plan_t::new(Some(script), ot_map))
-    }))
+    Ok(map.map(|ot_map| { shaper.with_data(hb_ot_shape_plan_t::new(Some(script), ot_map)) }))
 }
