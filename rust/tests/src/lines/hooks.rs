@@ -110,7 +110,7 @@ impl Session {
     }
 }
 
-/// What a line `run ..` asks for.
+/// What a line `run ..` calls.
 enum Call {
     Preprocess,
     Masks,
