@@ -168,6 +168,12 @@ Paused ClearSubstitutionFlags plan font spans old new =
     new ≡ record old { glyphs = map unsubstituted old.glyphs }
 Paused ArabicFallbackShape plan font spans old new = new ≡ old
 
+-- whatever the font, spans and buffer, the pause leaves the buffer as it is
+abbrev pub PauseStays : Pause → hb_ot_shape_plan_t → Type 0
+PauseStays pause plan =
+    (font : Font) (spans : List Span) (old new : Buffer) →
+    Paused pause plan font spans old new → new ≡ old
+
 -- What every reordering keeps. A text cut at any border of syllables gives the halves' results
 -- joined. No glyph is lost, no cluster rises, glyph flags stay unless it fell, and what shared a
 -- cluster still does: the laws of steps, from after circles on. Every cluster is one that the text

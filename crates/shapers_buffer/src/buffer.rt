@@ -111,6 +111,7 @@ impl Model for hb_buffer_t {
 
 impl hb_buffer_t {
     /// An empty buffer, whose text runs from left to right. It takes no memory.
+    #[inline]
     pub fn new(alloc: Global, max_len: usize) -> Self
         ensures { result ≡ new_buffer max_len }
     {

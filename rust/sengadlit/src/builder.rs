@@ -54,11 +54,13 @@ pub struct PlanBuilder<'a> {
 }
 
 impl<'a> PlanBuilder<'a> {
-    /// The script of the text.
+    /// The script of the text, if it is known.
     #[inline]
-    pub fn script(self, script: Script) -> Self {
-        let script = Some(script);
-        PlanBuilder { script, ..self }
+    pub fn script(self, script: impl Into<Option<Script>>) -> Self {
+        PlanBuilder {
+            script: script.into(),
+            ..self
+        }
     }
 
     /// The features of the map, with their masks and stages.
@@ -88,12 +90,11 @@ impl<'a> PlanBuilder<'a> {
         }
     }
 
-    /// The script of the font that was chosen for the text, as `dev2`.
+    /// The script of the font that was chosen for the text, as `dev2`, if one was.
     #[inline]
-    pub fn chosen_script(self, script: Tag) -> Self {
-        let chosen_script = Some(script);
+    pub fn chosen_script(self, script: impl Into<Option<Tag>>) -> Self {
         PlanBuilder {
-            chosen_script,
+            chosen_script: script.into(),
             ..self
         }
     }

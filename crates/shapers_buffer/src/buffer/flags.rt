@@ -59,6 +59,7 @@ const HARFBUZZ_TATWEEL: u32 = 0x80;
 impl BufferFlags {
     /// The flags among HarfBuzz's of the same name (`hb_buffer_flags_t`), whose bits are 0x10, 0x40
     /// and 0x80; all other bits of it are left out.
+    #[inline]
     pub fn from_harfbuzz(bits: u32) -> Self
         ensures { result.0 ≡ from_harfbuzz bits }
     {
@@ -73,6 +74,7 @@ impl BufferFlags {
     }
 
     /// HarfBuzz's bits of these flags.
+    #[inline]
     pub fn to_harfbuzz(self) -> u32
         ensures { result ≡ to_harfbuzz self.0 }
     {

@@ -34,6 +34,7 @@ pub struct BufferSettings<'a> {
 
 impl<'a> BufferSettings<'a> {
     /// The settings of a new buffer of this greatest length.
+    #[inline]
     pub fn new(max_len: usize) -> Self
         ensures { with_settings result (new_buffer max_len) ≡ new_buffer max_len }
     {

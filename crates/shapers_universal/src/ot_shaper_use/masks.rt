@@ -37,6 +37,7 @@ fn set_categories<T: Tables>(tables: &T, buffer: &mut hb_buffer_t)
 }
 
 /// Gives each of these glyphs the category of its character in the universal shaper.
+#[inline]
 pub fn set_categories_in<T: Tables>(tables: &T, glyphs: &mut [hb_glyph_info_t])
     ensures { glyphs.new ≡ map (categorized (T.tables tables.now).universal) glyphs.old }
 {

@@ -39,6 +39,7 @@ pub fn record_pref(buffer: &mut hb_buffer_t)
 }
 
 /// The same for the syllables of a slice, where `mask` is that of `rphf`.
+#[inline]
 pub fn record_rphf_in(mask: u32, glyphs: &mut [hb_glyph_info_t])
     ensures { glyphs.new ≡ flat_map (rphf_recorded mask) (syllables glyphs.old) }
 {
@@ -47,6 +48,7 @@ pub fn record_rphf_in(mask: u32, glyphs: &mut [hb_glyph_info_t])
 
 /// In each syllable of a slice the first glyph that a lookup put in becomes one that stands before
 /// the base.
+#[inline]
 pub fn record_pref_in(glyphs: &mut [hb_glyph_info_t])
     ensures { glyphs.new ≡ flat_map (first_recorded VPre) (syllables glyphs.old) }
 {

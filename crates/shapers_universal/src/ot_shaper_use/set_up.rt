@@ -7,15 +7,15 @@ ghost use Rattle.shapers_buffer.specs.Refusals.{RefusesInput};
 ghost use Rattle.shapers_buffer.specs.Syllables.{spans_refusal, syllables};
 ghost use Rattle.shapers_universal.specs.PlanData.{is_universal};
 ghost use Rattle.shapers_universal.specs.UniversalCuts.{UniversalSetUpCutsAtSpans};
-ghost use Rattle.shapers_universal.specs.UniversalSyllables.{reph_len, syllables_set_up, with_rphf, with_syllable_masks};
+ghost use Rattle.shapers_universal.specs.UniversalSyllables.{reph_len, set_up_by_its_bytes, syllables_set_up, with_rphf, with_syllable_masks};
 
 use super::category;
 use super::forms::set_forms;
 use super::syllable_walk::{EachSyllable, SyllableChange};
 use shapers_base::buffer::{ShaperError, Span, hb_buffer_t, hb_glyph_info_t};
 use shapers_base::plan::{PlanData, hb_ot_shape_plan_t};
-use shapers_syllabic::ot_shaper_syllabic::set_up_syllables;
 use shapers_syllabic::ot_shaper_syllabic::use_syllable::BROKEN_CLUSTER;
+use shapers_syllabic::ot_shaper_syllabic::{set_up_by_bytes, set_up_syllables};
 
 /// Cuts the text into the syllables of these spans and flags the inside of each as unsafe to break.
 /// Gives the mask of `rphf` to the first glyph of each syllable if it is a reph, else to its first
@@ -41,6 +41,18 @@ pub fn setup_syllables_use(
     set_up_syllables(spans, BROKEN_CLUSTER, buffer)?;
     set_masks(plan, buffer);
     Ok(())
+}
+
+/// Sets up a text whose glyphs have their syllable bytes already, with the flags, marks and masks of
+/// [`setup_syllables_use`]. It takes no memory and leaves the clusters as they are.
+#[inline]
+pub fn setup_syllables_use_by_bytes(plan: &hb_ot_shape_plan_t, buffer: &mut hb_buffer_t)
+    requires { is_universal plan.now.plan_data ≡ true }
+    ensures { let kept = plan.now.plan_data in
+        buffer.new ≡ set_up_by_its_bytes kept plan.now.ot_map buffer.old }
+{
+    set_up_by_bytes(BROKEN_CLUSTER, buffer);
+    set_masks(plan, buffer);
 }
 
 // Gives each syllable its masks.

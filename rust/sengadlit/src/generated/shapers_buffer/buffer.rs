@@ -82,6 +82,7 @@ impl Buffer {
     /// - `new_buffer`: crates/shapers_buffer/specs/Buffer.antt
     ///
     /// </details>
+    #[inline]
     pub fn new(alloc: Global, max_len: usize) -> Self {
         Buffer {
             info: Vec::new(alloc),

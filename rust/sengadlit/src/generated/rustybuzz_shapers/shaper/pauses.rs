@@ -4,7 +4,7 @@
 
 use crate::generated::shapers_base::buffer::{Buffer, ShaperError, Span};
 use crate::generated::shapers_base::font::Font;
-use crate::generated::shapers_base::plan::{Pause, Plan};
+use crate::generated::shapers_base::plan::{Pause, Plan, PlanData};
 use crate::generated::shapers_indic_final::ot_shaper_indic_final;
 use crate::generated::shapers_indic_initial::ot_shaper_indic_initial;
 use crate::generated::shapers_khmer::ot_shaper_khmer;
@@ -76,4 +76,30 @@ pub fn run_pause<F: Font>(
         Pause::ArabicFallbackShape => {}
     }
     Ok(false)
+}
+
+/// Whether the pause can change a buffer under this plan. False for the pauses that do nothing under
+/// it, whatever the buffer: fallback shaping, tiles where the font stretches no marks, and the
+/// record of `rphf` where the plan has no mask for it.
+///
+/// <details><summary>Contract</summary>
+///
+/// # Contract
+///
+/// ```text
+/// requires { PauseFits pause plan.now }
+/// ensures { result ≡ false → PauseStays pause plan.now }
+/// ```
+///
+/// - `PauseFits`, `PauseStays`: crates/rustybuzz_shapers/specs/Pauses.antt
+///
+/// </details>
+#[inline]
+pub fn pause_may_change(pause: Pause, plan: &Plan) -> bool {
+    match (pause, &plan.plan_data) {
+        (Pause::ArabicFallbackShape, _) => false,
+        (Pause::RecordStch, PlanData::Arabic(arabic_plan)) => arabic_plan.has_stch,
+        (Pause::RecordRphf, PlanData::Universal(universal_plan)) => universal_plan.rphf_mask != 0,
+        _ => true,
+    }
 }

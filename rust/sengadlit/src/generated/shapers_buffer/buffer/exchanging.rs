@@ -26,6 +26,7 @@ impl Buffer {
     /// ```
     ///
     /// </details>
+    #[inline]
     pub fn take_glyphs(&mut self) -> Vec<GlyphInfo> {
         let empty = Vec::new(self.alloc());
         self.pos.clear();
@@ -44,6 +45,7 @@ impl Buffer {
     /// ```
     ///
     /// </details>
+    #[inline]
     pub fn take_positions(&mut self) -> Vec<GlyphPosition> {
         let empty = Vec::new(self.alloc());
         mem::replace(&mut self.pos, empty)
@@ -68,6 +70,7 @@ impl Buffer {
     /// - `RefusesLength`: crates/shapers_buffer/specs/Refusals.antt
     ///
     /// </details>
+    #[inline]
     pub fn exchange_glyphs(&mut self, glyphs: &mut Vec<GlyphInfo>) -> Result<(), ShaperError> {
         if glyphs.len() > self.max_len {
             return Err(ShaperError::TooLong);
@@ -96,6 +99,7 @@ impl Buffer {
     /// - `can_be_positions`: crates/shapers_buffer/specs/Buffer.antt
     ///
     /// </details>
+    #[inline]
     pub fn exchange_positions(&mut self, positions: &mut Vec<GlyphPosition>) -> bool {
         let fits = positions.is_empty() || positions.len() == self.info.len();
         if fits {
@@ -127,6 +131,7 @@ impl Buffer {
     /// - `are_paired`, `with_text`: crates/shapers_buffer/specs/Settings.antt
     ///
     /// </details>
+    #[inline]
     pub fn exchange_text(
         &mut self,
         glyphs: &mut Vec<GlyphInfo>,

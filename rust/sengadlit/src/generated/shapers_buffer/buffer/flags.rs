@@ -59,6 +59,7 @@ impl BufferFlags {
     /// - `from_harfbuzz`: crates/shapers_buffer/specs/Numbers.antt
     ///
     /// </details>
+    #[inline]
     pub fn from_harfbuzz(bits: u32) -> Self {
         let circle = flag_where(bits, HARFBUZZ_CIRCLE, Self::DO_NOT_INSERT_DOTTED_CIRCLE.0);
         let concat = flag_where(bits, HARFBUZZ_CONCAT, Self::PRODUCE_UNSAFE_TO_CONCAT.0);
@@ -83,6 +84,7 @@ impl BufferFlags {
     /// - `to_harfbuzz`: crates/shapers_buffer/specs/Numbers.antt
     ///
     /// </details>
+    #[inline]
     pub fn to_harfbuzz(self) -> u32 {
         let circle = flag_where(self.0, Self::DO_NOT_INSERT_DOTTED_CIRCLE.0, HARFBUZZ_CIRCLE);
         let concat = flag_where(self.0, Self::PRODUCE_UNSAFE_TO_CONCAT.0, HARFBUZZ_CONCAT);

@@ -44,6 +44,7 @@ impl<'a> BufferSettings<'a> {
     /// - `with_settings`: crates/shapers_buffer/specs/Settings.antt
     ///
     /// </details>
+    #[inline]
     pub fn new(max_len: usize) -> Self {
         BufferSettings {
             direction: Direction::LeftToRight,

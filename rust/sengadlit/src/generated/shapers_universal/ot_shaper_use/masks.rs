@@ -57,6 +57,7 @@ fn set_categories<T: Tables>(tables: &T, buffer: &mut Buffer) {
 /// - `categorized`: crates/shapers_universal/specs/UniversalMasks.antt
 ///
 /// </details>
+#[inline]
 pub fn set_categories_in<T: Tables>(tables: &T, glyphs: &mut [GlyphInfo]) {
     change_each_in(glyphs, &Categories { tables });
 }

@@ -69,6 +69,7 @@ pub fn record_pref(buffer: &mut Buffer) {
 /// - `rphf_recorded`: crates/shapers_universal/specs/UniversalSyllables.antt
 ///
 /// </details>
+#[inline]
 pub fn record_rphf_in(mask: u32, glyphs: &mut [GlyphInfo]) {
     change_syllables(&RecordRphf { mask }, glyphs);
 }
@@ -88,6 +89,7 @@ pub fn record_rphf_in(mask: u32, glyphs: &mut [GlyphInfo]) {
 /// - `first_recorded`: crates/shapers_universal/specs/UniversalSyllables.antt
 ///
 /// </details>
+#[inline]
 pub fn record_pref_in(glyphs: &mut [GlyphInfo]) {
     change_syllables(&RecordPref, glyphs);
 }

@@ -7,8 +7,8 @@ use super::forms::set_forms;
 use super::syllable_walk::{EachSyllable, SyllableChange};
 use crate::generated::shapers_base::buffer::{Buffer, GlyphInfo, ShaperError, Span};
 use crate::generated::shapers_base::plan::{Plan, PlanData};
-use crate::generated::shapers_syllabic::ot_shaper_syllabic::set_up_syllables;
 use crate::generated::shapers_syllabic::ot_shaper_syllabic::use_syllable::BROKEN_CLUSTER;
+use crate::generated::shapers_syllabic::ot_shaper_syllabic::{set_up_by_bytes, set_up_syllables};
 
 /// Cuts the text into the syllables of these spans and flags the inside of each as unsafe to break.
 /// Gives the mask of `rphf` to the first glyph of each syllable if it is a reph, else to its first
@@ -49,6 +49,29 @@ pub fn setup_syllables_use(
     set_up_syllables(spans, BROKEN_CLUSTER, buffer)?;
     set_masks(plan, buffer);
     Ok(())
+}
+
+/// Sets up a text whose glyphs have their syllable bytes already, with the flags, marks and masks of
+/// [`setup_syllables_use`]. It takes no memory and leaves the clusters as they are.
+///
+/// <details><summary>Contract</summary>
+///
+/// # Contract
+///
+/// ```text
+/// requires { is_universal plan.now.plan_data ≡ true }
+/// ensures { let kept = plan.now.plan_data in
+///     buffer.new ≡ set_up_by_its_bytes kept plan.now.ot_map buffer.old }
+/// ```
+///
+/// - `is_universal`: crates/shapers_universal/specs/PlanData.antt
+/// - `set_up_by_its_bytes`: crates/shapers_universal/specs/UniversalSyllables.antt
+///
+/// </details>
+#[inline]
+pub fn setup_syllables_use_by_bytes(plan: &Plan, buffer: &mut Buffer) {
+    set_up_by_bytes(BROKEN_CLUSTER, buffer);
+    set_masks(plan, buffer);
 }
 
 // Gives each syllable its masks.
