@@ -1,5 +1,6 @@
 mod ConstantRows
 pub mod MaskLemmas
+pub mod NothingRecorded
 mod OneFront
 mod Pieces
 mod Reordered
