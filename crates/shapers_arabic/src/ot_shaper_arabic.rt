@@ -4,7 +4,7 @@ ghost use Rattle.shapers_buffer.specs.declared.buffer.refusal.ShaperError.TheVar
 ghost use Rattle.shapers_base.specs.Planner.{with_requests};
 ghost use Rattle.shapers_arabic.specs.Requests.{arabic_list, is_arabic, joining_list, rclt};
 ghost use Rattle.shapers_arabic.specs.JoinedText.{AreCharacters, CutsAsHalves, joined, look_ups, text_of};
-ghost use Rattle.shapers_arabic.specs.PlanData.{IsArabic, masks_of};
+ghost use Rattle.shapers_arabic.specs.PlanData.{IsArabic, breaks_of, masks_of};
 ghost use Rattle.shapers_clusters.specs.FlagLaw.{OnlyFlagsAdded};
 
 use arrayvec::ArrayVec;
@@ -18,6 +18,7 @@ use std::marker::Brand;
 use std::sync::ledger::{Blank, Ledger};
 
 pub mod arabic_action_t;
+mod breaks;
 mod data;
 mod joining;
 mod laws;
@@ -128,8 +129,8 @@ pub fn setup_masks_counted<T: Tables, L: Ledger>(
 )
     requires { AreCharacters buffer.old.glyphs }
     ensures joined { let table = T.tables tables.now in
-        let masks = arabic_plan.now.mask_array in
-        buffer.new ≡ joined masks script table.joining table.general buffer.old }
+        let masks = arabic_plan.now.mask_array in let breaks = arabic_plan.now.break_flags in
+        buffer.new ≡ joined breaks masks script table.joining table.general buffer.old }
     ensures counted { let table = T.tables tables.now in
         count.new ≡ count.old + look_ups (text_of table.joining table.general buffer.old) }
     ensures cut { let table = T.tables tables.now in
@@ -141,6 +142,7 @@ pub fn setup_masks_counted<T: Tables, L: Ledger>(
     let flags = buffer.flags();
     let mut walk = JoiningWalk {
         masks: &arabic_plan.mask_array,
+        breaks: arabic_plan.break_flags,
         script,
         flags,
         before,
@@ -162,8 +164,8 @@ pub fn setup_masks_inner<T: Tables>(
 )
     requires { AreCharacters buffer.old.glyphs }
     ensures joined { let table = T.tables tables.now in
-        let masks = arabic_plan.now.mask_array in
-        buffer.new ≡ joined masks script table.joining table.general buffer.old }
+        let masks = arabic_plan.now.mask_array in let breaks = arabic_plan.now.break_flags in
+        buffer.new ≡ joined breaks masks script table.joining table.general buffer.old }
     ensures cut { let table = T.tables tables.now in
         CutsAsHalves script table.joining table.general buffer.old buffer.new }
     ensures flags { OnlyFlagsAdded buffer.old.glyphs buffer.new.glyphs }
@@ -184,8 +186,8 @@ fn setup_masks_with<T: Tables, L: Ledger>(
     requires some { 0 < blank.parts }
     requires characters { AreCharacters buffer.old.glyphs }
     ensures joined { let table = T.tables tables.now in
-        let masks = arabic_plan.now.mask_array in
-        buffer.new ≡ joined masks script table.joining table.general buffer.old }
+        let masks = arabic_plan.now.mask_array in let breaks = arabic_plan.now.break_flags in
+        buffer.new ≡ joined breaks masks script table.joining table.general buffer.old }
     ensures cut { let table = T.tables tables.now in
         CutsAsHalves script table.joining table.general buffer.old buffer.new }
     ensures flags { OnlyFlagsAdded buffer.old.glyphs buffer.new.glyphs }
@@ -200,7 +202,8 @@ pub fn setup_masks<T: Tables>(plan: &hb_ot_shape_plan_t, tables: &T, buffer: &mu
     requires data { IsArabic plan.now.plan_data }
     requires characters { AreCharacters buffer.old.glyphs }
     ensures joined { let table = T.tables tables.now in let masks = masks_of plan.now.plan_data in
-        buffer.new ≡ joined masks plan.now.script table.joining table.general buffer.old }
+        let breaks = breaks_of plan.now.plan_data in
+        buffer.new ≡ joined breaks masks plan.now.script table.joining table.general buffer.old }
     ensures cut { let table = T.tables tables.now in
         CutsAsHalves plan.now.script table.joining table.general buffer.old buffer.new }
     ensures flags { OnlyFlagsAdded buffer.old.glyphs buffer.new.glyphs }
