@@ -22,7 +22,7 @@ use Rattle.shapers_arabic.specs.JoiningFlags.{joining_flags}
 use Rattle.shapers_arabic.specs.JoinedText.{Text, flag_calls, is_mongolian, forms_of, stored_types, with_form, with_forms}
 use Rattle.shapers_arabic.specs.JoiningWalk.{Called, FlaggedBy, calls_added, HaveMasks, JoinsTo, copied, unformed, with_copied, with_mask, JoinsAll}
 use Rattle.shapers_arabic.proofs.FlagLists.{joining-in_order}
-use Rattle.shapers_arabic.proofs.FlaggedGlyphs.{unformed-passes, flagged-again, same-text, map-same_text, length-same_text}
+use Rattle.shapers_arabic.proofs.FlaggedGlyphs.{unformed-passes, flagged-again, same-text, map-same_text}
 use Rattle.shapers_arabic.proofs.SoundOrder.{calls-in_order, added-in_order as text-in_order}
 use Rattle.shapers_arabic.proofs.SoundWalk.{added-at}
 

@@ -1,7 +1,7 @@
 -- The law of the cut.
-use Rattle.std.proofs.Common.{◌≡◌, ℕ, zero, suc, ◌+◌, ◌≤◌, Bool, true, false, cond, List, [], ◌∷◌, ◌++◌, length, map, take, drop, reverse, Option, Some, refl, sym, ap, ◌∙◌, subst, arith, append_assoc, inl, inr}
+use Rattle.std.proofs.Common.{◌≡◌, ℕ, zero, suc, ◌+◌, ◌≤◌, Bool, true, false, cond, List, [], ◌∷◌, ◌++◌, length, map, take, drop, reverse, Option, Some, refl, sym, ap, ◌∙◌, subst, arith, inl, inr}
 use Rattle.std.specs.List.{prefix_len, zip}
-use Rattle.std.proofs.lemmas.List.{length-map, length-take-le, take-append-drop, take-map, drop-map, take_all, take_at, drop_at, drop-drop, reverse-append, map-append}
+use Rattle.std.proofs.lemmas.List.{length-map, length-take-le, take-append-drop, take-map, drop-map, take_all, take_at, drop_at, drop-drop, map-append}
 use Rattle.std.proofs.lemmas.Slice.Zip.{length-zip}
 use Rattle.std.specs.Option.{is_some}
 use Rattle.shapers_buffer.proofs.MappedLists.{map-reverse}

@@ -1,4 +1,7 @@
 pub mod BreakLists
+mod BreakRows
+pub mod BrokenGlyphs
+pub mod Concatenation
 mod ConstantRows
 pub mod FlagLists
 mod FlagRows

@@ -1,5 +1,5 @@
 -- The stretches of Sound's flag calls are in order.
-use Rattle.std.proofs.Common.{◌≡◌, ℕ, suc, ◌≤◌, Bool, true, false, cond, List, [], ◌∷◌, ◌++◌, length, Option, None, Some, arith}
+use Rattle.std.proofs.Common.{ℕ, suc, ◌≤◌, Bool, true, false, cond, List, [], ◌∷◌, ◌++◌, length, Option, None, Some, arith}
 use Rattle.std.specs.List.{AllByRecursion, zip}
 use Rattle.shapers_buffer.specs.GlyphFlags.{UnsafeToBreak}
 use Rattle.shapers_buffer.specs.declared.buffer.tag.Script.{Script}

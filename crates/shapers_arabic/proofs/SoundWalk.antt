@@ -1,19 +1,17 @@
 -- The calls along the final forms, and along the copied ones, are those that the rule tells.
-use Rattle.std.proofs.Common.{◌≡◌, ◌≢◌, ℕ, zero, suc, ◌-◌, Bool, true, false, cond, eqb, not, ◌&&◌, List, [], ◌∷◌, ◌++◌, length, map, Option, None, Some, refl, sym, ap, ◌∙◌, inl, inr, ◌⊎◌}
+use Rattle.std.proofs.Common.{◌≡◌, ℕ, suc, ◌-◌, Bool, true, false, cond, eqb, not, ◌&&◌, List, [], ◌∷◌, ◌++◌, length, map, Option, None, Some, refl, sym, ap, ◌∙◌, inl, inr, ◌⊎◌}
 use Rattle.std.specs.List.{zip}
-use Rattle.std.proofs.lemmas.Bool.{eq-eqb, ne_eqb}
+use Rattle.std.proofs.lemmas.Bool.{eq-eqb}
 use Rattle.shapers_buffer.specs.GlyphFlags.{FlagCall, UnsafeToBreak}
 use Rattle.shapers_buffer.specs.declared.buffer.glyph.hb_glyph_info_t.{hb_glyph_info_t}
 use Rattle.shapers_buffer.specs.declared.buffer.tag.Script.{Script}
-use Rattle.shapers_base.specs.declared.plan.breaks.BreakFlags.{BreakFlags}
-use Rattle.shapers_base.specs.declared.plan.breaks.BreakFlags.TheVariants.{AsCode, Sound}
 use Rattle.shapers_base.specs.declared.plan.joining.hb_arabic_joining_type_t.{hb_arabic_joining_type_t}
 use Rattle.shapers_base.specs.declared.plan.joining.hb_arabic_joining_type_t.TheVariants.{U, L, R, D, GroupAlaph, GroupDalathRish, T, X}
 use Rattle.shapers_arabic.specs.declared.ot_shaper_arabic.arabic_action_t.TheConstants.{NONE}
-use Rattle.shapers_arabic.specs.Joining.{is_transparent, nearest, act, forms, is_selector, form_behind, joins_on, joins_back, form, alaph_after, alaph_inside}
+use Rattle.shapers_arabic.specs.Joining.{nearest, act, forms, is_selector, form_behind, joins_on, joins_back, form, alaph_after}
 use Rattle.shapers_arabic.specs.JoiningFlags.{Letter, nearest_letter}
 use Rattle.shapers_arabic.specs.JoinedText.{Text, is_mongolian, added_calls}
-use Rattle.shapers_arabic.specs.JoiningWalk.{copied_calls, copied_form, calls_added, form_calls, form_calls_along, place_of, sound_calls_at}
+use Rattle.shapers_arabic.specs.JoiningWalk.{copied_calls, form_calls, form_calls_along, place_of, sound_calls_at}
 use Rattle.shapers_arabic.proofs.LostForms.{Fits, act_by, act-by, fits}
 use Rattle.shapers_arabic.specs.SoundFlags.{is_second_or_third, is_taken, form_flags, form_flags_along, selector_flags}
 

@@ -1,5 +1,5 @@
 -- A place without a form, or with one.
-use Rattle.std.proofs.Common.{◌≡◌, ◌∙◌, ◌+◌, ◌<◌, Some, ap, sym, refl, subst, arith, drop, length, map, get_or}
+use Rattle.std.proofs.Common.{◌∙◌, ◌+◌, ◌<◌, Some, ap, sym, refl, subst, arith, drop, length, map, get_or}
 use Rattle.shapers_buffer.specs.Glyph.{default_glyph}
 use Rattle.shapers_buffer.specs.GlyphFlags.{flags_called}
 use Rattle.shapers_buffer.specs.declared.buffer.glyph.hb_glyph_info_t.{hb_glyph_info_t}

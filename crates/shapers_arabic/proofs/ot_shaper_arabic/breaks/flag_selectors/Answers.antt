@@ -1,5 +1,5 @@
 -- A selector with a copied form that isn't its own, or another place.
-use Rattle.std.proofs.Common.{◌≡◌, ◌∙◌, ◌+◌, ◌<◌, Some, ap, sym, refl, subst, arith, map, drop, length, get_or}
+use Rattle.std.proofs.Common.{◌∙◌, ◌+◌, ◌<◌, Some, ap, arith, map, drop, length, get_or}
 use Rattle.shapers_buffer.specs.Glyph.{default_glyph}
 use Rattle.shapers_buffer.specs.GlyphFlags.{flags_called}
 use Rattle.shapers_arabic.specs.JoiningWalk.{Called, copied_calls, place_of}
