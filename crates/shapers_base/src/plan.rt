@@ -9,6 +9,7 @@ pub use crate::buffer::ShaperError;
 use crate::map::hb_ot_map_t;
 
 mod arabic;
+mod breaks;
 mod hangul;
 mod indic;
 mod joining;
@@ -21,6 +22,7 @@ mod record;
 mod universal;
 
 pub use arabic::{StretchStart, arabic_shape_plan_t};
+pub use breaks::BreakFlags;
 pub use hangul::hangul_shape_plan_t;
 pub use indic::{
     BlwfMode, IndicConfig, IndicWouldSubstituteFeature, RephMode, RephPosition, indic_shape_plan_t,
@@ -49,13 +51,15 @@ pub struct hb_ot_shape_plan_t {
     pub has_gpos_mark: bool,
     /// Where the tiles of a stretched mark begin.
     pub stretch_start: StretchStart,
+    /// Which places are flagged unsafe to break.
+    pub break_flags: BreakFlags,
     /// What the shaper itself keeps.
     pub plan_data: PlanData,
 }
 
 impl hb_ot_shape_plan_t {
-    /// A plan whose shaper keeps nothing yet, for a font whose GPOS places no marks; tiles begin as
-    /// the code of HarfBuzz has it.
+    /// A plan whose shaper keeps nothing yet, for a font whose GPOS places no marks; tiles begin
+    /// and breaks are flagged as the code of HarfBuzz has it.
     pub fn new(script: Option<Script>, ot_map: hb_ot_map_t) -> Self
         ensures { result ≡ new_plan script ot_map }
     {
@@ -64,6 +68,7 @@ impl hb_ot_shape_plan_t {
             ot_map,
             has_gpos_mark: false,
             stretch_start: StretchStart::AsCode,
+            break_flags: BreakFlags::AsCode,
             plan_data: PlanData::None,
         }
     }

@@ -8,7 +8,8 @@ use Rattle.shapers_buffer.specs.declared.buffer.tag.Script.{Script}
 use Rattle.shapers_buffer.specs.Buffer.{Buffer, new_buffer}
 use Rattle.shapers_buffer.specs.Glyph.{default_glyph}
 use Rattle.shapers_base.specs.Map.{Map}
-use Rattle.shapers_base.specs.declared.plan.arabic.StretchStart.TheVariants.{AsCode}
+use Rattle.shapers_base.specs.declared.plan.arabic.StretchStart.TheVariants as starts
+use Rattle.shapers_base.specs.declared.plan.breaks.BreakFlags.TheVariants as breaks
 use Rattle.shapers_base.specs.declared.map.feature_map_t.{feature_map_t}
 use Rattle.shapers_base.specs.declared.plan.PlanData.TheVariants.{Universal}
 use Rattle.shapers_base.specs.declared.plan.joining.hb_arabic_joining_type_t.{hb_arabic_joining_type_t}
@@ -108,7 +109,7 @@ abbrev two_spans : List Span
 two_spans = record { len = 4; kind = 2 } ∷ record { len = 1; kind = 7 } ∷ []
 
 abbrev set_up_masks : String → List (ℕ × ℕ)
-set_up_masks tag = map (λ g. (g.mask, g.syllable)) (syllables_set_up (Universal (universal_plan AsCode (script tag) font)) font two_spans five).glyphs
+set_up_masks tag = map (λ g. (g.mask, g.syllable)) (syllables_set_up (Universal (universal_plan starts.AsCode breaks.AsCode (script tag) font)) font two_spans five).glyphs
 
 set_up : set_up_masks "Bali" ≡ (0x120, 0x12) ∷ (0x123, 0x12) ∷ (0x123, 0x12) ∷ (0x23, 0x12) ∷ (0x180, 0x27) ∷ []
 set_up = refl
@@ -116,7 +117,7 @@ set_up = refl
 set_up_joining : set_up_masks "Mong" ≡ (0x100, 0x12) ∷ (0x103, 0x12) ∷ (0x103, 0x12) ∷ (3, 0x12) ∷ (0x100, 0x27) ∷ []
 set_up_joining = refl
 
-set_up_broken : (syllables_set_up (Universal (universal_plan AsCode None font)) font two_spans five).broken ≡ true
+set_up_broken : (syllables_set_up (Universal (universal_plan starts.AsCode breaks.AsCode None font)) font two_spans five).broken ≡ true
 set_up_broken = refl
 
 -- the same by the bytes that the text has, with other serials, and its mark that stays
@@ -167,7 +168,7 @@ joining = refl
 not_joining : joins_letters None ∷ map (λ tag. joins_letters (script tag)) ("Bali" ∷ "Thai" ∷ "mong" ∷ "Sogo" ∷ "Syre" ∷ []) ≡ false ∷ false ∷ false ∷ false ∷ false ∷ false ∷ []
 not_joining = refl
 
-plans : universal_plan AsCode (script "Mong") font ∷ universal_plan AsCode (script "Bali") font ∷ universal_plan AsCode None font ∷ [] ≡ record { rphf_mask = 0x100; arabic_plan = Some (arabic_plan AsCode font) } ∷ record { rphf_mask = 0x100; arabic_plan = None } ∷ record { rphf_mask = 0x100; arabic_plan = None } ∷ []
+plans : universal_plan starts.AsCode breaks.AsCode (script "Mong") font ∷ universal_plan starts.AsCode breaks.AsCode (script "Bali") font ∷ universal_plan starts.AsCode breaks.AsCode None font ∷ [] ≡ record { rphf_mask = 0x100; arabic_plan = Some (arabic_plan starts.AsCode breaks.AsCode font) } ∷ record { rphf_mask = 0x100; arabic_plan = None } ∷ record { rphf_mask = 0x100; arabic_plan = None } ∷ []
 plans = refl
 
 -- the category of the character, and nothing else

@@ -32,7 +32,8 @@ const JOINING_SCRIPTS: [Script; 13] = [
 /// plan of Arabic. No mask touches a glyph flag bit. It can't refuse and takes no memory.
 pub fn create_data(plan: &hb_ot_shape_plan_t) -> PlanData
     ensures data { let start = plan.now.stretch_start in
-        result ≡ Universal (universal_plan start plan.now.script plan.now.ot_map) }
+        let breaks = plan.now.break_flags in
+        result ≡ Universal (universal_plan start breaks plan.now.script plan.now.ot_map) }
     ensures off_flags { AllByRecursion (λ mask. mask % 8 ≡ 0) (masks_in result) }
 {
     PlanData::Universal(use_shape_plan_t {
@@ -43,7 +44,9 @@ pub fn create_data(plan: &hb_ot_shape_plan_t) -> PlanData
 
 // The plan of Arabic, for a script whose letters join.
 fn arabic_plan_for(plan: &hb_ot_shape_plan_t) -> Option<arabic_shape_plan_t>
-    ensures data { let plan_of_arabic = arabic_plan plan.now.stretch_start plan.now.ot_map in
+    ensures data { let start = plan.now.stretch_start in
+        let breaks = plan.now.break_flags in
+        let plan_of_arabic = arabic_plan start breaks plan.now.ot_map in
         result ≡ (if joins_letters plan.now.script then Some plan_of_arabic else None) }
     ensures off_flags { AllByRecursion (λ mask. mask % 8 ≡ 0) (joining_masks result) }
 {

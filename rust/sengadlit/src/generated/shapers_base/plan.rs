@@ -8,6 +8,7 @@ pub use crate::generated::shapers_base::buffer::ShaperError;
 use crate::generated::shapers_base::map::Map;
 
 mod arabic;
+mod breaks;
 mod hangul;
 mod indic;
 mod joining;
@@ -20,6 +21,7 @@ mod record;
 mod universal;
 
 pub use arabic::{ArabicPlan, StretchStart};
+pub use breaks::BreakFlags;
 pub use hangul::HangulPlan;
 pub use indic::{
     BlwfMode, IndicConfig, IndicPlan, IndicWouldSubstituteFeature, RephMode, RephPosition,
@@ -48,13 +50,15 @@ pub struct Plan {
     pub has_gpos_mark: bool,
     /// Where the tiles of a stretched mark begin.
     pub stretch_start: StretchStart,
+    /// Which places are flagged unsafe to break.
+    pub break_flags: BreakFlags,
     /// What the shaper itself keeps.
     pub plan_data: PlanData,
 }
 
 impl Plan {
-    /// A plan whose shaper keeps nothing yet, for a font whose GPOS places no marks; tiles begin as
-    /// the code of HarfBuzz has it.
+    /// A plan whose shaper keeps nothing yet, for a font whose GPOS places no marks; tiles begin
+    /// and breaks are flagged as the code of HarfBuzz has it.
     ///
     /// <details><summary>Contract</summary>
     ///
@@ -73,6 +77,7 @@ impl Plan {
             ot_map,
             has_gpos_mark: false,
             stretch_start: StretchStart::AsCode,
+            break_flags: BreakFlags::AsCode,
             plan_data: PlanData::None,
         }
     }

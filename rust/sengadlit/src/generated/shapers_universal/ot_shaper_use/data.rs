@@ -32,7 +32,8 @@ const JOINING_SCRIPTS: [Script; 13] = [
 ///
 /// ```text
 /// ensures data { let start = plan.now.stretch_start in
-///     result ≡ Universal (universal_plan start plan.now.script plan.now.ot_map) }
+///     let breaks = plan.now.break_flags in
+///     result ≡ Universal (universal_plan start breaks plan.now.script plan.now.ot_map) }
 /// ensures off_flags { AllByRecursion (λ mask. mask % 8 ≡ 0) (masks_in result) }
 /// ```
 ///
