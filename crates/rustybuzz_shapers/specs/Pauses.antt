@@ -18,11 +18,12 @@ use Rattle.shapers_khmer.specs.Khmer.{khmer_circles, khmer_order, khmer_steps, o
 use Rattle.shapers_khmer.specs.Plan.{is_khmer_data}
 use Rattle.shapers_myanmar.specs.Myanmar.{myanmar_circles, myanmar_order, myanmar_steps}
 use Rattle.shapers_stretch.specs.Recorded.{tiles_recorded}
-use Rattle.shapers_syllabic.specs.Borders.{SetUpCutsAtSpans, spans_set_up}
+use Rattle.shapers_syllabic.specs.Borders.{SetUpCutsAtSpans, spans_set_up, unnumbered}
 use Rattle.shapers_syllabic.specs.CircleLaws.{NoNewCluster}
 use Rattle.shapers_syllabic.specs.Circles.{circled}
 use Rattle.shapers_syllabic.specs.Reordering.{PauseReordered, carried, script_circles, text_steps}
-use Rattle.shapers_syllabic.specs.ReorderingLaws.{PauseCutsAtBorders, TextReordered}
+use Rattle.shapers_syllabic.specs.ReorderingLaws.{PauseCutsAtBorders, TextReordered, paused_clusters, paused_order}
+use Rattle.shapers_syllabic.specs.SpanCuts.{CutsAtBorders}
 use Rattle.shapers_syllabic.specs.declared.ot_shaper_syllabic.circles.DottedCircles.{DottedCircles}
 use Rattle.shapers_universal.specs.PlanData.{is_universal, rphf_of}
 use Rattle.shapers_universal.specs.Universal.{universal_order, universal_steps}
@@ -175,11 +176,13 @@ PauseStays pause plan =
     Paused pause plan font spans old new → new ≡ old
 
 -- What every reordering keeps. A text cut at any border of syllables gives the halves' results
--- joined. No glyph is lost, no cluster rises, glyph flags stay unless it fell, and what shared a
+-- joined, also where the bytes of the halves have other serials, and then but for these. No glyph is lost, no cluster rises, glyph flags stay unless it fell, and what shared a
 -- cluster still does: the laws of steps, from after circles on. Every cluster is one that the text
 -- had before its circles.
 pub record ReorderingKeeps (r : Reordering) (old new : Buffer) : Type 0 where
   pub cuts : PauseCutsAtBorders r.circles r.order r.steps old new
+  pub renumbered : CutsAtBorders unnumbered (paused_order r.circles r.order)
+      (paused_clusters r.circles r.steps old.level) old.glyphs new.glyphs
   pub text : TextReordered r.steps (record old { glyphs = circled r.circles old.glyphs }) new
   pub old_clusters : NoNewCluster old.glyphs new.glyphs
 
@@ -210,6 +213,7 @@ PauseKeeps SetupSyllablesMyanmar plan font spans old new =
     × OnlyFlagsAdded old.glyphs new.glyphs
 PauseKeeps SetupSyllablesUse plan font spans old new =
     UniversalSetUpCutsAtSpans plan.plan_data plan.ot_map spans old new × ClustersStay old new
+    × OnlyFlagsAdded old.glyphs new.glyphs
 PauseKeeps InitialReordering plan font spans old new =
     ReorderingKeeps (by_initial plan font old) old new
     × InitiallyMerged font plan.ot_map (indic_in plan) old new

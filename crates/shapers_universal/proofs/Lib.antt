@@ -9,6 +9,7 @@ mod StepsAtOnce
 mod SyllableRows
 mod SyllableWalks
 mod UniversalCuts
+mod UniversalFlags
 mod UniversalFronts
 mod UniversalListing
 pub mod UniversalLists

@@ -1,7 +1,7 @@
 //! The placement list: a reordering lists for each place of a syllable the place whose glyph comes
 //! there, and then the syllable is written once. Its room grows with the buffer, so that a
 //! reordering takes no memory; what was never listed is never written.
-ghost use Rattle.std.specs.Prelude.{◌≡◌, ◌-◌, ◌<◌, ◌≤◌, All, IfErr, IfOk, IsOkUnless, OnOk, length, vec_capacity};
+ghost use Rattle.std.specs.Prelude.{◌≡◌, ◌-◌, ◌<◌, ◌≤◌, [], All, IfErr, IfOk, IsOkUnless, OnOk, length, vec_capacity};
 ghost use Rattle.shapers_buffer.specs.Clusters.{stretch_of, with_stretch};
 ghost use Rattle.shapers_buffer.specs.Places.{ListsEachOnce, pick, place_at, placed, with_place, without_last_zeros};
 ghost use Rattle.shapers_buffer.specs.declared.buffer.refusal.ShaperError.TheVariants.{Memory};
@@ -29,6 +29,14 @@ impl hb_buffer_t {
     {
         open_places(&mut self.places, i + 1);
         self.places[i] = place;
+    }
+
+    /// Empties the list, so that each place reads 0. It takes no memory.
+    #[inline]
+    pub fn clear_places(&mut self)
+        ensures { self.new ≡ record self.old { places = [] } }
+    {
+        self.places.clear();
     }
 
     /// Gives each place from `start` to `end` the glyph of the place listed for it; each place from

@@ -1,7 +1,8 @@
 //! The forms of syllables by their places in runs.
-ghost use Rattle.std.specs.Prelude.{◌≡◌, ◌<◌, ◌≤◌, length, map, drop, false};
+ghost use Rattle.std.specs.Prelude.{◌≡◌, ◌%◌, ◌<◌, ◌≤◌, length, map, drop, false};
 ghost use Rattle.shapers_buffer.specs.Clusters.{with_stretch};
 ghost use Rattle.shapers_buffer.specs.Syllables.{syllables};
+ghost use Rattle.shapers_clusters.specs.FlagLaw.{OnlyFlagsAdded};
 ghost use Rattle.shapers_universal.specs.UniversalSyllables.{all_forms, form_mask, form_masks, formed, in_forms, joins_runs, mask_between, with_forms, with_instead};
 
 use shapers_base::buffer::{GlyphWalk, first_syllable_len, hb_buffer_t, hb_glyph_info_t, hb_tag_t};
@@ -20,8 +21,9 @@ pub(super) struct FormMasks {
 // Gives each syllable the mask of its form: in each unbroken run of syllables that join, a lone one
 // is isolated, the first initial, the last final, the others medial.
 pub(super) fn set_forms(map: &hb_ot_map_t, buffer: &mut hb_buffer_t)
-    ensures { let masks = form_masks map.now in
+    ensures forms { let masks = form_masks map.now in
         buffer.new ≡ record buffer.old { glyphs = with_forms masks buffer.old.glyphs } }
+    ensures flags { OnlyFlagsAdded buffer.old.glyphs buffer.new.glyphs }
 {
     let mut masks = FormMasks::of(map);
     if masks.all() != 0 {
@@ -32,7 +34,8 @@ pub(super) fn set_forms(map: &hb_ot_map_t, buffer: &mut hb_buffer_t)
 impl FormMasks {
     // The masks in a map.
     fn of(map: &hb_ot_map_t) -> Self
-        ensures { result ≡ form_masks map.now }
+        ensures masks { result ≡ form_masks map.now }
+        ensures off_flags { all_forms result % 8 ≡ 0 }
     {
         FormMasks {
             isol: form_mask(map, hb_tag_t(*b"isol")),
@@ -44,7 +47,8 @@ impl FormMasks {
 
     // The bits of all forms.
     fn all(self) -> u32
-        ensures { result ≡ all_forms self }
+        ensures bits { result ≡ all_forms self }
+        ensures fits { all_forms self ≤ 0xFFFFFFFF }
     {
         (self.isol | self.init) | (self.medi | self.fina)
     }
@@ -114,7 +118,8 @@ impl GlyphWalk for FormMasks {
 
 // The mask of the feature of a form, 0 where it holds for the whole text.
 fn form_mask(map: &hb_ot_map_t, tag: hb_tag_t) -> u32
-    ensures { result ≡ form_mask map.now tag.0 }
+    ensures mask { result ≡ form_mask map.now tag.0 }
+    ensures off_flags { result % 8 ≡ 0 }
 {
     let mask = map.get_1_mask(tag);
     if mask == map.get_global_mask() {

@@ -5,6 +5,7 @@ ghost use Rattle.shapers_buffer.specs.Glyph.{clusters};
 ghost use Rattle.shapers_buffer.specs.GlyphFlags.{with_bits};
 ghost use Rattle.shapers_buffer.specs.Refusals.{RefusesInput};
 ghost use Rattle.shapers_buffer.specs.Syllables.{spans_refusal, syllables};
+ghost use Rattle.shapers_clusters.specs.FlagLaw.{OnlyFlagsAdded};
 ghost use Rattle.shapers_universal.specs.PlanData.{is_universal};
 ghost use Rattle.shapers_universal.specs.UniversalCuts.{UniversalSetUpCutsAtSpans};
 ghost use Rattle.shapers_universal.specs.UniversalSyllables.{reph_len, set_up_by_its_bytes, syllables_set_up, with_rphf, with_syllable_masks};
@@ -21,7 +22,7 @@ use shapers_syllabic::ot_shaper_syllabic::{set_up_by_bytes, set_up_syllables};
 /// Gives the mask of `rphf` to the first glyph of each syllable if it is a reph, else to its first
 /// three, and, where the plan has no plan of Arabic, the masks of forms by the places of syllables.
 /// Refuses with `SpansDontCover` where a span is empty or the lengths don't add up to the buffer's.
-/// It takes no memory and leaves the clusters as they are.
+/// It takes no memory, leaves the clusters as they are and only adds glyph flags.
 pub fn setup_syllables_use(
     plan: &hb_ot_shape_plan_t,
     spans: &[Span],
@@ -36,6 +37,7 @@ pub fn setup_syllables_use(
         OnOk result
         (UniversalSetUpCutsAtSpans kept plan.now.ot_map spans.now buffer.old buffer.new) }
     ensures clusters { clusters buffer.new.glyphs ≡ clusters buffer.old.glyphs }
+    ensures flags { OnOk result (OnlyFlagsAdded buffer.old.glyphs buffer.new.glyphs) }
     ensures err { OnErr result (buffer.new ≡ buffer.old) }
 {
     set_up_syllables(spans, BROKEN_CLUSTER, buffer)?;
@@ -58,9 +60,10 @@ pub fn setup_syllables_use_by_bytes(plan: &hb_ot_shape_plan_t, buffer: &mut hb_b
 // Gives each syllable its masks.
 fn set_masks(plan: &hb_ot_shape_plan_t, buffer: &mut hb_buffer_t)
     requires { is_universal plan.now.plan_data ≡ true }
-    ensures { let kept = plan.now.plan_data in
+    ensures masks { let kept = plan.now.plan_data in
         let masked = with_syllable_masks kept plan.now.ot_map buffer.old.glyphs in
         buffer.new ≡ record buffer.old { glyphs = masked } }
+    ensures flags { OnlyFlagsAdded buffer.old.glyphs buffer.new.glyphs }
 {
     match &plan.plan_data {
         PlanData::Universal(universal_plan) => {
@@ -75,8 +78,9 @@ fn set_masks(plan: &hb_ot_shape_plan_t, buffer: &mut hb_buffer_t)
 
 // Gives each syllable the mask of `rphf`.
 fn set_rphf(mask: u32, buffer: &mut hb_buffer_t)
-    ensures { let masked = flat_map (with_rphf mask) (syllables buffer.old.glyphs) in
+    ensures masks { let masked = flat_map (with_rphf mask) (syllables buffer.old.glyphs) in
         buffer.new ≡ record buffer.old { glyphs = masked } }
+    ensures flags { OnlyFlagsAdded buffer.old.glyphs buffer.new.glyphs }
 {
     buffer.walk(&mut EachSyllable {
         change: &RphfMask { mask },
