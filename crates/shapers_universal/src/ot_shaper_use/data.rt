@@ -42,6 +42,7 @@ pub fn create_data(plan: &hb_ot_shape_plan_t) -> PlanData
 }
 
 // The plan of Arabic, for a script whose letters join.
+#[inline]
 fn arabic_plan_for(plan: &hb_ot_shape_plan_t) -> Option<arabic_shape_plan_t>
     ensures data { let plan_of_arabic = arabic_plan plan.now.stretch_start plan.now.ot_map in
         result ≡ (if joins_letters plan.now.script then Some plan_of_arabic else None) }
@@ -55,6 +56,7 @@ fn arabic_plan_for(plan: &hb_ot_shape_plan_t) -> Option<arabic_shape_plan_t>
 }
 
 // Whether the letters of a script join, where it is known.
+#[inline]
 fn has_arabic_joining(script: Option<Script>) -> bool
     ensures { result ≡ joins_letters script }
 {
@@ -65,6 +67,7 @@ fn has_arabic_joining(script: Option<Script>) -> bool
 }
 
 // Whether the letters of this script join.
+#[inline]
 fn is_joining(script: Script) -> bool
     ensures { result ≡ list_any (λ t. pointwise nat_eq t.0 script.0) joining_scripts }
 {
