@@ -43,6 +43,7 @@ pub fn create_data(plan: &hb_ot_shape_plan_t) -> PlanData
 }
 
 // The plan of Arabic, for a script whose letters join.
+#[inline]
 fn arabic_plan_for(plan: &hb_ot_shape_plan_t) -> Option<arabic_shape_plan_t>
     ensures data { let start = plan.now.stretch_start in
         let breaks = plan.now.break_flags in
@@ -58,6 +59,7 @@ fn arabic_plan_for(plan: &hb_ot_shape_plan_t) -> Option<arabic_shape_plan_t>
 }
 
 // Whether the letters of a script join, where it is known.
+#[inline]
 fn has_arabic_joining(script: Option<Script>) -> bool
     ensures { result ≡ joins_letters script }
 {
@@ -68,6 +70,7 @@ fn has_arabic_joining(script: Option<Script>) -> bool
 }
 
 // Whether the letters of this script join.
+#[inline]
 fn is_joining(script: Script) -> bool
     ensures { result ≡ list_any (λ t. pointwise nat_eq t.0 script.0) joining_scripts }
 {

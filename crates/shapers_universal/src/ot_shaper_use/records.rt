@@ -90,6 +90,7 @@ impl SyllableChange for RecordPref {
 }
 
 // How many glyphs in front have bits of this mask.
+#[inline]
 fn leading_len(glyphs: &[hb_glyph_info_t], mask: u32) -> usize
     ensures len { result ≡ prefix_len (has_bits mask) glyphs.now }
     ensures within { result ≤ length glyphs.now }
@@ -101,6 +102,7 @@ fn leading_len(glyphs: &[hb_glyph_info_t], mask: u32) -> usize
 }
 
 // Gives the first of these glyphs that a lookup put in another category.
+#[inline]
 fn record_first(glyphs: &mut [hb_glyph_info_t], category: u8)
     ensures { glyphs.new ≡ first_recorded category glyphs.old }
 {

@@ -58,6 +58,7 @@ pub fn setup_syllables_use_by_bytes(plan: &hb_ot_shape_plan_t, buffer: &mut hb_b
 }
 
 // Gives each syllable its masks.
+#[inline]
 fn set_masks(plan: &hb_ot_shape_plan_t, buffer: &mut hb_buffer_t)
     requires { is_universal plan.now.plan_data ≡ true }
     ensures masks { let kept = plan.now.plan_data in
@@ -77,6 +78,7 @@ fn set_masks(plan: &hb_ot_shape_plan_t, buffer: &mut hb_buffer_t)
 }
 
 // Gives each syllable the mask of `rphf`.
+#[inline]
 fn set_rphf(mask: u32, buffer: &mut hb_buffer_t)
     ensures masks { let masked = flat_map (with_rphf mask) (syllables buffer.old.glyphs) in
         buffer.new ≡ record buffer.old { glyphs = masked } }
@@ -106,6 +108,7 @@ impl SyllableChange for RphfMask {
 }
 
 // How many glyphs in front get the mask of `rphf`: a reph alone, else three or all.
+#[inline]
 fn reph_len(syllable: &[hb_glyph_info_t]) -> usize
     ensures len { result ≡ reph_len syllable.now }
     ensures within { result ≤ length syllable.now }
@@ -118,6 +121,7 @@ fn reph_len(syllable: &[hb_glyph_info_t]) -> usize
 }
 
 // Gives all these glyphs the bits of a mask besides their own.
+#[inline]
 fn add_mask(glyphs: &mut [hb_glyph_info_t], mask: u32)
     ensures { glyphs.new ≡ map (with_bits mask) glyphs.old }
 {
