@@ -23,6 +23,7 @@ pub trait hb_font_t {
 
     /// Whether the font has a nominal glyph for a character: an impl has its own answer where it
     /// can tell that without making the glyph.
+    #[inline]
     fn has_glyph(&self, c: u32) -> bool
         ensures { result ≡ has_nominal (font self.now) c }
     {
@@ -41,6 +42,7 @@ pub trait hb_font_t {
     /// Whether one of these lookups would apply to exactly these glyphs. This asks `would_apply`
     /// about each up to the first that would; an impl has its own answer where it can tell that at
     /// once.
+    #[inline]
     fn would_apply_any(&self, lookups: &[u16], glyphs: &[GlyphId], zero_context: bool) -> bool
         ensures { result ≡ would_one (font self.now).applies lookups.now glyphs.now zero_context }
     {

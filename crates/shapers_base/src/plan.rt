@@ -40,8 +40,9 @@ pub type Category = u8;
 /// The position of a glyph in its syllable, among those of `ot_position_t`.
 pub type Position = u8;
 
-/// What a shaper does to a text of one script.
+/// What a shaper does to a text of one script. A later version may add fields.
 #[derive(Debug, Drop)]
+#[non_exhaustive]
 pub struct hb_ot_shape_plan_t {
     /// The script of the text, where it is known.
     pub script: Option<Script>,
@@ -60,6 +61,7 @@ pub struct hb_ot_shape_plan_t {
 impl hb_ot_shape_plan_t {
     /// A plan whose shaper keeps nothing yet, for a font whose GPOS places no marks; tiles begin
     /// and breaks are flagged as the code of HarfBuzz has it.
+    #[inline]
     pub fn new(script: Option<Script>, ot_map: hb_ot_map_t) -> Self
         ensures { result ≡ new_plan script ot_map }
     {
@@ -93,6 +95,7 @@ pub enum PlanData {
 
 impl PlanData {
     /// What Arabic keeps, if these are its data.
+    #[inline]
     pub fn arabic(&self) -> Option<&arabic_shape_plan_t>
         ensures { option_copied result ≡ as_arabic self.now }
     {
@@ -103,6 +106,7 @@ impl PlanData {
     }
 
     /// What Hangul keeps, if these are its data.
+    #[inline]
     pub fn hangul(&self) -> Option<&hangul_shape_plan_t>
         ensures { option_copied result ≡ as_hangul self.now }
     {
@@ -113,6 +117,7 @@ impl PlanData {
     }
 
     /// What the universal shaper keeps, if these are its data.
+    #[inline]
     pub fn universal(&self) -> Option<&use_shape_plan_t>
         ensures { option_copied result ≡ as_universal self.now }
     {
@@ -123,6 +128,7 @@ impl PlanData {
     }
 
     /// What Khmer keeps, if these are its data.
+    #[inline]
     pub fn khmer(&self) -> Option<&khmer_shape_plan_t>
         ensures { option_copied result ≡ as_khmer self.now }
     {
@@ -133,6 +139,7 @@ impl PlanData {
     }
 
     /// What the shaper of the Indic scripts keeps, if these are its data.
+    #[inline]
     pub fn indic(&self) -> Option<&indic_shape_plan_t>
         ensures { option_copied result ≡ as_indic self.now }
     {

@@ -199,6 +199,7 @@ impl hb_buffer_t {
     }
 
     /// Adds `n` default glyphs at the end and, unless there are no positions, `n` zero positions.
+    #[inline]
     pub fn grow(&mut self, n: usize) -> Result<(), ShaperError>
         ensures ok { OnOk result (self.new ≡ grown n self.old) }
         ensures length { RefusesLength self.old.max_len (length self.old.glyphs + n) result }
@@ -231,6 +232,7 @@ impl hb_buffer_t {
     }
 
     /// An equal buffer.
+    #[inline]
     pub fn copy(&self) -> Result<Self, ShaperError>
         ensures ok { IfOk result (λ copy. copy ≡ self.now) }
         ensures err { IfErr result (λ e. e ≡ Memory) }
@@ -255,6 +257,7 @@ impl hb_buffer_t {
 }
 
 // The five nearest of these characters, which are nearest first.
+#[inline]
 fn context(chars: &[char]) -> ArrayVec<char, CONTEXT_LENGTH>
     ensures nearest { result.items ≡ take 5 chars.now }
 {

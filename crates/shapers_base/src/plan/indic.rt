@@ -70,6 +70,7 @@ pub struct IndicWouldSubstituteFeature {
 impl IndicWouldSubstituteFeature {
     /// The question about the lookups of a feature's stage. With `zero_context` only those count
     /// that ask for no context around the glyphs.
+    #[inline]
     pub fn new(map: &hb_ot_map_t, feature_tag: hb_tag_t, zero_context: bool) -> Self
         ensures { result ≡ question_for feature_tag zero_context map.now }
     {
@@ -84,6 +85,7 @@ impl IndicWouldSubstituteFeature {
     }
 
     /// Whether some lookup of the feature's stage would apply to exactly these glyphs.
+    #[inline]
     pub fn would_substitute<F: hb_font_t>(
         &self,
         map: &hb_ot_map_t,

@@ -132,6 +132,7 @@ impl hb_ot_shape_planner_t {
     }
 
     /// Asks for a whole list: all of it, or nothing where memory is refused.
+    #[inline]
     pub fn add_requests(&mut self, requests: &[Request]) -> Result<(), ShaperError>
         ensures ok { OnOk result (self.new ≡ with_requests requests.now self.old) }
         ensures refusal { IsOkUnless result Memory }

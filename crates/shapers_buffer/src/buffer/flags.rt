@@ -90,6 +90,7 @@ impl BufferFlags {
 }
 
 // The flag, where this bit is asked for.
+#[inline]
 fn flag_where(bits: u32, asked: u32, flag: u32) -> u32
     ensures { result ≡ flag_where bits asked flag }
 {

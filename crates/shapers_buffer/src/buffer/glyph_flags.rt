@@ -103,6 +103,7 @@ pub fn safe_to_insert_tatweel_in(
 }
 
 // Adds mask bits to every glyph whose cluster isn't the least one of the stretch.
+#[inline]
 fn flag(stretch: &mut [hb_glyph_info_t], bits: u32)
     ensures { stretch.new ≡ flagged bits stretch.old }
 {
@@ -118,6 +119,7 @@ fn flag(stretch: &mut [hb_glyph_info_t], bits: u32)
 }
 
 // Adds mask bits to every glyph of the stretch.
+#[inline]
 fn flag_all(stretch: &mut [hb_glyph_info_t], bits: u32)
     ensures { stretch.new ≡ map (with_bits bits) stretch.old }
 {

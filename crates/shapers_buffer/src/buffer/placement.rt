@@ -56,6 +56,7 @@ impl hb_buffer_t {
 }
 
 // Gives each place from `start` to `end` the glyph of the place listed for it.
+#[inline]
 fn reorder(
     glyphs: &mut [hb_glyph_info_t],
     places: &[usize],
@@ -77,6 +78,7 @@ fn reorder(
 }
 
 // Writes the glyphs of these places, in the order of the places.
+#[inline]
 fn gather(glyphs: &[hb_glyph_info_t], places: &[usize], to: &mut [hb_glyph_info_t])
     requires as_many { length to.old ≡ length places.now }
     requires within { All (λ p. p < length glyphs.now) places.now }
@@ -92,6 +94,7 @@ const OPENED: usize = 64;
 
 // Opens the first `n` places of the room that is there, and some more. What is opened reads 0, as
 // it did.
+#[inline]
 fn open_places(places: &mut Vec<usize>, n: usize)
     requires room { n ≤ vec_capacity places.old }
     ensures places { without_last_zeros places.new.items ≡ without_last_zeros places.old.items }
@@ -105,6 +108,7 @@ fn open_places(places: &mut Vec<usize>, n: usize)
 }
 
 // Opens the first `n` glyphs of the room that is there.
+#[inline]
 fn open_spare(spare: &mut Vec<hb_glyph_info_t>, n: usize)
     requires room { n ≤ vec_capacity spare.old }
     ensures opened { n ≤ length spare.new.items }
@@ -116,6 +120,7 @@ fn open_spare(spare: &mut Vec<hb_glyph_info_t>, n: usize)
 }
 
 // Makes room for `n` places and glyphs, and writes nothing there.
+#[inline]
 pub(super) fn make_room(
     places: &mut Vec<usize>,
     spare: &mut Vec<hb_glyph_info_t>,
@@ -139,6 +144,7 @@ pub(super) fn make_room(
 }
 
 // These places, with room for `n`.
+#[inline]
 pub(super) fn copy_places(
     alloc: Global,
     places: &[usize],

@@ -112,6 +112,7 @@ impl hb_buffer_t {
 }
 
 /// Changes each of these glyphs.
+#[inline]
 pub fn change_each_in<C: GlyphChange>(glyphs: &mut [hb_glyph_info_t], change: &C)
     ensures { glyphs.new ≡ map (C.changed change.now) glyphs.old }
 {
