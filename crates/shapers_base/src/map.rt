@@ -38,7 +38,7 @@ pub enum TableIndex {
 pub struct feature_map_t {
     /// The tag of the feature.
     pub tag: hb_tag_t,
-    /// The bits of a glyph's mask that ask for the feature.
+    /// The bits of a glyph's mask that turn the feature on.
     pub mask: u32,
     /// The stage that its lookups run in.
     pub stage: usize,
@@ -218,7 +218,7 @@ impl hb_ot_map_t {
         }
     }
 
-    /// Whether the table has the script that was asked for.
+    /// Whether the table has the script that was requested.
     #[inline]
     pub fn found_script(&self, table_index: TableIndex) -> bool
         ensures { result ≡ of_gsub table_index self.now.found false }

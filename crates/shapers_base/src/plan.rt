@@ -1,5 +1,5 @@
-//! The planner and the plan: what the shapers ask of a font, and what they decided for one script
-//! and font before they see a text. With them what two shapers or more name.
+//! The planner and the plan: what the shapers request of a font, and what they decided for one
+//! script and font before they see a text. With them what two shapers or more name.
 ghost use Rattle.std.specs.Prelude.{◌≡◌};
 ghost use Rattle.std.specs.Option.{option_copied};
 ghost use Rattle.shapers_base.specs.Plan.{as_arabic, as_hangul, as_indic, as_khmer, as_universal, new_plan};

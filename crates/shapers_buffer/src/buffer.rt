@@ -65,8 +65,8 @@ pub struct hb_buffer_t {
     has_broken_syllable: bool,
     has_stch: bool,
     max_len: usize,
-    // room for a place and for a glyph a glyph, so that a reordering takes no memory; it is written
-    // as far as reorderings came
+    // room for one place and one glyph per glyph, so that a reordering takes no memory; it is
+    // written as far as reorderings came
     places: Vec<usize>,
     spare: Vec<hb_glyph_info_t>,
 }

@@ -31,7 +31,7 @@ impl ClusterRun {
 impl hb_buffer_t {
     /// Merges the glyphs from `s` to `e`, as `merge_clusters`, of the buffer with a run in its
     /// cluster. Where they start in the run nothing is written and only what is new is read, else
-    /// the run is written and another begins. Answers the run that is to be written then.
+    /// the run is written and another begins. Returns the run that is to be written then.
     #[inline]
     pub fn merge_run(&mut self, run: ClusterRun, s: usize, e: usize) -> ClusterRun
         requires in_order { s ≤ e }

@@ -55,8 +55,8 @@ impl hb_buffer_t {
         Ok(())
     }
 
-    /// Exchanges the buffer's positions for those of the list, none or one a glyph, and answers
-    /// true; for any other number of them nothing changes.
+    /// Exchanges the buffer's positions for those of the list, none or one per glyph, and returns
+    /// true; for any other number of them it returns false and nothing changes.
     #[inline]
     pub fn exchange_positions(&mut self, positions: &mut Vec<GlyphPosition>) -> bool
         ensures answer { result ≡ can_be_positions positions.old.items self.old }
@@ -72,7 +72,7 @@ impl hb_buffer_t {
         fits
     }
 
-    /// Exchanges the buffer's text for another: its glyphs, its positions (none, or one a glyph)
+    /// Exchanges the buffer's text for another: its glyphs, its positions (none, or one per glyph)
     /// and its settings. Refuses by the number of glyphs, and then all is as it was.
     #[inline]
     pub fn exchange_text(

@@ -3,7 +3,7 @@ ghost use Rattle.shapers_buffer.specs.Numbers.{flag_where, from_harfbuzz, to_har
 
 use bitflags::{Flag, Flags, bitflag_items};
 
-/// What the caller asks of the shapers; the numbers are this crate's own.
+/// What the caller wants of the shapers; the numbers are this crate's own.
 #[repr(transparent)]
 #[derive(Clone, Copy, Debug, PartialEq, Eq)]
 pub struct BufferFlags(pub u32);
@@ -89,7 +89,7 @@ impl BufferFlags {
     }
 }
 
-// The flag, where this bit is asked for.
+// The flag, where this bit is set.
 #[inline]
 fn flag_where(bits: u32, asked: u32, flag: u32) -> u32
     ensures { result ≡ flag_where bits asked flag }

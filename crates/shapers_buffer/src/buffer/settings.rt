@@ -18,7 +18,7 @@ pub struct BufferSettings<'a> {
     pub script: Option<Script>,
     /// How clusters merge.
     pub cluster_level: BufferClusterLevel,
-    /// What the caller asks of the shapers.
+    /// What the caller wants of the shapers.
     pub flags: BufferFlags,
     /// The text before, nearest character first; the buffer keeps the five nearest.
     pub pre_context: &'a [char],

@@ -81,8 +81,8 @@ impl Buffer {
         Ok(())
     }
 
-    /// Exchanges the buffer's positions for those of the list, none or one a glyph, and answers
-    /// true; for any other number of them nothing changes.
+    /// Exchanges the buffer's positions for those of the list, none or one per glyph, and returns
+    /// true; for any other number of them it returns false and nothing changes.
     ///
     /// <details><summary>Contract</summary>
     ///
@@ -108,7 +108,7 @@ impl Buffer {
         fits
     }
 
-    /// Exchanges the buffer's text for another: its glyphs, its positions (none, or one a glyph)
+    /// Exchanges the buffer's text for another: its glyphs, its positions (none, or one per glyph)
     /// and its settings. Refuses by the number of glyphs, and then all is as it was.
     ///
     /// <details><summary>Contract</summary>

@@ -2,7 +2,7 @@
 
 use crate::support::bitflags::{Flag, Flags, bitflag_items};
 
-/// What the caller asks of the shapers; the numbers are this crate's own.
+/// What the caller wants of the shapers; the numbers are this crate's own.
 #[repr(transparent)]
 #[derive(Clone, Copy, Debug, PartialEq, Eq)]
 pub struct BufferFlags(pub u32);
@@ -97,7 +97,8 @@ impl BufferFlags {
     }
 }
 
-// The flag, where this bit is asked for.
+// The flag, where this bit is set.
+#[inline]
 fn flag_where(bits: u32, asked: u32, flag: u32) -> u32 {
     if bits & asked == asked { flag } else { 0 }
 }

@@ -172,6 +172,7 @@ impl Buffer {
 /// ```
 ///
 /// </details>
+#[inline]
 pub fn change_each_in<C: GlyphChange>(glyphs: &mut [GlyphInfo], change: &C) {
     for glyph in glyphs.iter_mut() {
         change.change(glyph);

@@ -49,6 +49,7 @@ pub fn create_data(plan: &Plan) -> PlanData {
 }
 
 // The plan of Arabic, for a script whose letters join.
+#[inline]
 fn arabic_plan_for(plan: &Plan) -> Option<ArabicPlan> {
     if has_arabic_joining(plan.script) {
         Some(data_create_arabic(plan))
@@ -58,6 +59,7 @@ fn arabic_plan_for(plan: &Plan) -> Option<ArabicPlan> {
 }
 
 // Whether the letters of a script join, where it is known.
+#[inline]
 fn has_arabic_joining(script: Option<Script>) -> bool {
     match script {
         None => false,
@@ -66,6 +68,7 @@ fn has_arabic_joining(script: Option<Script>) -> bool {
 }
 
 // Whether the letters of this script join.
+#[inline]
 fn is_joining(script: Script) -> bool {
     JOINING_SCRIPTS.contains(&script)
 }
