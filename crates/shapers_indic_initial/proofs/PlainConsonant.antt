@@ -23,9 +23,8 @@ use Rattle.shapers_base.specs.declared.plan.indic.RephMode.TheVariants.{Implicit
 use Rattle.shapers_indic.specs.declared.ot_shaper_indic.indic_feature.TheConstants.{PREF, RPHF}
 use Rattle.shapers_base.specs.declared.plan.ot_category_t.TheConstants.{OT_C}
 use Rattle.shapers_base.specs.declared.plan.ot_position_t.TheConstants.{POS_BASE_C}
-use Rattle.shapers_indic.specs.Glyphs.{has_category, has_position}
+use Rattle.shapers_indic.specs.Glyphs.{has_category, has_position, is_plain_consonant}
 use Rattle.shapers_indic.specs.Plan.{is_script}
-use Rattle.shapers_indic_initial.specs.OrderWalk.{is_plain_consonant}
 use Rattle.shapers_indic_initial.specs.InitialBase.{base_place, has_reph, joiner_comes_first, opens_with_repha, reph_len}
 use Rattle.shapers_indic_initial.specs.InitialMasks.{has_eyelash, with_eyelash_mask, with_initial_masks, with_masks_around, with_pref_mask, with_reph_mask}
 use Rattle.shapers_indic_initial.specs.InitialOrder.{ordered_places, ordered_stretches}

@@ -2,7 +2,6 @@
 ghost use Rattle.std.specs.Prelude.{◌≡◌, ◌≤◌, [], length};
 ghost use Rattle.shapers_indic_initial.specs.InitialReordering.{is_reordered, masked_in_order};
 ghost use Rattle.shapers_indic_initial.specs.InitialRules.{rules_of};
-ghost use Rattle.shapers_indic_initial.specs.OrderWalk.{is_plain_consonant};
 ghost use Rattle.shapers_syllabic.specs.Reordering.{SyllableReordered};
 
 use super::masks::set_masks;
@@ -13,8 +12,7 @@ use shapers_base::buffer::{GlyphWalk, Script, ShaperError, hb_buffer_t, hb_glyph
 use shapers_base::font::hb_font_t;
 use shapers_base::map::hb_ot_map_t;
 use shapers_base::plan::indic_shape_plan_t;
-use shapers_base::plan::ot_category_t::OT_C;
-use shapers_base::plan::ot_position_t::POS_BASE_C;
+use shapers_indic::ot_shaper_indic::glyphs::is_plain_consonant;
 use shapers_syllabic::ot_shaper_syllabic::Reorder;
 use shapers_syllabic::ot_shaper_syllabic::indic_syllable::{
     BROKEN_CLUSTER, CONSONANT_SYLLABLE, STANDALONE_CLUSTER, VOWEL_SYLLABLE,
@@ -112,22 +110,6 @@ impl<'a, F: hb_font_t> GlyphWalk for Masks<'a, F> {
         let syllable = &mut glyphs[self.start..self.end];
         let base = ordered_base(syllable);
         set_masks(self.plan, self.map, self.face, self.script, base, syllable);
-    }
-}
-
-// Whether a syllable is one consonant at the base, which no lookup put in for several. Nothing of it
-// changes, and many syllables are so.
-#[inline]
-fn is_plain_consonant(syllable: &[hb_glyph_info_t]) -> bool
-    ensures { result ≡ is_plain_consonant syllable.now }
-{
-    match syllable {
-        [glyph] => {
-            glyph.category == OT_C
-                && glyph.auxiliary == POS_BASE_C
-                && !glyph.marks.is_ligated()
-        }
-        _ => false,
     }
 }
 

@@ -4,7 +4,7 @@ use Rattle.shapers_buffer.specs.Clusters.{stretch_of}
 use Rattle.shapers_indic_initial.specs.InitialReordering.{is_reordered, masked_in_order}
 use Rattle.shapers_indic_initial.specs.InitialRules.{rules_of}
 use Rattle.shapers_indic_initial.proofs.InitialSyllable.{initial_syllable, other_syllable}
-use Rattle.shapers_indic_initial.specs.OrderWalk.{is_plain_consonant}
+use Rattle.shapers_indic.specs.Glyphs.{is_plain_consonant}
 use Rattle.shapers_indic_initial.proofs.PlainConsonant.{plain_here}
 use Rattle.shapers_syllabic.specs.Reordering.{SyllableReordered}
 use Rattle.shapers_indic_initial.proofs.ot_shaper_indic_initial.reordering.InitialOrderReorder.reorder.Goals as goal
