@@ -17,6 +17,7 @@ pub mod FinalParting
 pub mod FinalPlaces
 pub mod FinalPlacing
 pub mod FinalPlain
+mod FinalPlainConsonant
 mod FinalPrefRows
 pub mod FinalReads
 mod FinalReorderingRows
