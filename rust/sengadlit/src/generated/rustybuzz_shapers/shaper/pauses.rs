@@ -20,7 +20,8 @@ use crate::generated::shapers_universal::ot_shaper_use;
 /// were wanted. Spans are read by the pauses that set syllables alone: those refuse with
 /// `SpansDontCover` where a span is empty or they don't add up. Reorderings refuse unknown kinds of
 /// syllables, but for the universal shaper's, and then as circles do. A refused pause leaves the
-/// buffer as it was.
+/// buffer as it was. A reordering leaves the placement list empty, so that each place reads 0; the
+/// other pauses leave it as it was.
 ///
 /// <details><summary>Contract</summary>
 ///

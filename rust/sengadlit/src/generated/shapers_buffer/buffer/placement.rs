@@ -51,6 +51,22 @@ impl Buffer {
         self.places[i] = place;
     }
 
+    /// Empties the list, so that each place reads 0. It takes no memory.
+    ///
+    /// <details><summary>Contract</summary>
+    ///
+    /// # Contract
+    ///
+    /// ```text
+    /// ensures { self.new ≡ record self.old { places = [] } }
+    /// ```
+    ///
+    /// </details>
+    #[inline]
+    pub fn clear_places(&mut self) {
+        self.places.clear();
+    }
+
     /// Gives each place from `start` to `end` the glyph of the place listed for it; each place from
     /// `start` to `end` is listed once. Positions stay. It takes no memory.
     ///

@@ -18,6 +18,7 @@ pub(super) fn reorder_text(rules: &Rules, script: Option<Script>, buffer: &mut B
         open_syllable(rules.init, buffer, start);
         start = end;
     }
+    buffer.clear_places();
 }
 
 // Reorders the syllable from `s` to `e`: its viramas, its base, its left matras, its reph, and a

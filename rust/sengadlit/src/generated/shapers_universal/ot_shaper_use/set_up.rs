@@ -14,7 +14,7 @@ use crate::generated::shapers_syllabic::ot_shaper_syllabic::use_syllable::BROKEN
 /// Gives the mask of `rphf` to the first glyph of each syllable if it is a reph, else to its first
 /// three, and, where the plan has no plan of Arabic, the masks of forms by the places of syllables.
 /// Refuses with `SpansDontCover` where a span is empty or the lengths don't add up to the buffer's.
-/// It takes no memory and leaves the clusters as they are.
+/// It takes no memory, leaves the clusters as they are and only adds glyph flags.
 ///
 /// <details><summary>Contract</summary>
 ///
@@ -30,12 +30,14 @@ use crate::generated::shapers_syllabic::ot_shaper_syllabic::use_syllable::BROKEN
 ///     OnOk result
 ///     (UniversalSetUpCutsAtSpans kept plan.now.ot_map spans.now buffer.old buffer.new) }
 /// ensures clusters { clusters buffer.new.glyphs ≡ clusters buffer.old.glyphs }
+/// ensures flags { OnOk result (OnlyFlagsAdded buffer.old.glyphs buffer.new.glyphs) }
 /// ensures err { OnErr result (buffer.new ≡ buffer.old) }
 /// ```
 ///
 /// - `clusters`: crates/shapers_buffer/specs/Glyph.antt
 /// - `RefusesInput`: crates/shapers_buffer/specs/Refusals.antt
 /// - `spans_refusal`: crates/shapers_buffer/specs/Syllables.antt
+/// - `OnlyFlagsAdded`: crates/shapers_clusters/specs/FlagLaw.antt
 /// - `is_universal`: crates/shapers_universal/specs/PlanData.antt
 /// - `UniversalSetUpCutsAtSpans`: crates/shapers_universal/specs/UniversalCuts.antt
 /// - `syllables_set_up`: crates/shapers_universal/specs/UniversalSyllables.antt
