@@ -1,5 +1,5 @@
 -- Setting masks only adds glyph flags, whatever the shaper; so do all pauses that reorder nothing.
-use Rattle.std.proofs.Common.{◌≡◌, ◌==◌, ℕ, true, false, cond, List, [], ◌∷◌, ◌++◌, Option, None, Some, map, flat_map, take, drop, refl, sym, subst}
+use Rattle.std.proofs.Common.{◌≡◌, ℕ, true, false, cond, List, [], ◌∷◌, ◌++◌, Option, None, Some, map, take, drop, refl, sym, subst}
 use Rattle.std.specs.List.{prefix_len}
 use Rattle.std.proofs.lemmas.List.{take-append-drop}
 use Rattle.shapers_buffer.specs.Marks.{is_multiplied, is_substituted}

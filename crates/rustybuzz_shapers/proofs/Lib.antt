@@ -4,6 +4,7 @@ mod Cuts
 mod FlagLaws
 mod Headline
 mod HookRows
+mod PauseLaws
 mod PauseRows
 mod RecordRows
 mod StandingRows

@@ -9,7 +9,7 @@ use common::plans::{SHAPERS, plan_of};
 use sengadlit::alloc::Global;
 use sengadlit::buffer::{Buffer, Script, ShaperError, Tag};
 use sengadlit::font::FeaturesOnly;
-use sengadlit::plan::{PlanData, Planner};
+use sengadlit::plan::{Pause, PlanData, Planner};
 use sengadlit::shaper::{Hook, Shaper};
 use std::cell::RefCell;
 
@@ -39,6 +39,35 @@ fn an_empty_text_stays_empty() {
                 "{call:?} of {shaper:?}"
             );
             assert_eq!(Contents::of(&text), before, "{call:?} of {shaper:?}");
+        }
+    }
+}
+
+/// Whether a pause moves glyphs.
+fn reorders(pause: Pause) -> bool {
+    matches!(
+        pause,
+        Pause::InitialReordering
+            | Pause::ReorderKhmer
+            | Pause::ReorderMyanmar
+            | Pause::ReorderUse
+            | Pause::FinalReordering
+    )
+}
+
+#[test]
+fn a_reordering_leaves_no_place_listed() {
+    for shaper in SHAPERS {
+        for call in Call::all(0) {
+            let Call::Pause(pause) = call else { continue };
+            let mut text = text_of(&[0x1000; 3], 3);
+            text.set_place(1, 2);
+            let places = match make(call, shaper, &mut text) {
+                Ok(Returned::Changed(_)) if reorders(pause) => [0, 0, 0],
+                _ => [0, 2, 0],
+            };
+            let left: Vec<_> = (0..3).map(|i| text.place(i)).collect();
+            assert_eq!(left, places, "{pause:?} of {shaper:?}");
         }
     }
 }

@@ -63,7 +63,8 @@ impl From<ShaperError> for CallError {
 impl hb_ot_shaper_t {
     ghost use Rattle.std.specs.Prelude.{◌+◌, IsOk, length};
     ghost use Rattle.rustybuzz_shapers.specs.Checked.{marks_ask, masks_ask, postprocess_asks, preprocess_asks};
-    ghost use Rattle.rustybuzz_shapers.specs.Hooks.{MarksKeep, MarksReordered, MasksSet, Postprocessed, Preprocessed, PreprocessKeeps, RefusesPostprocess, RefusesPreprocess, preprocess_answer};
+    ghost use Rattle.shapers_clusters.specs.FlagLaw.{OnlyFlagsAdded};
+    ghost use Rattle.rustybuzz_shapers.specs.Hooks.{MarksKeep, MarksReordered, MasksSet, PostprocessKeeps, Postprocessed, Preprocessed, PreprocessKeeps, RefusesPostprocess, RefusesPreprocess, preprocess_answer};
     ghost use Rattle.rustybuzz_shapers.specs.Standing.{standing};
     ghost use Rattle.rustybuzz_shapers.specs.Stretched.{glyphs_added};
 
@@ -101,6 +102,7 @@ impl hb_ot_shaper_t {
             IfOk result (λ answer. is_some answer ≡ there) }
         ensures masks { let tables = T.tables tables.now in
             OnOk result (MasksSet self plan.now tables buffer.old buffer.new) }
+        ensures flags { OnOk result (OnlyFlagsAdded buffer.old.glyphs buffer.new.glyphs) }
         ensures refusal { AsRefused IsOk result }
         ensures err { OnErr result (buffer.new ≡ buffer.old) }
     {
@@ -141,6 +143,8 @@ impl hb_ot_shaper_t {
             IfOk result (λ answer. is_some answer ≡ there) }
         ensures ok { let font = F.font face.now in
             OnOk result (Postprocessed self plan.now font buffer.old buffer.new) }
+        ensures laws { let font = F.font face.now in
+            OnOk result (PostprocessKeeps self plan.now font buffer.old buffer.new) }
         ensures longer { let added = glyphs_added self (F.font face.now) buffer.old in
             OnOk result (length buffer.new.glyphs ≡ length buffer.old.glyphs + added) }
         ensures refusal { let font = F.font face.now in

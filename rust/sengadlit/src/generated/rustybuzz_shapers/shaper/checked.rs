@@ -94,6 +94,7 @@ impl Shaper {
     ///     IfOk result (λ answer. is_some answer ≡ there) }
     /// ensures masks { let tables = T.tables tables.now in
     ///     OnOk result (MasksSet self plan.now tables buffer.old buffer.new) }
+    /// ensures flags { OnOk result (OnlyFlagsAdded buffer.old.glyphs buffer.new.glyphs) }
     /// ensures refusal { AsRefused IsOk result }
     /// ensures err { OnErr result (buffer.new ≡ buffer.old) }
     /// ```
@@ -101,6 +102,7 @@ impl Shaper {
     /// - `AsRefused`, `StopsAt`, `masks_ask`: crates/rustybuzz_shapers/specs/Checked.antt
     /// - `MasksSet`: crates/rustybuzz_shapers/specs/Hooks.antt
     /// - `standing`: crates/rustybuzz_shapers/specs/Standing.antt
+    /// - `OnlyFlagsAdded`: crates/shapers_clusters/specs/FlagLaw.antt
     ///
     /// </details>
     pub fn checked_setup_masks<F: Font, T: Tables>(
@@ -159,6 +161,8 @@ impl Shaper {
     ///     IfOk result (λ answer. is_some answer ≡ there) }
     /// ensures ok { let font = F.font face.now in
     ///     OnOk result (Postprocessed self plan.now font buffer.old buffer.new) }
+    /// ensures laws { let font = F.font face.now in
+    ///     OnOk result (PostprocessKeeps self plan.now font buffer.old buffer.new) }
     /// ensures longer { let added = glyphs_added self (F.font face.now) buffer.old in
     ///     OnOk result (length buffer.new.glyphs ≡ length buffer.old.glyphs + added) }
     /// ensures refusal { let font = F.font face.now in
@@ -167,7 +171,7 @@ impl Shaper {
     /// ```
     ///
     /// - `AsRefused`, `StopsAt`, `postprocess_asks`: crates/rustybuzz_shapers/specs/Checked.antt
-    /// - `Postprocessed`, `RefusesPostprocess`: crates/rustybuzz_shapers/specs/Hooks.antt
+    /// - `PostprocessKeeps`, `Postprocessed`, `RefusesPostprocess`: crates/rustybuzz_shapers/specs/Hooks.antt
     /// - `standing`: crates/rustybuzz_shapers/specs/Standing.antt
     /// - `glyphs_added`: crates/rustybuzz_shapers/specs/Stretched.antt
     ///
