@@ -15,6 +15,7 @@ use Rattle.shapers_indic_final.specs.FinalRules as final
 use Rattle.shapers_indic_initial.specs.InitialLaws.{InitiallyMerged}
 use Rattle.shapers_indic_initial.specs.InitialPause.{InitiallyReordered, initial_circles, initial_refusal, order_by_font, steps_by_font}
 use Rattle.shapers_khmer.specs.Khmer.{khmer_circles, khmer_order, khmer_steps, order_in}
+use Rattle.shapers_khmer.specs.KhmerMovers.{ordered_by_movers, steps_by_movers}
 use Rattle.shapers_khmer.specs.Plan.{is_khmer_data}
 use Rattle.shapers_myanmar.specs.Myanmar.{myanmar_circles, myanmar_order, myanmar_steps}
 use Rattle.shapers_stretch.specs.Recorded.{tiles_recorded}
@@ -101,6 +102,14 @@ by_khmer plan font b = record {
   circles = script_circles khmer_circles font b;
   order = khmer_order (order_in plan.plan_data);
   steps = khmer_steps;
+}
+
+-- and that of Khmer, where what becomes of a regular syllable is said by its movers
+abbrev pub by_khmer_movers : hb_ot_shape_plan_t → Font → Buffer → Reordering
+by_khmer_movers plan font b = record {
+  circles = script_circles khmer_circles font b;
+  order = ordered_by_movers (order_in plan.plan_data);
+  steps = steps_by_movers;
 }
 
 abbrev pub by_myanmar : Font → Buffer → Reordering
@@ -191,7 +200,7 @@ ClustersStay old new = clusters new.glyphs ≡ clusters old.glyphs
 -- The laws of a pause: spans may be cut between any two, and texts at any border of syllables;
 -- what becomes of clusters and glyph flags. What doesn't reorder leaves clusters, and only adds
 -- flags. In the initial reordering of Indic clusters merge by the cycles of its order, in the final
--- one by its moves.
+-- one by its moves. The movers of a regular syllable of Khmer stand in front, the last one first.
 abbrev pub PauseKeeps : Pause → hb_ot_shape_plan_t → Font → List Span → Buffer → Buffer → Type 0
 PauseKeeps SetupSyllablesIndic plan font spans old new =
     SetUpCutsAtSpans spans 4 old new × ClustersStay old new
@@ -209,6 +218,7 @@ PauseKeeps InitialReordering plan font spans old new =
     × InitiallyMerged font plan.ot_map (indic_in plan) old new
 PauseKeeps ReorderKhmer plan font spans old new =
     ReorderingKeeps (by_khmer plan font old) old new × MergedFirst (by_khmer plan font old) old new
+    × Reordered (by_khmer_movers plan font old) old new
 PauseKeeps ReorderMyanmar plan font spans old new =
     ReorderingKeeps (by_myanmar font old) old new × MergedFirst (by_myanmar font old) old new
 PauseKeeps ReorderUse plan font spans old new =

@@ -8,8 +8,10 @@ use super::placing::{place_matras, place_pref, place_reph};
 use super::rules::Rules;
 use super::viramas::recover_viramas;
 use crate::generated::shapers_base::buffer::{Buffer, Script};
+use crate::generated::shapers_indic::ot_shaper_indic::glyphs::is_plain_consonant;
 
 // Reorders each syllable of the text and opens it, from left to right.
+#[inline]
 pub(super) fn reorder_text(rules: &Rules, script: Option<Script>, buffer: &mut Buffer) {
     let mut start = 0;
     while start < buffer.len() {
@@ -22,6 +24,7 @@ pub(super) fn reorder_text(rules: &Rules, script: Option<Script>, buffer: &mut B
 
 // Reorders the syllable from `s` to `e`: its viramas, its base, its left matras, its reph, and a
 // glyph that `pref` formed.
+#[inline]
 fn reorder_syllable(
     rules: &Rules,
     script: Option<Script>,
@@ -29,6 +32,9 @@ fn reorder_syllable(
     s: usize,
     e: usize,
 ) {
+    if is_plain_consonant(&buffer.glyphs()[s..e]) {
+        return;
+    }
     recover_viramas(rules.virama, buffer, s, e);
     let based = settle_base(rules, script, buffer, s, e);
     place_matras(script, based.base, buffer, s, e);

@@ -11,6 +11,7 @@ use crate::generated::shapers_indic::ot_shaper_indic::glyphs::number;
 
 /// Gives consonants of position BASE_C for which the font has a below-base or a post-base form, by
 /// its glyph for the script's virama, that form's position. It takes no memory.
+#[inline]
 pub(super) fn update_consonant_positions<F: Font>(
     plan: &IndicPlan,
     map: &Map,
@@ -21,6 +22,9 @@ pub(super) fn update_consonant_positions<F: Font>(
     match virama {
         None => {}
         Some(virama) => {
+            if !has_forms(plan, map) {
+                return;
+            }
             let mut by_virama = ByVirama {
                 plan,
                 map,
@@ -30,6 +34,16 @@ pub(super) fn update_consonant_positions<F: Font>(
             buffer.walk(&mut by_virama);
         }
     }
+}
+
+// Whether a feature that gives consonants forms with the virama has lookups. Where none has, the
+// font isn't asked about any consonant.
+#[inline]
+fn has_forms(plan: &IndicPlan, map: &Map) -> bool {
+    !plan.blwf.lookups(map).is_empty()
+        || !plan.vatu.lookups(map).is_empty()
+        || !plan.pstf.lookups(map).is_empty()
+        || !plan.pref.lookups(map).is_empty()
 }
 
 // How many consonants are known at once.
@@ -52,6 +66,7 @@ struct ByVirama<'a, F: Font> {
 
 impl<'a, F: Font> ByVirama<'a, F> {
     // The position of a consonant.
+    #[inline]
     fn consonant_position_from_face(&self, consonant: GlyphId) -> Position {
         let plan = self.plan;
         if self.joins(&plan.blwf, consonant) || self.joins(&plan.vatu, consonant) {
@@ -64,6 +79,7 @@ impl<'a, F: Font> ByVirama<'a, F> {
     }
 
     // A consonant with its position.
+    #[inline]
     fn asked(&self, consonant: GlyphId) -> Known {
         Known {
             consonant,
@@ -72,6 +88,7 @@ impl<'a, F: Font> ByVirama<'a, F> {
     }
 
     // The position of a consonant, for which the font is asked only where it isn't known.
+    #[inline]
     fn position_of(&self, known: &mut [Known; KNOWN], consonant: GlyphId) -> Position {
         let slot = usize::from(consonant.0) % KNOWN;
         let kept = known[slot];
@@ -84,6 +101,7 @@ impl<'a, F: Font> ByVirama<'a, F> {
     }
 
     // Gives a glyph its position, if it is a consonant of position BASE_C.
+    #[inline]
     fn position_one(&self, known: &mut [Known; KNOWN], glyph: &mut GlyphInfo) {
         if glyph.auxiliary == POS_BASE_C {
             glyph.auxiliary = self.position_of(known, number(glyph));
@@ -91,6 +109,7 @@ impl<'a, F: Font> ByVirama<'a, F> {
     }
 
     // Gives all consonants of position BASE_C their positions, where that of one is known.
+    #[inline]
     fn position_each(&self, first: Known, glyphs: &mut [GlyphInfo]) {
         let mut known = [first; KNOWN];
         for glyph in glyphs.iter_mut() {
@@ -99,6 +118,7 @@ impl<'a, F: Font> ByVirama<'a, F> {
     }
 
     // Gives all consonants of position BASE_C their positions.
+    #[inline]
     fn position_all(&self, glyphs: &mut [GlyphInfo]) {
         if let Some(first) = first_consonant(glyphs) {
             self.position_each(self.asked(number(&first)), glyphs);
@@ -121,6 +141,7 @@ impl<'a, F: Font> GlyphWalk for ByVirama<'a, F> {
 }
 
 // The first consonant of position BASE_C.
+#[inline]
 fn first_consonant(glyphs: &[GlyphInfo]) -> Option<GlyphInfo> {
     glyphs
         .iter()

@@ -48,6 +48,7 @@ pub fn create_data(plan: &Plan) -> PlanData {
 }
 
 // The plan of Arabic, for a script whose letters join.
+#[inline]
 fn arabic_plan_for(plan: &Plan) -> Option<ArabicPlan> {
     if has_arabic_joining(plan.script) {
         Some(data_create_arabic(plan))
@@ -57,6 +58,7 @@ fn arabic_plan_for(plan: &Plan) -> Option<ArabicPlan> {
 }
 
 // Whether the letters of a script join, where it is known.
+#[inline]
 fn has_arabic_joining(script: Option<Script>) -> bool {
     match script {
         None => false,
@@ -65,6 +67,7 @@ fn has_arabic_joining(script: Option<Script>) -> bool {
 }
 
 // Whether the letters of this script join.
+#[inline]
 fn is_joining(script: Script) -> bool {
     JOINING_SCRIPTS.contains(&script)
 }

@@ -118,6 +118,7 @@ impl SyllableChange for RecordPref {
 }
 
 // How many glyphs in front have bits of this mask.
+#[inline]
 fn leading_len(glyphs: &[GlyphInfo], mask: u32) -> usize {
     glyphs
         .iter()
@@ -126,6 +127,7 @@ fn leading_len(glyphs: &[GlyphInfo], mask: u32) -> usize {
 }
 
 // Gives the first of these glyphs that a lookup put in another category.
+#[inline]
 fn record_first(glyphs: &mut [GlyphInfo], category: u8) {
     for glyph in glyphs.iter_mut() {
         if glyph.marks.is_substituted() {

@@ -52,6 +52,7 @@ pub fn setup_syllables_use(
 }
 
 // Gives each syllable its masks.
+#[inline]
 fn set_masks(plan: &Plan, buffer: &mut Buffer) {
     match &plan.plan_data {
         PlanData::Universal(universal_plan) => {
@@ -65,6 +66,7 @@ fn set_masks(plan: &Plan, buffer: &mut Buffer) {
 }
 
 // Gives each syllable the mask of `rphf`.
+#[inline]
 fn set_rphf(mask: u32, buffer: &mut Buffer) {
     buffer.walk(&mut EachSyllable {
         change: &RphfMask { mask },
@@ -86,6 +88,7 @@ impl SyllableChange for RphfMask {
 }
 
 // How many glyphs in front get the mask of `rphf`: a reph alone, else three or all.
+#[inline]
 fn reph_len(syllable: &[GlyphInfo]) -> usize {
     match syllable.first() {
         None => 0,
@@ -95,6 +98,7 @@ fn reph_len(syllable: &[GlyphInfo]) -> usize {
 }
 
 // Gives all these glyphs the bits of a mask besides their own.
+#[inline]
 fn add_mask(glyphs: &mut [GlyphInfo], mask: u32) {
     for glyph in glyphs.iter_mut() {
         glyph.mask |= mask;
