@@ -1,5 +1,5 @@
 -- A syllable of one plain consonant: nothing of it changes.
-use Rattle.std.proofs.Common.{ℕ, ◌+◌, ◌-◌, ◌<◌, ◌≤◌, ◌≡◌, ◌==◌, ◌&&◌, not, Bool, true, false, inl, inr, if◌then◌else◌, List, [], ◌∷◌, ◌++◌, map, length, refl, sym, ◌∙◌, ap}
+use Rattle.std.proofs.Common.{ℕ, ◌-◌, ◌≤◌, ◌≡◌, ◌==◌, ◌&&◌, not, Bool, true, false, inl, inr, List, [], ◌∷◌, map, length, refl, sym, ◌∙◌, ap}
 use Rattle.std.specs.Prelude.{Option, Some, None}
 use Rattle.std.proofs.lemmas.Bool.{and_parts, cases_Bool, eqb-true}
 use Rattle.shapers_buffer.specs.declared.buffer.glyph.hb_glyph_info_t.{hb_glyph_info_t}
@@ -14,7 +14,7 @@ use Rattle.shapers_base.specs.declared.plan.ot_category_t.TheConstants.{OT_C}
 use Rattle.shapers_base.specs.declared.plan.ot_position_t.TheConstants.{POS_BASE_C}
 use Rattle.shapers_clusters.specs.Steps.{Step, run_steps, widened}
 use Rattle.shapers_indic.specs.Glyphs.{has_category, has_position, is_plain_consonant}
-use Rattle.shapers_indic_final.specs.FinalBase.{Based, base_by_links, with_base, with_links, with_viramas}
+use Rattle.shapers_indic_final.specs.FinalBase.{Based, with_base, with_viramas}
 use Rattle.shapers_indic_final.specs.FinalGlyphs.{is_lost_virama}
 use Rattle.shapers_indic_final.specs.FinalReordering.{after_matras, after_pref, after_reph, based, final_order, final_steps, steps_of_based}
 use Rattle.shapers_indic_final.specs.FinalRules.{is_malayalam}
@@ -80,8 +80,8 @@ plain_glyph r script s e b (g ∷ []) h is on =
     let position : g.auxiliary ≡ 4 = eqb-true g.auxiliary 4 both.1 in
     let v = plain g in
     let viewed : v ≡ plain_consonant v =
-        ap (λ c. let x : hb_glyph_info_t = record v { category = c } in x) category
-        ∙ ap (λ a. let x : hb_glyph_info_t = record v { category = 1; auxiliary = a } in x) position in
+    ap (λ c. let x : hb_glyph_info_t = record v { category = c } in x) category
+    ∙ ap (λ a. let x : hb_glyph_info_t = record v { category = 1; auxiliary = a } in x) position in
     plain_syllable r script s e v b h (sym (map-stretch plain s e b.glyphs) ∙ ap order_view is ∙ ap (λ x. x ∷ []) viewed) (not_true (is_ligated g.marks) first.1)
 
 pub plain_here : (r : Rules) (script : Option Script) (s e : ℕ) (b : Buffer) → s ≤ e → is_plain_consonant (stretch_of s e b.glyphs) ≡ true → SyllableReordered (final_order r script) (final_steps r script) s e b b

@@ -1,6 +1,6 @@
 -- A syllable of one plain consonant: nothing of it changes.
-use Rattle.std.proofs.Common.{ℕ, ◌+◌, ◌-◌, ◌<◌, ◌≤◌, ◌≡◌, ◌==◌, ◌&&◌, ◌||◌, not, nat_lt, Bool, true, false, inl, inr, if◌then◌else◌, List, [], ◌∷◌, ◌++◌, map, length, refl, sym, ◌∙◌, ap, subst, arith}
-use Rattle.std.specs.Prelude.{Option, Some, None, codes}
+use Rattle.std.proofs.Common.{ℕ, ◌+◌, ◌-◌, ◌<◌, ◌≤◌, ◌≡◌, ◌==◌, ◌&&◌, not, nat_lt, Bool, true, false, inl, inr, List, [], ◌∷◌, ◌++◌, map, length, refl, sym, ◌∙◌, ap, arith}
+use Rattle.std.specs.Prelude.{Option, Some, codes}
 use Rattle.std.specs.List.{range_with_len}
 use Rattle.std.proofs.lemmas.Bool.{and_parts, cases_Bool, eqb-true, lt-ltb}
 use Rattle.std.proofs.lemmas.List.{length-map}
@@ -26,7 +26,7 @@ use Rattle.shapers_base.specs.declared.plan.ot_position_t.TheConstants.{POS_BASE
 use Rattle.shapers_indic.specs.Glyphs.{has_category, has_position, is_plain_consonant}
 use Rattle.shapers_indic.specs.Plan.{is_script}
 use Rattle.shapers_indic_initial.specs.InitialBase.{base_place, has_reph, joiner_comes_first, opens_with_repha, reph_len}
-use Rattle.shapers_indic_initial.specs.InitialMasks.{has_eyelash, with_eyelash_mask, with_initial_masks, with_masks_around, with_pref_mask, with_reph_mask}
+use Rattle.shapers_indic_initial.specs.InitialMasks.{has_eyelash, with_eyelash_mask, with_initial_masks, with_pref_mask}
 use Rattle.shapers_indic_initial.specs.InitialOrder.{ordered_places, ordered_stretches}
 use Rattle.shapers_indic_initial.specs.InitialPositions.{by_base, halant_places}
 use Rattle.shapers_indic_initial.specs.InitialReordering.{halant_step, in_order, initial_order, initial_steps, is_reordered, joiner_step, masked_in_order, order_step, positioned, steps_of_reordered, with_base, with_halant_moved, with_joiner_first, with_marks_and_owners}
@@ -191,8 +191,8 @@ plain_glyph s e b (g ∷ []) r script h l is on =
     let unligated : is_ligated g.marks ≡ false = not_true (is_ligated g.marks) first.1 in
     let v = plain g in
     let viewed : v ≡ plain_consonant v =
-        ap (λ c. let x : hb_glyph_info_t = record v { category = c } in x) category
-        ∙ ap (λ a. let x : hb_glyph_info_t = record v { category = 1; auxiliary = a } in x) position in
+    ap (λ c. let x : hb_glyph_info_t = record v { category = c } in x) category
+    ∙ ap (λ a. let x : hb_glyph_info_t = record v { category = 1; auxiliary = a } in x) position in
     plain_syllable r script s e v b h l (sym (map-stretch plain s e b.glyphs) ∙ ap order_view is ∙ ap (λ x. x ∷ []) viewed) unligated
 
 pub plain_here : (r : Rules) (script : Option Script) (s e : ℕ) (b : Buffer) → s ≤ e → e ≤ length b.glyphs → is_plain_consonant (stretch_of s e b.glyphs) ≡ true → SyllableReordered (initial_order r script) (initial_steps r script) s e b b

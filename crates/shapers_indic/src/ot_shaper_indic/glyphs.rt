@@ -39,9 +39,7 @@ pub fn is_plain_consonant(syllable: &[hb_glyph_info_t]) -> bool
 {
     match syllable {
         [glyph] => {
-            glyph.category == OT_C
-                && glyph.auxiliary == POS_BASE_C
-                && !glyph.marks.is_ligated()
+            glyph.category == OT_C && glyph.auxiliary == POS_BASE_C && !glyph.marks.is_ligated()
         }
         _ => false,
     }

@@ -22,6 +22,9 @@ pub(super) fn update_consonant_positions<F: Font>(
     match virama {
         None => {}
         Some(virama) => {
+            if !has_forms(plan, map) {
+                return;
+            }
             let mut by_virama = ByVirama {
                 plan,
                 map,
@@ -31,6 +34,16 @@ pub(super) fn update_consonant_positions<F: Font>(
             buffer.walk(&mut by_virama);
         }
     }
+}
+
+// Whether a feature that gives consonants forms with the virama has lookups. Where none has, the
+// font isn't asked about any consonant.
+#[inline]
+fn has_forms(plan: &IndicPlan, map: &Map) -> bool {
+    !plan.blwf.lookups(map).is_empty()
+        || !plan.vatu.lookups(map).is_empty()
+        || !plan.pstf.lookups(map).is_empty()
+        || !plan.pref.lookups(map).is_empty()
 }
 
 // How many consonants are known at once.
