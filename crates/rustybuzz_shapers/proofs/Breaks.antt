@@ -1,6 +1,6 @@
 -- The break law, from what the enum says of masks.
-use Rattle.std.proofs.Common.{◌≡◌, ◌∙◌, ◌<◌, ◌++◌, ℕ, Bool, false, List, [], ◌∷◌, Option, Some, ap, arith, drop, length, map, refl, subst, sym, take}
-use Rattle.std.specs.List.{AllByRecursion, AllPairs}
+use Rattle.std.proofs.Common.{◌≡◌, ◌∙◌, ◌<◌, ◌++◌, ℕ, false, List, [], Some, ap, arith, drop, length, map, subst, sym, take}
+use Rattle.std.specs.List.{AllPairs}
 use Rattle.std.proofs.lemmas.List.{drop-map, length-map, take-map}
 use Rattle.std.proofs.lemmas.Simd.{map-map}
 use Rattle.shapers_buffer.specs.Buffer.{Buffer}
@@ -18,7 +18,7 @@ use Rattle.shapers_arabic.proofs.BrokenGlyphs.{breaks-where_clear, none-needless
 use Rattle.shapers_universal.specs.PlanData.{arabic_of}
 use Rattle.shapers_universal.specs.UniversalMasks.{MasksAreSet, categorized, with_categories}
 use Rattle.shapers_universal.proofs.MaskLemmas.{text_stays}
-use Rattle.rustybuzz_shapers.specs.Breaks.{AreHalves, BreaksAsFlagged, SetInHalves, TextsBreakAsFlagged}
+use Rattle.rustybuzz_shapers.specs.Breaks.{BreaksAsFlagged, SetInHalves, TextsBreakAsFlagged}
 use Rattle.rustybuzz_shapers.specs.declared.shaper.hb_ot_shaper_t.TheVariants.{Arabic, Universal}
 
 -- two joined halves in the order view

@@ -24,10 +24,10 @@ abbrev pub AreHalves : Buffer → Buffer → Buffer → Type 0
 AreHalves new one two =
     order_view new.glyphs ≡ order_view one.glyphs ++ order_view two.glyphs
 
--- The halves at place n, each with its masks set by itself, are the whole if the place is clear: with
--- Sound always, else if what Sound adds doesn't reach over it. With Sound the place is clear if they
--- are the whole, where each glyph is a cluster of its own, clusters rise, nothing was flagged before
--- and no form's mask has a glyph flag bit (the script Mongolian apart).
+-- The halves at place n, each with its masks set by itself, are the whole if the place is clear:
+-- with Sound always, else if what Sound adds doesn't reach over it. With Sound the place is clear
+-- if they are the whole, where each glyph is a cluster of its own, clusters rise, nothing was
+-- flagged before and no form's mask has a glyph flag bit (the script Mongolian apart).
 pub record BreaksAsFlagged (breaks : BreakFlags) (masks : List ℕ) (script : Option Script)
     (tables : CharacterTables) (n : ℕ) (old new one two : Buffer) : Type 0 where
   pub clear : IsClear new.glyphs n →

@@ -30,7 +30,9 @@ mod walk;
 
 pub use data::{create_data, data_create_arabic};
 use joining::nearest_in;
-pub use laws::{copied_contexts_law, joining_breaks_law, joining_concatenation_law};
+pub use laws::{
+    copied_contexts_law, joining_breaks_law, joining_concatenation_law, joining_edits_law,
+};
 pub use look_ups::LookUps;
 pub use marks::{reorder_marks, reorder_marks_in};
 pub use shapers_base::plan::{arabic_shape_plan_t, hb_arabic_joining_type_t};

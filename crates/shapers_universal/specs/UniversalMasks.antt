@@ -31,8 +31,8 @@ MasksAreSet (Some p) script tables old new =
     (new ≡ joined p.break_flags p.mask_array script tables.joining tables.general before)
     × CutsAsHalves script tables.joining tables.general old new
 
--- where there is a plan of Arabic, the buffer with the categories may be broken at each clear place,
--- and no flag of Sound is needless
+-- where there is a plan of Arabic, the buffer with the categories may be broken at each clear
+-- place, and no flag of Sound is needless
 abbrev pub BreaksAsJoining :
     Option arabic_shape_plan_t → Option Script → CharacterTables → Buffer → Buffer → Type 0
 BreaksAsJoining None script tables old new = Unit {0}

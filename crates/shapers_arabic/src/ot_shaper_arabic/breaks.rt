@@ -1,5 +1,5 @@
 //! The flags that the choice `Sound` adds: where the pieces of a broken text would lose a form.
-ghost use Rattle.std.specs.Prelude.{◌≡◌, ◌≤◌, length, map, None, if◌then◌else◌};
+ghost use Rattle.std.specs.Prelude.{◌≡◌, ◌≤◌, length, map, None};
 ghost use Rattle.shapers_arabic.specs.JoinedText.{is_mongolian};
 ghost use Rattle.shapers_arabic.specs.JoiningWalk.{Called, IsWithin, calls_added, copied_calls, form_calls, form_calls_along, place_of, sound_calls_at, written};
 ghost use Rattle.shapers_arabic.specs.SoundFlags.{is_second_or_third, is_taken};
