@@ -1,14 +1,13 @@
 -- Steps of the walks over syllables.
-use Rattle.std.proofs.Common.{one-add, ◌≡◌, ℕ, ◌+◌, ◌-◌, ◌<◌, ◌≤◌, Bool, true, List, [], ◌∷◌, ◌++◌, length, take, drop, get_or, set, refl, ap, sym, ◌∙◌, arith, length-drop, append_assoc, false, ◌≢◌, None, Some, Option}
-use Rattle.std.proofs.lemmas.List.{drop_more, drop-set, take-set, take-append-drop}
+use Rattle.std.proofs.Common.{one-add, ◌≡◌, ℕ, ◌+◌, ◌-◌, ◌<◌, ◌≤◌, Bool, true, List, [], ◌∷◌, ◌++◌, length, take, drop, refl, ap, sym, ◌∙◌, arith, length-drop, append_assoc, false, ◌≢◌, None, Some, Option}
+use Rattle.std.proofs.lemmas.List.{take-append-drop}
 use Rattle.shapers_buffer.specs.declared.buffer.glyph.hb_glyph_info_t.{hb_glyph_info_t}
 use Rattle.shapers_buffer.specs.Clusters.{stretch_of, with_stretch}
-use Rattle.shapers_buffer.specs.Marks.{is_substituted}
 use Rattle.shapers_buffer.specs.Syllables.{first_syllable_len, syllables, has_byte}
 use Rattle.shapers_buffer.proofs.SyllableLaws.{syllables_are_runs}
 use Rattle.shapers_syllabic.proofs.SyllableWalks.{changed_stretch, syllables_from}
 use Rattle.shapers_universal.specs.declared.ot_shaper_use.forms.FormMasks.{FormMasks}
-use Rattle.shapers_universal.specs.UniversalSyllables.{first_joins, first_recorded, formed, in_category, in_forms, joins_runs, has_bits, rphf_recorded}
+use Rattle.shapers_universal.specs.UniversalSyllables.{first_joins, first_recorded, formed, in_forms, joins_runs, has_bits, rphf_recorded}
 use Rattle.std.specs.Prelude.{◌==◌, if◌then◌else◌}
 use Rattle.std.specs.List.{flat_map, prefix_len}
 use Rattle.std.proofs.lemmas.Bool.{eqb-true, eq-eqb, eqb-false, false≢true}
