@@ -4,7 +4,7 @@ ghost use Rattle.std.specs.List.{list_any, prefix_len};
 ghost use Rattle.shapers_buffer.specs.Clusters.{merge_all};
 ghost use Rattle.shapers_buffer.specs.Glyph.{order_view};
 ghost use Rattle.shapers_clusters.specs.Steps.{shifted};
-ghost use Rattle.shapers_arabic.specs.MarkParts.{lengths_of, end_of, passed_by, last_first};
+ghost use Rattle.shapers_arabic.specs.MarkParts.{is_modifier, lengths_of, end_of, passed_by, last_first};
 ghost use Rattle.shapers_arabic.specs.Marks.{MarksReordered, in_class, is_below, is_modifier_of, marks_merged, marks_reordered, merged_for, modifiers, split_marks, with_modifiers_first};
 
 use shapers_base::buffer::modified_combining_class::{BELOW, CCC22, CCC26};
@@ -75,6 +75,31 @@ pub fn reorder_marks_in(
     requires in_range { end ≤ length glyphs.old }
     ensures { glyphs.new ≡ marks_reordered start end (marks_merged level start end glyphs.old) }
 {
+    if has_modifier(&glyphs[start..end]) {
+        move_modifiers(level, glyphs, start, end);
+    }
+}
+
+// Whether one of these marks modifies a letter.
+#[inline]
+fn has_modifier(marks: &[hb_glyph_info_t]) -> bool
+    ensures { result ≡ list_any is_modifier marks.now }
+{
+    marks.iter().any(|mark| is_modifier_of(BELOW, mark) || is_modifier_of(ABOVE, mark))
+}
+
+// Merges what the modifiers pass with them, and brings them to the front.
+#[inline(never)]
+fn move_modifiers(
+    level: BufferClusterLevel,
+    glyphs: &mut [hb_glyph_info_t],
+    start: usize,
+    end: usize,
+)
+    requires in_order { start ≤ end }
+    requires in_range { end ≤ length glyphs.old }
+    ensures { glyphs.new ≡ marks_reordered start end (marks_merged level start end glyphs.old) }
+{
     let parts = parts_of(&glyphs[start..end]);
     merge_passed(level, glyphs, start, parts);
     bring_forward(&mut glyphs[start..end], parts);
@@ -90,6 +115,7 @@ struct Parts {
 }
 
 // The lengths of the parts of these marks.
+#[inline]
 fn parts_of(marks: &[hb_glyph_info_t]) -> Parts
     ensures lengths { result ≡ lengths_of (split_marks marks.now) }
     ensures within { end_of result ≤ length marks.now }
@@ -109,6 +135,7 @@ fn parts_of(marks: &[hb_glyph_info_t]) -> Parts
 }
 
 // How many marks in front are of classes below this one.
+#[inline]
 fn count_below(class: u8, marks: &[hb_glyph_info_t]) -> usize
     ensures counted { result ≡ prefix_len (is_below class) marks.now }
     ensures within { result ≤ length marks.now }
@@ -120,6 +147,7 @@ fn count_below(class: u8, marks: &[hb_glyph_info_t]) -> usize
 }
 
 // How many marks in front are of this class and modify a letter.
+#[inline]
 fn count_modifiers(class: u8, marks: &[hb_glyph_info_t]) -> usize
     ensures counted { result ≡ prefix_len (is_modifier_of class) marks.now }
     ensures within { result ≤ length marks.now }
@@ -131,6 +159,7 @@ fn count_modifiers(class: u8, marks: &[hb_glyph_info_t]) -> usize
 }
 
 // Whether a mark is of this class and modifies a letter.
+#[inline]
 fn is_modifier_of(class: u8, mark: &hb_glyph_info_t) -> bool
     ensures { result ≡ is_modifier_of class mark.now }
 {
@@ -138,6 +167,7 @@ fn is_modifier_of(class: u8, mark: &hb_glyph_info_t) -> bool
 }
 
 // Whether this mark modifies a letter.
+#[inline]
 fn modifies(character: u32) -> bool
     ensures { result ≡ list_any (λ c. c == character) modifiers }
 {
@@ -145,6 +175,7 @@ fn modifies(character: u32) -> bool
 }
 
 // Merges what the modifiers pass with them.
+#[inline]
 fn merge_passed(
     level: BufferClusterLevel,
     glyphs: &mut [hb_glyph_info_t],
@@ -162,6 +193,7 @@ fn merge_passed(
 }
 
 // Merges the glyphs from `s` to `e`, unless no marks move.
+#[inline]
 fn merge_for(
     level: BufferClusterLevel,
     glyphs: &mut [hb_glyph_info_t],
@@ -180,6 +212,7 @@ fn merge_for(
 }
 
 // Brings the modifiers to the front, those below first.
+#[inline]
 fn bring_forward(marks: &mut [hb_glyph_info_t], parts: Parts)
     requires { parts ≡ lengths_of (split_marks marks.old) }
     ensures { marks.new ≡ with_modifiers_first (split_marks marks.old) }
@@ -192,6 +225,7 @@ fn bring_forward(marks: &mut [hb_glyph_info_t], parts: Parts)
 }
 
 // Brings the last `count` marks before the others, and gives them a class.
+#[inline]
 fn bring_last(marks: &mut [hb_glyph_info_t], count: usize, class: u8)
     requires { count ≤ length marks.old }
     ensures { marks.new ≡ last_first count class marks.old }
@@ -204,6 +238,7 @@ fn bring_last(marks: &mut [hb_glyph_info_t], count: usize, class: u8)
 }
 
 // Gives all these marks a class.
+#[inline]
 fn set_class(marks: &mut [hb_glyph_info_t], class: u8)
     ensures { marks.new ≡ map (in_class class) marks.old }
 {

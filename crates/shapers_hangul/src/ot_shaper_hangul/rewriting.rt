@@ -61,6 +61,9 @@ fn kept_len<F: hb_font_t>(face: &F, circles: bool, glyphs: &[hb_glyph_info_t]) -
     place
 }
 
+// For so many items room is made at once.
+const FEW: usize = 24;
+
 // The items that change a text from a place on, each with the place of its first character, as long
 // as memory was found.
 #[derive(Drop)]
@@ -70,14 +73,14 @@ struct Cut {
 }
 
 impl Cut {
-    // None so far.
-    fn new(alloc: Global) -> Self
+    // None so far, with room for the items of so many characters, as far as they are few.
+    #[inline]
+    fn new(alloc: Global, len: usize) -> Self
         ensures none { result.items.items ≡ [] }
     {
-        Cut {
-            items: Vec::new(alloc),
-            is_whole: true,
-        }
+        let mut items = Vec::new(alloc);
+        let is_whole = items.reserve_exact(len.min(FEW)).is_ok();
+        Cut { items, is_whole }
     }
 
     // One more, unless it stays as it is.
@@ -244,7 +247,7 @@ pub(super) fn rewrite<F: hb_font_t>(face: &F, buffer: &mut hb_buffer_t) -> Resul
     if kept == buffer.len() {
         return Ok(());
     }
-    let mut cut = Cut::new(alloc);
+    let mut cut = Cut::new(alloc, glyphs.len() - kept);
     let len = measure(face, circles, glyphs, kept, buffer.max_len(), &mut cut)?;
     if !cut.is_whole {
         return Err(ShaperError::Memory);

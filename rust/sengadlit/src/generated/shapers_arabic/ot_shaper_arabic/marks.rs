@@ -82,6 +82,22 @@ pub fn reorder_marks_in(
     start: usize,
     end: usize,
 ) {
+    if has_modifier(&glyphs[start..end]) {
+        move_modifiers(level, glyphs, start, end);
+    }
+}
+
+// Whether one of these marks modifies a letter.
+#[inline]
+fn has_modifier(marks: &[GlyphInfo]) -> bool {
+    marks
+        .iter()
+        .any(|mark| is_modifier_of(BELOW, mark) || is_modifier_of(ABOVE, mark))
+}
+
+// Merges what the modifiers pass with them, and brings them to the front.
+#[inline(never)]
+fn move_modifiers(level: BufferClusterLevel, glyphs: &mut [GlyphInfo], start: usize, end: usize) {
     let parts = parts_of(&glyphs[start..end]);
     merge_passed(level, glyphs, start, parts);
     bring_forward(&mut glyphs[start..end], parts);
@@ -97,6 +113,7 @@ struct Parts {
 }
 
 // The lengths of the parts of these marks.
+#[inline]
 fn parts_of(marks: &[GlyphInfo]) -> Parts {
     let low = count_below(BELOW, marks);
     let second = &marks[low..];
@@ -113,6 +130,7 @@ fn parts_of(marks: &[GlyphInfo]) -> Parts {
 }
 
 // How many marks in front are of classes below this one.
+#[inline]
 fn count_below(class: u8, marks: &[GlyphInfo]) -> usize {
     marks
         .iter()
@@ -121,6 +139,7 @@ fn count_below(class: u8, marks: &[GlyphInfo]) -> usize {
 }
 
 // How many marks in front are of this class and modify a letter.
+#[inline]
 fn count_modifiers(class: u8, marks: &[GlyphInfo]) -> usize {
     marks
         .iter()
@@ -129,16 +148,19 @@ fn count_modifiers(class: u8, marks: &[GlyphInfo]) -> usize {
 }
 
 // Whether a mark is of this class and modifies a letter.
+#[inline]
 fn is_modifier_of(class: u8, mark: &GlyphInfo) -> bool {
     mark.modified_combining_class == class && modifies(mark.glyph_id)
 }
 
 // Whether this mark modifies a letter.
+#[inline]
 fn modifies(character: u32) -> bool {
     MODIFIERS.contains(&character)
 }
 
 // Merges what the modifiers pass with them.
+#[inline]
 fn merge_passed(level: BufferClusterLevel, glyphs: &mut [GlyphInfo], start: usize, parts: Parts) {
     let second = start + parts.modifiers_below;
     let third = start + parts.low + parts.modifiers_below;
@@ -148,6 +170,7 @@ fn merge_passed(level: BufferClusterLevel, glyphs: &mut [GlyphInfo], start: usiz
 }
 
 // Merges the glyphs from `s` to `e`, unless no marks move.
+#[inline]
 fn merge_for(
     level: BufferClusterLevel,
     glyphs: &mut [GlyphInfo],
@@ -162,6 +185,7 @@ fn merge_for(
 }
 
 // Brings the modifiers to the front, those below first.
+#[inline]
 fn bring_forward(marks: &mut [GlyphInfo], parts: Parts) {
     let first = parts.modifiers_below;
     let passed = parts.low + parts.modifiers_below;
@@ -171,6 +195,7 @@ fn bring_forward(marks: &mut [GlyphInfo], parts: Parts) {
 }
 
 // Brings the last `count` marks before the others, and gives them a class.
+#[inline]
 fn bring_last(marks: &mut [GlyphInfo], count: usize, class: u8) {
     if count == 0 {
         return;
@@ -180,6 +205,7 @@ fn bring_last(marks: &mut [GlyphInfo], count: usize, class: u8) {
 }
 
 // Gives all these marks a class.
+#[inline]
 fn set_class(marks: &mut [GlyphInfo], class: u8) {
     for mark in marks.iter_mut() {
         mark.modified_combining_class = class;

@@ -40,6 +40,9 @@ fn kept_len<F: Font>(face: &F, circles: bool, glyphs: &[GlyphInfo]) -> usize {
     place
 }
 
+// For so many items room is made at once.
+const FEW: usize = 24;
+
 // The items that change a text from a place on, each with the place of its first character, as long
 // as memory was found.
 struct Cut {
@@ -48,12 +51,12 @@ struct Cut {
 }
 
 impl Cut {
-    // None so far.
-    fn new(alloc: Global) -> Self {
-        Cut {
-            items: Vec::new(alloc),
-            is_whole: true,
-        }
+    // None so far, with room for the items of so many characters, as far as they are few.
+    #[inline]
+    fn new(alloc: Global, len: usize) -> Self {
+        let mut items = Vec::new(alloc);
+        let is_whole = items.reserve_exact(len.min(FEW)).is_ok();
+        Cut { items, is_whole }
     }
 
     // One more, unless it stays as it is.
@@ -171,7 +174,7 @@ pub(super) fn rewrite<F: Font>(face: &F, buffer: &mut Buffer) -> Result<(), Shap
     if kept == buffer.len() {
         return Ok(());
     }
-    let mut cut = Cut::new(alloc);
+    let mut cut = Cut::new(alloc, glyphs.len() - kept);
     let len = measure(face, circles, glyphs, kept, buffer.max_len(), &mut cut)?;
     if !cut.is_whole {
         return Err(ShaperError::Memory);
