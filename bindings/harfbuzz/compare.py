@@ -12,16 +12,17 @@ is 'N passed, M failed'.
 
 import collections
 import concurrent.futures
-import gettext
 import glob
 import os
-import random
 import re
 import shlex
 import subprocess
 import sys
 import tempfile
-import unicodedata
+
+sys.dont_write_bytecode = True
+sys.path.insert(0, os.path.dirname(os.path.dirname(os.path.abspath(__file__))))
+from words import hunspell, is_in, random_words, spread, torn, translations  # noqa: E402
 
 SHAPERS = ["arabic", "hangul", "hebrew", "indic", "khmer", "myanmar", "zawgyi", "thai", "universal"]
 
@@ -212,63 +213,11 @@ def path_of_font(root, font):
     return f"{root}/{FONTS}/{font}" if "/" in font else f"{root}/{NOTO}/{font}"
 
 
-def encoding_of(path):
-    with open(path[:-4] + ".aff", encoding="latin-1") as file:
-        for line in file:
-            if line.startswith("SET "):
-                return line.split()[1]
-    return "latin-1"
-
-
-def hunspell(root, name):
-    for folder in ("hunspell", "myspell/dicts"):
-        path = f"{root}/usr/share/{folder}/{name}.dic"
-        if os.path.exists(path):
-            with open(path, encoding=encoding_of(path), errors="replace") as file:
-                return [line.split("/")[0].split("\t")[0].strip() for line in file][1:]
-    raise SystemExit(f"compare.py: there is no word list {name}")
-
-
-def translations(root, language):
-    found = []
-    for path in sorted(glob.glob(f"{root}/usr/share/locale/{language}/LC_MESSAGES/iso_*.mo")):
-        with open(path, "rb") as file:
-            catalog = gettext.GNUTranslations(file)._catalog
-        for text in catalog.values():
-            found += text.split() if isinstance(text, str) else []
-    return found
-
-
-def is_in(word, blocks):
-    return any(first <= ord(character) <= last for character in word for first, last in blocks)
-
-
 def words_of(root, lists, languages, blocks):
     """Real words with a character of the script, at most so many, spread over the lists."""
     found = [word for name in lists for word in hunspell(root, name)]
     found += [word for language in languages for word in translations(root, language)]
-    found = sorted({word for word in found if is_in(word, blocks) and "\n" not in word})
-    return found[:: max(1, len(found) // MOST_WORDS)][:MOST_WORDS]
-
-
-def torn(words):
-    """The words from their first mark on."""
-    for word in words:
-        for place, character in enumerate(word):
-            if unicodedata.category(character).startswith("M"):
-                if place:
-                    yield word[place:]
-                break
-
-
-def random_words(blocks, number):
-    chosen = random.Random(36)
-    letters = [chr(code) for first, last in blocks for code in range(first, last + 1) if unicodedata.category(chr(code)) != "Cn"]
-    marks = [letter for letter in letters if unicodedata.category(letter).startswith("M")] or letters
-    joiners = ["\u200c", "\u200d", "\u034f", "\u25cc"]
-    for _ in range(number):
-        length = chosen.randint(1, 8) if chosen.random() < 0.95 else 60
-        yield "".join(chosen.choice(chosen.choice([letters, letters, marks, marks + joiners])) for _ in range(length))
+    return spread(sorted({word for word in found if is_in(word, blocks) and "\n" not in word}), MOST_WORDS)
 
 
 def without_flags(line):

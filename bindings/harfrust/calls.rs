@@ -1,0 +1,104 @@
+//! How harfrust is called.
+
+/// The cluster levels.
+pub const LEVELS: [&str; 4] = ["MonotoneGraphemes", "MonotoneCharacters", "Characters", "Graphemes"];
+
+/// The reasons of bindings/harfrust/reasons.
+pub const REASONS: &[&str] = &[
+    "merge-flags", "least-cluster", "long-stretch", "category-range", "medial", "copied-marks", "continuation", "yiddish-yod-yod",
+    "dotted-circles",
+];
+
+macro_rules! calls {
+    ($module:ident, $harfrust:ident) => {
+        pub mod $module {
+            use crate::{caught, parts, Glyph, Setting, Shaped, FEATURES};
+            use $harfrust::{
+                BufferClusterLevel, BufferFlags, Direction, Feature, FontRef, GlyphBuffer, Script, ShapeOptions, ShapePlan, ShaperData, Tag,
+                UnicodeBuffer,
+            };
+
+            const LEVELS: [BufferClusterLevel; 4] = [
+                BufferClusterLevel::MonotoneGraphemes,
+                BufferClusterLevel::MonotoneCharacters,
+                BufferClusterLevel::Characters,
+                BufferClusterLevel::Graphemes,
+            ];
+
+            fn features(setting: &Setting) -> Vec<Feature> {
+                let wanted = if setting.features { &FEATURES[..] } else { &[] };
+                wanted.iter().map(|&(tag, value, first, last)| Feature::new(Tag::new(tag), value, first..=last)).collect()
+            }
+
+            fn fill(buffer: &mut UnicodeBuffer, text: &str, setting: &Setting) {
+                let [before, inside, after] = parts(text, setting);
+                buffer.push_str(&inside);
+                if setting.contexts {
+                    buffer.set_pre_context(&before);
+                    buffer.set_post_context(&after);
+                }
+                buffer.set_cluster_level(LEVELS[setting.level]);
+                buffer.set_flags(BufferFlags::from_bits_retain(setting.flags));
+                buffer.guess_segment_properties();
+            }
+
+            fn glyphs(buffer: &GlyphBuffer) -> Vec<Glyph> {
+                let positions = buffer.glyph_positions();
+                let glyphs = buffer.glyph_infos().iter().zip(positions).map(|(glyph, position)| Glyph {
+                    number: glyph.glyph_id,
+                    cluster: glyph.cluster,
+                    flags: glyph.flags().to_bits(),
+                    advance: (position.x_advance, position.y_advance),
+                    offset: (position.x_offset, position.y_offset),
+                });
+                glyphs.collect()
+            }
+
+            /// Shapes each text.
+            pub fn shape_texts(font: &[u8], texts: &[&str], setting: &Setting) -> Vec<Shaped> {
+                let font = FontRef::new(font).expect("a font");
+                let data = ShaperData::new(&font);
+                let shaper = data.shaper(&font).build();
+                let features = features(setting);
+                let mut plans: Vec<(Direction, Script, ShapePlan)> = Vec::new();
+                let shape = |text: &&str| {
+                    let mut buffer = UnicodeBuffer::new();
+                    fill(&mut buffer, text, setting);
+                    let (direction, script) = (buffer.direction(), buffer.script());
+                    if !plans.iter().any(|plan| plan.0 == direction && plan.1 == script) {
+                        plans.push((direction, script, ShapePlan::new(&shaper, direction, Some(script), None, &features)));
+                    }
+                    let plan = plans.iter().find(|plan| plan.0 == direction && plan.1 == script).map(|plan| &plan.2);
+                    let options = ShapeOptions::new().plan(plan).features(&features).scale(setting.scale);
+                    caught(|| glyphs(&shaper.shape(buffer, options)))
+                };
+                texts.iter().map(shape).collect()
+            }
+
+            /// Shapes each text so many times into one buffer, and gives the sum of the glyphs' numbers.
+            pub fn shape_times(font: &[u8], texts: &[&str], times: usize) -> u64 {
+                let font = FontRef::new(font).expect("a font");
+                let data = ShaperData::new(&font);
+                let shaper = data.shaper(&font).build();
+                let setting = Setting::default();
+                let mut plans: Vec<(Direction, Script, ShapePlan)> = Vec::new();
+                let mut buffer = UnicodeBuffer::new();
+                let mut sum = 0;
+                for text in (0..times).flat_map(|_| texts) {
+                    buffer.push_str(text);
+                    buffer.set_cluster_level(LEVELS[setting.level]);
+                    buffer.guess_segment_properties();
+                    let (direction, script) = (buffer.direction(), buffer.script());
+                    if !plans.iter().any(|plan| plan.0 == direction && plan.1 == script) {
+                        plans.push((direction, script, ShapePlan::new(&shaper, direction, Some(script), None, &[])));
+                    }
+                    let plan = plans.iter().find(|plan| plan.0 == direction && plan.1 == script).map(|plan| &plan.2);
+                    let glyphs = shaper.shape(buffer, ShapeOptions::new().plan(plan));
+                    sum += glyphs.glyph_infos().iter().map(|glyph| u64::from(glyph.glyph_id)).sum::<u64>();
+                    buffer = glyphs.clear();
+                }
+                sum
+            }
+        }
+    };
+}

@@ -1,0 +1,225 @@
+//! What HarfRust has otherwise than rustybuzz: its types, its font, its tables, its cluster levels.
+
+use sengadlit::font::{Wide, WideGlyphs};
+use sengadlit::{BufferClusterLevel, GeneralCategory, JoiningType, Pause, Shaper, Tables, Tag};
+
+use crate::hb::buffer::*;
+use crate::hb::font_funcs::FontFuncsDispatch;
+use crate::hb::ot_layout::LayoutTable;
+use crate::hb::ot_layout_gsubgpos::WouldApplyContext;
+use crate::hb::unicode::CharExt;
+use crate::hb::{hb_tag_t, script, Script};
+use crate::GlyphId;
+
+pub use crate::hb::buffer::GlyphInfo as Info;
+pub use crate::hb::unicode::Codepoint;
+
+// ---- Fonts ----
+
+pub type FontRef<'f, 'a, 'u> = &'f mut FontFuncsDispatch<'a, 'u>;
+
+pub fn font<'f, 'a, 'u>(font: FontRef<'f, 'a, 'u>) -> Wide<FontRef<'f, 'a, 'u>> {
+    Wide::new(font)
+}
+
+impl WideGlyphs for FontFuncsDispatch<'_, '_> {
+    fn get_nominal_glyph(&mut self, c: u32) -> Option<u32> {
+        self.nominal_glyph(c).map(GlyphId::to_u32)
+    }
+
+    fn has_glyph(&mut self, c: u32) -> bool {
+        FontFuncsDispatch::has_glyph(self, c)
+    }
+
+    fn glyph_h_advance(&mut self, glyph: u32) -> i32 {
+        self.advance_width(GlyphId::new(glyph))
+    }
+
+    fn would_apply(&mut self, lookup: u16, glyphs: &[u32], zero_context: bool) -> bool {
+        self.would_apply_any(&[lookup], glyphs, zero_context)
+    }
+
+    fn would_apply_any(&mut self, lookups: &[u16], glyphs: &[u32], zero_context: bool) -> bool {
+        let font = self.font();
+        let Some(gsub) = font.ot_tables.gsub.as_ref() else {
+            return false;
+        };
+        let mut room = [GlyphId::NOTDEF; 8];
+        let glyphs = glyphs_in(&mut room, glyphs);
+        let context = WouldApplyContext { glyphs, zero_context };
+        lookups
+            .iter()
+            .filter_map(|lookup| gsub.get_lookup(*lookup))
+            .any(|lookup| lookup.would_apply(font, &context) == Some(true))
+    }
+}
+
+/// These numbers as glyphs: hooks ask about two or three.
+fn glyphs_in<'a>(room: &'a mut [GlyphId; 8], numbers: &[u32]) -> &'a [GlyphId] {
+    for (glyph, number) in room.iter_mut().zip(numbers) {
+        *glyph = GlyphId::new(*number);
+    }
+    &room[..numbers.len()]
+}
+
+// ---- Tables ----
+
+/// HarfRust's tables of Unicode.
+pub struct Ucd;
+
+impl Tables for Ucd {
+    fn joining_type(&self, c: char) -> JoiningType {
+        use crate::hb::ot_shaper_arabic::hb_arabic_joining_type_t as Theirs;
+        match crate::hb::ot_shaper_arabic_table::joining_type(c.into()) {
+            Theirs::U => JoiningType::U,
+            Theirs::L => JoiningType::L,
+            Theirs::R => JoiningType::R,
+            Theirs::D => JoiningType::D,
+            Theirs::GroupAlaph => JoiningType::GroupAlaph,
+            Theirs::GroupDalathRish => JoiningType::GroupDalathRish,
+            Theirs::T => JoiningType::T,
+            Theirs::X => JoiningType::X,
+        }
+    }
+
+    fn general_category(&self, c: char) -> GeneralCategory {
+        super::CATEGORIES[usize::from(u32::from(c).general_category().to_u8() & 31)]
+    }
+
+    fn indic_categories(&self, c: u32) -> (u8, u8) {
+        crate::hb::ot_shaper_indic_table::get_categories(c)
+    }
+
+    fn use_category(&self, c: u32) -> u8 {
+        crate::hb::ot_shaper_use_table::hb_use_get_category(c as usize)
+    }
+
+    fn compose(&self, a: char, b: char) -> Option<char> {
+        crate::hb::unicode::compose(a.into(), b.into()).and_then(character)
+    }
+
+    fn decompose(&self, ab: char) -> Option<(char, char)> {
+        let (a, b) = crate::hb::unicode::decompose(ab.into())?;
+        Some((character(a)?, character(b)?))
+    }
+}
+
+/// What is no character has no parts and is part of none.
+pub fn character(c: Codepoint) -> Option<char> {
+    char::from_u32(c)
+}
+
+pub fn character_or_replacement(c: Codepoint) -> char {
+    character(c).unwrap_or(char::REPLACEMENT_CHARACTER)
+}
+
+// ---- Glyphs ----
+
+pub fn info(glyph_id: u32, mask: u32, cluster: u32, var1: u32) -> Info {
+    Info { glyph_id, mask, cluster, vars: [var1, 0] }
+}
+
+pub fn var1(info: &Info) -> u32 {
+    info.vars[0]
+}
+
+pub fn lig_comp(info: &Info) -> u8 {
+    info.lig_comp()
+}
+
+pub fn combining_class(info: &Info) -> u8 {
+    info.modified_combining_class()
+}
+
+pub fn is_substituted(info: &Info) -> bool {
+    info.substituted()
+}
+
+pub fn clear_substituted(info: &mut Info) {
+    info.clear_substituted();
+}
+
+/// Lookups with a cache take the syllable bytes where these are free.
+pub fn reserve_syllables(pause: Pause, buffer: &mut hb_buffer_t) {
+    match pause {
+        Pause::SetupSyllablesIndic
+        | Pause::SetupSyllablesKhmer
+        | Pause::SetupSyllablesMyanmar
+        | Pause::SetupSyllablesUse => buffer.allocate_var(Info::SYLLABLE_VAR),
+        Pause::SyllabicClearVar => buffer.deallocate_var(Info::SYLLABLE_VAR),
+        _ => {}
+    }
+}
+
+// ---- Settings ----
+
+pub fn tag_of(tag: hb_tag_t) -> Tag {
+    Tag(tag.to_be_bytes())
+}
+
+pub const fn hb_tag(tag: Tag) -> hb_tag_t {
+    hb_tag_t::new(&tag.0)
+}
+
+/// Hangul's marks are placed by their classes; HarfBuzz and rustybuzz don't place them.
+pub const fn places_marks(shaper: Shaper) -> bool {
+    matches!(shaper, Shaper::Hangul)
+}
+
+/// Level Graphemes is newer than the hooks: Thai and Hangul merge at it as at MonotoneGraphemes, and the other shapers
+/// don't merge. At level MonotoneCharacters Hangul doesn't merge.
+pub fn cluster_level(level: hb_buffer_cluster_level_t, script: Option<Script>) -> BufferClusterLevel {
+    let is_hangul = script == Some(script::HANGUL);
+    let is_thai = matches!(script, Some(script::THAI | script::LAO));
+    match level {
+        HB_BUFFER_CLUSTER_LEVEL_CHARACTERS => BufferClusterLevel::Characters,
+        HB_BUFFER_CLUSTER_LEVEL_MONOTONE_CHARACTERS if is_hangul => BufferClusterLevel::Characters,
+        HB_BUFFER_CLUSTER_LEVEL_MONOTONE_CHARACTERS => BufferClusterLevel::MonotoneCharacters,
+        HB_BUFFER_CLUSTER_LEVEL_GRAPHEMES if !is_hangul && !is_thai => BufferClusterLevel::Characters,
+        _ => BufferClusterLevel::MonotoneGraphemes,
+    }
+}
+
+// ---- Names of the nine files that tables and machines use ----
+
+#[cfg(not(feature = "shadow"))]
+pub mod names {
+    pub mod ot_shaper_arabic {
+        pub use sengadlit::JoiningType as hb_arabic_joining_type_t;
+    }
+
+    pub mod ot_shaper_indic {
+        pub use sengadlit::plan::ot_position_t;
+        pub mod ot_category_t {
+            pub use sengadlit::plan::ot_category_t::*;
+            /// Newer than rustybuzz 0.20.1.
+            pub const OT_SMPst: u8 = 57;
+        }
+    }
+
+    pub mod ot_shaper_use {
+        pub mod category {
+            pub use sengadlit::ot_shaper_use::category::*;
+            /// Newer than rustybuzz 0.20.1.
+            pub const RK: u8 = 56;
+        }
+    }
+
+    impl super::Info {
+        pub(crate) fn indic_category(&self) -> u8 {
+            self.ot_shaper_var_u8_category()
+        }
+
+        pub(crate) fn khmer_category(&self) -> u8 {
+            self.ot_shaper_var_u8_category()
+        }
+
+        pub(crate) fn myanmar_category(&self) -> u8 {
+            self.ot_shaper_var_u8_category()
+        }
+
+        pub(crate) fn use_category(&self) -> u8 {
+            self.ot_shaper_var_u8_category()
+        }
+    }
+}

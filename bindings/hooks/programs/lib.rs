@@ -1,0 +1,109 @@
+//! Texts, settings and results that the programs share. `calls.rs` has how a crate is called: as it is (`stock`), with the
+//! proved hooks (`proved`), and as it is with each known difference edited away (`reasons`).
+
+use std::fmt;
+
+#[macro_use]
+mod calls;
+pub use calls::{LEVELS, REASONS};
+
+calls!(stock, stock);
+calls!(proved, proved);
+calls!(reasons, reasons);
+
+pub use ::reasons::put_in_force;
+
+/// How a text is shaped.
+#[derive(Clone, Copy, Default)]
+pub struct Setting {
+    /// The cluster level, by its number.
+    pub level: usize,
+    /// Buffer flags, by their bits.
+    pub flags: u32,
+    /// Whether the first and the last third of a text are its contexts.
+    pub contexts: bool,
+    /// Whether three features of the user's are given, two of them for a part of the text.
+    pub features: bool,
+    /// The scale, where a crate has one.
+    pub scale: Option<i32>,
+}
+
+/// The features of [`Setting::features`]: tag, value, first and last cluster.
+pub const FEATURES: [(&[u8; 4], u32, usize, usize); 3] = [(b"liga", 1, 3, 9), (b"half", 0, 0, 5), (b"init", 1, 0, usize::MAX)];
+
+/// A glyph of a shaped text.
+#[derive(Clone, Copy, PartialEq, Eq)]
+pub struct Glyph {
+    pub number: u32,
+    pub cluster: u32,
+    pub flags: u32,
+    pub advance: (i32, i32),
+    pub offset: (i32, i32),
+}
+
+impl fmt::Display for Glyph {
+    /// As `hb-shape` writes it, without names.
+    fn fmt(&self, formatter: &mut fmt::Formatter<'_>) -> fmt::Result {
+        write!(formatter, "{}={}", self.number, self.cluster)?;
+        if self.offset != (0, 0) {
+            write!(formatter, "@{},{}", self.offset.0, self.offset.1)?;
+        }
+        write!(formatter, "+{}", self.advance.0)?;
+        if self.advance.1 != 0 {
+            write!(formatter, ",{}", self.advance.1)?;
+        }
+        if self.flags != 0 {
+            write!(formatter, "#{:X}", self.flags)?;
+        }
+        Ok(())
+    }
+}
+
+/// A shaped text, or what a panic said.
+#[derive(Clone, PartialEq, Eq)]
+pub enum Shaped {
+    Glyphs(Vec<Glyph>),
+    Panic(String),
+}
+
+impl Shaped {
+    /// The glyphs; a panic has none.
+    pub fn glyphs(&self) -> &[Glyph] {
+        match self {
+            Self::Glyphs(glyphs) => glyphs,
+            Self::Panic(_) => &[],
+        }
+    }
+}
+
+impl fmt::Display for Shaped {
+    fn fmt(&self, formatter: &mut fmt::Formatter<'_>) -> fmt::Result {
+        match self {
+            Self::Glyphs(glyphs) => {
+                let glyphs: Vec<String> = glyphs.iter().map(Glyph::to_string).collect();
+                write!(formatter, "[{}]", glyphs.join("|"))
+            }
+            Self::Panic(told) => write!(formatter, "panic: {told}"),
+        }
+    }
+}
+
+/// Shapes, and tells a panic.
+fn caught(shape: impl FnOnce() -> Vec<Glyph>) -> Shaped {
+    match std::panic::catch_unwind(std::panic::AssertUnwindSafe(shape)) {
+        Ok(glyphs) => Shaped::Glyphs(glyphs),
+        Err(told) => Shaped::Panic(match told.downcast::<String>() {
+            Ok(text) => *text,
+            Err(told) => told.downcast_ref::<&str>().map_or(String::new(), ToString::to_string),
+        }),
+    }
+}
+
+/// A text with its contexts: what stands before it, the text, and what stands behind it.
+fn parts(text: &str, setting: &Setting) -> [String; 3] {
+    let characters: Vec<char> = text.chars().collect();
+    let third = if setting.contexts { characters.len() / 3 } else { 0 };
+    let (before, rest) = characters.split_at(third);
+    let (inside, after) = rest.split_at(rest.len() - third);
+    [before, inside, after].map(|part| part.iter().collect())
+}

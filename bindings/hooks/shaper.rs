@@ -1,0 +1,537 @@
+//! The script shapers: each hook and pause is that of the crate `sengadlit`, on a text that glyphs are copied into and
+//! back. What one host has otherwise than another is in `parts`.
+//!
+//! A glyph of the host fits whole: `var` carries its glyph and ligature properties, a spare bit of the marks HIDDEN,
+//! the combining class the high byte of its Unicode properties. After a pause the text is the newer of the two until
+//! lookups are about to read the buffer (`settle`), so that a run of pauses copies once.
+
+use alloc::boxed::Box;
+use alloc::vec::Vec;
+use core::any::Any;
+use core::ops::Range;
+
+use sengadlit::alloc::Global;
+use sengadlit::buffer::GlyphMarks;
+use sengadlit::font::FeaturesOnly;
+use sengadlit::ot_shaper_syllabic::{
+    clear_syllables_in, indic_syllable, khmer_syllable, myanmar_syllable, set_categories_and_positions_in,
+    set_categories_in, set_up_by_bytes, use_syllable,
+};
+use sengadlit::plan::{NormalizationMode, ZeroWidthMarks};
+use sengadlit::shaper::{pause_may_change, Hook};
+use sengadlit::{
+    ot_shaper_hangul, ot_shaper_use, run_pause, Buffer, BufferFlags, Direction, FeatureMap, GeneralCategory,
+    GlyphInfo as Glyph, GlyphPosition as Position, Pause, Plan, Planner, Request, Script, Shaper, ShaperError, Tag,
+};
+
+use super::buffer::*;
+use super::ot_layout::TableIndex;
+use super::ot_map::*;
+use super::ot_shape::*;
+use super::ot_shape_normalize::*;
+use super::ot_shape_plan::hb_ot_shape_plan_t;
+use super::ot_shaper::*;
+
+mod parts;
+#[cfg(not(feature = "shadow"))]
+pub use parts::names;
+use parts::{Codepoint, FontRef, Info, Ucd};
+
+// ---- Plan ----
+
+fn script_of(script: Option<super::Script>) -> Option<Script> {
+    script.map(|script| Script(parts::tag_of(script.tag()).0))
+}
+
+fn collect_features<const S: usize>(planner: &mut hb_ot_shape_planner_t) {
+    let mut wanted = Planner::new(Global, script_of(planner.script));
+    let map = &planner.ot_map;
+    let font = FeaturesOnly(|tag| map.has_feature(parts::hb_tag(tag)));
+    let collected = SHAPERS[S].collect_features(&font, &mut wanted);
+    collected.expect("memory for a list of features");
+    request(planner, &wanted);
+}
+
+fn override_features<const S: usize>(planner: &mut hb_ot_shape_planner_t) {
+    let mut wanted = Planner::new(Global, script_of(planner.script));
+    let overridden = SHAPERS[S].override_features(&mut wanted);
+    overridden.expect("memory for a list of features");
+    request(planner, &wanted);
+}
+
+fn request(planner: &mut hb_ot_shape_planner_t, wanted: &Planner) {
+    for request in wanted.requests() {
+        match *request {
+            Request::Feature(tag, flags, value) => {
+                planner.ot_map.add_feature(parts::hb_tag(tag), flags, value);
+            }
+            Request::Pause(pause) => planner.ot_map.add_gsub_pause(pause.map(pause_function)),
+        }
+    }
+}
+
+fn create_data<const S: usize>(plan: &hb_ot_shape_plan_t) -> Box<dyn Any + Send + Sync> {
+    const GSUB: TableIndex = TableIndex::GSUB;
+    let map = &plan.ot_map;
+    let features: Vec<_> =
+        map.features_of(GSUB).map(|(tag, mask, stage)| FeatureMap::new(parts::tag_of(tag), mask, stage)).collect();
+    let stages: Vec<_> = (0..map.stages(GSUB).len()).map(|stage| map.stage_lookup_range(GSUB, stage)).collect();
+    let lookups: Vec<_> =
+        (0..stages.last().map_or(0, |last| last.end)).map(|place| map.lookup(GSUB, place).index).collect();
+    let made = Plan::builder()
+        .script(script_of(plan.script))
+        .features(&features)
+        .stages(&stages)
+        .lookups(&lookups)
+        .global_mask(map.get_global_mask())
+        .chosen_script(map.chosen_script(GSUB).map(parts::tag_of))
+        .found_script(map.found_script(GSUB))
+        .has_gpos_mark(plan.has_gpos_mark)
+        .build_for(SHAPERS[S]);
+    Box::new(made.expect("stages are ranges, and masks touch no glyph flag"))
+}
+
+fn plan_of(plan: &hb_ot_shape_plan_t) -> &Plan {
+    plan.data::<Plan>()
+}
+
+// ---- Glyphs ----
+
+/// The general categories by HarfBuzz's numbers, which are those of `GeneralCategory`.
+const CATEGORIES: [GeneralCategory; 32] = {
+    let mut categories = [GeneralCategory::Cn; 32];
+    let mut number = 0;
+    while number < GeneralCategory::ALL.len() {
+        categories[number] = GeneralCategory::ALL[number];
+        number += 1;
+    }
+    categories
+};
+
+#[inline(always)]
+fn glyph_of(info: &Info) -> Glyph {
+    let props = info.unicode_props();
+    let substitution = (info.glyph_props() >> 4) as u8 & 7;
+    // IGNORABLE, CONTINUATION, HIDDEN
+    let flags = (props >> 2) as u8 & 8 | (props >> 3) as u8 & 16 | (props >> 1) as u8 & 32;
+    Glyph {
+        glyph_id: info.glyph_id,
+        cluster: info.cluster,
+        mask: info.mask,
+        var: parts::var1(info),
+        syllable: info.syllable(),
+        category: info.ot_shaper_var_u8_category(),
+        auxiliary: info.ot_shaper_var_u8_auxiliary(),
+        general_category: CATEGORIES[usize::from(props & 31)],
+        modified_combining_class: (props >> 8) as u8,
+        lig_comp: parts::lig_comp(info),
+        marks: GlyphMarks(substitution | flags),
+    }
+}
+
+#[inline(always)]
+fn info_of(glyph: &Glyph) -> Info {
+    let marks = u16::from(glyph.marks.0);
+    let flags = (marks & 8) << 2 | (marks & 16) << 3 | (marks & 32) << 1;
+    let class = u16::from(glyph.modified_combining_class) << 8;
+    let mut info = parts::info(glyph.glyph_id, glyph.mask, glyph.cluster, glyph.var);
+    info.set_glyph_props(info.glyph_props() & !0x70 | (marks & 7) << 4);
+    info.set_syllable(glyph.syllable);
+    info.set_unicode_props(glyph.general_category as u16 | flags | class);
+    info.set_ot_shaper_var_u8_category(glyph.category);
+    info.set_ot_shaper_var_u8_auxiliary(glyph.auxiliary);
+    info
+}
+
+fn position_of(position: &GlyphPosition) -> Position {
+    let &GlyphPosition { x_advance, y_advance, x_offset, y_offset, .. } = position;
+    Position { x_advance, y_advance, x_offset, y_offset }
+}
+
+// ---- The text that hooks work on ----
+
+/// The text of the hooks. It lives with the host's buffer, for its room.
+pub struct Work {
+    text: Buffer,
+    /// Whether the text is newer than the host's buffer.
+    is_newer: bool,
+}
+
+impl Work {
+    pub fn new() -> Self {
+        Work { text: Buffer::new(Global, 0), is_newer: false }
+    }
+}
+
+const HAS_BROKEN_SYLLABLE: hb_buffer_scratch_flags_t = HB_BUFFER_SCRATCH_FLAG_HAS_BROKEN_SYLLABLE;
+const HAS_STCH: hb_buffer_scratch_flags_t = HB_BUFFER_SCRATCH_FLAG_SHAPER0;
+
+/// Makes the text one of the glyphs at these places.
+fn load(buffer: &mut hb_buffer_t, places: Range<usize>) -> Result<(), ShaperError> {
+    let others = buffer.len - places.len();
+    let text = &mut buffer.work.text;
+    let mut glyphs: Vec<Glyph> = text.take_glyphs().into();
+    glyphs.clear();
+    glyphs.extend(buffer.info[places].iter().map(glyph_of));
+    text.set_max_len(buffer.max_len.max(buffer.len) - others);
+    text.set_cluster_level(parts::cluster_level(buffer.cluster_level, buffer.script));
+    text.set_flags(BufferFlags::from_harfbuzz(buffer.flags.bits()));
+    text.set_direction(direction_of(buffer.direction));
+    text.set_script(script_of(buffer.script));
+    text.set_has_broken_syllable(buffer.scratch_flags & HAS_BROKEN_SYLLABLE != 0);
+    text.set_has_stch(buffer.scratch_flags & HAS_STCH != 0);
+    text.replace_glyphs(glyphs.into())
+}
+
+/// Puts the text's glyphs in place of those at these places.
+fn store(buffer: &mut hb_buffer_t, places: Range<usize>) {
+    let (old, new) = (places.len(), buffer.work.text.len());
+    if new != old {
+        let len = buffer.len;
+        if !buffer.ensure(len.max(len - old + new)) {
+            return;
+        }
+        buffer.info.copy_within(places.end..len, places.start + new);
+        buffer.len = len - old + new;
+    }
+    let text = &buffer.work.text;
+    for (info, glyph) in buffer.info[places.start..].iter_mut().zip(text.glyphs()) {
+        *info = info_of(glyph);
+    }
+    store_marks(buffer);
+}
+
+/// Sets what the hooks marked of the whole text.
+fn store_marks(buffer: &mut hb_buffer_t) {
+    if buffer.work.text.has_broken_syllable() {
+        buffer.scratch_flags |= HAS_BROKEN_SYLLABLE;
+    }
+    if buffer.work.text.has_stch() {
+        buffer.scratch_flags |= HAS_STCH;
+    }
+}
+
+/// Brings the host's buffer up to date.
+#[inline]
+pub fn settle(buffer: &mut hb_buffer_t) {
+    if buffer.work.is_newer {
+        buffer.work.is_newer = false;
+        store(buffer, 0..buffer.len);
+    }
+}
+
+/// Calls a hook on the glyphs at these places. Where it refuses, they stay, and the buffer has failed.
+fn on_text<T>(
+    buffer: &mut hb_buffer_t,
+    places: Range<usize>,
+    hook: impl FnOnce(&mut Buffer) -> Result<T, ShaperError>,
+) {
+    let called = load(buffer, places.clone()).and_then(|()| hook(&mut buffer.work.text));
+    match called {
+        Ok(_) => store(buffer, places),
+        Err(_) => buffer.successful = false,
+    }
+}
+
+fn direction_of(direction: super::Direction) -> Direction {
+    match direction {
+        super::Direction::Invalid => Direction::Invalid,
+        super::Direction::LeftToRight => Direction::LeftToRight,
+        super::Direction::RightToLeft => Direction::RightToLeft,
+        super::Direction::TopToBottom => Direction::TopToBottom,
+        super::Direction::BottomToTop => Direction::BottomToTop,
+    }
+}
+
+// ---- Hooks ----
+
+fn preprocess_text<const S: usize>(plan: &hb_ot_shape_plan_t, font: FontRef, buffer: &mut hb_buffer_t) {
+    let shaper = SHAPERS[S];
+    if matches!(shaper, Shaper::Indic | Shaper::Universal) {
+        super::ot_shaper_vowel_constraints::preprocess_text_vowel_constraints(buffer);
+    } else if may_rewrite(shaper, plan_of(plan), buffer) {
+        on_text(buffer, 0..buffer.len, |text| shaper.preprocess_text(plan_of(plan), &parts::font(font), text));
+    }
+}
+
+/// Whether preprocessing may change the text: Thai without SARA AM it changes where GSUB has not the script alone.
+fn may_rewrite(shaper: Shaper, plan: &Plan, buffer: &hb_buffer_t) -> bool {
+    shaper != Shaper::Thai
+        || !plan.ot_map.found_script(sengadlit::map::TableIndex::GSUB)
+        || buffer.info[..buffer.len].iter().any(|info| info.glyph_id & !0x80 == 0x0E33)
+}
+
+fn setup_masks<const S: usize>(plan: &hb_ot_shape_plan_t, _: FontRef, buffer: &mut hb_buffer_t) {
+    let plan = plan_of(plan);
+    let len = buffer.len;
+    let infos = &mut buffer.info[..len];
+    match SHAPERS[S] {
+        Shaper::Indic => each(infos, |glyph| set_categories_and_positions_in(&Ucd, glyph)),
+        Shaper::Khmer | Shaper::Myanmar => each(infos, |glyph| set_categories_in(&Ucd, glyph)),
+        Shaper::Universal if !joins(plan) => {
+            each(infos, |glyph| ot_shaper_use::set_categories_in(&Ucd, glyph));
+        }
+        shaper => match plan.plan_data.hangul() {
+            Some(data) => each(infos, |glyph| ot_shaper_hangul::setup_masks_in(data, glyph)),
+            None => setup_joining_masks(shaper, plan, buffer),
+        },
+    }
+}
+
+/// Calls a hook on each glyph alone, of which it reads and writes these fields at most.
+#[inline(always)]
+fn each(infos: &mut [Info], hook: impl Fn(&mut [Glyph])) {
+    for info in infos {
+        let mut glyph = [Glyph {
+            glyph_id: info.glyph_id,
+            mask: info.mask,
+            syllable: info.syllable(),
+            category: info.ot_shaper_var_u8_category(),
+            auxiliary: info.ot_shaper_var_u8_auxiliary(),
+            ..Glyph::DEFAULT
+        }];
+        hook(&mut glyph);
+        info.mask = glyph[0].mask;
+        info.set_syllable(glyph[0].syllable);
+        info.set_ot_shaper_var_u8_category(glyph[0].category);
+        info.set_ot_shaper_var_u8_auxiliary(glyph[0].auxiliary);
+    }
+}
+
+fn joins(plan: &Plan) -> bool {
+    plan.plan_data.universal().is_some_and(|data| data.arabic_plan.is_some())
+}
+
+fn setup_joining_masks(shaper: Shaper, plan: &Plan, buffer: &mut hb_buffer_t) {
+    let contexts = buffer.context.map(|side| side.map(parts::character_or_replacement));
+    let [before, after] = buffer.context_len;
+    on_text(buffer, 0..buffer.len, |text| {
+        text.set_pre_context(&contexts[0][..before]);
+        text.set_post_context(&contexts[1][..after]);
+        shaper.setup_masks(plan, &FeaturesOnly(|_: Tag| false), &Ucd, text);
+        Ok(())
+    });
+}
+
+/// Merges reach over neighbours of the same cluster and no further, so the call reads these besides.
+fn reorder_marks<const S: usize>(plan: &hb_ot_shape_plan_t, buffer: &mut hb_buffer_t, start: usize, end: usize) {
+    let infos = &buffer.info[..buffer.len];
+    if !may_reorder(SHAPERS[S], &infos[start..end]) {
+        return;
+    }
+    let (first, last) = (infos[start].cluster, infos[end - 1].cluster);
+    let before = infos[..start].iter().rev().take_while(|info| info.cluster == first).count();
+    let after = infos[end..].iter().take_while(|info| info.cluster == last).count();
+    on_text(buffer, start - before..end + after, |text| {
+        SHAPERS[S].reorder_marks(plan_of(plan), text, before, before + end - start);
+        Ok(())
+    });
+}
+
+/// Whether marks may change places: Arabic's where one modifies a letter, Hebrew's where there are three.
+fn may_reorder(shaper: Shaper, marks: &[Info]) -> bool {
+    match shaper {
+        Shaper::Arabic => marks.iter().any(|info| matches!(parts::combining_class(info), 220 | 230)),
+        _ => marks.len() >= 3,
+    }
+}
+
+fn compose<const S: usize>(context: &hb_ot_shape_normalize_context_t, a: Codepoint, b: Codepoint) -> Option<Codepoint> {
+    let (a, b) = (parts::character(a)?, parts::character(b)?);
+    let composed = SHAPERS[S].compose(plan_of(context.plan), &Ucd, a, b).flatten()?;
+    Some(composed.into())
+}
+
+fn decompose<const S: usize>(
+    context: &hb_ot_shape_normalize_context_t,
+    ab: Codepoint,
+) -> Option<(Codepoint, Codepoint)> {
+    let ab = parts::character(ab)?;
+    let (a, b) = SHAPERS[S].decompose(plan_of(context.plan), &Ucd, ab).flatten()?;
+    Some((a.into(), b.into()))
+}
+
+fn postprocess_glyphs<const S: usize>(plan: &hb_ot_shape_plan_t, font: FontRef, buffer: &mut hb_buffer_t) {
+    if buffer.scratch_flags & HAS_STCH == 0 {
+        return; // nothing stretches
+    }
+    let positions: Vec<_> = buffer.pos[..buffer.len].iter().map(position_of).collect();
+    on_text(buffer, 0..buffer.len, |text| {
+        text.set_positions(positions.into());
+        SHAPERS[S].postprocess_glyphs(plan_of(plan), &parts::font(font), text)
+    });
+    for (to, from) in buffer.pos.iter_mut().zip(buffer.work.text.positions()) {
+        let &Position { x_advance, y_advance, x_offset, y_offset } = from;
+        *to = GlyphPosition { x_advance, y_advance, x_offset, y_offset, ..*to };
+    }
+    buffer.work.text.take_positions();
+}
+
+// ---- Pauses ----
+
+/// By the number of the pause.
+const PAUSES: [pause_func_t; 15] = [
+    pause::<0>,
+    pause::<1>,
+    pause::<2>,
+    pause::<3>,
+    pause::<4>,
+    pause::<5>,
+    pause::<6>,
+    pause::<7>,
+    pause::<8>,
+    pause::<9>,
+    pause::<10>,
+    pause::<11>,
+    pause::<12>,
+    pause::<13>,
+    pause::<14>,
+];
+
+fn pause_function(pause: Pause) -> pause_func_t {
+    PAUSES[usize::from(pause.number())]
+}
+
+fn pause<const P: usize>(plan: &hb_ot_shape_plan_t, font: FontRef, buffer: &mut hb_buffer_t) -> bool {
+    let pause = Pause::ALL[P];
+    parts::reserve_syllables(pause, buffer);
+    let plan = plan_of(plan);
+    if !may_change(pause, plan, buffer) || clears_in_place(pause, buffer) {
+        return false;
+    }
+    find_syllables(pause, buffer);
+    let loaded = if buffer.work.is_newer { Ok(()) } else { load(buffer, 0..buffer.len) };
+    let done = loaded.and_then(|()| run(pause, plan, font, &mut buffer.work.text));
+    buffer.work.is_newer |= done.is_ok();
+    buffer.successful &= done.is_ok();
+    let wants_circles = done.unwrap_or(false);
+    if wants_circles {
+        settle(buffer);
+    }
+    wants_circles
+}
+
+/// Does what the pause does on the text, whose syllables the host's machine has found.
+fn run(pause: Pause, plan: &Plan, font: FontRef, text: &mut Buffer) -> Result<bool, ShaperError> {
+    match pause {
+        Pause::SetupSyllablesIndic => set_up_by_bytes(indic_syllable::BROKEN_CLUSTER, text),
+        Pause::SetupSyllablesKhmer => set_up_by_bytes(khmer_syllable::BROKEN_CLUSTER, text),
+        Pause::SetupSyllablesMyanmar => set_up_by_bytes(myanmar_syllable::BROKEN_CLUSTER, text),
+        Pause::SetupSyllablesUse => ot_shaper_use::setup_syllables_use_by_bytes(plan, text),
+        _ => return run_pause(pause, plan, &parts::font(font), &[], text),
+    }
+    Ok(false)
+}
+
+/// Lets the host's machine find the syllables of a text that is to be set up.
+fn find_syllables(pause: Pause, buffer: &mut hb_buffer_t) {
+    let find: fn(&mut hb_buffer_t) = match pause {
+        Pause::SetupSyllablesIndic => super::ot_shaper_indic_machine::find_syllables_indic,
+        Pause::SetupSyllablesKhmer => super::ot_shaper_khmer_machine::find_syllables_khmer,
+        Pause::SetupSyllablesMyanmar => super::ot_shaper_myanmar_machine::find_syllables_myanmar,
+        Pause::SetupSyllablesUse => find_universal_syllables,
+        _ => return,
+    };
+    settle(buffer);
+    find(buffer);
+}
+
+/// The universal machine's kinds are one more than those of the hooks; what it passes over at the front has no byte,
+/// and stays in its order.
+fn find_universal_syllables(buffer: &mut hb_buffer_t) {
+    super::ot_shaper_use_machine::find_syllables(buffer);
+    for info in &mut buffer.info[..buffer.len] {
+        let byte = info.syllable().checked_sub(1);
+        info.set_syllable(byte.unwrap_or(use_syllable::NUMERAL_CLUSTER));
+    }
+}
+
+/// Whether a pause may change the text, by its contract.
+fn may_change(pause: Pause, plan: &Plan, buffer: &hb_buffer_t) -> bool {
+    let reads_substitutions = matches!(pause, Pause::RecordRphf | Pause::RecordPref | Pause::ClearSubstitutionFlags);
+    pause_may_change(pause, plan) && (!reads_substitutions || any_is_substituted(buffer))
+}
+
+fn any_is_substituted(buffer: &hb_buffer_t) -> bool {
+    if buffer.work.is_newer {
+        buffer.work.text.glyphs().iter().any(|glyph| glyph.marks.is_substituted())
+    } else {
+        buffer.info[..buffer.len].iter().any(parts::is_substituted)
+    }
+}
+
+/// Clears a byte or a bit of each glyph where the buffer is up to date, which needs no copy.
+fn clears_in_place(pause: Pause, buffer: &mut hb_buffer_t) -> bool {
+    let infos = &mut buffer.info[..buffer.len];
+    match pause {
+        _ if buffer.work.is_newer => return false,
+        Pause::SyllabicClearVar => each(infos, clear_syllables_in),
+        Pause::ClearSubstitutionFlags => infos.iter_mut().for_each(parts::clear_substituted),
+        _ => return false,
+    }
+    true
+}
+
+// ---- Shapers ----
+
+const SHAPERS: [Shaper; 9] = [
+    Shaper::Arabic,
+    Shaper::Hangul,
+    Shaper::Hebrew,
+    Shaper::Indic,
+    Shaper::Khmer,
+    Shaper::Myanmar,
+    Shaper::MyanmarZawgyi,
+    Shaper::Thai,
+    Shaper::Universal,
+];
+
+pub const ARABIC_SHAPER: hb_ot_shaper_t = shaper::<0>();
+pub const HANGUL_SHAPER: hb_ot_shaper_t = shaper::<1>();
+pub const HEBREW_SHAPER: hb_ot_shaper_t = shaper::<2>();
+pub const INDIC_SHAPER: hb_ot_shaper_t = shaper::<3>();
+pub const KHMER_SHAPER: hb_ot_shaper_t = shaper::<4>();
+pub const MYANMAR_SHAPER: hb_ot_shaper_t = shaper::<5>();
+pub const MYANMAR_ZAWGYI_SHAPER: hb_ot_shaper_t = shaper::<6>();
+pub const THAI_SHAPER: hb_ot_shaper_t = shaper::<7>();
+pub const UNIVERSAL_SHAPER: hb_ot_shaper_t = shaper::<8>();
+
+/// The function of a hook, for a shaper that has it.
+macro_rules! hook {
+    ($hook:ident, $function:ident) => {
+        if SHAPERS[S].has_hook(Hook::$hook) {
+            Some($function::<S>)
+        } else {
+            None
+        }
+    };
+}
+
+const fn shaper<const S: usize>() -> hb_ot_shaper_t {
+    hb_ot_shaper_t {
+        collect_features: hook!(CollectFeatures, collect_features),
+        override_features: hook!(OverrideFeatures, override_features),
+        create_data: Some(create_data::<S>),
+        preprocess_text: hook!(PreprocessText, preprocess_text),
+        postprocess_glyphs: hook!(PostprocessGlyphs, postprocess_glyphs),
+        normalization_preference: match SHAPERS[S].normalization_preference() {
+            NormalizationMode::NONE => HB_OT_SHAPE_NORMALIZATION_MODE_NONE,
+            NormalizationMode::AUTO => HB_OT_SHAPE_NORMALIZATION_MODE_AUTO,
+            NormalizationMode::CD => HB_OT_SHAPE_NORMALIZATION_MODE_COMPOSED_DIACRITICS_NO_SHORT_CIRCUIT,
+        },
+        decompose: hook!(Decompose, decompose),
+        compose: hook!(Compose, compose),
+        setup_masks: hook!(SetupMasks, setup_masks),
+        gpos_tag: match SHAPERS[S].gpos_tag() {
+            Some(tag) => Some(parts::hb_tag(tag)),
+            None => None,
+        },
+        reorder_marks: hook!(ReorderMarks, reorder_marks),
+        zero_width_marks: match SHAPERS[S].zero_width_marks() {
+            ZeroWidthMarks::NONE => HB_OT_SHAPE_ZERO_WIDTH_MARKS_NONE,
+            ZeroWidthMarks::GDEF_EARLY => HB_OT_SHAPE_ZERO_WIDTH_MARKS_BY_GDEF_EARLY,
+            ZeroWidthMarks::GDEF_LATE => HB_OT_SHAPE_ZERO_WIDTH_MARKS_BY_GDEF_LATE,
+        },
+        fallback_position: SHAPERS[S].fallback_position() || parts::places_marks(SHAPERS[S]),
+    }
+}
