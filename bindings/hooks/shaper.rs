@@ -11,18 +11,17 @@ use core::any::Any;
 use core::ops::Range;
 
 use sengadlit::alloc::Global;
+use sengadlit::buffer::GlyphMarks;
 use sengadlit::font::FeaturesOnly;
 use sengadlit::ot_shaper_syllabic::{
-    indic_syllable, khmer_syllable, myanmar_syllable, set_categories_and_positions_in,
-    set_categories_in, set_up_by_bytes,
+    clear_syllables_in, indic_syllable, khmer_syllable, myanmar_syllable, set_categories_and_positions_in,
+    set_categories_in, set_up_by_bytes, use_syllable,
 };
-use sengadlit::buffer::GlyphMarks;
 use sengadlit::plan::{NormalizationMode, ZeroWidthMarks};
-use sengadlit::shaper::Hook;
+use sengadlit::shaper::{pause_may_change, Hook};
 use sengadlit::{
-    ot_shaper_use, run_pause, Buffer, BufferFlags, Direction, FeatureMap, GeneralCategory,
-    GlyphInfo as Glyph, GlyphPosition as Position, Pause, Plan, Planner, Request, Script, Shaper,
-    ShaperError, Span, Tag,
+    ot_shaper_hangul, ot_shaper_use, run_pause, Buffer, BufferFlags, Direction, FeatureMap, GeneralCategory,
+    GlyphInfo as Glyph, GlyphPosition as Position, Pause, Plan, Planner, Request, Script, Shaper, ShaperError, Tag,
 };
 
 use super::buffer::*;
@@ -74,30 +73,21 @@ fn request(planner: &mut hb_ot_shape_planner_t, wanted: &Planner) {
 fn create_data<const S: usize>(plan: &hb_ot_shape_plan_t) -> Box<dyn Any + Send + Sync> {
     const GSUB: TableIndex = TableIndex::GSUB;
     let map = &plan.ot_map;
-    let features: Vec<_> = map
-        .features_of(GSUB)
-        .map(|(tag, mask, stage)| FeatureMap::new(parts::tag_of(tag), mask, stage))
-        .collect();
-    let stages: Vec<_> = (0..map.stages(GSUB).len())
-        .map(|stage| map.stage_lookup_range(GSUB, stage))
-        .collect();
-    let lookups: Vec<_> = (0..stages.last().map_or(0, |last| last.end))
-        .map(|place| map.lookup(GSUB, place).index)
-        .collect();
-    let mut builder = Plan::builder()
+    let features: Vec<_> =
+        map.features_of(GSUB).map(|(tag, mask, stage)| FeatureMap::new(parts::tag_of(tag), mask, stage)).collect();
+    let stages: Vec<_> = (0..map.stages(GSUB).len()).map(|stage| map.stage_lookup_range(GSUB, stage)).collect();
+    let lookups: Vec<_> =
+        (0..stages.last().map_or(0, |last| last.end)).map(|place| map.lookup(GSUB, place).index).collect();
+    let made = Plan::builder()
+        .script(script_of(plan.script))
         .features(&features)
         .stages(&stages)
         .lookups(&lookups)
         .global_mask(map.get_global_mask())
+        .chosen_script(map.chosen_script(GSUB).map(parts::tag_of))
         .found_script(map.found_script(GSUB))
-        .has_gpos_mark(plan.has_gpos_mark);
-    if let Some(script) = script_of(plan.script) {
-        builder = builder.script(script);
-    }
-    if let Some(script) = map.chosen_script(GSUB) {
-        builder = builder.chosen_script(parts::tag_of(script));
-    }
-    let made = builder.build_for(SHAPERS[S]);
+        .has_gpos_mark(plan.has_gpos_mark)
+        .build_for(SHAPERS[S]);
     Box::new(made.expect("stages are ranges, and masks touch no glyph flag"))
 }
 
@@ -163,14 +153,13 @@ fn position_of(position: &GlyphPosition) -> Position {
 /// The text of the hooks. It lives with the host's buffer, for its room.
 pub struct Work {
     text: Buffer,
-    spans: Vec<Span>,
     /// Whether the text is newer than the host's buffer.
     is_newer: bool,
 }
 
 impl Work {
     pub fn new() -> Self {
-        Work { text: Buffer::new(Global, 0), spans: Vec::new(), is_newer: false }
+        Work { text: Buffer::new(Global, 0), is_newer: false }
     }
 }
 
@@ -256,18 +245,12 @@ fn direction_of(direction: super::Direction) -> Direction {
 
 // ---- Hooks ----
 
-fn preprocess_text<const S: usize>(
-    plan: &hb_ot_shape_plan_t,
-    font: FontRef,
-    buffer: &mut hb_buffer_t,
-) {
+fn preprocess_text<const S: usize>(plan: &hb_ot_shape_plan_t, font: FontRef, buffer: &mut hb_buffer_t) {
     let shaper = SHAPERS[S];
     if matches!(shaper, Shaper::Indic | Shaper::Universal) {
         super::ot_shaper_vowel_constraints::preprocess_text_vowel_constraints(buffer);
     } else if may_rewrite(shaper, plan_of(plan), buffer) {
-        on_text(buffer, 0..buffer.len, |text| {
-            shaper.preprocess_text(plan_of(plan), &parts::font(font), text)
-        });
+        on_text(buffer, 0..buffer.len, |text| shaper.preprocess_text(plan_of(plan), &parts::font(font), text));
     }
 }
 
@@ -283,23 +266,33 @@ fn setup_masks<const S: usize>(plan: &hb_ot_shape_plan_t, _: FontRef, buffer: &m
     let len = buffer.len;
     let infos = &mut buffer.info[..len];
     match SHAPERS[S] {
-        Shaper::Indic => set_categories(infos, |glyph| set_categories_and_positions_in(&Ucd, glyph)),
-        Shaper::Khmer | Shaper::Myanmar => set_categories(infos, |glyph| set_categories_in(&Ucd, glyph)),
+        Shaper::Indic => each(infos, |glyph| set_categories_and_positions_in(&Ucd, glyph)),
+        Shaper::Khmer | Shaper::Myanmar => each(infos, |glyph| set_categories_in(&Ucd, glyph)),
         Shaper::Universal if !joins(plan) => {
-            set_categories(infos, |glyph| ot_shaper_use::set_categories_in(&Ucd, glyph));
+            each(infos, |glyph| ot_shaper_use::set_categories_in(&Ucd, glyph));
         }
-        Shaper::Hangul if infos.iter().all(|info| info.ot_shaper_var_u8_auxiliary() == 0) => {}
-        shaper => setup_joining_masks(shaper, plan, buffer),
+        shaper => match plan.plan_data.hangul() {
+            Some(data) => each(infos, |glyph| ot_shaper_hangul::setup_masks_in(data, glyph)),
+            None => setup_joining_masks(shaper, plan, buffer),
+        },
     }
 }
 
-/// Sets categories and positions, of which only the character is read.
+/// Calls a hook on each glyph alone, of which it reads and writes these fields at most.
 #[inline(always)]
-fn set_categories(infos: &mut [Info], hook: impl Fn(&mut [Glyph])) {
+fn each(infos: &mut [Info], hook: impl Fn(&mut [Glyph])) {
     for info in infos {
-        let auxiliary = info.ot_shaper_var_u8_auxiliary();
-        let mut glyph = [Glyph { glyph_id: info.glyph_id, auxiliary, ..Glyph::DEFAULT }];
+        let mut glyph = [Glyph {
+            glyph_id: info.glyph_id,
+            mask: info.mask,
+            syllable: info.syllable(),
+            category: info.ot_shaper_var_u8_category(),
+            auxiliary: info.ot_shaper_var_u8_auxiliary(),
+            ..Glyph::DEFAULT
+        }];
         hook(&mut glyph);
+        info.mask = glyph[0].mask;
+        info.set_syllable(glyph[0].syllable);
         info.set_ot_shaper_var_u8_category(glyph[0].category);
         info.set_ot_shaper_var_u8_auxiliary(glyph[0].auxiliary);
     }
@@ -321,12 +314,7 @@ fn setup_joining_masks(shaper: Shaper, plan: &Plan, buffer: &mut hb_buffer_t) {
 }
 
 /// Merges reach over neighbours of the same cluster and no further, so the call reads these besides.
-fn reorder_marks<const S: usize>(
-    plan: &hb_ot_shape_plan_t,
-    buffer: &mut hb_buffer_t,
-    start: usize,
-    end: usize,
-) {
+fn reorder_marks<const S: usize>(plan: &hb_ot_shape_plan_t, buffer: &mut hb_buffer_t, start: usize, end: usize) {
     let infos = &buffer.info[..buffer.len];
     if !may_reorder(SHAPERS[S], &infos[start..end]) {
         return;
@@ -348,11 +336,7 @@ fn may_reorder(shaper: Shaper, marks: &[Info]) -> bool {
     }
 }
 
-fn compose<const S: usize>(
-    context: &hb_ot_shape_normalize_context_t,
-    a: Codepoint,
-    b: Codepoint,
-) -> Option<Codepoint> {
+fn compose<const S: usize>(context: &hb_ot_shape_normalize_context_t, a: Codepoint, b: Codepoint) -> Option<Codepoint> {
     let (a, b) = (parts::character(a)?, parts::character(b)?);
     let composed = SHAPERS[S].compose(plan_of(context.plan), &Ucd, a, b).flatten()?;
     Some(composed.into())
@@ -367,11 +351,7 @@ fn decompose<const S: usize>(
     Some((a.into(), b.into()))
 }
 
-fn postprocess_glyphs<const S: usize>(
-    plan: &hb_ot_shape_plan_t,
-    font: FontRef,
-    buffer: &mut hb_buffer_t,
-) {
+fn postprocess_glyphs<const S: usize>(plan: &hb_ot_shape_plan_t, font: FontRef, buffer: &mut hb_buffer_t) {
     if buffer.scratch_flags & HAS_STCH == 0 {
         return; // nothing stretches
     }
@@ -391,8 +371,21 @@ fn postprocess_glyphs<const S: usize>(
 
 /// By the number of the pause.
 const PAUSES: [pause_func_t; 15] = [
-    pause::<0>, pause::<1>, pause::<2>, pause::<3>, pause::<4>, pause::<5>, pause::<6>, pause::<7>, pause::<8>,
-    pause::<9>, pause::<10>, pause::<11>, pause::<12>, pause::<13>, pause::<14>,
+    pause::<0>,
+    pause::<1>,
+    pause::<2>,
+    pause::<3>,
+    pause::<4>,
+    pause::<5>,
+    pause::<6>,
+    pause::<7>,
+    pause::<8>,
+    pause::<9>,
+    pause::<10>,
+    pause::<11>,
+    pause::<12>,
+    pause::<13>,
+    pause::<14>,
 ];
 
 fn pause_function(pause: Pause) -> pause_func_t {
@@ -406,17 +399,10 @@ fn pause<const P: usize>(plan: &hb_ot_shape_plan_t, font: FontRef, buffer: &mut 
     if !may_change(pause, plan, buffer) || clears_in_place(pause, buffer) {
         return false;
     }
-    let kinds = find_syllables(pause, buffer);
+    find_syllables(pause, buffer);
     let loaded = if buffer.work.is_newer { Ok(()) } else { load(buffer, 0..buffer.len) };
-    let Work { text, spans, .. } = &mut buffer.work;
-    let done = loaded.and_then(|()| match kinds {
-        Some(broken_kind) => {
-            set_up_by_bytes(broken_kind, text);
-            Ok(false)
-        }
-        None => run_pause(pause, plan, &parts::font(font), spans, text),
-    });
-    buffer.work.is_newer = done.is_ok();
+    let done = loaded.and_then(|()| run(pause, plan, font, &mut buffer.work.text));
+    buffer.work.is_newer |= done.is_ok();
     buffer.successful &= done.is_ok();
     let wants_circles = done.unwrap_or(false);
     if wants_circles {
@@ -425,56 +411,45 @@ fn pause<const P: usize>(plan: &hb_ot_shape_plan_t, font: FontRef, buffer: &mut 
     wants_circles
 }
 
-/// Lets the host's machine write the syllables of a text that is to be set up, and returns the kind of broken ones. Of
-/// the universal machine's bytes spans are made.
-fn find_syllables(pause: Pause, buffer: &mut hb_buffer_t) -> Option<u8> {
+/// Does what the pause does on the text, whose syllables the host's machine has found.
+fn run(pause: Pause, plan: &Plan, font: FontRef, text: &mut Buffer) -> Result<bool, ShaperError> {
     match pause {
-        Pause::SetupSyllablesIndic => {
-            settle(buffer);
-            super::ot_shaper_indic_machine::find_syllables_indic(buffer);
-            Some(indic_syllable::BROKEN_CLUSTER)
-        }
-        Pause::SetupSyllablesKhmer => {
-            settle(buffer);
-            super::ot_shaper_khmer_machine::find_syllables_khmer(buffer);
-            Some(khmer_syllable::BROKEN_CLUSTER)
-        }
-        Pause::SetupSyllablesMyanmar => {
-            settle(buffer);
-            super::ot_shaper_myanmar_machine::find_syllables_myanmar(buffer);
-            Some(myanmar_syllable::BROKEN_CLUSTER)
-        }
-        Pause::SetupSyllablesUse => {
-            settle(buffer);
-            super::ot_shaper_use_machine::find_syllables(buffer);
-            list_spans(&buffer.info[..buffer.len], &mut buffer.work.spans);
-            None
-        }
-        _ => None,
+        Pause::SetupSyllablesIndic => set_up_by_bytes(indic_syllable::BROKEN_CLUSTER, text),
+        Pause::SetupSyllablesKhmer => set_up_by_bytes(khmer_syllable::BROKEN_CLUSTER, text),
+        Pause::SetupSyllablesMyanmar => set_up_by_bytes(myanmar_syllable::BROKEN_CLUSTER, text),
+        Pause::SetupSyllablesUse => ot_shaper_use::setup_syllables_use_by_bytes(plan, text),
+        _ => return run_pause(pause, plan, &parts::font(font), &[], text),
     }
+    Ok(false)
 }
 
-/// The universal machine's kinds count from 1; 0 is what it passes over at the front.
-fn list_spans(infos: &[Info], spans: &mut Vec<Span>) {
-    spans.clear();
-    spans.extend(infos.chunk_by(|a, b| a.syllable() == b.syllable()).map(|syllable| {
-        let kind = syllable[0].syllable() & 0x0F;
-        Span { len: syllable.len(), kind: kind.checked_sub(1).unwrap_or(4) }
-    }));
+/// Lets the host's machine find the syllables of a text that is to be set up.
+fn find_syllables(pause: Pause, buffer: &mut hb_buffer_t) {
+    let find: fn(&mut hb_buffer_t) = match pause {
+        Pause::SetupSyllablesIndic => super::ot_shaper_indic_machine::find_syllables_indic,
+        Pause::SetupSyllablesKhmer => super::ot_shaper_khmer_machine::find_syllables_khmer,
+        Pause::SetupSyllablesMyanmar => super::ot_shaper_myanmar_machine::find_syllables_myanmar,
+        Pause::SetupSyllablesUse => find_universal_syllables,
+        _ => return,
+    };
+    settle(buffer);
+    find(buffer);
+}
+
+/// The universal machine's kinds are one more than those of the hooks; what it passes over at the front has no byte,
+/// and stays in its order.
+fn find_universal_syllables(buffer: &mut hb_buffer_t) {
+    super::ot_shaper_use_machine::find_syllables(buffer);
+    for info in &mut buffer.info[..buffer.len] {
+        let byte = info.syllable().checked_sub(1);
+        info.set_syllable(byte.unwrap_or(use_syllable::NUMERAL_CLUSTER));
+    }
 }
 
 /// Whether a pause may change the text, by its contract.
 fn may_change(pause: Pause, plan: &Plan, buffer: &hb_buffer_t) -> bool {
-    let data = &plan.plan_data;
-    match pause {
-        Pause::RecordStch => data.arabic().is_some_and(|data| data.has_stch),
-        Pause::RecordRphf => {
-            data.universal().is_some_and(|data| data.rphf_mask != 0) && any_is_substituted(buffer)
-        }
-        Pause::RecordPref | Pause::ClearSubstitutionFlags => any_is_substituted(buffer),
-        Pause::ArabicFallbackShape => false,
-        _ => true,
-    }
+    let reads_substitutions = matches!(pause, Pause::RecordRphf | Pause::RecordPref | Pause::ClearSubstitutionFlags);
+    pause_may_change(pause, plan) && (!reads_substitutions || any_is_substituted(buffer))
 }
 
 fn any_is_substituted(buffer: &hb_buffer_t) -> bool {
@@ -487,13 +462,11 @@ fn any_is_substituted(buffer: &hb_buffer_t) -> bool {
 
 /// Clears a byte or a bit of each glyph where the buffer is up to date, which needs no copy.
 fn clears_in_place(pause: Pause, buffer: &mut hb_buffer_t) -> bool {
-    if buffer.work.is_newer {
-        return false;
-    }
-    let infos = buffer.info[..buffer.len].iter_mut();
+    let infos = &mut buffer.info[..buffer.len];
     match pause {
-        Pause::SyllabicClearVar => infos.for_each(|info| info.set_syllable(0)),
-        Pause::ClearSubstitutionFlags => infos.for_each(parts::clear_substituted),
+        _ if buffer.work.is_newer => return false,
+        Pause::SyllabicClearVar => each(infos, clear_syllables_in),
+        Pause::ClearSubstitutionFlags => infos.iter_mut().for_each(parts::clear_substituted),
         _ => return false,
     }
     true
@@ -526,7 +499,11 @@ pub const UNIVERSAL_SHAPER: hb_ot_shaper_t = shaper::<8>();
 /// The function of a hook, for a shaper that has it.
 macro_rules! hook {
     ($hook:ident, $function:ident) => {
-        if SHAPERS[S].has_hook(Hook::$hook) { Some($function::<S>) } else { None }
+        if SHAPERS[S].has_hook(Hook::$hook) {
+            Some($function::<S>)
+        } else {
+            None
+        }
     };
 }
 

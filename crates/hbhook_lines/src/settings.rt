@@ -7,7 +7,7 @@ use crate::font::LineFont;
 use crate::tables::LineTables;
 use rustybuzz_shapers::buffer::{Script, Span, hb_tag_t};
 use rustybuzz_shapers::map::{feature_map_t, hb_ot_map_t};
-use rustybuzz_shapers::plan::{StretchStart, hb_ot_shape_plan_t};
+use rustybuzz_shapers::plan::{BreakFlags, StretchStart, hb_ot_shape_plan_t};
 use rustybuzz_shapers::shaper::hb_ot_shaper_t;
 use std::alloc::{AllocError, Global};
 use std::ops::Range;
@@ -31,6 +31,7 @@ pub(crate) struct Settings {
     pub(crate) found: bool,
     pub(crate) gpos_mark: bool,
     pub(crate) stretch_start: StretchStart,
+    pub(crate) break_flags: BreakFlags,
     pub(crate) global_mask: u32,
     pub(crate) font: LineFont,
     pub(crate) tables: LineTables,
@@ -48,6 +49,7 @@ impl Settings {
             found: false,
             gpos_mark: false,
             stretch_start: StretchStart::AsCode,
+            break_flags: BreakFlags::AsCode,
             global_mask: 0,
             font: LineFont::new(alloc),
             tables: LineTables::new(alloc),
@@ -64,10 +66,12 @@ impl Settings {
         ensures global { IfOk result (λ plan. plan.ot_map.global ≡ self.now.global_mask) }
         ensures gpos_mark { IfOk result (λ plan. plan.has_gpos_mark ≡ self.now.gpos_mark) }
         ensures stretch { IfOk result (λ plan. plan.stretch_start ≡ self.now.stretch_start) }
+        ensures breaks { IfOk result (λ plan. plan.break_flags ≡ self.now.break_flags) }
     {
         let mut plan = hb_ot_shape_plan_t::new(self.script, self.map()?);
         plan.has_gpos_mark = self.gpos_mark;
         plan.stretch_start = self.stretch_start;
+        plan.break_flags = self.break_flags;
         Ok(plan)
     }
 

@@ -2,19 +2,13 @@
 use Rattle.std.proofs.Common.{◌≡◌, ◌==◌, ℕ, true, false, cond, List, [], ◌∷◌, ◌++◌, Option, None, Some, map, flat_map, take, drop, refl, sym, subst}
 use Rattle.std.specs.List.{prefix_len}
 use Rattle.std.proofs.lemmas.List.{take-append-drop}
-use Rattle.shapers_buffer.specs.declared.buffer.syllables.Span.{Span}
-use Rattle.shapers_buffer.specs.Clusters.{least}
-use Rattle.shapers_buffer.specs.Glyph.{clusters}
-use Rattle.shapers_buffer.specs.GlyphFlags.{flagged, with_bits, with_bits_off}
 use Rattle.shapers_buffer.specs.Marks.{is_multiplied, is_substituted}
-use Rattle.shapers_buffer.specs.Syllables.{in_syllable, span_bytes, syllables, with_bytes}
+use Rattle.shapers_buffer.specs.Syllables.{in_syllable}
 use Rattle.shapers_base.specs.declared.plan.PlanData.{PlanData}
 use Rattle.shapers_clusters.proofs.Falls.{all_append}
-use Rattle.shapers_clusters.proofs.FlagCalls.{keeps-with_bits}
 use Rattle.shapers_stretch.specs.Recorded.{has_stch, recorded, tile_action, tiles_recorded, with_tiles}
-use Rattle.shapers_syllabic.specs.Borders.{spans_set_up}
 use Rattle.shapers_syllabic.specs.Syllabic.{unsubstituted}
-use Rattle.shapers_syllabic.proofs.CircleLaws.{joined-syllables}
+use Rattle.shapers_syllabic.proofs.SetUpFlags.{by_syllables, same_added}
 use Rattle.shapers_universal.specs.declared.ot_shaper_use.category.TheConstants.{R, VPre}
 use Rattle.shapers_universal.specs.UniversalSyllables.{first_recorded, has_bits, in_category, rphf_recorded, with_pref_recorded, with_rphf_recorded}
 use Rattle.shapers_buffer.specs.declared.buffer.glyph.hb_glyph_info_t.{hb_glyph_info_t}
@@ -39,10 +33,6 @@ use Rattle.rustybuzz_shapers.specs.declared.shaper.hb_ot_shaper_t.TheVariants.{A
 each_changed : (change : hb_glyph_info_t → hb_glyph_info_t) → ((g : hb_glyph_info_t) → FlagsAdded g (change g)) → (old new : Buffer) → new ≡ record old { glyphs = map change old.glyphs } → OnlyFlagsAdded old.glyphs new.glyphs
 each_changed change adds old new is = subst (λ (b : Buffer). OnlyFlagsAdded old.glyphs b.glyphs) (sym is) (changed_added change adds old.glyphs)
 
-same_added : (gs : List hb_glyph_info_t) → OnlyFlagsAdded gs gs
-same_added [] = tt
-same_added (g ∷ gs) = (added_same g g refl refl, same_added gs)
-
 pub unchanged_added : (old new : Buffer) → new ≡ old → OnlyFlagsAdded old.glyphs new.glyphs
 unchanged_added old new is = subst (λ (b : Buffer). OnlyFlagsAdded old.glyphs b.glyphs) (sym is) (same_added old.glyphs)
 
@@ -65,32 +55,7 @@ masks_added MyanmarZawgyi plan tables old new is = unchanged_added old new is.1
 masks_added Thai plan tables old new is = unchanged_added old new is.1
 masks_added Universal plan tables old new is = universal_added (arabic_of plan.plan_data) plan.script tables old new is
 
--- PAUSES. Syllable by syllable
-flat_added : (f : List hb_glyph_info_t → List hb_glyph_info_t) → ((xs : List hb_glyph_info_t) → OnlyFlagsAdded xs (f xs)) → (ps : List (List hb_glyph_info_t)) → OnlyFlagsAdded (flat_map (λ p. p) ps) (flat_map f ps)
-flat_added f each [] = tt
-flat_added f each (p ∷ ps) = all_append FlagsAdded p (f p) (flat_map (λ q. q) ps) (flat_map f ps) (each p) (flat_added f each ps)
-
-by_syllables : (f : List hb_glyph_info_t → List hb_glyph_info_t) → ((xs : List hb_glyph_info_t) → OnlyFlagsAdded xs (f xs)) → (gs : List hb_glyph_info_t) → OnlyFlagsAdded gs (flat_map f (syllables gs))
-by_syllables f each gs = subst (λ xs. OnlyFlagsAdded xs (flat_map f (syllables gs))) (joined-syllables gs) (flat_added f each (syllables gs))
-
-off_added : (m : ℕ) (g : hb_glyph_info_t) → FlagsAdded g (with_bits_off 3 m g)
-off_added m g = elim (g.cluster == m) as (λ b. FlagsAdded g (cond b g (with_bits 3 g))) [ true ↦ added_same g g refl refl | false ↦ record { same = refl; kept = λ k _. keeps-with_bits 3 g k } ]
-
-flagged_added : (gs : List hb_glyph_info_t) → OnlyFlagsAdded gs (flagged 3 gs)
-flagged_added gs = changed_added (with_bits_off 3 (least (clusters gs))) (off_added (least (clusters gs))) gs
-
-bytes_added : (gs : List hb_glyph_info_t) (bytes : List ℕ) → OnlyFlagsAdded gs (with_bytes gs bytes)
-bytes_added [] bytes = tt
-bytes_added (g ∷ gs) [] = same_added (g ∷ gs)
-bytes_added (g ∷ gs) (byte ∷ bytes) = (added_same g (in_syllable byte g) refl refl, bytes_added gs bytes)
-
--- a set-up by spans
-pub set_up_added : (spans : List Span) (kind : ℕ) (old new : Buffer) → new ≡ spans_set_up spans kind old → OnlyFlagsAdded old.glyphs new.glyphs
-set_up_added spans kind old new is =
-    let mid = with_bytes old.glyphs (span_bytes 0 spans) in
-    subst (λ (b : Buffer). OnlyFlagsAdded old.glyphs b.glyphs) (sym is) (all_added_on old.glyphs mid (flat_map (flagged 3) (syllables mid)) (bytes_added old.glyphs (span_bytes 0 spans)) (by_syllables (flagged 3) flagged_added mid))
-
--- records
+-- PAUSES. Records
 first_added : (c : ℕ) (gs : List hb_glyph_info_t) → OnlyFlagsAdded gs (first_recorded c gs)
 first_added c [] = tt
 first_added c (g ∷ gs) =

@@ -43,12 +43,14 @@ use Rattle.rustybuzz_shapers.specs.declared.shaper.hb_ot_shaper_t.TheVariants.{A
 
 -- what the shaper keeps in the plan, if it keeps anything
 abbrev pub data_created : hb_ot_shaper_t → hb_ot_shape_plan_t → Option PlanData
-data_created Arabic plan = Some (data_of.Arabic (arabic_plan plan.stretch_start plan.ot_map))
+data_created Arabic plan =
+    Some (data_of.Arabic (arabic_plan plan.stretch_start plan.break_flags plan.ot_map))
 data_created Hangul plan = Some (data_of.Hangul (record { mask_array = jamo_masks plan.ot_map }))
 data_created Indic plan = Some (data_of.Indic (indic_plan plan.script plan.ot_map))
 data_created Khmer plan = Some (data_of.Khmer (record { mask_array = khmer_masks plan.ot_map }))
 data_created Universal plan =
-    Some (data_of.Universal (universal_plan plan.stretch_start plan.script plan.ot_map))
+    let kept = universal_plan plan.stretch_start plan.break_flags plan.script plan.ot_map in
+    Some (data_of.Universal kept)
 data_created _ plan = None
 
 -- all masks in a plan's data, and that none of them touches a glyph flag bit

@@ -15,14 +15,16 @@ use Rattle.shapers_indic_final.specs.FinalRules as final
 use Rattle.shapers_indic_initial.specs.InitialLaws.{InitiallyMerged}
 use Rattle.shapers_indic_initial.specs.InitialPause.{InitiallyReordered, initial_circles, initial_refusal, order_by_font, steps_by_font}
 use Rattle.shapers_khmer.specs.Khmer.{khmer_circles, khmer_order, khmer_steps, order_in}
+use Rattle.shapers_khmer.specs.KhmerMovers.{ordered_by_movers, steps_by_movers}
 use Rattle.shapers_khmer.specs.Plan.{is_khmer_data}
 use Rattle.shapers_myanmar.specs.Myanmar.{myanmar_circles, myanmar_order, myanmar_steps}
 use Rattle.shapers_stretch.specs.Recorded.{tiles_recorded}
-use Rattle.shapers_syllabic.specs.Borders.{SetUpCutsAtSpans, spans_set_up}
+use Rattle.shapers_syllabic.specs.Borders.{SetUpCutsAtSpans, spans_set_up, unnumbered}
 use Rattle.shapers_syllabic.specs.CircleLaws.{NoNewCluster}
 use Rattle.shapers_syllabic.specs.Circles.{circled}
 use Rattle.shapers_syllabic.specs.Reordering.{PauseReordered, carried, script_circles, text_steps}
-use Rattle.shapers_syllabic.specs.ReorderingLaws.{PauseCutsAtBorders, TextReordered}
+use Rattle.shapers_syllabic.specs.ReorderingLaws.{PauseCutsAtBorders, TextReordered, paused_clusters, paused_order}
+use Rattle.shapers_syllabic.specs.SpanCuts.{CutsAtBorders}
 use Rattle.shapers_syllabic.specs.declared.ot_shaper_syllabic.circles.DottedCircles.{DottedCircles}
 use Rattle.shapers_universal.specs.PlanData.{is_universal, rphf_of}
 use Rattle.shapers_universal.specs.Universal.{universal_order, universal_steps}
@@ -103,6 +105,13 @@ by_khmer plan font b = record {
   steps = khmer_steps;
 }
 
+-- the same of Khmer, where a regular syllable is what its movers make of it
+abbrev pub by_khmer_movers : hb_ot_shape_plan_t → Font → Buffer → Reordering
+by_khmer_movers plan font b = record (by_khmer plan font b) {
+  order = ordered_by_movers (order_in plan.plan_data);
+  steps = steps_by_movers;
+}
+
 abbrev pub by_myanmar : Font → Buffer → Reordering
 by_myanmar font b = record {
   circles = script_circles myanmar_circles font b;
@@ -168,12 +177,20 @@ Paused ClearSubstitutionFlags plan font spans old new =
     new ≡ record old { glyphs = map unsubstituted old.glyphs }
 Paused ArabicFallbackShape plan font spans old new = new ≡ old
 
+-- whatever the font, spans and buffer, the pause leaves the buffer as it is
+abbrev pub PauseStays : Pause → hb_ot_shape_plan_t → Type 0
+PauseStays pause plan =
+    (font : Font) (spans : List Span) (old new : Buffer) →
+    Paused pause plan font spans old new → new ≡ old
+
 -- What every reordering keeps. A text cut at any border of syllables gives the halves' results
--- joined. No glyph is lost, no cluster rises, glyph flags stay unless it fell, and what shared a
+-- joined, also where the bytes of the halves have other serials, and then but for these. No glyph is lost, no cluster rises, glyph flags stay unless it fell, and what shared a
 -- cluster still does: the laws of steps, from after circles on. Every cluster is one that the text
 -- had before its circles.
 pub record ReorderingKeeps (r : Reordering) (old new : Buffer) : Type 0 where
   pub cuts : PauseCutsAtBorders r.circles r.order r.steps old new
+  pub renumbered : CutsAtBorders unnumbered (paused_order r.circles r.order)
+      (paused_clusters r.circles r.steps old.level) old.glyphs new.glyphs
   pub text : TextReordered r.steps (record old { glyphs = circled r.circles old.glyphs }) new
   pub old_clusters : NoNewCluster old.glyphs new.glyphs
 
@@ -191,7 +208,7 @@ ClustersStay old new = clusters new.glyphs ≡ clusters old.glyphs
 -- The laws of a pause: spans may be cut between any two, and texts at any border of syllables;
 -- what becomes of clusters and glyph flags. What doesn't reorder leaves clusters, and only adds
 -- flags. In the initial reordering of Indic clusters merge by the cycles of its order, in the final
--- one by its moves.
+-- one by its moves. In Khmer what comes to the front of a regular syllable are its movers.
 abbrev pub PauseKeeps : Pause → hb_ot_shape_plan_t → Font → List Span → Buffer → Buffer → Type 0
 PauseKeeps SetupSyllablesIndic plan font spans old new =
     SetUpCutsAtSpans spans 4 old new × ClustersStay old new
@@ -204,11 +221,13 @@ PauseKeeps SetupSyllablesMyanmar plan font spans old new =
     × OnlyFlagsAdded old.glyphs new.glyphs
 PauseKeeps SetupSyllablesUse plan font spans old new =
     UniversalSetUpCutsAtSpans plan.plan_data plan.ot_map spans old new × ClustersStay old new
+    × OnlyFlagsAdded old.glyphs new.glyphs
 PauseKeeps InitialReordering plan font spans old new =
     ReorderingKeeps (by_initial plan font old) old new
     × InitiallyMerged font plan.ot_map (indic_in plan) old new
 PauseKeeps ReorderKhmer plan font spans old new =
     ReorderingKeeps (by_khmer plan font old) old new × MergedFirst (by_khmer plan font old) old new
+    × Reordered (by_khmer_movers plan font old) old new
 PauseKeeps ReorderMyanmar plan font spans old new =
     ReorderingKeeps (by_myanmar font old) old new × MergedFirst (by_myanmar font old) old new
 PauseKeeps ReorderUse plan font spans old new =

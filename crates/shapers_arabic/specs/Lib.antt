@@ -1,3 +1,5 @@
+pub mod Breaks
+pub mod Concatenation
 pub mod JoinedText
 pub mod Joining
 pub mod JoiningFlags
@@ -6,3 +8,4 @@ pub mod MarkParts
 pub mod Marks
 pub mod PlanData
 pub mod Requests
+pub mod SoundFlags

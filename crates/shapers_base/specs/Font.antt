@@ -1,5 +1,5 @@
 -- A font and the Unicode tables, as their callers see them: functions, so that the same question
--- has the same answer.
+-- has the same result.
 use Rattle.std.specs.Prelude.{ℕ, ℤ, Bool, List, Option, is_some}
 use Rattle.shapers_buffer.specs.declared.buffer.category.hb_unicode_general_category_t.{hb_unicode_general_category_t}
 use Rattle.shapers_buffer.specs.declared.buffer.tag.hb_tag_t.{hb_tag_t}

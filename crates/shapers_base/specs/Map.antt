@@ -1,4 +1,4 @@
--- What a map is to its callers, and the questions that it answers.
+-- What a map is to its callers, and what can be looked up in it.
 use Rattle.std.specs.Prelude.{ℕ, ◌-◌, ◌%◌, ◌==◌, nat_eq, nat_le, Bool, ◌&&◌, List, length, take, drop, find, Option, option_map, unwrap_or, slice_get}
 use Rattle.std.specs.List.{list_all, list_any}
 use Rattle.std.specs.Option.{option_map_or}
@@ -12,7 +12,7 @@ use Rattle.shapers_base.specs.declared.map.TableIndex.TheVariants.{GSUB, GPOS}
 
 -- a map: its features, its stages as ranges of the list of lookups, that list, the bits that hold
 -- for the whole text, the script that the font offers for it, and whether that is the script that
--- was asked for
+-- was requested
 pub record Map : Type 0 where
   pub features : List feature_map_t
   pub stages : List (Range ℕ)
@@ -34,7 +34,7 @@ abbrev pub can_be_map : Map → Bool
 can_be_map m =
     list_all (can_be_stage (length m.lookups)) m.stages && list_all is_off_flags m.features
 
--- the answer about GSUB, and the one about GPOS
+-- the value for GSUB, and the one for GPOS
 abbrev pub of_gsub : {X : Type 0} → TableIndex → X → X → X
 of_gsub GSUB known unknown = known
 of_gsub GPOS known unknown = unknown

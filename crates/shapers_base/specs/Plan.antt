@@ -2,8 +2,9 @@
 use Rattle.std.specs.Prelude.{Option, None, Some, false}
 use Rattle.shapers_buffer.specs.declared.buffer.tag.Script.{Script}
 use Rattle.shapers_base.specs.Map.{Map}
-use Rattle.shapers_base.specs.declared.plan.arabic.StretchStart.TheVariants.{AsCode}
+use Rattle.shapers_base.specs.declared.plan.arabic.StretchStart.TheVariants as starts
 use Rattle.shapers_base.specs.declared.plan.arabic.arabic_shape_plan_t.{arabic_shape_plan_t}
+use Rattle.shapers_base.specs.declared.plan.breaks.BreakFlags.TheVariants as breaks
 use Rattle.shapers_base.specs.declared.plan.hangul.hangul_shape_plan_t.{hangul_shape_plan_t}
 use Rattle.shapers_base.specs.declared.plan.hb_ot_shape_plan_t.{hb_ot_shape_plan_t}
 use Rattle.shapers_base.specs.declared.plan.indic.indic_shape_plan_t.{indic_shape_plan_t}
@@ -18,7 +19,8 @@ new_plan s m = record {
   script = s;
   ot_map = m;
   has_gpos_mark = false;
-  stretch_start = AsCode;
+  stretch_start = starts.AsCode;
+  break_flags = breaks.AsCode;
   plan_data = data_of.None;
 }
 

@@ -1,4 +1,4 @@
--- What a planner is to its callers, and the words for what it is asked.
+-- What a planner is to its callers, and the words for requests.
 use Prim.Native.String.{String}
 use Rattle.std.specs.Prelude.{ℕ, List, [], ◌∷◌, ◌++◌, Option, None, Some, bit_or, codes}
 use Rattle.std.specs.List.{flat_map}
@@ -8,7 +8,7 @@ use Rattle.shapers_base.specs.declared.plan.pause.Pause as pauses
 use Rattle.shapers_base.specs.declared.plan.planner.Request.{Request}
 use Rattle.shapers_base.specs.declared.plan.planner.Request.TheVariants.{Feature, Pause}
 
--- a planner: the script, and what was asked so far
+-- a planner: the script, and the requests so far
 pub record Planner : Type 0 where
   pub script : Option Script
   pub requests : List Request

@@ -5,12 +5,12 @@ use Rattle.shapers_buffer.specs.declared.buffer.tag.hb_tag_t.{hb_tag_t}
 use Rattle.shapers_base.specs.declared.font.GlyphId.{GlyphId}
 use Rattle.shapers_base.specs.declared.plan.indic.IndicWouldSubstituteFeature.{IndicWouldSubstituteFeature}
 
--- the question about the feature by this tag: the lookups of its stage, and whether they must ask
--- for no context
+-- the question about the feature by this tag: the lookups of its stage, and whether they must need
+-- no context
 abbrev pub question_for : hb_tag_t → Bool → Map → IndicWouldSubstituteFeature
 question_for tag zero m = record { lookups = range_for tag m; zero_context = zero }
 
--- whether it is answered with yes: one of its lookups would apply to exactly these glyphs
+-- its result: whether one of its lookups would apply to exactly these glyphs
 abbrev pub would_by : (ℕ → List GlyphId → Bool → Bool) → Map → IndicWouldSubstituteFeature →
     List GlyphId → Bool
 would_by applies m q glyphs = would_one applies (lookups_in q.lookups m) glyphs q.zero_context

@@ -1,5 +1,5 @@
-//! What the shapers ask of a font and of the Unicode tables. Both are functions: the same question
-//! has the same answer.
+//! What the shapers read of a font and of the Unicode tables. Both are functions: the same question
+//! has the same result.
 ghost use Rattle.std.specs.Prelude.{◌≡◌};
 ghost use Rattle.shapers_base.specs.Font.{CharacterTables, Font, has_nominal};
 ghost use Rattle.shapers_base.specs.Map.{would_one};
@@ -12,17 +12,18 @@ use crate::plan::{Category, Position, hb_arabic_joining_type_t};
 #[derive(Clone, Copy, Debug, PartialEq, Eq)]
 pub struct GlyphId(pub u16);
 
-/// A font, as far as the shapers ask it.
+/// A font, as far as the shapers read it.
 pub trait hb_font_t {
-    /// The font as a value: its answers.
+    /// The font as a value: its results.
     ghost font: { Self → Font };
 
     /// The font's own glyph for a character, before any lookup.
     fn get_nominal_glyph(&self, c: u32) -> Option<GlyphId>
         ensures { result ≡ (font self.now).nominal c };
 
-    /// Whether the font has a nominal glyph for a character: an impl has its own answer where it
-    /// can tell that without making the glyph.
+    /// Whether the font has a nominal glyph for a character. An impl overrides this where it knows
+    /// without making the glyph.
+    #[inline]
     fn has_glyph(&self, c: u32) -> bool
         ensures { result ≡ has_nominal (font self.now) c }
     {
@@ -34,13 +35,13 @@ pub trait hb_font_t {
         ensures { result ≡ (font self.now).advance glyph };
 
     /// Whether the lookup at this place of the list would apply to exactly these glyphs; with
-    /// `zero_context`, only if it asks for no context around them.
+    /// `zero_context`, only if it needs no context around them.
     fn would_apply(&self, lookup: u16, glyphs: &[GlyphId], zero_context: bool) -> bool
         ensures { result ≡ (font self.now).applies lookup glyphs.now zero_context };
 
-    /// Whether one of these lookups would apply to exactly these glyphs. This asks `would_apply`
-    /// about each up to the first that would; an impl has its own answer where it can tell that at
-    /// once.
+    /// Whether one of these lookups would apply to exactly these glyphs. This calls `would_apply`
+    /// for each up to the first that would; an impl overrides it where it knows that at once.
+    #[inline]
     fn would_apply_any(&self, lookups: &[u16], glyphs: &[GlyphId], zero_context: bool) -> bool
         ensures { result ≡ would_one (font self.now).applies lookups.now glyphs.now zero_context }
     {
@@ -54,9 +55,9 @@ pub trait hb_font_t {
         ensures { result ≡ (font self.now).offers tag };
 }
 
-/// The tables of the Unicode Character Database and of the shapers, as far as they are asked.
+/// The tables of the Unicode Character Database and of the shapers, as far as they are read.
 pub trait Tables {
-    /// The tables as a value: their answers.
+    /// The tables as a value: their results.
     ghost tables: { Self → CharacterTables };
 
     /// How a character joins its neighbours.

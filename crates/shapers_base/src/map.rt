@@ -38,7 +38,7 @@ pub enum TableIndex {
 pub struct feature_map_t {
     /// The tag of the feature.
     pub tag: hb_tag_t,
-    /// The bits of a glyph's mask that ask for the feature.
+    /// The bits of a glyph's mask that turn the feature on.
     pub mask: u32,
     /// The stage that its lookups run in.
     pub stage: usize,
@@ -218,7 +218,7 @@ impl hb_ot_map_t {
         }
     }
 
-    /// Whether the table has the script that was asked for.
+    /// Whether the table has the script that was requested.
     #[inline]
     pub fn found_script(&self, table_index: TableIndex) -> bool
         ensures { result ≡ of_gsub table_index self.now.found false }
@@ -239,6 +239,7 @@ impl hb_ot_map_t {
 }
 
 // The first of these features that has this tag.
+#[inline]
 fn first_feature(features: &[feature_map_t], tag: hb_tag_t) -> Option<feature_map_t>
     ensures { result ≡ find (λ f. same_tag f.tag tag) features.now }
 {
@@ -246,6 +247,7 @@ fn first_feature(features: &[feature_map_t], tag: hb_tag_t) -> Option<feature_ma
 }
 
 // A copy of these.
+#[inline]
 fn copied<T: Copy>(alloc: Global, items: &[T]) -> Result<Vec<T>, ShaperError>
     ensures ok { IfOk result (λ copy. copy.items ≡ items.now) }
     ensures refusal { IsOkUnless result Memory }
@@ -256,6 +258,7 @@ fn copied<T: Copy>(alloc: Global, items: &[T]) -> Result<Vec<T>, ShaperError>
 }
 
 // A copy of these stages.
+#[inline]
 fn copied_stages(alloc: Global, stages: &[Range<usize>]) -> Result<Vec<Range<usize>>, ShaperError>
     ensures ok { IfOk result (λ copy. copy.items ≡ stages.now) }
     ensures refusal { IsOkUnless result Memory }
@@ -270,6 +273,7 @@ fn copied_stages(alloc: Global, stages: &[Range<usize>]) -> Result<Vec<Range<usi
 }
 
 // Whether each stage is a range of a list of this length.
+#[inline]
 fn are_ranges(stages: &[Range<usize>], lookups_len: usize) -> bool
     ensures { result ≡ list_all (can_be_stage lookups_len) stages.now }
 {
@@ -277,6 +281,7 @@ fn are_ranges(stages: &[Range<usize>], lookups_len: usize) -> bool
 }
 
 // Whether no feature's mask touches a glyph flag bit, one of the low three.
+#[inline]
 fn are_off_flags(features: &[feature_map_t]) -> bool
     ensures { result ≡ list_all is_off_flags features.now }
 {

@@ -1,5 +1,5 @@
-//! The planner and the plan: what the shapers ask of a font, and what they decided for one script
-//! and font before they see a text. With them what two shapers or more name.
+//! The planner and the plan: what the shapers request of a font, and what they decided for one
+//! script and font before they see a text. With them what two shapers or more name.
 ghost use Rattle.std.specs.Prelude.{◌≡◌};
 ghost use Rattle.std.specs.Option.{option_copied};
 ghost use Rattle.shapers_base.specs.Plan.{as_arabic, as_hangul, as_indic, as_khmer, as_universal, new_plan};
@@ -9,6 +9,7 @@ pub use crate::buffer::ShaperError;
 use crate::map::hb_ot_map_t;
 
 mod arabic;
+mod breaks;
 mod hangul;
 mod indic;
 mod joining;
@@ -21,6 +22,7 @@ mod record;
 mod universal;
 
 pub use arabic::{StretchStart, arabic_shape_plan_t};
+pub use breaks::BreakFlags;
 pub use hangul::hangul_shape_plan_t;
 pub use indic::{
     BlwfMode, IndicConfig, IndicWouldSubstituteFeature, RephMode, RephPosition, indic_shape_plan_t,
@@ -38,8 +40,9 @@ pub type Category = u8;
 /// The position of a glyph in its syllable, among those of `ot_position_t`.
 pub type Position = u8;
 
-/// What a shaper does to a text of one script.
+/// What a shaper does to a text of one script. A later version may add fields.
 #[derive(Debug, Drop)]
+#[non_exhaustive]
 pub struct hb_ot_shape_plan_t {
     /// The script of the text, where it is known.
     pub script: Option<Script>,
@@ -49,13 +52,16 @@ pub struct hb_ot_shape_plan_t {
     pub has_gpos_mark: bool,
     /// Where the tiles of a stretched mark begin.
     pub stretch_start: StretchStart,
+    /// Which places are flagged unsafe to break.
+    pub break_flags: BreakFlags,
     /// What the shaper itself keeps.
     pub plan_data: PlanData,
 }
 
 impl hb_ot_shape_plan_t {
-    /// A plan whose shaper keeps nothing yet, for a font whose GPOS places no marks; tiles begin as
-    /// the code of HarfBuzz has it.
+    /// A plan whose shaper keeps nothing yet, for a font whose GPOS places no marks; tiles begin
+    /// and breaks are flagged as the code of HarfBuzz has it.
+    #[inline]
     pub fn new(script: Option<Script>, ot_map: hb_ot_map_t) -> Self
         ensures { result ≡ new_plan script ot_map }
     {
@@ -64,6 +70,7 @@ impl hb_ot_shape_plan_t {
             ot_map,
             has_gpos_mark: false,
             stretch_start: StretchStart::AsCode,
+            break_flags: BreakFlags::AsCode,
             plan_data: PlanData::None,
         }
     }
@@ -88,6 +95,7 @@ pub enum PlanData {
 
 impl PlanData {
     /// What Arabic keeps, if these are its data.
+    #[inline]
     pub fn arabic(&self) -> Option<&arabic_shape_plan_t>
         ensures { option_copied result ≡ as_arabic self.now }
     {
@@ -98,6 +106,7 @@ impl PlanData {
     }
 
     /// What Hangul keeps, if these are its data.
+    #[inline]
     pub fn hangul(&self) -> Option<&hangul_shape_plan_t>
         ensures { option_copied result ≡ as_hangul self.now }
     {
@@ -108,6 +117,7 @@ impl PlanData {
     }
 
     /// What the universal shaper keeps, if these are its data.
+    #[inline]
     pub fn universal(&self) -> Option<&use_shape_plan_t>
         ensures { option_copied result ≡ as_universal self.now }
     {
@@ -118,6 +128,7 @@ impl PlanData {
     }
 
     /// What Khmer keeps, if these are its data.
+    #[inline]
     pub fn khmer(&self) -> Option<&khmer_shape_plan_t>
         ensures { option_copied result ≡ as_khmer self.now }
     {
@@ -128,6 +139,7 @@ impl PlanData {
     }
 
     /// What the shaper of the Indic scripts keeps, if these are its data.
+    #[inline]
     pub fn indic(&self) -> Option<&indic_shape_plan_t>
         ensures { option_copied result ≡ as_indic self.now }
     {

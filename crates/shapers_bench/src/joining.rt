@@ -9,7 +9,9 @@ use rustybuzz_shapers::font::Tables;
 use rustybuzz_shapers::ot_shaper_arabic::{
     LookUps, arabic_shape_plan_t, setup_masks_counted, setup_masks_inner,
 };
-use rustybuzz_shapers::plan::{Category, Position, StretchStart, hb_arabic_joining_type_t};
+use rustybuzz_shapers::plan::{
+    BreakFlags, Category, Position, StretchStart, hb_arabic_joining_type_t,
+};
 use std::alloc::Global;
 use std::marker::Brand;
 use std::sync::ledger::{Blank, Ledger};
@@ -68,6 +70,7 @@ const PLAN: arabic_shape_plan_t = arabic_shape_plan_t {
     mask_array: [0, 0x20, 0, 0, 0, 0, 0x10, 0],
     has_stch: false,
     stretch_start: StretchStart::AsCode,
+    break_flags: BreakFlags::AsCode,
 };
 
 // A buffer of three characters, in clusters 0, 1 and 2.

@@ -11,7 +11,7 @@ use Rattle.shapers_buffer.specs.declared.buffer.level.BufferClusterLevel.TheVari
 use Rattle.shapers_buffer.specs.declared.buffer.tag.Script.{Script}
 use Rattle.shapers_buffer.specs.Glyph.{default_glyph, default_position}
 
--- a buffer: its glyphs, their positions (none, or one a glyph), its settings and marks, and the
+-- a buffer: its glyphs, their positions (none, or one per glyph), its settings and marks, and the
 -- placement list
 pub record Buffer : Type 0 where
   pub glyphs : List hb_glyph_info_t
@@ -76,7 +76,7 @@ flags_tatweel = 0x80
 abbrev pub has_flag : ℕ → BufferFlags → Bool
 has_flag flag flags = bit_and flags.0 flag == flag
 
--- whether the buffer asks for this flag
+-- whether the buffer wants this flag
 abbrev pub asks : ℕ → Buffer → Bool
 asks flag b = has_flag flag b.flags
 
@@ -97,6 +97,6 @@ new_buffer limit = record {
   places = [];
 }
 
--- whether these can be the positions of the buffer: there is none, or one a glyph
+-- whether these can be the positions of the buffer: there is none, or one per glyph
 abbrev pub can_be_positions : List GlyphPosition → Buffer → Bool
 can_be_positions ps b = length ps == 0 || length ps == length b.glyphs

@@ -26,11 +26,11 @@ abbrev pub unsafe_all : List (ℕ × ℕ) → List hb_glyph_info_t → List hb_g
 unsafe_all [] gs = gs
 unsafe_all (st ∷ sts) gs = unsafe_all sts (unsafe_inside st.0 st.1 gs)
 
--- no concatenation at any place of the stretch: bit 2, where the buffer asks for it
+-- no concatenation at any place of the stretch: bit 2, where the buffer wants it
 abbrev pub unsafe_to_concat_in : Bool → ℕ → ℕ → List hb_glyph_info_t → List hb_glyph_info_t
 unsafe_to_concat_in asked s e gs = if asked then with_stretch s e (map (with_bits 2)) gs else gs
 
--- a join inside the stretch: bit 4 where the buffer asks for it, else no break
+-- a join inside the stretch: bit 4 where the buffer wants it, else no break
 abbrev pub tatweel_inside : Bool → ℕ → ℕ → List hb_glyph_info_t → List hb_glyph_info_t
 tatweel_inside asked s e gs = with_stretch s e (flagged (if asked then 4 else 3)) gs
 
@@ -41,8 +41,8 @@ pub data FlagCall : Type 0 where
   UnsafeToConcat : (s e : ℕ) → FlagCall
   SafeToInsertTatweel : (s e : ℕ) → FlagCall
 
--- the glyphs after one call, and after several, one after another; whether the buffer asks for
--- flags of concatenation, and of joins
+-- the glyphs after one call, and after several, one after another; whether the buffer wants flags
+-- of concatenation, and of joins
 abbrev pub flag_called : Bool → Bool → FlagCall → List hb_glyph_info_t → List hb_glyph_info_t
 flag_called concat tatweel (UnsafeToBreak s e) gs = unsafe_inside s e gs
 flag_called concat tatweel (UnsafeToConcat s e) gs = unsafe_to_concat_in concat s e gs

@@ -65,8 +65,8 @@ pub struct hb_buffer_t {
     has_broken_syllable: bool,
     has_stch: bool,
     max_len: usize,
-    // room for a place and for a glyph a glyph, so that a reordering takes no memory; it is written
-    // as far as reorderings came
+    // room for one place and one glyph per glyph, so that a reordering takes no memory; it is
+    // written as far as reorderings came
     places: Vec<usize>,
     spare: Vec<hb_glyph_info_t>,
 }
@@ -111,6 +111,7 @@ impl Model for hb_buffer_t {
 
 impl hb_buffer_t {
     /// An empty buffer, whose text runs from left to right. It takes no memory.
+    #[inline]
     pub fn new(alloc: Global, max_len: usize) -> Self
         ensures { result ≡ new_buffer max_len }
     {
@@ -198,6 +199,7 @@ impl hb_buffer_t {
     }
 
     /// Adds `n` default glyphs at the end and, unless there are no positions, `n` zero positions.
+    #[inline]
     pub fn grow(&mut self, n: usize) -> Result<(), ShaperError>
         ensures ok { OnOk result (self.new ≡ grown n self.old) }
         ensures length { RefusesLength self.old.max_len (length self.old.glyphs + n) result }
@@ -230,6 +232,7 @@ impl hb_buffer_t {
     }
 
     /// An equal buffer.
+    #[inline]
     pub fn copy(&self) -> Result<Self, ShaperError>
         ensures ok { IfOk result (λ copy. copy ≡ self.now) }
         ensures err { IfErr result (λ e. e ≡ Memory) }
@@ -254,6 +257,7 @@ impl hb_buffer_t {
 }
 
 // The five nearest of these characters, which are nearest first.
+#[inline]
 fn context(chars: &[char]) -> ArrayVec<char, CONTEXT_LENGTH>
     ensures nearest { result.items ≡ take 5 chars.now }
 {

@@ -1,6 +1,7 @@
 pub mod Alone
 pub mod Appended
 pub mod Bounds
+pub mod ClearPlaces
 pub mod Cuts
 pub mod Elsewhere
 pub mod Falls
@@ -18,6 +19,7 @@ mod LawRows
 pub mod Made
 pub mod Merging
 pub mod Moves
+pub mod Needless
 pub mod Neighbours
 pub mod Permuted
 pub mod Picks

@@ -42,7 +42,7 @@ pub record ShowsClusters (view : hb_glyph_info_t → hb_glyph_info_t) : Type 0 w
   pub cluster : (g : hb_glyph_info_t) → (view g).cluster ≡ g.cluster
   pub flags : (g : hb_glyph_info_t) → (view g).mask % 8 ≡ g.mask % 8
 
--- besides, what else it shows hangs on neither: it hides some other fields, or none
+-- besides, what else it shows depends on neither: it hides some other fields, or none
 pub record HidesFields (view : hb_glyph_info_t → hb_glyph_info_t) : Type 0 where
   pub shows : ShowsClusters view
   pub apart : (g : hb_glyph_info_t) → plain (view (plain g)) ≡ plain (view g)

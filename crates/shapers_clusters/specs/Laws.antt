@@ -16,7 +16,7 @@ use Rattle.shapers_clusters.specs.Made.{ExactCutsBy, HeldAlong, MovesInsideOf}
 use Rattle.shapers_clusters.specs.Labels.{IsLabelled, OfOldPlaces, OneLabel, OneLabelEach}
 
 -- Merges of any stretch at any level leave the order view of the glyphs gs; the three flag calls,
--- whatever the buffer asks for, change nothing but glyph flags, and take none away.
+-- whatever the buffer wants, change nothing but glyph flags, and take none away.
 pub record ViewStays (s e : ℕ) (gs : List hb_glyph_info_t) : Type 0 where
   pub merging : (level : BufferClusterLevel) → order_view (merge level s e gs) ≡ order_view gs
   pub breaking : FlagsAlone gs (unsafe_inside s e gs)
@@ -26,7 +26,7 @@ pub record ViewStays (s e : ℕ) (gs : List hb_glyph_info_t) : Type 0 where
 abbrev pub ViewLaw : Type 0
 ViewLaw = (s e : ℕ) (gs : List hb_glyph_info_t) → s ≤ e → ViewStays s e gs
 
--- Any list of flag calls, of all three kinds mixed, whatever the buffer asks for: nothing but glyph
+-- Any list of flag calls, of all three kinds mixed, whatever the buffer wants: nothing but glyph
 -- flags changes, and none is lost.
 abbrev pub FlagCallsLaw : Type 0
 FlagCallsLaw = (concat tatweel : Bool) (calls : List FlagCall) (gs : List hb_glyph_info_t) →

@@ -6,3 +6,4 @@ pub mod FlagLaw
 pub mod Labels
 pub mod Made
 pub mod Laws
+pub mod Breaks

@@ -2,6 +2,7 @@
 //! is the contract of a function without a body.
 #![tactic(auto)]
 
+ghost use Rattle.shapers_clusters.specs.Breaks.{ClearLaw, NeedlessLaw};
 ghost use Rattle.shapers_clusters.specs.Laws.{ViewLaw, FlagCallsLaw, MergeLaw, ExactCutsLaw, StepsLaw, PermutedLaw, ClustersLaw, MergedStepsLaw, SparedStepsLaw, ClustersReorderedLaw, SeenStepsLaw, ReorderedLaw, WidenedLaw, AlongLaw, HalvesLaw, AloneLaw, MadeLaw, MovedSourcesLaw};
 
 /// Merges leave the order view; the three flag calls change nothing but glyph flags.
@@ -98,4 +99,15 @@ pub fn made_law()
 /// Made glyphs that move inside merged stretches: the cluster law.
 pub fn moved_sources_law()
     ensures { MovedSourcesLaw }
+{}
+
+/// At a clear place no flag call forbids a break.
+pub fn clear_law()
+    ensures { ClearLaw }
+{}
+
+/// Where each glyph is a cluster of its own and clusters rise, a place that no flag call forbids is
+/// clear.
+pub fn needless_law()
+    ensures { NeedlessLaw }
 {}

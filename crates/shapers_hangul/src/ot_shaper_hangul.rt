@@ -1,5 +1,5 @@
 //! The shaper of Hangul.
-ghost use Rattle.std.specs.Prelude.{◌≡◌, ◌%◌, OnOk, OnErr, IsOk, IsOkUnless, true, length, []};
+ghost use Rattle.std.specs.Prelude.{◌≡◌, ◌%◌, OnOk, OnErr, IsOk, IsOkUnless, true, length, map, []};
 ghost use Rattle.shapers_buffer.specs.declared.buffer.refusal.ShaperError.TheVariants.{Memory};
 ghost use Rattle.shapers_base.specs.Planner.{with_requests};
 ghost use Rattle.std.specs.List.{All};
@@ -8,12 +8,12 @@ ghost use Rattle.shapers_buffer.specs.Refusals.{RefusesLength};
 ghost use Rattle.shapers_hangul.specs.Hangul.{rewritten};
 ghost use Rattle.shapers_hangul.specs.HangulLaws.{AllKept, KeepsClusters, KeepsGlyphFlags, SpellsByUnits, SpellsSame};
 ghost use Rattle.shapers_clusters.specs.FlagLaw.{OnlyFlagsAdded};
-ghost use Rattle.shapers_hangul.specs.Masks.{jamo_masks, is_hangul_data, masks_in, with_jamo_masks};
+ghost use Rattle.shapers_hangul.specs.Masks.{jamo_masks, is_hangul_data, masks_in, with_jamo_mask, with_jamo_masks};
 ghost use Rattle.shapers_hangul.specs.Requests.{hangul_list, hangul_overrides};
 
 pub use laws::{rewriting_law, spelling_law};
 use rewriting::rewrite;
-use shapers_base::buffer::{GlyphChange, hb_buffer_t, hb_glyph_info_t, hb_tag_t};
+use shapers_base::buffer::{GlyphChange, change_each_in, hb_buffer_t, hb_glyph_info_t, hb_tag_t};
 use shapers_base::font::hb_font_t;
 use shapers_base::map::{F_GLOBAL, F_NONE};
 use shapers_base::plan::{
@@ -115,6 +115,17 @@ impl GlyphChange for JamoMasks {
         let feature = usize::from(glyph.auxiliary);
         glyph.mask |= self.masks.get(feature).copied().unwrap_or(0);
     }
+}
+
+/// Gives each of these glyphs, besides its own mask, the one of the feature in its auxiliary byte.
+#[inline]
+pub fn setup_masks_in(hangul_plan: &hangul_shape_plan_t, glyphs: &mut [hb_glyph_info_t])
+    ensures { glyphs.new ≡ map (with_jamo_mask hangul_plan.now.mask_array) glyphs.old }
+{
+    let masks = JamoMasks {
+        masks: hangul_plan.mask_array,
+    };
+    change_each_in(glyphs, &masks);
 }
 
 /// Gives each glyph, besides its own mask, the one of the feature in its auxiliary byte: none for

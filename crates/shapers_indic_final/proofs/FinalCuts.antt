@@ -20,10 +20,10 @@ use Rattle.shapers_clusters.proofs.Proved.{along_holds, clusters_hold}
 use Rattle.shapers_clusters.proofs.Through.{clusters-through}
 use Rattle.shapers_indic_final.specs.FinalCuts.{FinalCutsBetweenSpans, final_clusters_after, uninitiated}
 use Rattle.shapers_indic_final.specs.FinalLaws.{final_clusters}
-use Rattle.shapers_indic_final.specs.FinalOpening.{final_text}
+use Rattle.shapers_indic_final.specs.FinalOpening.{FinallyReordered, final_text}
 use Rattle.shapers_indic_final.specs.FinalReordering.{final_order, final_steps}
 use Rattle.shapers_indic_final.specs.declared.ot_shaper_indic_final.rules.Rules.{Rules}
-use Rattle.shapers_indic_final.proofs.FinalSerials.{final_reads_no_serials}
+use Rattle.shapers_indic_final.proofs.FinalSerials.{final_reads_no_serials, final_text_reads_no_serials}
 use Rattle.shapers_indic_final.proofs.FinalText.{bits_text, clusters-whole, halves}
 use Rattle.shapers_syllabic.specs.declared.ot_shaper_syllabic.circles.DottedCircles.{DottedCircles}
 use Rattle.shapers_syllabic.specs.declared.ot_shaper_syllabic.kinds.indic_syllable.TheConstants.{BROKEN_CLUSTER}
@@ -31,6 +31,7 @@ use Rattle.shapers_syllabic.specs.Borders.{MeetAtBorder, SameButSerials, unnumbe
 use Rattle.shapers_syllabic.specs.Circles.{circled}
 use Rattle.shapers_syllabic.specs.Reordering.{carried, text_order, text_steps}
 use Rattle.shapers_syllabic.specs.ReorderingLaws.{ReadsNoSerials, ReorderLaws, paused_clusters, paused_order}
+use Rattle.shapers_syllabic.specs.SpanCuts.{CutsAtBorders}
 use Rattle.shapers_syllabic.specs.Syllabic.{unsafe_spans}
 use Rattle.shapers_syllabic.proofs.Borders.{OfByte, SameEnds, border-view, border_by, ends-kept, one_run, syllables-mapped, syllables_cut}
 use Rattle.shapers_syllabic.proofs.CircleLaws.{joined-syllables, no_new_cluster}
@@ -191,6 +192,39 @@ same_final r script xs ys same = let reads = final_reads_no_serials r script in 
 clusters-same : (xs ys : Glyphs) → SameButSerials xs ys → clusters xs ≡ clusters ys
 clusters-same xs ys same = sym (clusters-through unnumbered unnumbered_passes xs) ∙ ap clusters (same_text xs ys same) ∙ clusters-through unnumbered unnumbered_passes ys
 
+-- halves that meet at a border, and ones that are the same but for serials
+shown_halves : (r : Rules) (script : Option Script) (gs hs xs ys : Glyphs) → MeetAtBorder gs hs → SameButSerials gs xs → SameButSerials hs ys → map (uninitiated r) (final_text r script (gs ++ hs)) ≡ map (uninitiated r) (final_text r script xs) ++ map (uninitiated r) (final_text r script ys)
+shown_halves r script gs hs xs ys border one two =
+    let f = final_order r script in
+    let V = map (uninitiated r) in
+    let add = map (with_bits r.init) in
+    shown_final r script (gs ++ hs)
+    ∙ ap (λ zs. add (map unnumbered zs)) (text_order-append f gs hs border)
+    ∙ ap add (map-append unnumbered (text_order f gs) (text_order f hs))
+    ∙ ap (λ zs. add (zs ++ map unnumbered (text_order f hs))) (same_final r script gs xs one)
+    ∙ ap (λ zs. add (map unnumbered (text_order f xs) ++ zs)) (same_final r script hs ys two)
+    ∙ map-append (with_bits r.init) (map unnumbered (text_order f xs)) (map unnumbered (text_order f ys))
+    ∙ ap (λ zs. zs ++ add (map unnumbered (text_order f ys))) (sym (shown_final r script xs))
+    ∙ ap (λ zs. V (final_text r script xs) ++ zs) (sym (shown_final r script ys))
+
+-- the pause alone, cut at a border of syllables
+pub final_cuts_with_serials : (r : Rules) (old new : Buffer) → FinallyReordered r old new → clusters new.glyphs ≡ final_clusters r old.script old.level old.glyphs → CutsAtBorders (uninitiated r) (λ gs. final_text r old.script (order_view gs)) (final_clusters r old.script old.level) old.glyphs new.glyphs
+final_cuts_with_serials r old new done are gs hs xs ys text border one two =
+    let script = old.script in
+    let level = old.level in
+    let V = map (uninitiated r) in
+    let C = final_clusters r script level in
+    let parts : order_view old.glyphs ≡ order_view gs ++ order_view hs = ap order_view text ∙ map-append plain gs hs in
+    let law = halves r script level old.glyphs new.glyphs gs hs done.order are text border in
+    let front = final_text_reads_no_serials r script gs xs one in
+    let back = final_text_reads_no_serials r script hs ys two in
+    record {
+      order =
+          ap V (done.order ∙ ap (final_text r script) parts)
+          ∙ shown_halves r script (order_view gs) (order_view hs) (order_view xs) (order_view ys) (border-view gs hs border) (same-view gs xs one) (same-view hs ys two);
+      in_clusters = λ none. law.in_clusters none ∙ ap (λ cs. cs ++ C hs) (front.in_clusters level) ∙ ap (λ cs. C xs ++ cs) (back.in_clusters level);
+    }
+
 pub final_cuts_between_spans : FinalCutsBetweenSpans
 final_cuts_between_spans r meaning steps circles spans old mid new laws reads kinds paused done ss ts gs hs xs ys split text first second one two =
     let script = old.script in
@@ -204,9 +238,7 @@ final_cuts_between_spans r meaning steps circles spans old mid new laws reads ki
     let cut = spans_cut spans BROKEN_CLUSTER old kinds ss ts gs hs split text first second in
     let B = cut.behind in
     let joined = pauses_cut_between_spans meaning steps BROKEN_CLUSTER laws reads circles spans old mid kinds paused ss ts gs hs xs ys split text first second one two in
-    let f = final_order r script in
     let V = map (uninitiated r) in
-    let add = map (with_bits r.init) in
     let parts : order_view mid.glyphs ≡ P F ++ P B =
     paused.order ∙ ap P cut.parts ∙ ap (λ zs. text_order meaning (order_view zs)) (circled-append circles F B cut.border) ∙ text_order-halves meaning (circled circles F) (circled circles B) (border-circled circles F B cut.border) in
     let border = border_after circles meaning steps laws F B cut.border in
@@ -214,16 +246,7 @@ final_cuts_between_spans r meaning steps circles spans old mid new laws reads ki
     let back : SameButSerials (P B) (P ys) = same_after circles meaning steps laws reads B ys (cut.renumbered ∙ two) in
     let ordered : order_view new.glyphs ≡ final_text r script (order_view mid.glyphs) = done.order ∙ ap (λ s. final_text r s (order_view mid.glyphs)) kept in
     record {
-      order =
-          ap V (ordered ∙ ap (final_text r script) parts)
-          ∙ shown_final r script (P F ++ P B)
-          ∙ ap (λ zs. add (map unnumbered zs)) (text_order-append f (P F) (P B) border)
-          ∙ ap add (map-append unnumbered (text_order f (P F)) (text_order f (P B)))
-          ∙ ap (λ zs. add (zs ++ map unnumbered (text_order f (P B)))) (same_final r script (P F) (P xs) front)
-          ∙ ap (λ zs. add (map unnumbered (text_order f (P xs)) ++ zs)) (same_final r script (P B) (P ys) back)
-          ∙ map-append (with_bits r.init) (map unnumbered (text_order f (P xs))) (map unnumbered (text_order f (P ys)))
-          ∙ ap (λ zs. zs ++ add (map unnumbered (text_order f (P ys)))) (sym (shown_final r script (P xs)))
-          ∙ ap (λ zs. V (final_text r script (P xs)) ++ zs) (sym (shown_final r script (P ys)));
+      order = ap V (ordered ∙ ap (final_text r script) parts) ∙ shown_halves r script (P F) (P B) (P xs) (P ys) border front back;
       in_clusters = λ none.
           let n = length (P F) in
           let G = take n mid.glyphs in

@@ -21,6 +21,7 @@ use Rattle.shapers_clusters.proofs.Views.{seen-order_view, seen-same}
 use Rattle.shapers_indic_final.specs.FinalLaws.{FlagsFallButBreaks, FinalTextLaws, final_clusters, final_text_steps}
 use Rattle.shapers_indic_final.specs.FinalOpening.{text_run}
 use Rattle.shapers_indic_final.specs.FinalReordering.{final_order, final_steps}
+use Rattle.shapers_indic_final.proofs.FinalCuts.{final_cuts_with_serials}
 use Rattle.shapers_indic_final.proofs.FinalElsewhere.{elsewhere, elsewhere-whole}
 use Rattle.shapers_indic_final.proofs.FinalFlags.{flags-text, flags-whole}
 use Rattle.shapers_indic_final.proofs.FinalLaws.{final_laws}
@@ -70,4 +71,5 @@ finally_kept r old new done =
       unbroken = λ none. seen_steps_hold carried carried_hides old.level steps gs ns fits
           (done.moved ∙ ap (map carried) (unbroken-text r old.script old.level 0 None (syllables xs) gs (all_syllables gs) none ∙ ap (λ sts. run_steps old.level sts gs) (sym is)));
       cuts = λ hs ks parts border. halves r old.script old.level gs ns hs ks done.order are parts border;
+      renumbered = final_cuts_with_serials r old new done are;
     }

@@ -16,12 +16,14 @@ use Rattle.shapers_buffer.specs.Clusters.{merges}
 use Rattle.shapers_indic_final.specs.FinalClusters.{EachSyllableCuts}
 use Rattle.shapers_clusters.specs.Laws.{ClustersHold, SeenStepsHold}
 use Rattle.shapers_clusters.specs.Steps.{Step, all_merged, joined_steps, old_places}
+use Rattle.shapers_indic_final.specs.FinalCuts.{uninitiated}
 use Rattle.shapers_indic_final.specs.FinalOpening.{FinallyReordered, final_text, is_bound, last_or, with_inits}
 use Rattle.shapers_indic_final.specs.FinalReordering.{final_order, final_steps}
 use Rattle.shapers_indic_final.specs.declared.ot_shaper_indic_final.rules.Rules.{Rules}
 use Rattle.shapers_syllabic.specs.Borders.{MeetAtBorder, SameButSerials, unnumbered}
 use Rattle.shapers_syllabic.specs.Reordering.{carried, text_order, text_steps}
 use Rattle.shapers_syllabic.specs.ReorderingLaws.{ReadsNoSerials, ReorderLaws}
+use Rattle.shapers_syllabic.specs.SpanCuts.{CutsAtBorders}
 
 -- the order and the steps of a syllable keep the laws of reorderings
 abbrev pub FinalReorderLaws : Type 0
@@ -119,7 +121,7 @@ pub record FinallyOfHalves (r : Rules) (script : Option Script) (level : BufferC
 -- glyph keeps its own; none rises. At the levels that merge each stretch that the steps merge is in
 -- one cluster, and in a syllable whose clusters are its own no more is merged. Glyph flags; and
 -- where no syllable is opened inside a word, the laws of steps as they are. Cuts at borders of
--- syllables.
+-- syllables; and of halves whose bytes may have other serials, but for these and the bits of init.
 pub record FinallyKept (r : Rules) (old new : Buffer) : Type 0 where
   pub kept : IsPermutation (seen carried old.glyphs) (seen carried new.glyphs)
   pub numbers : IsPermutation (map (λ g. g.glyph_id) old.glyphs) (map (λ g. g.glyph_id) new.glyphs)
@@ -152,6 +154,8 @@ pub record FinallyKept (r : Rules) (old new : Buffer) : Type 0 where
       new.glyphs
   pub cuts : (gs hs : List hb_glyph_info_t) → old.glyphs ≡ gs ++ hs → MeetAtBorder gs hs →
       FinallyOfHalves r old.script old.level gs hs new.glyphs
+  pub renumbered : CutsAtBorders (uninitiated r) (λ gs. final_text r old.script (order_view gs))
+      (final_clusters r old.script old.level) old.glyphs new.glyphs
 
 abbrev pub FinalTextLaws : Type 0
 FinalTextLaws = (r : Rules) (old new : Buffer) → FinallyReordered r old new → FinallyKept r old new

@@ -6,7 +6,7 @@ use Rattle.shapers_buffer.specs.declared.buffer.category.hb_unicode_general_cate
 use Rattle.shapers_buffer.specs.declared.buffer.glyph.hb_glyph_info_t.{hb_glyph_info_t}
 use Rattle.shapers_buffer.specs.declared.buffer.level.BufferClusterLevel.{BufferClusterLevel}
 use Rattle.shapers_buffer.specs.declared.buffer.tag.Script.{Script}
-use Rattle.shapers_buffer.specs.Buffer.{Buffer, but_places}
+use Rattle.shapers_buffer.specs.Buffer.{Buffer}
 use Rattle.shapers_buffer.specs.Glyph.{order_view}
 use Rattle.shapers_buffer.specs.GlyphFlags.{unsafe_inside, with_bits}
 use Rattle.shapers_buffer.specs.Syllables.{syllables}
@@ -97,9 +97,9 @@ text_run r script level s before (syl ∷ syls) gs =
 
 -- The buffer before and after the pause: its order view is the final text, and to the view of what
 -- is carried along, cluster and glyph flags among it, the glyphs are those that the steps and
--- openings of all syllables lead to.
+-- openings of all syllables lead to. The placement list is empty.
 pub record FinallyReordered (r : Rules) (old new : Buffer) : Type 0 where
-  pub others : but_places new ≡ record (but_places old) { glyphs = new.glyphs }
+  pub others : new ≡ record old { glyphs = new.glyphs; places = [] }
   pub order : order_view new.glyphs ≡ final_text r old.script (order_view old.glyphs)
   pub moved : map carried new.glyphs
       ≡ map carried (text_run r old.script old.level 0 None (syllables (order_view old.glyphs))

@@ -10,6 +10,7 @@ pub mod KhmerMoverMerges
 pub mod KhmerMovers
 mod KhmerMoversRows
 pub mod KhmerMoves
+pub mod KhmerPauseMovers
 pub mod KhmerRing
 mod KhmerRows
 pub mod KhmerSerials

@@ -1,10 +1,11 @@
 -- Khmer: the order, the masks and the merges of a regular syllable, by what moves in it.
-use Rattle.std.specs.Prelude.{ℕ, ◌+◌, ◌≡◌, nat_lt, true, Bool, ◌&&◌, ◌||◌, ◌==◌, not, List, [], ◌∷◌, ◌++◌, drop, filter, flat_map, map, reverse, if◌then◌else◌}
+use Rattle.std.specs.Prelude.{ℕ, ◌+◌, ◌≡◌, nat_lt, true, Bool, ◌&&◌, ◌||◌, ◌==◌, not, List, [], ◌∷◌, ◌++◌, drop, filter, flat_map, length, map, reverse, if◌then◌else◌}
 use Rattle.std.specs.List.{enumerate_from, list_all, list_any, prefix_len, zip}
 use Rattle.shapers_buffer.specs.Lists.{each_after}
 use Rattle.shapers_buffer.specs.Places.{pick}
 use Rattle.shapers_buffer.specs.declared.buffer.glyph.hb_glyph_info_t.{hb_glyph_info_t}
-use Rattle.shapers_khmer.specs.Khmer.{is_coeng, is_left_vowel, is_reordered, is_ro, khmer_masked, khmer_moves, khmer_order, khmer_places, merged_for, categories_of, with_mask}
+use Rattle.shapers_clusters.specs.Steps.{Step, still_step}
+use Rattle.shapers_khmer.specs.Khmer.{is_coeng, is_left_vowel, is_reordered, is_ro, khmer_masked, khmer_moves, khmer_order, khmer_places, khmer_steps, merged_for, categories_of, with_mask}
 use Rattle.shapers_khmer.specs.declared.ot_shaper_khmer.reordering.KhmerOrder.{KhmerOrder}
 
 -- whether a syllable of these categories is regular: its first is neither Coeng nor a left vowel,
@@ -123,3 +124,22 @@ abbrev pub KhmerMoversMergesLaw : Type 0
 KhmerMoversMergesLaw =
     (gs : List hb_glyph_info_t) → is_regular (categories_of gs) ≡ true →
     map merged_for (khmer_moves gs) ≡ merges_by_movers (categories_of gs)
+
+-- THE CALL. What a syllable becomes and by which steps, where those of a regular one are said by
+-- its movers
+abbrev pub ordered_by_movers : KhmerOrder → List hb_glyph_info_t → List hb_glyph_info_t
+ordered_by_movers r gs =
+    if is_regular (categories_of gs) then khmer_by_movers r gs else khmer_order r gs
+
+abbrev pub step_by_movers : List hb_glyph_info_t → Step
+step_by_movers gs =
+    if is_reordered gs then record {
+      merged_first = merges_by_movers (categories_of gs);
+      places = order_by_movers (categories_of gs);
+      merged_then = [];
+    }
+    else still_step (length gs)
+
+abbrev pub steps_by_movers : List hb_glyph_info_t → List Step
+steps_by_movers gs =
+    if is_regular (categories_of gs) then step_by_movers gs ∷ [] else khmer_steps gs

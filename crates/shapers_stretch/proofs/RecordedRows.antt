@@ -6,6 +6,7 @@ use Rattle.shapers_buffer.specs.Buffer.{Buffer, new_buffer}
 use Rattle.shapers_base.specs.declared.plan.PlanData.{PlanData}
 use Rattle.shapers_base.specs.declared.plan.PlanData.TheVariants.{Arabic}
 use Rattle.shapers_base.specs.declared.plan.arabic.StretchStart.TheVariants.{AsCode, Centred}
+use Rattle.shapers_base.specs.declared.plan.breaks.BreakFlags.TheVariants as breaks
 use Rattle.shapers_stretch.specs.Recorded.{recorded, start_of, tiles_recorded}
 
 -- a glyph with all fields set
@@ -17,10 +18,10 @@ rows : map recorded (set 4 3 1 ∷ set 4 2 1 ∷ set 4 0 1 ∷ set 4 1 1 ∷ set
 rows = refl
 
 abbrev with_stch : PlanData
-with_stch = Arabic (record { mask_array = []; has_stch = true; stretch_start = Centred })
+with_stch = Arabic (record { mask_array = []; has_stch = true; stretch_start = Centred; break_flags = breaks.AsCode })
 
 abbrev without_stch : PlanData
-without_stch = Arabic (record { mask_array = []; has_stch = false; stretch_start = AsCode })
+without_stch = Arabic (record { mask_array = []; has_stch = false; stretch_start = AsCode; break_flags = breaks.AsCode })
 
 abbrev text : List hb_glyph_info_t → Buffer
 text gs = record (new_buffer 9) { glyphs = gs }

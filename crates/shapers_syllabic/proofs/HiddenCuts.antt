@@ -19,7 +19,7 @@ use Rattle.shapers_syllabic.specs.Borders.{MeetAtBorder, SameButSerials, spans_s
 use Rattle.shapers_syllabic.specs.Circles.{circle_in, circled, circled_syllable, is_of_kind, rephas_len, with_circle}
 use Rattle.shapers_syllabic.specs.Reordering.{PauseReordered, carried, text_order, text_steps}
 use Rattle.shapers_syllabic.specs.ReorderingLaws.{ReadsNoSerials, ReorderLaws, paused_carried, paused_clusters, paused_order, with_mask_by}
-use Rattle.shapers_syllabic.specs.SpanCuts.{HalvesJoined, PausesCutBetweenSpans}
+use Rattle.shapers_syllabic.specs.SpanCuts.{CutsAtBorders, HalvesJoined, PausesCutBetweenSpans}
 use Rattle.shapers_syllabic.specs.Syllabic.{unsafe_spans}
 use Rattle.shapers_syllabic.proofs.Borders.{syllables-viewed}
 use Rattle.shapers_syllabic.proofs.PauseCuts.{apart_by, clusters-set_up}
@@ -235,3 +235,18 @@ pauses_cut_between_spans meaning steps broken_kind laws reads circles spans old 
     let parts = set_up_parts spans broken_kind old kinds ss ts gs hs split text first second in
     joined_halves f (λ m. refl) circles meaning steps old.level laws reads (λ zs. ap meaning (unchanged zs) ∙ sym (unchanged (meaning zs))) (λ zs. ap steps (unchanged zs))
     gs hs (unsafe_spans spans old.glyphs) (unsafe_spans ss gs) (unsafe_spans ts hs) xs ys new.glyphs parts one two done.order (paused_clusters_are circles meaning steps (spans_set_up spans broken_kind old) new done)
+
+-- a pause cut at a border of syllables, of halves that may have other serials
+pub cuts_with_serials : (circles : Option DottedCircles) (meaning : Glyphs → Glyphs) (steps : Glyphs → List Step) (old new : Buffer) → ReorderLaws meaning steps → ReadsNoSerials meaning steps → PauseReordered circles meaning steps old new → CutsAtBorders unnumbered (paused_order circles meaning) (paused_clusters circles steps old.level) old.glyphs new.glyphs
+cuts_with_serials circles meaning steps old new laws reads done gs hs xs ys text border one two =
+    let f : ℕ → ℕ = λ m. m in
+    let parts : SetUpParts f gs hs old.glyphs gs hs = record {
+      behind = hs;
+      parts = unchanged old.glyphs ∙ text ∙ ap (λ zs. zs ++ hs) (sym (unchanged gs));
+      renumbered = subst (SameButSerials hs) (sym (unchanged hs)) refl;
+      border = subst (λ zs. MeetAtBorder zs hs) (sym (unchanged gs)) border;
+      first = refl;
+      both = ap clusters text;
+    } in
+    joined_halves f (λ m. refl) circles meaning steps old.level laws reads (λ zs. ap meaning (unchanged zs) ∙ sym (unchanged (meaning zs))) (λ zs. ap steps (unchanged zs))
+    gs hs old.glyphs gs hs xs ys new.glyphs parts one two done.order (paused_clusters_are circles meaning steps old new done)

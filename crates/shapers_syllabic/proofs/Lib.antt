@@ -13,6 +13,7 @@ pub mod ReorderingLemmas
 mod ReorderingRows
 pub mod ReorderingWalk
 pub mod Serials
+pub mod SetUpFlags
 pub mod SpanCuts
 pub mod SyllabicLemmas
 mod SyllabicRows

@@ -1,5 +1,5 @@
 -- What dotted circles add to a text, and that nothing else changes.
-use Rattle.std.specs.Prelude.{◌≡◌, Bool, true, false, List, [], ◌∷◌, ◌++◌, take, drop, map, filter, All, Contains, if◌then◌else◌}
+use Rattle.std.specs.Prelude.{◌≡◌, Bool, true, false, List, [], ◌∷◌, ◌++◌, take, drop, map, filter, All, Contains, Option, None, Some, if◌then◌else◌}
 use Rattle.std.specs.List.{flat_map}
 use Rattle.shapers_buffer.specs.declared.buffer.glyph.hb_glyph_info_t.{hb_glyph_info_t}
 use Rattle.shapers_syllabic.specs.declared.ot_shaper_syllabic.circles.DottedCircles.{DottedCircles}
@@ -38,11 +38,22 @@ abbrev pub circles_of : DottedCircles → List hb_glyph_info_t → List hb_glyph
 circles_of rule gs =
     map (λ piece. circle_in piece rule.circle) (filter (is_of_kind rule.broken_kind) (syllables gs))
 
--- the unmarked places of the text with its circles are the text, and the marked ones its circles
+-- a text before and after circles came into it: without the circles it is the text that it was,
+-- and what was added is its circles
+abbrev pub OnlyCirclesAdded : DottedCircles → List hb_glyph_info_t → List hb_glyph_info_t → Type 0
+OnlyCirclesAdded rule old new =
+    (unmarked (circle_marks rule old) new ≡ old)
+    × (marked (circle_marks rule old) new ≡ circles_of rule old)
+
+-- so of a text that gets circles; one that gets none stays
+abbrev pub CirclesErased :
+    Option DottedCircles → List hb_glyph_info_t → List hb_glyph_info_t → Type 0
+CirclesErased None old new = new ≡ old
+CirclesErased (Some rule) old new = OnlyCirclesAdded rule old new
+
 abbrev pub CirclesCanBeErased : Type 0
 CirclesCanBeErased = (rule : DottedCircles) (gs : List hb_glyph_info_t) →
-    (unmarked (circle_marks rule gs) (with_circles rule gs) ≡ gs)
-    × (marked (circle_marks rule gs) (with_circles rule gs) ≡ circles_of rule gs)
+    OnlyCirclesAdded rule gs (with_circles rule gs)
 
 -- each cluster of the new glyphs is one that the old ones had
 abbrev pub NoNewCluster : List hb_glyph_info_t → List hb_glyph_info_t → Type 0

@@ -1,6 +1,6 @@
 -- Reordering syllable by syllable: what a syllable becomes, and the merges and moves that lead
 -- there.
-use Rattle.std.specs.Prelude.{ℕ, ◌%◌, ◌≡◌, List, Option, None, Some, option_map, length, map}
+use Rattle.std.specs.Prelude.{ℕ, ◌%◌, ◌≡◌, List, [], Option, None, Some, option_map, length, map}
 use Rattle.std.specs.List.{flat_map}
 use Rattle.shapers_buffer.specs.declared.buffer.glyph.hb_glyph_info_t.{hb_glyph_info_t}
 use Rattle.shapers_buffer.specs.Buffer.{Buffer, but_places}
@@ -48,11 +48,11 @@ pub record SyllableReordered (meaning : List hb_glyph_info_t →
       (steps (stretch_of s e (order_view old.glyphs)))) old.glyphs)
 
 -- The same of a whole text: the order view is the text order, and the glyphs are those that all
--- steps lead to, syllable by syllable.
+-- steps lead to, syllable by syllable. The placement list is empty.
 pub record SyllablesReordered (meaning : List hb_glyph_info_t →
     List hb_glyph_info_t) (steps : List hb_glyph_info_t →
     List Step) (old new : Buffer) : Type 0 where
-  pub others : but_places new ≡ record (but_places old) { glyphs = new.glyphs }
+  pub others : new ≡ record old { glyphs = new.glyphs; places = [] }
   pub order : order_view new.glyphs ≡ text_order meaning (order_view old.glyphs)
   pub moved : map carried new.glyphs
       ≡ map carried (run_steps old.level (text_steps steps (order_view old.glyphs)) old.glyphs)

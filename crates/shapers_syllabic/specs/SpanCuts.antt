@@ -8,7 +8,7 @@ use Rattle.shapers_buffer.specs.Syllables.{spans_cover}
 use Rattle.shapers_clusters.specs.Cuts.{ShareNone}
 use Rattle.shapers_clusters.specs.Steps.{Step}
 use Rattle.shapers_syllabic.specs.declared.ot_shaper_syllabic.circles.DottedCircles.{DottedCircles}
-use Rattle.shapers_syllabic.specs.Borders.{SameButSerials, spans_set_up, unnumbered}
+use Rattle.shapers_syllabic.specs.Borders.{MeetAtBorder, SameButSerials, spans_set_up, unnumbered}
 use Rattle.shapers_syllabic.specs.Reordering.{PauseReordered}
 use Rattle.shapers_syllabic.specs.ReorderingLaws.{ReadsNoSerials, ReorderLaws, paused_clusters, paused_order}
 use Rattle.shapers_syllabic.specs.Syllabic.{unsafe_spans}
@@ -32,6 +32,15 @@ CutsBetweenSpans view set_up made clusters_made spans old new =
     spans ≡ ss ++ ts → old ≡ gs ++ hs → spans_cover (length gs) ss ≡ true →
     spans_cover (length hs) ts ≡ true →
     SameButSerials (set_up ss gs) xs → SameButSerials (set_up ts hs) ys →
+    HalvesJoined view made clusters_made gs hs xs ys new
+
+-- So at every border of a text's syllables: each half's bytes may have other serials, as long as
+-- neighbouring syllables differ.
+abbrev pub CutsAtBorders : (hb_glyph_info_t → hb_glyph_info_t) →
+    (List hb_glyph_info_t → List hb_glyph_info_t) → (List hb_glyph_info_t → List ℕ) →
+    List hb_glyph_info_t → List hb_glyph_info_t → Type 0
+CutsAtBorders view made clusters_made old new = (gs hs xs ys : List hb_glyph_info_t) →
+    old ≡ gs ++ hs → MeetAtBorder gs hs → SameButSerials gs xs → SameButSerials hs ys →
     HalvesJoined view made clusters_made gs hs xs ys new
 
 -- A set-up and a reordering pause directly after it, whatever circles it opens: serials of bytes

@@ -1,5 +1,6 @@
 mod ConstantRows
 pub mod MaskLemmas
+pub mod NothingRecorded
 mod OneFront
 mod Pieces
 mod Reordered
@@ -8,6 +9,7 @@ mod StepsAtOnce
 mod SyllableRows
 mod SyllableWalks
 mod UniversalCuts
+mod UniversalFlags
 mod UniversalFronts
 mod UniversalListing
 pub mod UniversalLists

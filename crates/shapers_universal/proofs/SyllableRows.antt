@@ -8,7 +8,8 @@ use Rattle.shapers_buffer.specs.declared.buffer.tag.Script.{Script}
 use Rattle.shapers_buffer.specs.Buffer.{Buffer, new_buffer}
 use Rattle.shapers_buffer.specs.Glyph.{default_glyph}
 use Rattle.shapers_base.specs.Map.{Map}
-use Rattle.shapers_base.specs.declared.plan.arabic.StretchStart.TheVariants.{AsCode}
+use Rattle.shapers_base.specs.declared.plan.arabic.StretchStart.TheVariants as starts
+use Rattle.shapers_base.specs.declared.plan.breaks.BreakFlags.TheVariants as breaks
 use Rattle.shapers_base.specs.declared.map.feature_map_t.{feature_map_t}
 use Rattle.shapers_base.specs.declared.plan.PlanData.TheVariants.{Universal}
 use Rattle.shapers_base.specs.declared.plan.joining.hb_arabic_joining_type_t.{hb_arabic_joining_type_t}
@@ -19,7 +20,7 @@ use Rattle.shapers_universal.specs.declared.ot_shaper_use.forms.FormMasks.{FormM
 use Rattle.shapers_universal.specs.PlanData.{joins_letters, universal_plan}
 use Rattle.shapers_universal.specs.UniversalMasks.{categorized}
 use Rattle.shapers_universal.specs.UniversalCuts.{formless_for}
-use Rattle.shapers_universal.specs.UniversalSyllables.{all_forms, form_masks, mask_between, rphf_recorded, syllables_set_up, with_forms, with_instead, with_pref_recorded, with_rphf, with_rphf_recorded}
+use Rattle.shapers_universal.specs.UniversalSyllables.{all_forms, form_masks, mask_between, rphf_recorded, set_up_by_its_bytes, syllables_set_up, with_forms, with_instead, with_pref_recorded, with_rphf, with_rphf_recorded}
 
 -- a glyph whose fields are all set
 abbrev full : hb_glyph_info_t
@@ -108,7 +109,7 @@ abbrev two_spans : List Span
 two_spans = record { len = 4; kind = 2 } ∷ record { len = 1; kind = 7 } ∷ []
 
 abbrev set_up_masks : String → List (ℕ × ℕ)
-set_up_masks tag = map (λ g. (g.mask, g.syllable)) (syllables_set_up (Universal (universal_plan AsCode (script tag) font)) font two_spans five).glyphs
+set_up_masks tag = map (λ g. (g.mask, g.syllable)) (syllables_set_up (Universal (universal_plan starts.AsCode breaks.AsCode (script tag) font)) font two_spans five).glyphs
 
 set_up : set_up_masks "Bali" ≡ (0x120, 0x12) ∷ (0x123, 0x12) ∷ (0x123, 0x12) ∷ (0x23, 0x12) ∷ (0x180, 0x27) ∷ []
 set_up = refl
@@ -116,8 +117,22 @@ set_up = refl
 set_up_joining : set_up_masks "Mong" ≡ (0x100, 0x12) ∷ (0x103, 0x12) ∷ (0x103, 0x12) ∷ (3, 0x12) ∷ (0x100, 0x27) ∷ []
 set_up_joining = refl
 
-set_up_broken : (syllables_set_up (Universal (universal_plan AsCode None font)) font two_spans five).broken ≡ true
+set_up_broken : (syllables_set_up (Universal (universal_plan starts.AsCode breaks.AsCode None font)) font two_spans five).broken ≡ true
 set_up_broken = refl
+
+-- the same by the bytes that the text has, with other serials, and its mark that stays
+abbrev by_bytes : String → List (ℕ × ℕ) → Buffer
+by_bytes tag rows = set_up_by_its_bytes (Universal (universal_plan AsCode (script tag) font)) font (record (new_buffer 9) { glyphs = map (λ (row : ℕ × ℕ). record default_glyph { cluster = row.0; category = 1; syllable = row.1 }) rows })
+
+set_up_of_bytes : map (λ g. (g.mask, g.syllable)) (by_bytes "Bali" ((0, 0x52) ∷ (1, 0x52) ∷ (2, 0x52) ∷ (3, 0x52) ∷ (4, 0x27) ∷ [])).glyphs ≡ (0x120, 0x52) ∷ (0x123, 0x52) ∷ (0x123, 0x52) ∷ (0x23, 0x52) ∷ (0x180, 0x27) ∷ []
+set_up_of_bytes = refl
+
+set_up_of_joining : map (λ g. g.mask) (by_bytes "Mong" ((3, 0x16) ∷ (3, 0x16) ∷ [])).glyphs ∷ [] ≡ (0x100 ∷ 0x100 ∷ []) ∷ []
+set_up_of_joining = refl
+
+-- the broken kind is 7
+broken_by_bytes : map (λ byte. (by_bytes "Bali" ((0, byte) ∷ [])).broken) (0x17 ∷ 0x16 ∷ 0x18 ∷ 0x71 ∷ []) ≡ true ∷ false ∷ false ∷ false ∷ []
+broken_by_bytes = refl
 
 -- the records: four bases with the mask, the second put in by a lookup
 abbrev of_row : ℕ × ℕ → hb_glyph_info_t
@@ -153,7 +168,7 @@ joining = refl
 not_joining : joins_letters None ∷ map (λ tag. joins_letters (script tag)) ("Bali" ∷ "Thai" ∷ "mong" ∷ "Sogo" ∷ "Syre" ∷ []) ≡ false ∷ false ∷ false ∷ false ∷ false ∷ false ∷ []
 not_joining = refl
 
-plans : universal_plan AsCode (script "Mong") font ∷ universal_plan AsCode (script "Bali") font ∷ universal_plan AsCode None font ∷ [] ≡ record { rphf_mask = 0x100; arabic_plan = Some (arabic_plan AsCode font) } ∷ record { rphf_mask = 0x100; arabic_plan = None } ∷ record { rphf_mask = 0x100; arabic_plan = None } ∷ []
+plans : universal_plan starts.AsCode breaks.AsCode (script "Mong") font ∷ universal_plan starts.AsCode breaks.AsCode (script "Bali") font ∷ universal_plan starts.AsCode breaks.AsCode None font ∷ [] ≡ record { rphf_mask = 0x100; arabic_plan = Some (arabic_plan starts.AsCode breaks.AsCode font) } ∷ record { rphf_mask = 0x100; arabic_plan = None } ∷ record { rphf_mask = 0x100; arabic_plan = None } ∷ []
 plans = refl
 
 -- the category of the character, and nothing else

@@ -8,6 +8,7 @@ use Rattle.shapers_base.specs.declared.plan.PlanData.{PlanData}
 use Rattle.shapers_base.specs.declared.plan.PlanData.TheVariants.{Universal}
 use Rattle.shapers_base.specs.declared.plan.arabic.arabic_shape_plan_t.{arabic_shape_plan_t}
 use Rattle.shapers_base.specs.declared.plan.arabic.StretchStart.{StretchStart}
+use Rattle.shapers_base.specs.declared.plan.breaks.BreakFlags.{BreakFlags}
 use Rattle.shapers_base.specs.declared.plan.universal.use_shape_plan_t.{use_shape_plan_t}
 use Rattle.shapers_arabic.specs.PlanData.{arabic_plan}
 
@@ -22,10 +23,10 @@ joins_letters None = false
 joins_letters (Some s) = list_any (λ t. pointwise nat_eq t.0 s.0) joining_scripts
 
 -- the plan: the mask of rphf and, for a script whose letters join, the plan of Arabic
-abbrev pub universal_plan : StretchStart → Option Script → Map → use_shape_plan_t
-universal_plan start script m = record {
+abbrev pub universal_plan : StretchStart → BreakFlags → Option Script → Map → use_shape_plan_t
+universal_plan start breaks script m = record {
   rphf_mask = mask_of (record { 0 = codes "rphf" }) m;
-  arabic_plan = if joins_letters script then Some (arabic_plan start m) else None;
+  arabic_plan = if joins_letters script then Some (arabic_plan start breaks m) else None;
 }
 
 -- whether the data are those of the universal shaper

@@ -11,7 +11,7 @@ use Rattle.shapers_buffer.specs.Buffer.{Buffer}
 use Rattle.shapers_buffer.specs.GlyphFlags.{with_bits}
 use Rattle.shapers_buffer.specs.Marks.{is_substituted}
 use Rattle.shapers_buffer.specs.Syllables.{kind_of, syllables, with_spans}
-use Rattle.shapers_syllabic.specs.Syllabic.{with_unsafe_syllables}
+use Rattle.shapers_syllabic.specs.Syllabic.{set_up_by_bytes, with_unsafe_syllables}
 use Rattle.shapers_syllabic.specs.declared.ot_shaper_syllabic.kinds.use_syllable.TheConstants.{BROKEN_CLUSTER, HIEROGLYPH_CLUSTER, NON_CLUSTER}
 use Rattle.shapers_universal.specs.declared.ot_shaper_use.category.TheConstants.{R, VPre}
 use Rattle.shapers_universal.specs.declared.ot_shaper_use.forms.FormMasks.{FormMasks}
@@ -99,6 +99,12 @@ abbrev pub syllables_set_up : PlanData → Map → List Span → Buffer → Buff
 syllables_set_up kept m spans b =
     let cut : Buffer = with_unsafe_syllables (with_spans spans BROKEN_CLUSTER b) in
     record cut { glyphs = with_syllable_masks kept m cut.glyphs }
+
+-- so by the syllable bytes that the text has
+abbrev pub set_up_by_its_bytes : PlanData → Map → Buffer → Buffer
+set_up_by_its_bytes kept m b =
+    let marked : Buffer = set_up_by_bytes BROKEN_CLUSTER b in
+    record marked { glyphs = with_syllable_masks kept m marked.glyphs }
 
 -- the glyph of another category
 abbrev pub in_category : ℕ → hb_glyph_info_t → hb_glyph_info_t

@@ -302,6 +302,7 @@ typedef struct sengadlit_plan_input_t {
     sengadlit_bool_t found_script;   /* Whether that is one of the script's own tags. */
     sengadlit_bool_t has_gpos_mark;  /* Whether GPOS has the feature `mark`: read by Hebrew's compose. */
     sengadlit_bool_t centres_stretch; /* Whether the tiles of stretched marks are centred; else as rustybuzz lays them. */
+    sengadlit_bool_t sound_breaks;   /* Whether joining flags each place where a broken text would be shaped otherwise. */
     uint32_t global_mask;            /* As hb_ot_map_t::global_mask. */
     const sengadlit_feature_t *features; /* Of a tag that stands there twice the first counts. Null if the length is 0; */
     unsigned int features_length;

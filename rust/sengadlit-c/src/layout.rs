@@ -116,8 +116,8 @@ mod tests {
         layout!("map", Map<'static>: funcs, user_data);
         layout!("feature", Feature: tag, mask, stage);
         layout!("stage", Stage: start, end);
-        layout!("plan_input", PlanInput: script, chosen_script, found_script, has_gpos_mark, centres_stretch, global_mask,
-        features, features_length, stages, stages_length, lookups, lookups_length, kept.user_data = "user_data", kept.destroy = "destroy");
+        layout!("plan_input", PlanInput: script, chosen_script, found_script, has_gpos_mark, centres_stretch, sound_breaks,
+        global_mask, features, features_length, stages, stages_length, lookups, lookups_length, kept.user_data = "user_data", kept.destroy = "destroy");
         layout!("plan_data", Data: shaper, joins, has_stch, rphf_mask, masks);
         layout!("glyph_info", Glyph: codepoint, cluster, mask, var, syllable, category, auxiliary, general_category,
         modified_combining_class, lig_comp, marks);

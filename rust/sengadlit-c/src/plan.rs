@@ -8,7 +8,7 @@ use core::sync::atomic::AtomicUsize;
 use sengadlit::alloc::{AllocError, Global, Vec as List};
 use sengadlit::buffer::ShaperError;
 use sengadlit::map::{FeatureMap, Map};
-use sengadlit::plan::{ArabicPlan, Plan as Inner, StretchStart};
+use sengadlit::plan::{ArabicPlan, BreakFlags, Plan as Inner, StretchStart};
 use sengadlit::shaper::Shaper;
 
 /// The bits of a mask that are glyph flags.
@@ -44,6 +44,9 @@ pub fn make(
     plan.has_gpos_mark = input.has_gpos_mark != 0;
     if input.centres_stretch != 0 {
         plan.stretch_start = StretchStart::Centred;
+    }
+    if input.sound_breaks != 0 {
+        plan.break_flags = BreakFlags::Sound;
     }
     Ok(Plan {
         references: AtomicUsize::new(1),

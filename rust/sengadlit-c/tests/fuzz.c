@@ -174,6 +174,7 @@ static sengadlit_plan_t *make_plan(unsigned int *destroyed)
     input.found_script = settings & 4;
     input.has_gpos_mark = settings & 8;
     input.centres_stretch = settings & 16;
+    input.sound_breaks = settings & 64;
     input.global_mask = next();
     input.features = features;
     input.features_length = 8;

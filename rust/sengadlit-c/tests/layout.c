@@ -64,6 +64,7 @@ static void print_plans(void)
     FIELD(plan_input, found_script);
     FIELD(plan_input, has_gpos_mark);
     FIELD(plan_input, centres_stretch);
+    FIELD(plan_input, sound_breaks);
     FIELD(plan_input, global_mask);
     FIELD(plan_input, features);
     FIELD(plan_input, features_length);

@@ -3,7 +3,7 @@
 use crate::alloc::{AllocError, Global};
 use crate::buffer::{Script, Tag};
 use crate::map::{FeatureMap, Map};
-use crate::plan::{Plan, StretchStart};
+use crate::plan::{BreakFlags, Plan, StretchStart};
 use crate::shaper::Shaper;
 use core::error::Error;
 use core::fmt;
@@ -51,14 +51,17 @@ pub struct PlanBuilder<'a> {
     found_script: bool,
     has_gpos_mark: bool,
     stretch_start: StretchStart,
+    break_flags: BreakFlags,
 }
 
 impl<'a> PlanBuilder<'a> {
-    /// The script of the text.
+    /// The script of the text, if it is known.
     #[inline]
-    pub fn script(self, script: Script) -> Self {
-        let script = Some(script);
-        PlanBuilder { script, ..self }
+    pub fn script(self, script: impl Into<Option<Script>>) -> Self {
+        PlanBuilder {
+            script: script.into(),
+            ..self
+        }
     }
 
     /// The features of the map, with their masks and stages.
@@ -88,12 +91,11 @@ impl<'a> PlanBuilder<'a> {
         }
     }
 
-    /// The script of the font that was chosen for the text, as `dev2`.
+    /// The script of the font that was chosen for the text, as `dev2`, if one was.
     #[inline]
-    pub fn chosen_script(self, script: Tag) -> Self {
-        let chosen_script = Some(script);
+    pub fn chosen_script(self, script: impl Into<Option<Tag>>) -> Self {
         PlanBuilder {
-            chosen_script,
+            chosen_script: script.into(),
             ..self
         }
     }
@@ -125,6 +127,15 @@ impl<'a> PlanBuilder<'a> {
         }
     }
 
+    /// Which places are flagged unsafe to break.
+    #[inline]
+    pub fn break_flags(self, break_flags: BreakFlags) -> Self {
+        PlanBuilder {
+            break_flags,
+            ..self
+        }
+    }
+
     /// The map of the features, stages and lookups.
     pub fn build_map(self) -> Result<Map, PlanError> {
         let map = Map::from_slices(
@@ -146,6 +157,7 @@ impl<'a> PlanBuilder<'a> {
         let mut plan = Plan::new(self.script, self.build_map()?);
         plan.has_gpos_mark = self.has_gpos_mark;
         plan.stretch_start = self.stretch_start;
+        plan.break_flags = self.break_flags;
         Ok(plan)
     }
 
@@ -225,12 +237,14 @@ mod tests {
             .found_script(true)
             .has_gpos_mark(true)
             .stretch_start(StretchStart::Centred)
+            .break_flags(BreakFlags::Sound)
             .build()
             .unwrap();
         let table = crate::map::TableIndex::GSUB;
         assert_eq!(plan.script, Some(Script(*b"Khmr")));
         assert!(plan.has_gpos_mark);
         assert_eq!(plan.stretch_start, StretchStart::Centred);
+        assert_eq!(plan.break_flags, BreakFlags::Sound);
         assert_eq!(plan.plan_data, PlanData::None);
         assert_eq!(plan.ot_map.get_1_mask(PREF.tag), 0x10);
         assert_eq!(plan.ot_map.get_feature_stage(table, PREF.tag), Some(1));
@@ -246,6 +260,7 @@ mod tests {
         let plan = Plan::builder().build().unwrap();
         assert_eq!((plan.script, plan.has_gpos_mark), (None, false));
         assert_eq!(plan.stretch_start, StretchStart::AsCode);
+        assert_eq!(plan.break_flags, BreakFlags::AsCode);
         assert_eq!(plan.ot_map.get_global_mask(), 0);
     }
 

@@ -3,7 +3,7 @@
 
 pub use crate::builder::{PlanBuilder, PlanError};
 pub use crate::generated::shapers_base::plan::{
-    ArabicPlan, BlwfMode, Category, HangulPlan, IndicConfig, IndicPlan,
+    ArabicPlan, BlwfMode, BreakFlags, Category, HangulPlan, IndicConfig, IndicPlan,
     IndicWouldSubstituteFeature, JoiningType, KhmerPlan, NormalizationMode, Pause, Plan, PlanData,
     Planner, Position, Preprocess, RephMode, RephPosition, Request, StretchStart, UniversalPlan,
     ZeroWidthMarks, ot_category_t, ot_position_t,

@@ -4,7 +4,7 @@ use crate::expected::{COUNT, Expected};
 use crate::fault::LineFault;
 use bitflags::Flags;
 use rustybuzz_shapers::buffer::{BufferClusterLevel, BufferFlags, Direction, Script, hb_tag_t};
-use rustybuzz_shapers::plan::StretchStart;
+use rustybuzz_shapers::plan::{BreakFlags, StretchStart};
 use rustybuzz_shapers::shaper::{
     ARABIC_SHAPER, HANGUL_SHAPER, HEBREW_SHAPER, INDIC_SHAPER, KHMER_SHAPER, MYANMAR_SHAPER,
     MYANMAR_ZAWGYI_SHAPER, THAI_SHAPER, UNIVERSAL_SHAPER, hb_ot_shaper_t,
@@ -12,7 +12,7 @@ use rustybuzz_shapers::shaper::{
 
 // The names of the settings.
 const KEYS: &str = "shaper, script, chosen, found, gposmark, direction, level, flags, maxlen, \
-    global, positions, stretch";
+    global, positions, stretch, breaks";
 
 // The names of the shapers.
 const SHAPERS: &str = "arabic, hangul, hebrew, indic, khmer, myanmar, zawgyi, thai, universal";
@@ -42,6 +42,8 @@ pub(crate) enum Setting {
     Positions(bool),
     /// Where the tiles of a stretched mark begin.
     Stretch(StretchStart),
+    /// Which places are flagged unsafe to break.
+    Breaks(BreakFlags),
 }
 
 impl Setting {
@@ -60,6 +62,7 @@ impl Setting {
             "global" => Ok(Setting::Global(hexadecimal(value)?)),
             "positions" => Ok(Setting::Positions(yes_or_no(value)?)),
             "stretch" => Ok(Setting::Stretch(stretch_start(value)?)),
+            "breaks" => Ok(Setting::Breaks(break_flags(value)?)),
             _ => Err(LineFault::Unreadable(Expected::Word(KEYS))),
         }
     }
@@ -108,5 +111,13 @@ fn stretch_start(name: &str) -> Result<StretchStart, LineFault> {
         "code" => Ok(StretchStart::AsCode),
         "centred" => Ok(StretchStart::Centred),
         _ => Err(LineFault::Unreadable(Expected::Word("code, centred"))),
+    }
+}
+
+fn break_flags(name: &str) -> Result<BreakFlags, LineFault> {
+    match name {
+        "code" => Ok(BreakFlags::AsCode),
+        "sound" => Ok(BreakFlags::Sound),
+        _ => Err(LineFault::Unreadable(Expected::Word("code, sound"))),
     }
 }

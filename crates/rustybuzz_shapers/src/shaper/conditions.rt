@@ -1,5 +1,5 @@
 //! What the hooks ask of their callers: the plan's data, and tests of the rest.
-ghost use Rattle.std.specs.Prelude.{◌≡◌, ◌≤◌, ◌↔◌, [], All, IsTrue, is_some, length};
+ghost use Rattle.std.specs.Prelude.{◌≡◌, ◌≤◌, ◌↔◌, [], All, IsTrue, is_some, length, true};
 ghost use Rattle.rustybuzz_shapers.specs.Pauses.{PauseFits};
 ghost use Rattle.shapers_arabic.specs.JoinedText.{AreCharacters};
 ghost use Rattle.shapers_arabic.specs.PlanData.{IsArabic};
@@ -15,15 +15,17 @@ use shapers_khmer::ot_shaper_khmer;
 use shapers_universal::ot_shaper_use;
 
 impl hb_ot_shaper_t {
-    ghost use Rattle.rustybuzz_shapers.specs.Hooks.{GlyphsFit, MarksFit, PlanFits, PostprocessFits, data_created, with_created};
+    ghost use Rattle.rustybuzz_shapers.specs.Hooks.{GlyphsFit, MarksFit, MasksOffFlags, PlanFits, PostprocessFits, data_created, with_created};
     ghost use Rattle.rustybuzz_shapers.specs.Pauses.{PausesFit};
+    ghost use Rattle.rustybuzz_shapers.specs.Standing.{standing};
 
     /// The plan with the data that the shaper keeps, if it keeps any. So it fits the shaper's hooks
-    /// and each pause that its lists ask for.
+    /// and each pause that its lists ask for. No mask in these data touches a glyph flag bit.
     pub fn with_data(self, mut plan: hb_ot_shape_plan_t) -> hb_ot_shape_plan_t
         ensures data { result ≡ with_created (data_created self plan) plan }
         ensures fits { PlanFits self result }
         ensures pauses { PausesFit self result }
+        ensures off_flags { (standing self).create_data ≡ true → MasksOffFlags result.plan_data }
     {
         match self {
             Self::Arabic => plan.plan_data = ot_shaper_arabic::create_data(&plan),

@@ -1,10 +1,10 @@
 //! The pauses behind one dispatcher.
-ghost use Rattle.std.specs.Prelude.{◌≡◌, ◌≤◌, [], All, IfOk, OnOk, OnErr, is_some};
-ghost use Rattle.rustybuzz_shapers.specs.Pauses.{PauseFits, PauseKeeps, Paused, RefusesPause, circles_of};
+ghost use Rattle.std.specs.Prelude.{◌≡◌, ◌≤◌, [], All, IfOk, OnOk, OnErr, false, is_some};
+ghost use Rattle.rustybuzz_shapers.specs.Pauses.{PauseFits, PauseKeeps, PauseStays, Paused, RefusesPause, circles_of};
 
 use shapers_base::buffer::{ShaperError, Span, hb_buffer_t};
 use shapers_base::font::hb_font_t;
-use shapers_base::plan::{Pause, hb_ot_shape_plan_t};
+use shapers_base::plan::{Pause, PlanData, hb_ot_shape_plan_t};
 use shapers_indic_final::ot_shaper_indic_final;
 use shapers_indic_initial::ot_shaper_indic_initial;
 use shapers_khmer::ot_shaper_khmer;
@@ -20,7 +20,8 @@ use shapers_universal::ot_shaper_use;
 /// were wanted. Spans are read by the pauses that set syllables alone: those refuse with
 /// `SpansDontCover` where a span is empty or they don't add up. Reorderings refuse unknown kinds of
 /// syllables, but for the universal shaper's, and then as circles do. A refused pause leaves the
-/// buffer as it was.
+/// buffer as it was. A reordering leaves the placement list empty, so that each place reads 0; the
+/// other pauses leave it as it was.
 pub fn run_pause<F: hb_font_t>(
     pause: Pause,
     plan: &hb_ot_shape_plan_t,
@@ -66,4 +67,20 @@ pub fn run_pause<F: hb_font_t>(
         Pause::ArabicFallbackShape => {}
     }
     Ok(false)
+}
+
+/// Whether the pause can change a buffer under this plan. False for the pauses that do nothing under
+/// it, whatever the buffer: fallback shaping, tiles where the font stretches no marks, and the
+/// record of `rphf` where the plan has no mask for it.
+#[inline]
+pub fn pause_may_change(pause: Pause, plan: &hb_ot_shape_plan_t) -> bool
+    requires { PauseFits pause plan.now }
+    ensures { result ≡ false → PauseStays pause plan.now }
+{
+    match (pause, &plan.plan_data) {
+        (Pause::ArabicFallbackShape, _) => false,
+        (Pause::RecordStch, PlanData::Arabic(arabic_plan)) => arabic_plan.has_stch,
+        (Pause::RecordRphf, PlanData::Universal(universal_plan)) => universal_plan.rphf_mask != 0,
+        _ => true,
+    }
 }

@@ -7,9 +7,11 @@ use shapers_base::buffer::hb_tag_t;
 use shapers_base::plan::{PlanData, arabic_shape_plan_t, hb_ot_shape_plan_t};
 
 /// What the shaper keeps in the plan: the masks of the joining forms, which touch no glyph flag
-/// bit, whether marks stretch, and where these begin.
+/// bit, whether marks stretch, where these begin, and which breaks are flagged.
 pub fn data_create_arabic(plan: &hb_ot_shape_plan_t) -> arabic_shape_plan_t
-    ensures data { result ≡ arabic_plan plan.now.stretch_start plan.now.ot_map }
+    ensures data { let start = plan.now.stretch_start in
+        let breaks = plan.now.break_flags in
+        result ≡ arabic_plan start breaks plan.now.ot_map }
     ensures off_flags { AllByRecursion (λ mask. mask % 8 ≡ 0) result.mask_array }
 {
     let map = &plan.ot_map;
@@ -26,12 +28,15 @@ pub fn data_create_arabic(plan: &hb_ot_shape_plan_t) -> arabic_shape_plan_t
         ],
         has_stch: map.get_1_mask(hb_tag_t(*b"stch")) != 0,
         stretch_start: plan.stretch_start,
+        break_flags: plan.break_flags,
     }
 }
 
 /// What the shaper keeps in the plan. It can't refuse and takes no memory.
 pub fn create_data(plan: &hb_ot_shape_plan_t) -> PlanData
-    ensures data { result ≡ PlanData.Arabic (arabic_plan plan.now.stretch_start plan.now.ot_map) }
+    ensures data { let start = plan.now.stretch_start in
+        let breaks = plan.now.break_flags in
+        result ≡ PlanData.Arabic (arabic_plan start breaks plan.now.ot_map) }
     ensures off_flags { AllByRecursion (λ mask. mask % 8 ≡ 0) (masks_of result) }
 {
     PlanData::Arabic(data_create_arabic(plan))

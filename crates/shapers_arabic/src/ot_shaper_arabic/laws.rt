@@ -1,4 +1,6 @@
-//! The law of joining in halves of a text.
+//! The laws of joining in halves of a text.
+ghost use Rattle.shapers_arabic.specs.Breaks.{AsCodeLaw, ExactLaw};
+ghost use Rattle.shapers_arabic.specs.Concatenation.{ConcatenationLaw};
 ghost use Rattle.shapers_arabic.specs.JoinedText.{CopiedContextsCut, CopiedContextsShow};
 
 /// A law of joining: contexts that are copied from the text show the neighbours, where one of their
@@ -7,4 +9,17 @@ ghost use Rattle.shapers_arabic.specs.JoinedText.{CopiedContextsCut, CopiedConte
 pub fn copied_contexts_law()
     ensures shown { CopiedContextsShow }
     ensures halves { CopiedContextsCut }
+{}
+
+/// Where a text may be broken, on lists of joining types: what joining flags by itself are the
+/// places where the first half, cut off, loses a form; with Sound a place has no flag exactly where
+/// the forms of the text are those of its halves.
+pub fn joining_breaks_law()
+    ensures as_code { AsCodeLaw }
+    ensures exact { ExactLaw }
+{}
+
+/// Texts that are open at their borders may be put together: they keep their forms.
+pub fn joining_concatenation_law()
+    ensures { ConcatenationLaw }
 {}

@@ -1,3 +1,5 @@
+use super::breaks::BreakFlags;
+
 /// Where the tiles of a stretched mark begin to be laid, beside the word that they stretch over.
 #[derive(Clone, Copy, Debug, PartialEq, Eq, Default)]
 pub enum StretchStart {
@@ -17,4 +19,6 @@ pub struct arabic_shape_plan_t {
     pub has_stch: bool,
     /// Where the tiles of a stretched mark begin.
     pub stretch_start: StretchStart,
+    /// Which places are flagged unsafe to break.
+    pub break_flags: BreakFlags,
 }

@@ -43,7 +43,7 @@ pub enum BlwfMode {
     PostOnly,
 }
 
-/// What the rules of one script ask for.
+/// The properties of one script that the rules depend on.
 #[derive(Clone, Copy, Debug, PartialEq, Eq)]
 pub struct IndicConfig {
     /// The script, or none for any other.
@@ -69,7 +69,8 @@ pub struct IndicWouldSubstituteFeature {
 
 impl IndicWouldSubstituteFeature {
     /// The question about the lookups of a feature's stage. With `zero_context` only those count
-    /// that ask for no context around the glyphs.
+    /// that need no context around the glyphs.
+    #[inline]
     pub fn new(map: &hb_ot_map_t, feature_tag: hb_tag_t, zero_context: bool) -> Self
         ensures { result ≡ question_for feature_tag zero_context map.now }
     {
@@ -84,6 +85,7 @@ impl IndicWouldSubstituteFeature {
     }
 
     /// Whether some lookup of the feature's stage would apply to exactly these glyphs.
+    #[inline]
     pub fn would_substitute<F: hb_font_t>(
         &self,
         map: &hb_ot_map_t,
@@ -103,7 +105,7 @@ impl IndicWouldSubstituteFeature {
         map.lookups(&self.lookups)
     }
 
-    /// Whether only those count that ask for no context around the glyphs.
+    /// Whether only those count that need no context around the glyphs.
     #[inline]
     pub fn zero_context(&self) -> bool
         ensures { result ≡ self.now.zero_context }
@@ -115,7 +117,7 @@ impl IndicWouldSubstituteFeature {
 /// What the shaper of the Indic scripts keeps in the plan.
 #[derive(Clone, Debug, PartialEq, Eq, Drop)]
 pub struct indic_shape_plan_t {
-    /// What the script asks for.
+    /// The properties of the script.
     pub config: IndicConfig,
     /// Whether the font follows the older specification.
     pub is_old_spec: bool,

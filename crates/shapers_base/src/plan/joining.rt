@@ -37,6 +37,7 @@ impl hb_arabic_joining_type_t {
     ];
 
     /// The joining type of this number of the joining tables: 0 to 5, 7 or 8.
+    #[inline]
     pub fn from_number(number: u8) -> Option<Self>
         ensures { result ≡ find (λ t. joining_number t == number) joining_types }
     {
@@ -54,6 +55,7 @@ impl hb_arabic_joining_type_t {
     }
 
     /// The number of the joining type in the joining tables.
+    #[inline]
     pub fn number(self) -> u8
         ensures { result ≡ joining_number self }
     {

@@ -58,6 +58,7 @@ impl Pause {
     ];
 
     /// The pause of this number, its place in `ALL`.
+    #[inline]
     pub fn from_number(number: u8) -> Option<Self>
         ensures { result ≡ slice_get pauses number }
     {
@@ -65,6 +66,7 @@ impl Pause {
     }
 
     /// The number of the pause, its place in `ALL`.
+    #[inline]
     pub fn number(self) -> u8
         ensures { slice_get pauses result ≡ Some self }
     {

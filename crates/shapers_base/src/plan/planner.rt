@@ -10,7 +10,7 @@ use crate::plan::pause::Pause;
 use std::alloc::Global;
 use std::marker::Model;
 
-/// What a shaper asks of the map, in order.
+/// A request of a shaper to the map.
 #[derive(Clone, Copy, Debug, PartialEq, Eq)]
 pub enum Request {
     /// A feature, with flags and a value; 0 turns it off.
@@ -32,7 +32,7 @@ impl Default for Request {
     }
 }
 
-/// Collects what a shaper asks of the map for one script.
+/// Collects what a shaper requests of the map for one script.
 #[derive(Debug, Drop)]
 pub struct hb_ot_shape_planner_t {
     script: Option<Script>,
@@ -67,7 +67,7 @@ impl hb_ot_shape_planner_t {
         self.script
     }
 
-    /// What was asked so far, in order.
+    /// The requests so far, in order.
     #[inline]
     pub fn requests(&self) -> &[Request]
         ensures { result.now ≡ self.now.requests }
@@ -83,7 +83,7 @@ impl hb_ot_shape_planner_t {
         face.has_feature(tag)
     }
 
-    /// Asks for a feature. The only refusal is `Memory`.
+    /// Requests a feature. The only refusal is `Memory`.
     #[inline]
     pub fn add_feature(&mut self, tag: hb_tag_t, flags: u32, value: u32) -> Result<(), ShaperError>
         ensures ok { let list = Request.Feature tag flags value ∷ [] in
@@ -94,7 +94,7 @@ impl hb_ot_shape_planner_t {
         self.add_requests(&[Request::Feature(tag, flags, value)])
     }
 
-    /// Asks for a feature that holds for the whole text. The only refusal is `Memory`.
+    /// Requests a feature that holds for the whole text. The only refusal is `Memory`.
     #[inline]
     pub fn enable_feature(
         &mut self,
@@ -110,7 +110,7 @@ impl hb_ot_shape_planner_t {
         self.add_feature(tag, flags | F_GLOBAL, value)
     }
 
-    /// Asks that a feature be off. The only refusal is `Memory`.
+    /// Requests that a feature be off. The only refusal is `Memory`.
     #[inline]
     pub fn disable_feature(&mut self, tag: hb_tag_t) -> Result<(), ShaperError>
         ensures ok { let list = Request.Feature tag F_GLOBAL 0 ∷ [] in
@@ -121,7 +121,7 @@ impl hb_ot_shape_planner_t {
         self.add_feature(tag, F_GLOBAL, 0)
     }
 
-    /// Asks for a pause between two stages. The only refusal is `Memory`.
+    /// Requests a pause between two stages. The only refusal is `Memory`.
     #[inline]
     pub fn add_gsub_pause(&mut self, pause: Option<Pause>) -> Result<(), ShaperError>
         ensures ok { OnOk result (self.new ≡ with_requests (Request.Pause pause ∷ []) self.old) }
@@ -131,7 +131,8 @@ impl hb_ot_shape_planner_t {
         self.add_requests(&[Request::Pause(pause)])
     }
 
-    /// Asks for a whole list: all of it, or nothing where memory is refused.
+    /// Requests a whole list: all of it, or nothing where memory is refused.
+    #[inline]
     pub fn add_requests(&mut self, requests: &[Request]) -> Result<(), ShaperError>
         ensures ok { OnOk result (self.new ≡ with_requests requests.now self.old) }
         ensures refusal { IsOkUnless result Memory }

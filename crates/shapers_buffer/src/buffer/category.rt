@@ -105,6 +105,7 @@ impl hb_unicode_general_category_t {
     ];
 
     /// The category of this number, its place in `ALL`.
+    #[inline]
     pub fn from_number(number: u8) -> Option<Self>
         ensures { result ≡ slice_get categories number }
     {
@@ -112,6 +113,7 @@ impl hb_unicode_general_category_t {
     }
 
     /// The number of the category, its place in `ALL`.
+    #[inline]
     pub fn number(self) -> u8
         ensures { slice_get categories result ≡ Some self }
     {

@@ -31,7 +31,7 @@ impl ClusterRun {
 impl hb_buffer_t {
     /// Merges the glyphs from `s` to `e`, as `merge_clusters`, of the buffer with a run in its
     /// cluster. Where they start in the run nothing is written and only what is new is read, else
-    /// the run is written and another begins. Answers the run that is to be written then.
+    /// the run is written and another begins. Returns the run that is to be written then.
     #[inline]
     pub fn merge_run(&mut self, run: ClusterRun, s: usize, e: usize) -> ClusterRun
         requires in_order { s ≤ e }
@@ -88,6 +88,7 @@ pub fn write_run_in(glyphs: &mut [hb_glyph_info_t], run: ClusterRun)
 }
 
 // Merges the glyphs from `s` to `e`, of at least two places.
+#[inline]
 fn merge_two(glyphs: &mut [hb_glyph_info_t], run: ClusterRun, s: usize, e: usize) -> ClusterRun
     requires two { s + 1 < e }
     requires in_range { e ≤ length glyphs.old }
@@ -108,6 +109,7 @@ fn merge_two(glyphs: &mut [hb_glyph_info_t], run: ClusterRun, s: usize, e: usize
 }
 
 // The run with the glyphs behind it up to place `s`, if these are all in its cluster.
+#[inline]
 fn reaching(glyphs: &[hb_glyph_info_t], run: ClusterRun, s: usize) -> ClusterRun
     requires inside { s + 1 < length glyphs.now }
     requires room { s + 1 < 2 ^ 64 }
@@ -123,6 +125,7 @@ fn reaching(glyphs: &[hb_glyph_info_t], run: ClusterRun, s: usize) -> ClusterRun
 }
 
 // Whether all glyphs are in a cluster.
+#[inline]
 fn are_in(glyphs: &[hb_glyph_info_t], cluster: u32) -> bool
     ensures { result ≡ list_all (has_cluster cluster) glyphs.now }
 {
@@ -130,6 +133,7 @@ fn are_in(glyphs: &[hb_glyph_info_t], cluster: u32) -> bool
 }
 
 // One glyph as a run.
+#[inline]
 fn run_of_one(glyphs: &[hb_glyph_info_t], s: usize) -> ClusterRun
     requires inside { s + 1 < length glyphs.now }
     requires fits { s + 1 < 2 ^ 64 }
@@ -146,6 +150,7 @@ fn run_of_one(glyphs: &[hb_glyph_info_t], s: usize) -> ClusterRun
 }
 
 // The run that a merge from a place of this one to `e` makes, if that lies behind it.
+#[inline]
 fn grown(glyphs: &[hb_glyph_info_t], run: ClusterRun, e: usize) -> ClusterRun
     requires some { run.start < run.end }
     requires further { run.end < e }
@@ -168,6 +173,7 @@ fn grown(glyphs: &[hb_glyph_info_t], run: ClusterRun, e: usize) -> ClusterRun
 }
 
 // How many glyphs of cluster `from` end the list, if that becomes another one.
+#[inline]
 fn equal_before(glyphs: &[hb_glyph_info_t], from: u32, to: u32) -> usize
     ensures len { result ≡ equal_before from to glyphs.now }
     ensures within { result ≤ length glyphs.now }
@@ -180,6 +186,7 @@ fn equal_before(glyphs: &[hb_glyph_info_t], from: u32, to: u32) -> usize
 }
 
 // How many glyphs of cluster `from` open the list, if that becomes another one.
+#[inline]
 fn equal_behind(glyphs: &[hb_glyph_info_t], from: u32, to: u32) -> usize
     ensures len { result ≡ equal_behind from to glyphs.now }
     ensures within { result ≤ length glyphs.now }
@@ -192,6 +199,7 @@ fn equal_behind(glyphs: &[hb_glyph_info_t], from: u32, to: u32) -> usize
 }
 
 // How many glyphs of a cluster end the list.
+#[inline]
 fn len_at_end(glyphs: &[hb_glyph_info_t], cluster: u32) -> usize
     ensures len { result ≡ suffix_len (has_cluster cluster) glyphs.now }
     ensures within { result ≤ length glyphs.now }
@@ -204,6 +212,7 @@ fn len_at_end(glyphs: &[hb_glyph_info_t], cluster: u32) -> usize
 }
 
 // How many glyphs of a cluster open the list.
+#[inline]
 fn len_in_front(glyphs: &[hb_glyph_info_t], cluster: u32) -> usize
     ensures len { result ≡ prefix_len (has_cluster cluster) glyphs.now }
     ensures within { result ≤ length glyphs.now }

@@ -15,6 +15,7 @@ use std::mem;
 impl hb_buffer_t {
     /// Takes the glyphs out. The buffer has no glyphs and no positions afterwards, and keeps its
     /// settings.
+    #[inline]
     pub fn take_glyphs(&mut self) -> Vec<hb_glyph_info_t>
         ensures taken { result.items ≡ self.old.glyphs }
         ensures left { self.new ≡ record self.old { glyphs = []; positions = [] } }
@@ -25,6 +26,7 @@ impl hb_buffer_t {
     }
 
     /// Takes the positions out. The buffer has none afterwards.
+    #[inline]
     pub fn take_positions(&mut self) -> Vec<GlyphPosition>
         ensures taken { result.items ≡ self.old.positions }
         ensures left { self.new ≡ record self.old { positions = [] } }
@@ -35,6 +37,7 @@ impl hb_buffer_t {
 
     /// Exchanges the buffer's glyphs for those of the list; the buffer has no positions afterwards.
     /// Refuses by their number, and then both are as they were.
+    #[inline]
     pub fn exchange_glyphs(&mut self, glyphs: &mut Vec<hb_glyph_info_t>) -> Result<(), ShaperError>
         ensures ok { OnOk result (self.new ≡
             record self.old { glyphs = glyphs.old.items; positions = [] }) }
@@ -52,8 +55,9 @@ impl hb_buffer_t {
         Ok(())
     }
 
-    /// Exchanges the buffer's positions for those of the list, none or one a glyph, and answers
-    /// true; for any other number of them nothing changes.
+    /// Exchanges the buffer's positions for those of the list, none or one per glyph, and returns
+    /// true; for any other number of them it returns false and nothing changes.
+    #[inline]
     pub fn exchange_positions(&mut self, positions: &mut Vec<GlyphPosition>) -> bool
         ensures answer { result ≡ can_be_positions positions.old.items self.old }
         ensures changed { let taken = record self.old { positions = positions.old.items } in
@@ -68,8 +72,9 @@ impl hb_buffer_t {
         fits
     }
 
-    /// Exchanges the buffer's text for another: its glyphs, its positions (none, or one a glyph)
+    /// Exchanges the buffer's text for another: its glyphs, its positions (none, or one per glyph)
     /// and its settings. Refuses by the number of glyphs, and then all is as it was.
+    #[inline]
     pub fn exchange_text(
         &mut self,
         glyphs: &mut Vec<hb_glyph_info_t>,

@@ -26,7 +26,7 @@ impl hb_buffer_t {
         self.pos[i] = position;
     }
 
-    /// Where the glyphs are drawn: none, or one a glyph.
+    /// Where the glyphs are drawn: none, or one per glyph.
     #[inline]
     pub fn positions(&self) -> &[GlyphPosition]
         ensures { result.now ≡ self.now.positions }
@@ -34,7 +34,7 @@ impl hb_buffer_t {
         self.pos.as_slice()
     }
 
-    /// How many positions there are: none, or one a glyph.
+    /// How many positions there are: none, or one per glyph.
     #[inline]
     pub fn positions_len(&self) -> usize
         ensures length { result ≡ length self.now.positions }
@@ -43,8 +43,8 @@ impl hb_buffer_t {
         self.pos.len()
     }
 
-    /// Takes positions, none or one a glyph, and answers true; for any other number of them nothing
-    /// changes.
+    /// Takes positions, none or one per glyph, and returns true; for any other number of them it
+    /// returns false and nothing changes.
     #[inline]
     pub fn set_positions(&mut self, positions: Vec<GlyphPosition>) -> bool
         ensures answer { result ≡ can_be_positions positions.items self.old }
@@ -106,7 +106,7 @@ impl hb_buffer_t {
         self.cluster_level = cluster_level;
     }
 
-    /// What the caller asks of the shapers.
+    /// What the caller wants of the shapers.
     #[inline]
     pub fn flags(&self) -> BufferFlags
         ensures { result ≡ self.now.flags }
@@ -114,7 +114,7 @@ impl hb_buffer_t {
         self.flags
     }
 
-    /// Sets what the caller asks of the shapers.
+    /// Sets what the caller wants of the shapers.
     #[inline]
     pub fn set_flags(&mut self, flags: BufferFlags)
         ensures { self.new ≡ record self.old { flags = flags } }

@@ -3,7 +3,7 @@ ghost use Rattle.shapers_buffer.specs.Numbers.{flag_where, from_harfbuzz, to_har
 
 use bitflags::{Flag, Flags, bitflag_items};
 
-/// What the caller asks of the shapers; the numbers are this crate's own.
+/// What the caller wants of the shapers; the numbers are this crate's own.
 #[repr(transparent)]
 #[derive(Clone, Copy, Debug, PartialEq, Eq)]
 pub struct BufferFlags(pub u32);
@@ -59,6 +59,7 @@ const HARFBUZZ_TATWEEL: u32 = 0x80;
 impl BufferFlags {
     /// The flags among HarfBuzz's of the same name (`hb_buffer_flags_t`), whose bits are 0x10, 0x40
     /// and 0x80; all other bits of it are left out.
+    #[inline]
     pub fn from_harfbuzz(bits: u32) -> Self
         ensures { result.0 ≡ from_harfbuzz bits }
     {
@@ -73,6 +74,7 @@ impl BufferFlags {
     }
 
     /// HarfBuzz's bits of these flags.
+    #[inline]
     pub fn to_harfbuzz(self) -> u32
         ensures { result ≡ to_harfbuzz self.0 }
     {
@@ -87,7 +89,8 @@ impl BufferFlags {
     }
 }
 
-// The flag, where this bit is asked for.
+// The flag, where this bit is set.
+#[inline]
 fn flag_where(bits: u32, asked: u32, flag: u32) -> u32
     ensures { result ≡ flag_where bits asked flag }
 {

@@ -24,7 +24,7 @@ pub struct hb_glyph_info_t {
     pub general_category: hb_unicode_general_category_t,
     /// The character's canonical combining class, as HarfBuzz renumbers it (`modified_combining_class`).
     pub modified_combining_class: u8,
-    /// The component of a ligature that a mark stands on, 0 to 15.
+    /// The component of a ligature that a mark is attached to, 0 to 15.
     pub lig_comp: u8,
     /// What lookups did to the glyph, and what its character is to the shapers.
     pub marks: GlyphMarks,

@@ -1,4 +1,4 @@
-//! The glyph flags: the low three bits of a mask, which tell line breakers and the like what a
+//! The glyph flags: the low three bits of a mask, from which line breakers and the like see what a
 //! change of the text at a glyph would do.
 ghost use Rattle.std.specs.Prelude.{◌≡◌, ◌≤◌, length, map};
 ghost use Rattle.shapers_buffer.specs.Buffer.{asks, flags_concat, flags_tatweel, has_flag};
@@ -33,7 +33,7 @@ impl hb_buffer_t {
         unsafe_to_break_in(&mut self.info, s, e);
     }
 
-    /// Flags every place from `s` to `e` as unsafe to concatenate, where the buffer asks for that
+    /// Flags every place from `s` to `e` as unsafe to concatenate, where the buffer wants that
     /// flag.
     #[inline]
     pub fn unsafe_to_concat(&mut self, s: usize, e: usize)
@@ -47,7 +47,7 @@ impl hb_buffer_t {
     }
 
     /// Flags the places from `s` to `e` whose cluster isn't the least one there: safe to insert a
-    /// tatweel, where the buffer asks for that flag, else as `unsafe_to_break`.
+    /// tatweel, where the buffer wants that flag, else as `unsafe_to_break`.
     #[inline]
     pub fn safe_to_insert_tatweel(&mut self, s: usize, e: usize)
         requires in_order { s ≤ e }
@@ -69,7 +69,7 @@ pub fn unsafe_to_break_in(glyphs: &mut [hb_glyph_info_t], s: usize, e: usize)
     flag(&mut glyphs[s..e], UNSAFE_TO_BREAK | UNSAFE_TO_CONCAT);
 }
 
-/// No concatenation in the stretch, where the flags ask for that, over glyphs in a slice, as
+/// No concatenation in the stretch, where the flags want that, over glyphs in a slice, as
 /// `hb_buffer_t::unsafe_to_concat`.
 #[inline]
 pub fn unsafe_to_concat_in(flags: BufferFlags, glyphs: &mut [hb_glyph_info_t], s: usize, e: usize)
@@ -103,6 +103,7 @@ pub fn safe_to_insert_tatweel_in(
 }
 
 // Adds mask bits to every glyph whose cluster isn't the least one of the stretch.
+#[inline]
 fn flag(stretch: &mut [hb_glyph_info_t], bits: u32)
     ensures { stretch.new ≡ flagged bits stretch.old }
 {
@@ -118,6 +119,7 @@ fn flag(stretch: &mut [hb_glyph_info_t], bits: u32)
 }
 
 // Adds mask bits to every glyph of the stretch.
+#[inline]
 fn flag_all(stretch: &mut [hb_glyph_info_t], bits: u32)
     ensures { stretch.new ≡ map (with_bits bits) stretch.old }
 {

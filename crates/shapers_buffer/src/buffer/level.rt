@@ -22,6 +22,7 @@ impl BufferClusterLevel {
     ];
 
     /// The level of this number, its place in `ALL`, as HarfBuzz numbers them.
+    #[inline]
     pub fn from_number(number: u8) -> Option<Self>
         ensures { result ≡ slice_get levels number }
     {
@@ -29,6 +30,7 @@ impl BufferClusterLevel {
     }
 
     /// The number of the level, its place in `ALL`.
+    #[inline]
     pub fn number(self) -> u8
         ensures { slice_get levels result ≡ Some self }
     {
@@ -62,6 +64,7 @@ impl Direction {
     ];
 
     /// The direction of this number of HarfBuzz's: 0, or 4 to 7.
+    #[inline]
     pub fn from_number(number: u8) -> Option<Self>
         ensures { result ≡ find (λ d. direction_number d == number) directions }
     {
@@ -76,6 +79,7 @@ impl Direction {
     }
 
     /// HarfBuzz's number of the direction.
+    #[inline]
     pub fn number(self) -> u8
         ensures { result ≡ direction_number self }
     {

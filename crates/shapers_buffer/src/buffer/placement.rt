@@ -1,7 +1,7 @@
 //! The placement list: a reordering lists for each place of a syllable the place whose glyph comes
 //! there, and then the syllable is written once. Its room grows with the buffer, so that a
 //! reordering takes no memory; what was never listed is never written.
-ghost use Rattle.std.specs.Prelude.{◌≡◌, ◌-◌, ◌<◌, ◌≤◌, All, IfErr, IfOk, IsOkUnless, OnOk, length, vec_capacity};
+ghost use Rattle.std.specs.Prelude.{◌≡◌, ◌-◌, ◌<◌, ◌≤◌, [], All, IfErr, IfOk, IsOkUnless, OnOk, length, vec_capacity};
 ghost use Rattle.shapers_buffer.specs.Clusters.{stretch_of, with_stretch};
 ghost use Rattle.shapers_buffer.specs.Places.{ListsEachOnce, pick, place_at, placed, with_place, without_last_zeros};
 ghost use Rattle.shapers_buffer.specs.declared.buffer.refusal.ShaperError.TheVariants.{Memory};
@@ -31,6 +31,14 @@ impl hb_buffer_t {
         self.places[i] = place;
     }
 
+    /// Empties the list, so that each place reads 0. It takes no memory.
+    #[inline]
+    pub fn clear_places(&mut self)
+        ensures { self.new ≡ record self.old { places = [] } }
+    {
+        self.places.clear();
+    }
+
     /// Gives each place from `start` to `end` the glyph of the place listed for it; each place from
     /// `start` to `end` is listed once. Positions stay. It takes no memory.
     #[inline]
@@ -48,6 +56,7 @@ impl hb_buffer_t {
 }
 
 // Gives each place from `start` to `end` the glyph of the place listed for it.
+#[inline]
 fn reorder(
     glyphs: &mut [hb_glyph_info_t],
     places: &[usize],
@@ -69,6 +78,7 @@ fn reorder(
 }
 
 // Writes the glyphs of these places, in the order of the places.
+#[inline]
 fn gather(glyphs: &[hb_glyph_info_t], places: &[usize], to: &mut [hb_glyph_info_t])
     requires as_many { length to.old ≡ length places.now }
     requires within { All (λ p. p < length glyphs.now) places.now }
@@ -84,6 +94,7 @@ const OPENED: usize = 64;
 
 // Opens the first `n` places of the room that is there, and some more. What is opened reads 0, as
 // it did.
+#[inline]
 fn open_places(places: &mut Vec<usize>, n: usize)
     requires room { n ≤ vec_capacity places.old }
     ensures places { without_last_zeros places.new.items ≡ without_last_zeros places.old.items }
@@ -97,6 +108,7 @@ fn open_places(places: &mut Vec<usize>, n: usize)
 }
 
 // Opens the first `n` glyphs of the room that is there.
+#[inline]
 fn open_spare(spare: &mut Vec<hb_glyph_info_t>, n: usize)
     requires room { n ≤ vec_capacity spare.old }
     ensures opened { n ≤ length spare.new.items }
@@ -108,6 +120,7 @@ fn open_spare(spare: &mut Vec<hb_glyph_info_t>, n: usize)
 }
 
 // Makes room for `n` places and glyphs, and writes nothing there.
+#[inline]
 pub(super) fn make_room(
     places: &mut Vec<usize>,
     spare: &mut Vec<hb_glyph_info_t>,
@@ -131,6 +144,7 @@ pub(super) fn make_room(
 }
 
 // These places, with room for `n`.
+#[inline]
 pub(super) fn copy_places(
     alloc: Global,
     places: &[usize],

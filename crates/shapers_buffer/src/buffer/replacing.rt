@@ -11,6 +11,7 @@ use super::refusal::ShaperError;
 impl hb_buffer_t {
     /// Puts these glyphs in the place of the buffer's, which has no positions. Refuses by their
     /// number, whatever the buffer held.
+    #[inline]
     pub fn replace_glyphs(&mut self, glyphs: Vec<hb_glyph_info_t>) -> Result<(), ShaperError>
         requires { self.old.positions ≡ [] }
         ensures ok { OnOk result (self.new ≡ record self.old { glyphs = glyphs.items }) }

@@ -18,7 +18,7 @@ pub struct BufferSettings<'a> {
     pub script: Option<Script>,
     /// How clusters merge.
     pub cluster_level: BufferClusterLevel,
-    /// What the caller asks of the shapers.
+    /// What the caller wants of the shapers.
     pub flags: BufferFlags,
     /// The text before, nearest character first; the buffer keeps the five nearest.
     pub pre_context: &'a [char],
@@ -34,6 +34,7 @@ pub struct BufferSettings<'a> {
 
 impl<'a> BufferSettings<'a> {
     /// The settings of a new buffer of this greatest length.
+    #[inline]
     pub fn new(max_len: usize) -> Self
         ensures { with_settings result (new_buffer max_len) ≡ new_buffer max_len }
     {
@@ -53,6 +54,7 @@ impl<'a> BufferSettings<'a> {
 
 /// The five nearest of these code points, which are nearest first, as characters of a context. A
 /// number that is no character reads as U+FFFD.
+#[inline]
 pub fn context_characters(numbers: &[u32]) -> ArrayVec<char, CONTEXT_LENGTH>
     ensures { result.items ≡ take 5 (map character_of numbers.now) }
 {
@@ -65,6 +67,7 @@ pub fn context_characters(numbers: &[u32]) -> ArrayVec<char, CONTEXT_LENGTH>
 }
 
 // The character of this code point, or U+FFFD where it is none.
+#[inline]
 fn character(number: u32) -> char
     ensures { result ≡ character_of number }
 {
@@ -73,6 +76,7 @@ fn character(number: u32) -> char
 
 impl hb_buffer_t {
     /// All settings of the buffer.
+    #[inline]
     pub fn settings(&self) -> BufferSettings<'_>
         ensures same { with_settings result self.now ≡ self.now }
         ensures at_most_five { length result.pre_context.now ≤ 5 }
@@ -92,6 +96,7 @@ impl hb_buffer_t {
     }
 
     /// Sets all settings; the greatest length is at least the buffer's length.
+    #[inline]
     pub fn set_settings(&mut self, settings: &BufferSettings)
         requires { length self.old.glyphs ≤ settings.now.max_len }
         ensures { self.new ≡ with_settings settings.now self.old }

@@ -43,6 +43,7 @@ impl hb_buffer_t {
     /// Gives each place the syllable byte of the span that covers it, and sets the mark of a broken
     /// syllable where a span is of the broken kind. Refuses with `SpansDontCover` where a span is
     /// empty or the lengths don't add up to the buffer's. It takes no memory.
+    #[inline]
     pub fn set_spans(&mut self, spans: &[Span], broken_kind: u8) -> Result<(), ShaperError>
         requires { All (λ span. span.kind ≤ 15) spans.now }
         ensures refusal { RefusesInput (spans_refusal spans.now self.old) result }
@@ -72,6 +73,7 @@ pub fn first_syllable_len(glyphs: &[hb_glyph_info_t]) -> usize
 }
 
 // How many glyphs at the front have this syllable byte.
+#[inline]
 fn syllable_run_len(glyphs: &[hb_glyph_info_t], byte: u8) -> usize
     ensures run { result ≡ prefix_len (has_byte byte) glyphs.now }
     ensures within { result ≤ length glyphs.now }
@@ -83,6 +85,7 @@ fn syllable_run_len(glyphs: &[hb_glyph_info_t], byte: u8) -> usize
 }
 
 // The first place whose kind is above this one.
+#[inline]
 fn first_above(glyphs: &[hb_glyph_info_t], last_kind: u8) -> Option<usize>
     ensures { result ≡ unknown_syllable last_kind glyphs.now }
 {
@@ -100,6 +103,7 @@ pub fn has_span_of_kind(spans: &[Span], kind: u8) -> bool
 }
 
 /// Whether no span is empty and the lengths add up to `len`.
+#[inline]
 pub fn spans_cover(len: usize, spans: &[Span]) -> bool
     ensures { result ≡ spans_cover len spans.now }
 {
@@ -114,6 +118,7 @@ pub fn spans_cover(len: usize, spans: &[Span]) -> bool
 }
 
 // Gives each place the byte of the span that covers it.
+#[inline]
 fn set_bytes(glyphs: &mut [hb_glyph_info_t], spans: &[Span])
     requires covered { IsTrue (spans_cover (length glyphs.old) spans.now) }
     requires kinds { All (λ span. span.kind ≤ 15) spans.now }
@@ -129,6 +134,7 @@ fn set_bytes(glyphs: &mut [hb_glyph_info_t], spans: &[Span])
 }
 
 // Gives the glyphs from `s` to `e` one syllable byte.
+#[inline]
 fn set_syllable_in(glyphs: &mut [hb_glyph_info_t], s: usize, e: usize, byte: u8)
     requires in_order { s ≤ e }
     requires in_range { e ≤ length glyphs.old }
@@ -138,6 +144,7 @@ fn set_syllable_in(glyphs: &mut [hb_glyph_info_t], s: usize, e: usize, byte: u8)
 }
 
 /// Gives all these glyphs one syllable byte.
+#[inline]
 pub fn set_syllable(glyphs: &mut [hb_glyph_info_t], byte: u8)
     ensures { glyphs.new ≡ map (in_syllable byte) glyphs.old }
 {

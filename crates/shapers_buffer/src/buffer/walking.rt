@@ -72,6 +72,7 @@ impl hb_buffer_t {
 
     /// Calls `change` with all glyphs, which it may rewrite, and returns what it returned. It takes
     /// no memory.
+    #[inline]
     pub fn with_glyphs_mut<R, F: FnOnce(&mut [hb_glyph_info_t]) -> R>(&mut self, change: F) -> R
         requires { F.IsAlwaysCallable change }
         ensures changed { let call = FnOnceReturnsAtMut F.FnOnce change in
@@ -84,6 +85,7 @@ impl hb_buffer_t {
 
     /// Calls `change` with all positions, which it may rewrite, and returns what it returned. It
     /// takes no memory.
+    #[inline]
     pub fn with_positions_mut<R, F: FnOnce(&mut [GlyphPosition]) -> R>(&mut self, change: F) -> R
         requires { F.IsAlwaysCallable change }
         ensures changed { let call = FnOnceReturnsAtMut F.FnOnce change in
@@ -110,6 +112,7 @@ impl hb_buffer_t {
 }
 
 /// Changes each of these glyphs.
+#[inline]
 pub fn change_each_in<C: GlyphChange>(glyphs: &mut [hb_glyph_info_t], change: &C)
     ensures { glyphs.new ≡ map (C.changed change.now) glyphs.old }
 {

@@ -113,6 +113,7 @@ static INDIC_CONFIGS: [IndicConfig; 10] = [
 ];
 
 // What a script asks for.
+#[inline]
 fn config_of(script: Option<Script>) -> IndicConfig
     ensures { result ≡ config_of script }
 {
@@ -120,6 +121,7 @@ fn config_of(script: Option<Script>) -> IndicConfig
 }
 
 // The row of a script in the table, if there is one.
+#[inline]
 fn listed_config(script: Option<Script>) -> Option<IndicConfig>
     ensures { result ≡ find (λ c. is_script c.script script) scripts }
 {
@@ -130,6 +132,7 @@ fn listed_config(script: Option<Script>) -> Option<IndicConfig>
 }
 
 // Whether a font's script isn't one of the newer specification, whose tags end in 2; so is none.
+#[inline]
 fn is_old_script(chosen: Option<hb_tag_t>) -> bool
     ensures { result ≡ is_old_script chosen }
 {

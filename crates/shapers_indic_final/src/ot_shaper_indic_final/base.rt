@@ -29,6 +29,7 @@ pub(super) struct Based {
 
 // Finds the base of the syllable from `start` to `end`, and gives the glyphs that become it the
 // base's position.
+#[inline]
 pub(super) fn settle_base(
     rules: &Rules,
     script: Option<Script>,
@@ -86,6 +87,7 @@ impl GlyphWalk for BaseWalk {
 }
 
 // Finds the base of a syllable, and gives the glyphs that become it the base's position.
+#[inline]
 fn find_base(rules: &Rules, script: Option<Script>, glyphs: &mut [hb_glyph_info_t]) -> Based
     ensures glyphs { glyphs.new ≡ (with_base rules.now script glyphs.old).glyphs }
     ensures base { result.base ≡ (with_base rules.now script glyphs.old).base }
@@ -105,6 +107,7 @@ fn find_base(rules: &Rules, script: Option<Script>, glyphs: &mut [hb_glyph_info_
 
 // The first glyph whose position is the base's or one after it, else the end.
 #[allow(clippy::needless_range_loop)]
+#[inline]
 fn first_base(glyphs: &[hb_glyph_info_t]) -> usize
     ensures place { result ≡ first_base glyphs.now }
     ensures within { result ≤ length glyphs.now }
@@ -118,6 +121,7 @@ fn first_base(glyphs: &[hb_glyph_info_t]) -> usize
 }
 
 // Whether a glyph has the base's position or one after it.
+#[inline]
 fn is_from_base_on(glyph: &hb_glyph_info_t) -> bool
     ensures { result ≡ is_from_base_on glyph.now }
 {
@@ -125,6 +129,7 @@ fn is_from_base_on(glyph: &hb_glyph_info_t) -> bool
 }
 
 // The first glyph after the base with the mask of `pref`, if it is not substituted and formed.
+#[inline]
 fn unformed_pref(pref: u32, base: usize, glyphs: &[hb_glyph_info_t]) -> Option<usize>
     requires in_range { base ≤ length glyphs.now }
     ensures place { result ≡ unformed_pref pref base glyphs.now }
@@ -139,6 +144,7 @@ fn unformed_pref(pref: u32, base: usize, glyphs: &[hb_glyph_info_t]) -> Option<u
 }
 
 // Whether a glyph is not both substituted and formed.
+#[inline]
 fn is_unformed(glyph: &hb_glyph_info_t) -> bool
     ensures { result ≡ is_unformed glyph.now }
 {
@@ -146,6 +152,7 @@ fn is_unformed(glyph: &hb_glyph_info_t) -> bool
 }
 
 // The base by `pref`, which gets the base's position.
+#[inline]
 fn set_pref_base(pref: u32, base: usize, glyphs: &mut [hb_glyph_info_t]) -> usize
     requires in_range { base ≤ length glyphs.old }
     ensures glyphs { glyphs.new ≡ with_pref_base pref base glyphs.old }
@@ -164,6 +171,7 @@ fn set_pref_base(pref: u32, base: usize, glyphs: &mut [hb_glyph_info_t]) -> usiz
 }
 
 // The first glyph from a place on that is no halant, else the end.
+#[inline]
 fn behind_halants(glyphs: &[hb_glyph_info_t], i: usize) -> usize
     requires { i ≤ length glyphs.now }
     ensures place { result ≡ behind_halants glyphs.now i }
@@ -173,6 +181,7 @@ fn behind_halants(glyphs: &[hb_glyph_info_t], i: usize) -> usize
 }
 
 // How many halants stand in front.
+#[inline]
 fn halants_len(glyphs: &[hb_glyph_info_t]) -> usize
     ensures len { result ≡ prefix_len is_halant glyphs.now }
     ensures within { result ≤ length glyphs.now }
@@ -181,6 +190,7 @@ fn halants_len(glyphs: &[hb_glyph_info_t]) -> usize
 }
 
 // Gives the glyph of a place, if there is one, the base's position.
+#[inline]
 fn set_base_at(i: usize, glyphs: &mut [hb_glyph_info_t])
     ensures glyphs { glyphs.new ≡ with_base_at i glyphs.old }
     ensures same_length { length glyphs.new ≡ length glyphs.old }
@@ -191,6 +201,7 @@ fn set_base_at(i: usize, glyphs: &mut [hb_glyph_info_t])
 }
 
 // Gives these glyphs the base's position.
+#[inline]
 fn set_base(glyphs: &mut [hb_glyph_info_t])
     ensures { glyphs.new ≡ map (at_position POS_BASE_C) glyphs.old }
 {
@@ -200,6 +211,7 @@ fn set_base(glyphs: &mut [hb_glyph_info_t])
 }
 
 // What stands before the base, where the base's position is one after the base's.
+#[inline]
 fn stepped_back(base: usize, glyphs: &[hb_glyph_info_t]) -> usize
     ensures place { result ≡ stepped_back base glyphs.now }
     ensures within { result ≤ base }
@@ -212,6 +224,7 @@ fn stepped_back(base: usize, glyphs: &[hb_glyph_info_t]) -> usize
 }
 
 // Whether a glyph has a position after the base's.
+#[inline]
 fn is_behind_base(glyph: &hb_glyph_info_t) -> bool
     ensures { result ≡ is_behind_base glyph.now }
 {
@@ -219,6 +232,7 @@ fn is_behind_base(glyph: &hb_glyph_info_t) -> bool
 }
 
 // Where the base settles: before a joiner at the end, and before nuktas and halants.
+#[inline]
 fn settled_base(base: usize, glyphs: &[hb_glyph_info_t]) -> usize
     requires in_range { base ≤ length glyphs.now }
     ensures place { result ≡ settled_base base glyphs.now }
@@ -228,6 +242,7 @@ fn settled_base(base: usize, glyphs: &[hb_glyph_info_t]) -> usize
 }
 
 // From the end back over a ZWJ there.
+#[inline]
 fn before_joiner(base: usize, glyphs: &[hb_glyph_info_t]) -> usize
     requires in_range { base ≤ length glyphs.now }
     ensures place { result ≡ before_joiner base glyphs.now }
@@ -241,6 +256,7 @@ fn before_joiner(base: usize, glyphs: &[hb_glyph_info_t]) -> usize
 }
 
 // Whether a glyph is a ZWJ, and no lookup put it in for several.
+#[inline]
 fn is_zwj(glyph: &hb_glyph_info_t) -> bool
     ensures { result ≡ is_one_of (OT_ZWJ ∷ []) glyph.now }
 {
@@ -248,6 +264,7 @@ fn is_zwj(glyph: &hb_glyph_info_t) -> bool
 }
 
 // Back to the nearest glyph that is neither a nukta nor a halant, else to the start.
+#[inline]
 fn before_halants(base: usize, glyphs: &[hb_glyph_info_t]) -> usize
     requires in_range { base ≤ length glyphs.now }
     ensures place { result ≡ before_halants base glyphs.now }
@@ -261,6 +278,7 @@ fn before_halants(base: usize, glyphs: &[hb_glyph_info_t]) -> usize
 }
 
 // The nearest glyph from the base leftwards that is neither a nukta nor a halant, else the start.
+#[inline]
 fn nearest_settled(base: usize, glyphs: &[hb_glyph_info_t]) -> usize
     requires in_range { base < length glyphs.now }
     ensures place { let gs = glyphs.now in
@@ -276,6 +294,7 @@ fn nearest_settled(base: usize, glyphs: &[hb_glyph_info_t]) -> usize
 }
 
 // Whether a glyph is neither a nukta nor a halant.
+#[inline]
 fn may_be_settled(glyph: &hb_glyph_info_t) -> bool
     ensures { result ≡ may_be_settled glyph.now }
 {
@@ -283,6 +302,7 @@ fn may_be_settled(glyph: &hb_glyph_info_t) -> bool
 }
 
 // The base by links, in Malayalam; the last glyphs of links that become it get the base's position.
+#[inline]
 fn set_links(script: Option<Script>, base: usize, glyphs: &mut [hb_glyph_info_t]) -> usize
     requires in_range { base ≤ length glyphs.old }
     ensures glyphs { glyphs.new ≡ with_links script base glyphs.old }
@@ -327,6 +347,7 @@ fn set_along_links(base: usize, glyphs: &mut [hb_glyph_info_t]) -> usize
 
 // Gives the last glyph of a link, of place `i`, the base's position, if its below-base form was not
 // made. Answers the base then, which was `last` before.
+#[inline]
 fn set_link(glyph: &mut hb_glyph_info_t, i: usize, last: usize) -> usize
     ensures glyph { glyph.new ≡ as_linked glyph.old }
     ensures base { result ≡ (if is_unformed_below glyph.old then i else last) }
@@ -340,6 +361,7 @@ fn set_link(glyph: &mut hb_glyph_info_t, i: usize, last: usize) -> usize
 }
 
 // Whether a glyph is a consonant whose below-base form was not made.
+#[inline]
 fn is_unformed_below(glyph: &hb_glyph_info_t) -> bool
     ensures { result ≡ is_unformed_below glyph.now }
 {

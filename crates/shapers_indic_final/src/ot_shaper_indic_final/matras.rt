@@ -52,6 +52,7 @@ pub(super) fn end_of_base(base: usize, glyphs: &[hb_glyph_info_t]) -> usize
 
 // The first left matra before the base.
 #[allow(clippy::manual_find, clippy::needless_range_loop)]
+#[inline]
 pub(super) fn first_left(base: usize, glyphs: &[hb_glyph_info_t]) -> Option<usize>
     requires { base ≤ length glyphs.now }
     ensures place { result ≡ least_place (passes is_left glyphs.now) 0 base }
@@ -66,6 +67,7 @@ pub(super) fn first_left(base: usize, glyphs: &[hb_glyph_info_t]) -> Option<usiz
 }
 
 // The place that left matras go to, the start if they stay.
+#[inline]
 pub(super) fn matra_target(script: Option<Script>, base: usize, glyphs: &[hb_glyph_info_t]) -> usize
     requires two { 1 < length glyphs.now }
     requires some { 0 < base }
@@ -88,6 +90,7 @@ pub(super) fn matra_target(script: Option<Script>, base: usize, glyphs: &[hb_gly
 
 // The halant that left matras go behind: the nearest from a place leftwards, if nothing ends the
 // search before it; else the start.
+#[inline]
 fn nearest_halant(p: usize, glyphs: &[hb_glyph_info_t]) -> usize
     requires in_range { p + 1 < length glyphs.now }
     ensures target { result ≡ nearest_halant p glyphs.now }
@@ -98,6 +101,7 @@ fn nearest_halant(p: usize, glyphs: &[hb_glyph_info_t]) -> usize
 }
 
 // Where the search for a halant ends, else the start.
+#[inline]
 fn search_end(p: usize, glyphs: &[hb_glyph_info_t]) -> usize
     requires in_range { p + 1 < length glyphs.now }
     ensures end { result ≡ unwrap_or (greatest_place (ends_search glyphs.now) 0 (p + 1)) 0 }
@@ -112,6 +116,7 @@ fn search_end(p: usize, glyphs: &[hb_glyph_info_t]) -> usize
 }
 
 // Whether the glyph at place `i` ends the search for a halant.
+#[inline]
 fn ends_search(glyphs: &[hb_glyph_info_t], i: usize) -> bool
     requires { i + 1 < length glyphs.now }
     ensures { result ≡ ends_search glyphs.now i }
@@ -121,6 +126,7 @@ fn ends_search(glyphs: &[hb_glyph_info_t], i: usize) -> bool
 }
 
 // Whether a glyph is a halant that belongs to no left matra.
+#[inline]
 fn is_free_halant(glyph: &hb_glyph_info_t) -> bool
     ensures { result ≡ is_free_halant glyph.now }
 {

@@ -66,6 +66,7 @@ pub(super) fn move_matra(buffer: &mut hb_buffer_t, s: usize, b: usize, i: usize,
 }
 
 // Moves the first glyph of the stretch from `s` to `e` behind the others.
+#[inline]
 fn move_first_last(buffer: &mut hb_buffer_t, s: usize, e: usize)
     requires in_order { s < e }
     requires in_range { e ≤ length buffer.old.glyphs }
@@ -79,6 +80,7 @@ fn move_first_last(buffer: &mut hb_buffer_t, s: usize, e: usize)
 }
 
 // Moves the last glyph of the stretch from `s` to `e` before the others.
+#[inline]
 fn move_last_first(buffer: &mut hb_buffer_t, s: usize, e: usize)
     requires in_order { s < e }
     requires in_range { e ≤ length buffer.old.glyphs }
@@ -92,6 +94,7 @@ fn move_last_first(buffer: &mut hb_buffer_t, s: usize, e: usize)
 }
 
 // Lists the first place of the stretch from `s` to `e` behind the others.
+#[inline]
 fn list_first_last(buffer: &mut hb_buffer_t, s: usize, e: usize)
     requires in_order { s < e }
     requires in_range { e ≤ length buffer.old.glyphs }
@@ -106,6 +109,7 @@ fn list_first_last(buffer: &mut hb_buffer_t, s: usize, e: usize)
 }
 
 // Lists the last place of the stretch from `s` to `e` before the others.
+#[inline]
 fn list_last_first(buffer: &mut hb_buffer_t, s: usize, e: usize)
     requires in_order { s < e }
     requires in_range { e ≤ length buffer.old.glyphs }

@@ -25,6 +25,7 @@ pub(super) fn open_syllable(init: u32, buffer: &mut hb_buffer_t, s: usize)
 }
 
 // Whether a word goes on behind what stands before a place.
+#[inline]
 fn goes_on(glyphs: &[hb_glyph_info_t], s: usize) -> bool
     requires { s ≤ length glyphs.now }
     ensures { result ≡ in_word (before_place s glyphs.now) }
@@ -53,6 +54,7 @@ impl GlyphChange for AddInit {
 }
 
 // Whether a word goes on behind a glyph of this category.
+#[inline]
 fn continues_word(category: hb_unicode_general_category_t) -> bool
     ensures { result ≡ continues_word category }
 {

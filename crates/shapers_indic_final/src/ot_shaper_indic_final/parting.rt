@@ -30,6 +30,7 @@ struct Runs {
 
 // Moves the left matras before place `p` of the syllable from `s` to `e` there, the last one first,
 // and merges each with all up to place `b`.
+#[inline]
 pub(super) fn part_matras(p: usize, b: usize, buffer: &mut hb_buffer_t, s: usize, e: usize)
     requires in_range { e ≤ length buffer.old.glyphs }
     requires before { p < b }
@@ -53,6 +54,7 @@ pub(super) fn part_matras(p: usize, b: usize, buffer: &mut hb_buffer_t, s: usize
 
 // Moves the left matras before place `top` of the syllable from `s` on to the places before `p`,
 // where one stands that has merged with all up to place `b`, and merges each.
+#[inline]
 fn part_further(top: usize, p: usize, b: usize, buffer: &mut hb_buffer_t, s: usize)
     requires behind { top < p }
     requires before { p < b }
@@ -80,6 +82,7 @@ fn part_further(top: usize, p: usize, b: usize, buffer: &mut hb_buffer_t, s: usi
 }
 
 // Whether some glyph is a left matra.
+#[inline]
 fn has_left(glyphs: &[hb_glyph_info_t]) -> bool
     ensures { result ≡ list_any is_left glyphs.now }
 {
@@ -88,6 +91,7 @@ fn has_left(glyphs: &[hb_glyph_info_t]) -> bool
 
 // What the merges of the left matras before place `top` of the syllable from `s` on make, as
 // `part_further`.
+#[inline]
 fn merged_runs(top: usize, p: usize, b: usize, glyphs: &[hb_glyph_info_t], s: usize) -> Runs
     requires in_range { s + b ≤ length glyphs.now }
     requires behind { top < p }
@@ -150,6 +154,7 @@ fn with_matra(i: usize, top: usize, glyphs: &[hb_glyph_info_t], runs: Runs) -> R
 }
 
 // How many glyphs of a cluster open the list.
+#[inline]
 fn len_in_front(glyphs: &[hb_glyph_info_t], cluster: u32) -> usize
     ensures len { result ≡ prefix_len (has_cluster cluster) glyphs.now }
     ensures within { result ≤ length glyphs.now }
@@ -161,6 +166,7 @@ fn len_in_front(glyphs: &[hb_glyph_info_t], cluster: u32) -> usize
 }
 
 // Whether a left matra that has gone stood at place `j`: those from `i` on and before `top` have.
+#[inline]
 fn has_gone(i: usize, top: usize, glyphs: &[hb_glyph_info_t], j: usize) -> bool
     requires { j < length glyphs.now }
     ensures { result ≡ has_gone i top glyphs.now j }
@@ -169,6 +175,7 @@ fn has_gone(i: usize, top: usize, glyphs: &[hb_glyph_info_t], j: usize) -> bool
 }
 
 // How far to the left glyphs before place `start` are in a cluster, but for matras that have gone.
+#[inline]
 fn reached(i: usize, top: usize, glyphs: &[hb_glyph_info_t], start: usize, cluster: u32) -> usize
     requires { start ≤ length glyphs.now }
     ensures { Reaches i top cluster start result glyphs.now }
@@ -182,6 +189,7 @@ fn reached(i: usize, top: usize, glyphs: &[hb_glyph_info_t], start: usize, clust
 }
 
 // Whether what stood at place `j` has gone, or is in a cluster.
+#[inline]
 fn is_passed(i: usize, top: usize, glyphs: &[hb_glyph_info_t], j: usize, cluster: u32) -> bool
     requires { j < length glyphs.now }
     ensures { result ≡ is_passed i top cluster glyphs.now j }
@@ -190,6 +198,7 @@ fn is_passed(i: usize, top: usize, glyphs: &[hb_glyph_info_t], j: usize, cluster
 }
 
 // How many glyphs from place `s` to `e` have stayed.
+#[inline]
 fn len_staying(i: usize, top: usize, glyphs: &[hb_glyph_info_t], s: usize, e: usize) -> usize
     requires in_order { s ≤ e }
     requires in_range { e ≤ length glyphs.now }
@@ -205,6 +214,7 @@ fn len_staying(i: usize, top: usize, glyphs: &[hb_glyph_info_t], s: usize, e: us
 }
 
 // Whether place `j` is listed: of what has gone, or of what has stayed.
+#[inline]
 fn is_listed(gone: bool, i: usize, top: usize, glyphs: &[hb_glyph_info_t], j: usize) -> bool
     requires { j < length glyphs.now }
     ensures { result ≡ is_listed gone i top glyphs.now j }
@@ -214,6 +224,7 @@ fn is_listed(gone: bool, i: usize, top: usize, glyphs: &[hb_glyph_info_t], j: us
 
 // Lists the places from `s` to `e` of what has gone, or of what has stayed, from place `at` on.
 // Answers the place behind them.
+#[inline]
 fn list_places(
     gone: bool,
     top: usize,
@@ -243,6 +254,7 @@ fn list_places(
 
 // Moves the left matras before `top` of the stretch from `s` to `e` behind what stays. Answers the
 // place of the first of them.
+#[inline]
 fn move_matras(top: usize, buffer: &mut hb_buffer_t, s: usize, e: usize) -> usize
     requires in_order { s ≤ e }
     requires in_range { e ≤ length buffer.old.glyphs }
@@ -280,6 +292,7 @@ impl GlyphChange for PutInCluster {
 }
 
 // Puts the glyphs from `s` to `e` into a cluster, at a level that merges.
+#[inline]
 fn put(buffer: &mut hb_buffer_t, s: usize, e: usize, cluster: u32)
     requires in_order { s ≤ e }
     requires in_range { e ≤ length buffer.old.glyphs }

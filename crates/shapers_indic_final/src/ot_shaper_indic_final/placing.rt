@@ -73,6 +73,7 @@ pub(super) fn place_pref(
 }
 
 // Puts the left matras of the syllable from `s` to `e` in their place.
+#[inline]
 pub(super) fn place_matras(
     script: Option<Script>,
     base: usize,
@@ -104,6 +105,7 @@ pub(super) fn place_matras(
 }
 
 // Merges the syllable from `s` to `e` from its first left matra before the base up to place `b`.
+#[inline]
 fn merge_matras(base: usize, b: usize, buffer: &mut hb_buffer_t, s: usize, e: usize)
     requires in_order { s ≤ e }
     requires in_range { e ≤ length buffer.old.glyphs }

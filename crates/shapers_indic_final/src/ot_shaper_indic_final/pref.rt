@@ -14,6 +14,7 @@ use shapers_indic::ot_shaper_indic::glyphs::is_joiner;
 
 // The first glyph after the base with the mask of `pref`.
 #[allow(clippy::manual_find, clippy::needless_range_loop)]
+#[inline]
 pub(super) fn pref_place(pref: u32, base: usize, glyphs: &[hb_glyph_info_t]) -> Option<usize>
     requires in_range { base ≤ length glyphs.now }
     ensures place { result ≡ pref_place pref base glyphs.now }
@@ -56,6 +57,7 @@ pub(super) fn pref_target(script: Option<Script>, base: usize, glyphs: &[hb_glyp
 }
 
 // The place behind the nearest vowel sign or halant before the base; the base without half forms.
+#[inline]
 fn place_before_base(script: Option<Script>, base: usize, glyphs: &[hb_glyph_info_t]) -> usize
     requires in_range { base < length glyphs.now }
     ensures place { result ≡ place_before_base script base glyphs.now }
@@ -69,6 +71,7 @@ fn place_before_base(script: Option<Script>, base: usize, glyphs: &[hb_glyph_inf
 }
 
 // The place behind the nearest vowel sign or halant before the base, else the start.
+#[inline]
 fn behind_sign(base: usize, glyphs: &[hb_glyph_info_t]) -> usize
     requires in_range { base < length glyphs.now }
     ensures place { let gs = glyphs.now in
@@ -84,6 +87,7 @@ fn behind_sign(base: usize, glyphs: &[hb_glyph_info_t]) -> usize
 }
 
 // Whether a joiner stands at a place, and a halant before it.
+#[inline]
 fn is_joiner_behind_halant(glyphs: &[hb_glyph_info_t], i: usize) -> bool
     requires { i < length glyphs.now }
     ensures { result ≡ is_joiner_behind_halant glyphs.now i }

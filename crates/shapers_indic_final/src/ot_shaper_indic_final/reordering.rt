@@ -12,6 +12,7 @@ use super::viramas::recover_viramas;
 use shapers_base::buffer::{Script, hb_buffer_t};
 
 // Reorders each syllable of the text and opens it, from left to right.
+#[inline]
 pub(super) fn reorder_text(rules: &Rules, script: Option<Script>, buffer: &mut hb_buffer_t)
     requires of_buffer { script ≡ buffer.old.script }
     requires pref { rules.now.pref % 8 ≡ 0 }
@@ -25,10 +26,12 @@ pub(super) fn reorder_text(rules: &Rules, script: Option<Script>, buffer: &mut h
         open_syllable(rules.init, buffer, start);
         start = end;
     }
+    buffer.clear_places();
 }
 
 // Reorders the syllable from `s` to `e`: its viramas, its base, its left matras, its reph, and a
 // glyph that `pref` formed.
+#[inline]
 fn reorder_syllable(
     rules: &Rules,
     script: Option<Script>,

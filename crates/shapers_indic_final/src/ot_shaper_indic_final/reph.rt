@@ -26,6 +26,7 @@ pub(super) fn opens_with_reph(glyphs: &[hb_glyph_info_t]) -> bool
 }
 
 // Whether a glyph is a reph that moves: a formed one, or a character of its own that is not formed.
+#[inline]
 fn is_moving_reph(glyph: &hb_glyph_info_t) -> bool
     ensures { result ≡ is_moving_reph glyph.now }
 {
@@ -61,6 +62,7 @@ pub(super) fn base_after_reph(base: usize, target: usize) -> usize
 
 // The first halant between the start and the base.
 #[allow(clippy::manual_find, clippy::needless_range_loop)]
+#[inline]
 fn halant_after_start(base: usize, glyphs: &[hb_glyph_info_t]) -> Option<usize>
     requires { base ≤ length glyphs.now }
     ensures place { result ≡ halant_after_start base glyphs.now }
@@ -75,6 +77,7 @@ fn halant_after_start(base: usize, glyphs: &[hb_glyph_info_t]) -> Option<usize>
 }
 
 // A halant, or a joiner behind it that stands before the base.
+#[inline]
 fn with_joiner(base: usize, glyphs: &[hb_glyph_info_t], halant: usize) -> usize
     requires before { halant < base }
     requires in_range { base ≤ length glyphs.now }
@@ -89,6 +92,7 @@ fn with_joiner(base: usize, glyphs: &[hb_glyph_info_t], halant: usize) -> usize
 }
 
 // Where the reph goes without a halant before the base.
+#[inline]
 fn behind_base(position: RephPosition, base: usize, glyphs: &[hb_glyph_info_t]) -> usize
     requires some { 0 < length glyphs.now }
     requires in_range { base ≤ length glyphs.now }
@@ -108,6 +112,7 @@ fn behind_base(position: RephPosition, base: usize, glyphs: &[hb_glyph_info_t]) 
 }
 
 // How many glyphs in front stand directly after the main consonant.
+#[inline]
 fn with_main_len(glyphs: &[hb_glyph_info_t]) -> usize
     ensures len { result ≡ prefix_len is_with_main glyphs.now }
     ensures within { result ≤ length glyphs.now }
@@ -119,6 +124,7 @@ fn with_main_len(glyphs: &[hb_glyph_info_t]) -> usize
 }
 
 // How many glyphs in front stand before post-base forms and signs.
+#[inline]
 fn with_sub_len(glyphs: &[hb_glyph_info_t]) -> usize
     ensures len { result ≡ prefix_len is_with_sub glyphs.now }
     ensures within { result ≤ length glyphs.now }
@@ -127,6 +133,7 @@ fn with_sub_len(glyphs: &[hb_glyph_info_t]) -> usize
 }
 
 // Whether a glyph stands before post-base forms and signs.
+#[inline]
 fn is_with_sub(glyph: &hb_glyph_info_t) -> bool
     ensures { result ≡ is_with_sub glyph.now }
 {
@@ -134,6 +141,7 @@ fn is_with_sub(glyph: &hb_glyph_info_t) -> bool
 }
 
 // The last glyph that is no sign; where it is a halant, less the vowel signs between the base and it.
+#[inline]
 fn at_end(base: usize, glyphs: &[hb_glyph_info_t]) -> usize
     requires { 0 < length glyphs.now }
     ensures place { result ≡ at_end base glyphs.now }
@@ -148,6 +156,7 @@ fn at_end(base: usize, glyphs: &[hb_glyph_info_t]) -> usize
 }
 
 // The last glyph that is no sign, else the start.
+#[inline]
 fn last_but_signs(glyphs: &[hb_glyph_info_t]) -> usize
     requires { 0 < length glyphs.now }
     ensures place { result ≡ last_but_signs glyphs.now }
@@ -162,6 +171,7 @@ fn last_but_signs(glyphs: &[hb_glyph_info_t]) -> usize
 }
 
 // Whether a glyph is a sign at the end of the syllable.
+#[inline]
 fn is_sign(glyph: &hb_glyph_info_t) -> bool
     ensures { result ≡ has_position POS_SMVD glyph.now }
 {
@@ -169,6 +179,7 @@ fn is_sign(glyph: &hb_glyph_info_t) -> bool
 }
 
 // How many vowel signs there are.
+#[inline]
 fn count_matras(glyphs: &[hb_glyph_info_t]) -> usize
     ensures count { result ≡ count_by is_matra glyphs.now }
     ensures within { result ≤ length glyphs.now }

@@ -27,6 +27,7 @@ pub struct Rules {
 
 impl Rules {
     /// The rules by a plan and a font.
+    #[inline]
     pub fn new<F: hb_font_t>(plan: &indic_shape_plan_t, face: &F) -> Self
         ensures { result ≡ rules_of (F.font face.now) plan.now }
     {

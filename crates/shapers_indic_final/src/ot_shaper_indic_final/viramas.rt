@@ -8,6 +8,7 @@ use shapers_base::font::GlyphId;
 use shapers_base::plan::ot_category_t::OT_H;
 
 // Recovers the viramas of the syllable from `s` to `e`.
+#[inline]
 pub(super) fn recover_viramas(virama: Option<GlyphId>, buffer: &mut hb_buffer_t, s: usize, e: usize)
     requires in_order { s ≤ e }
     requires in_range { e ≤ length buffer.old.glyphs }
@@ -39,6 +40,7 @@ impl GlyphChange for Recover {
 }
 
 // Whether a glyph is the virama's, and lookups put it in for several and then took it apart.
+#[inline]
 fn is_lost_virama(virama: Option<GlyphId>, glyph: &hb_glyph_info_t) -> bool
     ensures { result ≡ is_lost_virama virama glyph.now }
 {

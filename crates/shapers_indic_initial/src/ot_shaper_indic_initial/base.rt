@@ -24,6 +24,7 @@ pub(super) struct Base {
 }
 
 /// Finds the base of a syllable and its reph.
+#[inline]
 pub(super) fn find_base<F: hb_font_t>(
     plan: &indic_shape_plan_t,
     map: &hb_ot_map_t,
@@ -62,6 +63,7 @@ fn last_or_first(lo: usize, glyphs: &[hb_glyph_info_t]) -> Option<usize>
 
 // The last consonant without a below-base or post-base form from place `lo` on, or behind what
 // stops the search.
+#[inline]
 fn last_base(lo: usize, glyphs: &[hb_glyph_info_t]) -> Option<usize>
     requires { lo ≤ length glyphs.now }
     ensures { let gs = glyphs.now in
@@ -82,6 +84,7 @@ fn last_base(lo: usize, glyphs: &[hb_glyph_info_t]) -> Option<usize>
 
 // Whether the search may end with a glyph: a consonant that has no below-base form, nor a post-base
 // one unless a consonant with a below-base form follows.
+#[inline]
 fn is_base(glyph: &hb_glyph_info_t, below: bool) -> bool
     ensures { let g = glyph.now in
         let below_base = is_base_candidate g && has_position POS_BELOW_C g in
@@ -94,6 +97,7 @@ fn is_base(glyph: &hb_glyph_info_t, below: bool) -> bool
 }
 
 // Whether a glyph is a consonant with a below-base form.
+#[inline]
 fn is_below(glyph: &hb_glyph_info_t) -> bool
     ensures { let g = glyph.now in
         result ≡ is_base_candidate g && has_position POS_BELOW_C g }
@@ -102,6 +106,7 @@ fn is_below(glyph: &hb_glyph_info_t) -> bool
 }
 
 // Where the search ends: behind the last glyph that stops it, or at place `lo`.
+#[inline]
 fn search_from(lo: usize, glyphs: &[hb_glyph_info_t]) -> usize
     requires { lo ≤ length glyphs.now }
     ensures from { result ≡ search_from lo glyphs.now }
@@ -117,6 +122,7 @@ fn search_from(lo: usize, glyphs: &[hb_glyph_info_t]) -> usize
 
 // The first consonant that may be the base from place `start` on.
 #[allow(clippy::manual_find, clippy::needless_range_loop)]
+#[inline]
 fn first_candidate(start: usize, glyphs: &[hb_glyph_info_t]) -> Option<usize>
     requires { start ≤ length glyphs.now }
     ensures { result ≡ least_place (may_be_base glyphs.now) start (length glyphs.now) }
@@ -130,6 +136,7 @@ fn first_candidate(start: usize, glyphs: &[hb_glyph_info_t]) -> Option<usize>
 }
 
 // Whether the glyph at place `i` stops the search: a ZWJ behind an H.
+#[inline]
 fn stops_search(glyphs: &[hb_glyph_info_t], i: usize) -> bool
     requires { i < length glyphs.now }
     ensures { result ≡ stops_search glyphs.now i }
@@ -138,6 +145,7 @@ fn stops_search(glyphs: &[hb_glyph_info_t], i: usize) -> bool
 }
 
 // Whether a glyph is a consonant that may be the base.
+#[inline]
 fn is_base_candidate(glyph: &hb_glyph_info_t) -> bool
     ensures { result ≡ is_base_candidate glyph.now }
 {

@@ -10,6 +10,7 @@ ghost use Rattle.shapers_buffer.specs.Places.{ListsEachOnce};
 use shapers_base::buffer::hb_buffer_t;
 
 // The place that the glyph at `start + i` came from, from `start` on.
+#[inline]
 fn old_place(buffer: &hb_buffer_t, start: usize, i: usize) -> usize
     requires in_range { start + i < length buffer.now.glyphs }
     requires fits { start + i < 2 ^ 64 }
@@ -20,6 +21,7 @@ fn old_place(buffer: &hb_buffer_t, start: usize, i: usize) -> usize
 }
 
 // Spends a place: it is a cycle of its own from now on.
+#[inline]
 fn spend_place(buffer: &mut hb_buffer_t, start: usize, i: usize)
     requires in_range { start + i < length buffer.old.glyphs }
     requires fits { start + i < 2 ^ 64 }
@@ -32,6 +34,7 @@ fn spend_place(buffer: &mut hb_buffer_t, start: usize, i: usize)
 
 // Walks along the cycle of place `p` and spends each of its places as it passes. Answers the least
 // and the greatest.
+#[inline]
 fn spend_cycle(buffer: &mut hb_buffer_t, start: usize, end: usize, p: usize) -> (usize, usize)
     requires in_order { start ≤ end }
     requires in_range { end ≤ length buffer.old.glyphs }
@@ -64,6 +67,7 @@ fn spend_cycle(buffer: &mut hb_buffer_t, start: usize, end: usize, p: usize) -> 
 
 // Each cycle with a place from `base` on merges, from its least place, or `base` if that is
 // greater, to its greatest. `base` counts from `start`.
+#[inline]
 fn merge_cycles(buffer: &mut hb_buffer_t, start: usize, end: usize, base: usize)
     requires in_order { start ≤ end }
     requires in_range { end ≤ length buffer.old.glyphs }

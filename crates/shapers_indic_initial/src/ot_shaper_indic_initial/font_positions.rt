@@ -14,6 +14,7 @@ use shapers_indic::ot_shaper_indic::glyphs::number;
 
 /// Gives consonants of position BASE_C for which the font has a below-base or a post-base form, by
 /// its glyph for the script's virama, that form's position. It takes no memory.
+#[inline]
 pub(super) fn update_consonant_positions<F: hb_font_t>(
     plan: &indic_shape_plan_t,
     map: &hb_ot_map_t,
@@ -60,6 +61,7 @@ struct ByVirama<'a, F: hb_font_t> {
 
 impl<'a, F: hb_font_t> ByVirama<'a, F> {
     // The position of a consonant.
+    #[inline]
     fn consonant_position_from_face(&self, consonant: GlyphId) -> Position
         ensures { let font = F.font self.now.face.now in
             result ≡
@@ -76,6 +78,7 @@ impl<'a, F: hb_font_t> ByVirama<'a, F> {
     }
 
     // A consonant with its position.
+    #[inline]
     fn asked(&self, consonant: GlyphId) -> Known
         ensures consonant { result.consonant ≡ consonant }
         ensures known { let font = F.font self.now.face.now in
@@ -88,6 +91,7 @@ impl<'a, F: hb_font_t> ByVirama<'a, F> {
     }
 
     // The position of a consonant, for which the font is asked only where it isn't known.
+    #[inline]
     fn position_of(&self, known: &mut [Known; KNOWN], consonant: GlyphId) -> Position
         requires { let font = F.font self.now.face.now in
             AllKnown font self.now.map.now self.now.plan.now self.now.virama known.old }
@@ -108,6 +112,7 @@ impl<'a, F: hb_font_t> ByVirama<'a, F> {
     }
 
     // Gives a glyph its position, if it is a consonant of position BASE_C.
+    #[inline]
     fn position_one(&self, known: &mut [Known; KNOWN], glyph: &mut hb_glyph_info_t)
         requires { let font = F.font self.now.face.now in
             AllKnown font self.now.map.now self.now.plan.now self.now.virama known.old }
@@ -123,6 +128,7 @@ impl<'a, F: hb_font_t> ByVirama<'a, F> {
     }
 
     // Gives all consonants of position BASE_C their positions, where that of one is known.
+    #[inline]
     fn position_each(&self, first: Known, glyphs: &mut [hb_glyph_info_t])
         requires { let font = F.font self.now.face.now in
             IsKnown font self.now.map.now self.now.plan.now self.now.virama first }
@@ -137,6 +143,7 @@ impl<'a, F: hb_font_t> ByVirama<'a, F> {
     }
 
     // Gives all consonants of position BASE_C their positions.
+    #[inline]
     fn position_all(&self, glyphs: &mut [hb_glyph_info_t])
         ensures { let font = F.font self.now.face.now in
             glyphs.new ≡
@@ -174,6 +181,7 @@ impl<'a, F: hb_font_t> GlyphWalk for ByVirama<'a, F> {
 }
 
 // The first consonant of position BASE_C.
+#[inline]
 fn first_consonant(glyphs: &[hb_glyph_info_t]) -> Option<hb_glyph_info_t>
     ensures { result ≡ find (has_position POS_BASE_C) glyphs.now }
 {

@@ -34,6 +34,7 @@ pub(super) fn halant_move(
 
 // The place of the first H after the base.
 #[allow(clippy::manual_find, clippy::needless_range_loop)]
+#[inline]
 fn halant_after(base: usize, glyphs: &[hb_glyph_info_t]) -> Option<usize>
     ensures place { result ≡ halant_after base glyphs.now }
     ensures within { IfSome result (λ place. place < length glyphs.now) }
@@ -51,6 +52,7 @@ fn halant_after(base: usize, glyphs: &[hb_glyph_info_t]) -> Option<usize>
 
 // The place of the last glyph after an H at this place over which the H goes.
 #[allow(clippy::manual_find)]
+#[inline]
 fn last_after_halant(
     script: Option<Script>,
     halant: usize,
@@ -70,6 +72,7 @@ fn last_after_halant(
 }
 
 // Whether an H goes over a glyph, or stays before it.
+#[inline]
 fn is_passed_by_halant(script: Option<Script>, glyph: &hb_glyph_info_t) -> bool
     ensures { result ≡ is_passed_by_halant script glyph.now }
 {
@@ -85,6 +88,7 @@ pub(super) fn joiner_comes_first(script: Option<Script>, glyphs: &[hb_glyph_info
 }
 
 // Whether a syllable opens with Ra, H, ZWJ.
+#[inline]
 fn opens_with_ra_h_zwj(glyphs: &[hb_glyph_info_t]) -> bool
     ensures { result ≡ opens_with_ra_h_zwj glyphs.now }
 {
@@ -95,6 +99,7 @@ fn opens_with_ra_h_zwj(glyphs: &[hb_glyph_info_t]) -> bool
 }
 
 // Whether a glyph is of this category, and no lookup put it in for several.
+#[inline]
 fn is_plain(glyph: &hb_glyph_info_t, category: u8) -> bool
     ensures { result ≡ is_one_of (category ∷ []) glyph.now }
 {

@@ -59,6 +59,7 @@ fn bits_of(plan: &indic_shape_plan_t, feature: usize) -> u32
 }
 
 // Gives all these glyphs mask bits.
+#[inline]
 fn add_bits(bits: u32, glyphs: &mut [hb_glyph_info_t])
     ensures { glyphs.new ≡ map (with_bits bits) glyphs.old }
 {
@@ -68,6 +69,7 @@ fn add_bits(bits: u32, glyphs: &mut [hb_glyph_info_t])
 }
 
 // Gives the glyphs of a reph that opens the syllable mask bits.
+#[inline]
 fn set_reph_bits(bits: u32, glyphs: &mut [hb_glyph_info_t])
     ensures { let len = prefix_len (has_position 1) glyphs.old in
         glyphs.new ≡ with_stretch 0 len (map (with_bits bits)) glyphs.old }
@@ -77,6 +79,7 @@ fn set_reph_bits(bits: u32, glyphs: &mut [hb_glyph_info_t])
 }
 
 // How many glyphs of the reph's position stand in front.
+#[inline]
 fn reph_run_len(glyphs: &[hb_glyph_info_t]) -> usize
     ensures len { result ≡ prefix_len (has_position 1) glyphs.now }
     ensures within { result ≤ length glyphs.now }
@@ -88,6 +91,7 @@ fn reph_run_len(glyphs: &[hb_glyph_info_t]) -> usize
 }
 
 // Gives the glyphs before the base some mask bits, and those after it others.
+#[inline]
 fn set_bits_around(before: u32, after: u32, base: usize, glyphs: &mut [hb_glyph_info_t])
     requires { base ≤ length glyphs.old }
     ensures { let front = with_stretch 0 base (map (with_bits before)) glyphs.old in
@@ -114,6 +118,7 @@ fn bits_before_base(plan: &indic_shape_plan_t) -> u32
 }
 
 // Whether below-base forms stand before the base, too.
+#[inline]
 fn applies_before_base(mode: BlwfMode) -> bool
     ensures { result ≡ applies_before_base mode }
 {
@@ -132,6 +137,7 @@ fn bits_after_base(plan: &indic_shape_plan_t) -> u32
 }
 
 // Gives each Ra and H of an eyelash Ra the mask of below-base forms, where they have one.
+#[inline]
 fn set_eyelash_mask(
     plan: &indic_shape_plan_t,
     script: Option<Script>,
@@ -148,6 +154,7 @@ fn set_eyelash_mask(
 
 // Whether Ra and H before the base get the mask of below-base forms: in the older specification of
 // Devanagari.
+#[inline]
 fn has_eyelash(plan: &indic_shape_plan_t, script: Option<Script>) -> bool
     ensures { (font : Font) (m : Map) → result ≡ has_eyelash (rules_of font m plan.now) script }
 {
@@ -155,6 +162,7 @@ fn has_eyelash(plan: &indic_shape_plan_t, script: Option<Script>) -> bool
 }
 
 // Gives each Ra and H of an eyelash Ra mask bits.
+#[inline]
 fn set_eyelash_bits(bits: u32, base: usize, glyphs: &mut [hb_glyph_info_t])
     ensures { glyphs.new ≡
         map (λ t. if is_in_eyelash base glyphs.old t.0 then with_bits bits t.1 else t.1)
@@ -168,6 +176,7 @@ fn set_eyelash_bits(bits: u32, base: usize, glyphs: &mut [hb_glyph_info_t])
 }
 
 // Whether the glyph at `i` belongs to an eyelash Ra.
+#[inline]
 fn is_in_eyelash(base: usize, glyphs: &[hb_glyph_info_t], i: usize) -> bool
     requires { i < length glyphs.now }
     ensures { result ≡ is_in_eyelash base glyphs.now i }
@@ -176,6 +185,7 @@ fn is_in_eyelash(base: usize, glyphs: &[hb_glyph_info_t], i: usize) -> bool
 }
 
 // Whether an eyelash Ra stands at `i`: Ra and H before the base, and no ZWJ behind them before it.
+#[inline]
 fn opens_eyelash(base: usize, glyphs: &[hb_glyph_info_t], i: usize) -> bool
     requires { i < length glyphs.now }
     ensures { result ≡ opens_eyelash base glyphs.now i }
@@ -187,6 +197,7 @@ fn opens_eyelash(base: usize, glyphs: &[hb_glyph_info_t], i: usize) -> bool
 }
 
 // Whether there is a glyph of this category at `i`.
+#[inline]
 fn is_of_category(glyphs: &[hb_glyph_info_t], i: usize, category: Category) -> bool
     ensures { result ≡ passes (has_category category) glyphs.now i }
 {
@@ -197,6 +208,7 @@ fn is_of_category(glyphs: &[hb_glyph_info_t], i: usize, category: Category) -> b
 }
 
 // Gives the first two neighbours after the base that pref would substitute its mask.
+#[inline]
 fn set_pref_mask<F: hb_font_t>(
     plan: &indic_shape_plan_t,
     map: &hb_ot_map_t,
@@ -214,6 +226,7 @@ fn set_pref_mask<F: hb_font_t>(
 }
 
 // The place of the first two neighbours after the base that pref would substitute.
+#[inline]
 fn pref_pair<F: hb_font_t>(
     plan: &indic_shape_plan_t,
     map: &hb_ot_map_t,
@@ -240,6 +253,7 @@ fn pref_pair<F: hb_font_t>(
 
 // A ZWNJ takes mask bits from the glyphs before it back to the nearest consonant, that one
 // included. Most syllables have none.
+#[inline]
 fn clear_half(bits: u32, glyphs: &mut [hb_glyph_info_t])
     ensures { glyphs.new ≡ without_half bits glyphs.old }
 {
@@ -249,6 +263,7 @@ fn clear_half(bits: u32, glyphs: &mut [hb_glyph_info_t])
 }
 
 // Whether there is a ZWNJ.
+#[inline]
 fn has_non_joiner(glyphs: &[hb_glyph_info_t]) -> bool
     ensures { result ≡ list_any (is_one_of (OT_ZWNJ ∷ [])) glyphs.now }
 {
@@ -256,6 +271,7 @@ fn has_non_joiner(glyphs: &[hb_glyph_info_t]) -> bool
 }
 
 // The same, glyph by glyph, from the last one on.
+#[inline]
 fn clear_half_each(bits: u32, glyphs: &mut [hb_glyph_info_t])
     ensures { glyphs.new ≡ without_half bits glyphs.old }
 {
@@ -270,6 +286,7 @@ fn clear_half_each(bits: u32, glyphs: &mut [hb_glyph_info_t])
 }
 
 // Whether the glyph before this one loses half, where this one does so or doesn't.
+#[inline]
 fn keeps_losing(glyph: &hb_glyph_info_t, loses: bool) -> bool
     ensures { result ≡
         (not (is_consonant glyph.now) && (is_one_of (OT_ZWNJ ∷ []) glyph.now || loses)) }
@@ -281,6 +298,7 @@ fn keeps_losing(glyph: &hb_glyph_info_t, loses: bool) -> bool
 }
 
 // Whether a glyph is a ZWNJ, and no lookup put it in for several.
+#[inline]
 fn is_non_joiner(glyph: &hb_glyph_info_t) -> bool
     ensures { result ≡ is_one_of (OT_ZWNJ ∷ []) glyph.now }
 {

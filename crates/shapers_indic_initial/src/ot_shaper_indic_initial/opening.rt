@@ -45,6 +45,7 @@ pub(super) fn set_positions<F: hb_font_t>(
 }
 
 // Merges an H and the ZWJ behind it and lets them change places, where Kannada has it so.
+#[inline]
 fn put_joiner_first(script: Option<Script>, buffer: &mut hb_buffer_t, start: usize, end: usize)
     requires in_order { start ≤ end }
     requires in_range { end ≤ length buffer.old.glyphs }
@@ -59,6 +60,7 @@ fn put_joiner_first(script: Option<Script>, buffer: &mut hb_buffer_t, start: usi
 }
 
 // Moves the H after the base, by the older specification.
+#[inline]
 fn move_halant(
     is_old_spec: bool,
     script: Option<Script>,
@@ -84,6 +86,7 @@ fn move_halant(
 }
 
 // Moves the glyph at place `from` behind all others up to `end`.
+#[inline]
 fn move_to_end(buffer: &mut hb_buffer_t, from: usize, end: usize)
     requires in_order { from < end }
     requires in_range { end ≤ length buffer.old.glyphs }
@@ -148,6 +151,7 @@ impl GlyphWalk for PositionsOfMarks {
 }
 
 // Sets the positions of a syllable with this base by what its glyphs go with.
+#[inline]
 fn set_positions_of_marks(base: usize, syllable: &mut [hb_glyph_info_t])
     ensures { syllable.new ≡ with_marks_and_owners base syllable.old }
 {

@@ -17,6 +17,7 @@ pub(super) fn ordered_base(glyphs: &[hb_glyph_info_t]) -> usize
 }
 
 // The place of the first glyph of position BASE_C.
+#[inline]
 fn first_base(glyphs: &[hb_glyph_info_t]) -> Option<usize>
     ensures { result ≡ position (has_position 4) glyphs.now }
 {

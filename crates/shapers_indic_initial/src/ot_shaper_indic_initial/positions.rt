@@ -19,6 +19,7 @@ use shapers_syllabic::ot_shaper_syllabic::is_consonant;
 
 /// Sets the positions of the reph, of what stands before the base, and of the base.
 #[allow(clippy::needless_range_loop)]
+#[inline]
 pub(super) fn set_positions_by_base(base: Base, glyphs: &mut [hb_glyph_info_t])
     ensures { glyphs.new ≡ by_base base.place base.has_reph glyphs.old }
 {
@@ -33,6 +34,7 @@ pub(super) fn set_positions_by_base(base: Base, glyphs: &mut [hb_glyph_info_t])
 }
 
 // The position of the glyph at place `i`, where it has this one so far.
+#[inline]
 fn position_by_base(base: Base, i: usize, position: u8) -> u8
     ensures { result ≡ position_by_base base.place base.has_reph i position }
 {
@@ -48,6 +50,7 @@ fn position_by_base(base: Base, i: usize, position: u8) -> u8
 }
 
 /// Gives signs, joiners and halants the positions of what they go with.
+#[inline]
 pub(super) fn attach_marks(glyphs: &mut [hb_glyph_info_t])
     ensures { glyphs.new ≡ with_marks_attached glyphs.old }
 {
@@ -64,6 +67,7 @@ pub(super) fn attach_marks(glyphs: &mut [hb_glyph_info_t])
 // The position of the glyph at place `i` behind a carrier of this position: that of its carrier, if
 // it is attached, and that of the matra directly behind it, if it is a sign that goes with it. And
 // the position of the nearest carrier before what follows the glyph.
+#[inline]
 fn drawn_position(glyphs: &[hb_glyph_info_t], i: usize, carrier: u8) -> (u8, u8)
     requires { i < length glyphs.now }
     ensures position { let g = get_or glyphs.now i default_glyph in
@@ -87,6 +91,7 @@ fn drawn_position(glyphs: &[hb_glyph_info_t], i: usize, carrier: u8) -> (u8, u8)
 }
 
 // Whether a glyph goes with what stands before it.
+#[inline]
 fn is_attached(glyph: &hb_glyph_info_t) -> bool
     ensures { result ≡ is_attached glyph.now }
 {
@@ -97,6 +102,7 @@ fn is_attached(glyph: &hb_glyph_info_t) -> bool
 }
 
 // Whether a glyph is a syllable modifier that goes with the one directly behind it.
+#[inline]
 fn draws_sign(glyph: &hb_glyph_info_t, next: &hb_glyph_info_t) -> bool
     ensures { result ≡ draws_sign glyph.now next.now }
 {
@@ -105,6 +111,7 @@ fn draws_sign(glyph: &hb_glyph_info_t, next: &hb_glyph_info_t) -> bool
 
 // The position of a glyph that has this one so far: a halant doesn't go with a left matra, but with
 // what stands behind it.
+#[inline]
 fn parted_position(glyph: &hb_glyph_info_t, position: u8, behind: u8) -> u8
     ensures { result ≡ parted_position behind position glyph.now }
 {
@@ -117,6 +124,7 @@ fn parted_position(glyph: &hb_glyph_info_t, position: u8, behind: u8) -> u8
 
 // The position of the nearest glyph that doesn't go with a left matra before what follows a glyph
 // of this position.
+#[inline]
 fn next_behind(position: u8, behind: u8) -> u8
     ensures { result ≡ next_behind behind position }
 {
@@ -138,6 +146,7 @@ pub(super) fn own(base: usize, glyphs: &mut [hb_glyph_info_t])
 }
 
 // Gives each glyph that a consonant owns that consonant's position.
+#[inline]
 fn own_each(glyphs: &mut [hb_glyph_info_t])
     ensures { glyphs.new ≡ with_owners glyphs.old }
 {
@@ -152,6 +161,7 @@ fn own_each(glyphs: &mut [hb_glyph_info_t])
 }
 
 // The position of a glyph if it is a consonant.
+#[inline]
 fn consonant_position(glyph: &hb_glyph_info_t) -> Option<u8>
     ensures { result ≡ (if is_consonant glyph.now then Some glyph.now.auxiliary else None) }
 {
@@ -164,6 +174,7 @@ fn consonant_position(glyph: &hb_glyph_info_t) -> Option<u8>
 
 // The position of what a consonant of this position owns, if one does, where it has `position` so
 // far.
+#[inline]
 fn owned_position(owner: Option<u8>, position: u8) -> u8
     ensures { result ≡ (if nat_le POS_SMVD position then position else unwrap_or owner position) }
 {
@@ -174,6 +185,7 @@ fn owned_position(owner: Option<u8>, position: u8) -> u8
 }
 
 // Whether a glyph bounds what a consonant owns: it is a consonant or a matra.
+#[inline]
 fn bounds(glyph: &hb_glyph_info_t) -> bool
     ensures { result ≡ bounds glyph.now }
 {

@@ -54,6 +54,7 @@ impl<'a, F: hb_font_t> Reorder for InitialOrder<'a, F> {
 
 impl<'a, F: hb_font_t> InitialOrder<'a, F> {
     // Gives the glyphs of an ordered syllable their masks.
+    #[inline]
     fn mask_syllable(&self, buffer: &mut hb_buffer_t, start: usize, end: usize)
         requires in_order { start ≤ end }
         requires in_range { end ≤ length buffer.old.glyphs }

@@ -16,6 +16,7 @@ use shapers_indic::ot_shaper_indic::indic_feature::RPHF;
 
 /// How many glyphs the reph that opens a syllable has, without joiners behind it; 0 if there is
 /// none.
+#[inline]
 pub(crate) fn reph_len<F: hb_font_t>(
     plan: &indic_shape_plan_t,
     map: &hb_ot_map_t,
@@ -54,6 +55,7 @@ pub(crate) fn limit(reph_len: usize, glyphs: &[hb_glyph_info_t]) -> usize
 }
 
 // How many joiners stand in front.
+#[inline]
 fn joiners_len(glyphs: &[hb_glyph_info_t]) -> usize
     ensures len { result ≡ prefix_len is_joiner glyphs.now }
     ensures within { result ≤ length glyphs.now }
@@ -74,6 +76,7 @@ fn third_lets_reph(mode: RephMode, glyphs: &[hb_glyph_info_t]) -> bool
 }
 
 // Whether the font forms a reph of what opens the syllable.
+#[inline]
 fn is_formed<F: hb_font_t>(
     plan: &indic_shape_plan_t,
     map: &hb_ot_map_t,

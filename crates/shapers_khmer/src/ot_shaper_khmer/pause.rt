@@ -5,6 +5,7 @@ ghost use Rattle.shapers_buffer.specs.Refusals.{Refuses};
 ghost use Rattle.shapers_buffer.specs.Syllables.{unknown_refusal};
 ghost use Rattle.shapers_clusters.specs.Laws.{ReorderedHold};
 ghost use Rattle.shapers_khmer.specs.Khmer.{khmer_circles, khmer_order, khmer_steps, order_in};
+ghost use Rattle.shapers_khmer.specs.KhmerMovers.{ordered_by_movers, steps_by_movers};
 ghost use Rattle.shapers_khmer.specs.Plan.{is_khmer_data};
 ghost use Rattle.shapers_syllabic.specs.CircleLaws.{NoNewCluster};
 ghost use Rattle.shapers_syllabic.specs.Circles.{circled};
@@ -29,10 +30,11 @@ const CIRCLES: ScriptCircles = ScriptCircles {
 };
 
 /// Gives broken syllables their dotted circles, and then brings Coeng Ro and the vowels that stand
-/// before their base to the front of each syllable, with the masks of the plan. Answers whether
-/// circles were wanted. Every cluster afterwards is one that the text had. Refuses with
-/// `UnknownSyllable`, before anything changes; with `TooLong`; and with `Memory`, but not where no
-/// circle opens. (OpenType, "Developing OpenType Fonts for Khmer".)
+/// before their base to the front of each syllable, with the masks of the plan; in a regular
+/// syllable these are its movers, the last one first. Answers whether circles were wanted. Every
+/// cluster afterwards is one that the text had. Refuses with `UnknownSyllable`, before anything
+/// changes; with `TooLong`; and with `Memory`, but not where no circle opens. (OpenType,
+/// "Developing OpenType Fonts for Khmer".)
 pub fn reorder_khmer<F: hb_font_t>(
     plan: &hb_ot_shape_plan_t,
     face: &F,
@@ -45,6 +47,9 @@ pub fn reorder_khmer<F: hb_font_t>(
     ensures ok { let circles = script_circles khmer_circles (F.font face.now) buffer.old in
         OnOk result (PauseReordered circles
         (khmer_order (order_in plan.now.plan_data)) khmer_steps buffer.old buffer.new) }
+    ensures movers { let circles = script_circles khmer_circles (F.font face.now) buffer.old in
+        OnOk result (PauseReordered circles
+        (ordered_by_movers (order_in plan.now.plan_data)) steps_by_movers buffer.old buffer.new) }
     ensures cut { let circles = script_circles khmer_circles (F.font face.now) buffer.old in
         OnOk result (PauseCutsAtBorders circles
         (khmer_order (order_in plan.now.plan_data)) khmer_steps buffer.old buffer.new) }
@@ -67,6 +72,7 @@ pub fn reorder_khmer<F: hb_font_t>(
 }
 
 // The masks of the order, as the plan keeps them.
+#[inline]
 fn order_of(plan_data: &PlanData) -> KhmerOrder
     requires { is_khmer_data plan_data.now ≡ true }
     ensures { result ≡ order_in plan_data.now }

@@ -62,6 +62,7 @@ impl GlyphWalk for TileRecorder {
 
 /// Gives each multiplied glyph of the slice the action of its tile, and returns whether there was
 /// one. (OpenType `stch`.)
+#[inline]
 pub fn record_stch_in(glyphs: &mut [hb_glyph_info_t]) -> bool
     ensures glyphs { glyphs.new ≡ map recorded glyphs.old }
     ensures answer { result ≡ list_any (λ g. is_multiplied g.marks) glyphs.old }

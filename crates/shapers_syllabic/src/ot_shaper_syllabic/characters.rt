@@ -29,6 +29,7 @@ pub fn set_categories<T: Tables>(tables: &T, buffer: &mut hb_buffer_t)
 }
 
 /// The same for the glyphs of a slice.
+#[inline]
 pub fn set_categories_in<T: Tables>(tables: &T, glyphs: &mut [hb_glyph_info_t])
     ensures { glyphs.new ≡ map (with_category (T.tables tables.now)) glyphs.old }
 {
@@ -48,6 +49,7 @@ pub fn set_categories_and_positions<T: Tables>(tables: &T, buffer: &mut hb_buffe
 }
 
 /// The same for the glyphs of a slice.
+#[inline]
 pub fn set_categories_and_positions_in<T: Tables>(tables: &T, glyphs: &mut [hb_glyph_info_t])
     ensures { glyphs.new ≡ map (with_category_and_position (T.tables tables.now)) glyphs.old }
 {

@@ -3,6 +3,7 @@ ghost use Rattle.std.specs.Prelude.{◌≡◌, ◌==◌, ◌<◌, ◌≤◌, ◌
 ghost use Rattle.std.specs.List.{prefix_len, suffix_len};
 ghost use Rattle.shapers_buffer.specs.Clusters.{stretch_of};
 ghost use Rattle.shapers_base.specs.Font.{dotted_circle};
+ghost use Rattle.shapers_syllabic.specs.CircleLaws.{CirclesErased};
 ghost use Rattle.shapers_syllabic.specs.Circles.{circle_in, circled, circles_for, count_of_kind, rephas_len, with_circle, with_circles};
 ghost use Rattle.shapers_syllabic.specs.FirstBroken.{IsFirstBroken, IsLastBroken, IsOpened, is_of_other_kind};
 ghost use Rattle.shapers_buffer.specs.Refusals.{RefusesLength};
@@ -37,7 +38,8 @@ struct Places {
 
 /// Gives each broken syllable a dotted circle, behind its leading glyphs of the repha category
 /// where one is given, else in front. Answers false, with nothing changed, where no syllable is
-/// broken, the caller forbids circles or the font has none. Refuses with `TooLong` where the text
+/// broken, the caller forbids circles or the font has none. Without its circles the text is what it
+/// was. Refuses with `TooLong` where the text
 /// would be longer than `max_len`, and with `Memory`; where no circle opens it takes none.
 pub fn insert_dotted_circles<F: hb_font_t>(
     face: &F,
@@ -57,6 +59,10 @@ pub fn insert_dotted_circles<F: hb_font_t>(
         repha_category dottedcircle_position buffer.old in
         OnOk result (buffer.new ≡
         record buffer.old { glyphs = circled circles buffer.old.glyphs }) }
+    ensures erased { let circles = circles_for ((F.font face.now).nominal dotted_circle)
+        broken_syllable_type dottedcircle_category
+        repha_category dottedcircle_position buffer.old in
+        OnOk result (CirclesErased circles buffer.old.glyphs buffer.new.glyphs) }
     ensures length { let circles = circles_for ((F.font face.now).nominal dotted_circle)
         broken_syllable_type dottedcircle_category
         repha_category dottedcircle_position buffer.old in

@@ -15,6 +15,7 @@ pub fn clear_syllables(buffer: &mut hb_buffer_t)
 }
 
 /// Takes these glyphs out of their syllables, as `clear_syllables` does those of a buffer.
+#[inline]
 pub fn clear_syllables_in(glyphs: &mut [hb_glyph_info_t])
     ensures { glyphs.new ≡ map (in_syllable 0) glyphs.old }
 {
@@ -31,6 +32,7 @@ pub fn clear_substitution_flags(buffer: &mut hb_buffer_t)
 }
 
 /// Takes back from these glyphs the mark that a lookup substituted them.
+#[inline]
 pub fn clear_substitution_flags_in(glyphs: &mut [hb_glyph_info_t])
     ensures { glyphs.new ≡ map unsubstituted glyphs.old }
 {

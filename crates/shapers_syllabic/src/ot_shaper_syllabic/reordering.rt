@@ -29,7 +29,8 @@ pub trait Reorder {
 }
 
 /// Reorders each syllable of the text, from left to right. It asks for the laws of the order: its
-/// steps fit a syllable, lose nothing and lead to what the syllable becomes. It never refuses.
+/// steps fit a syllable, lose nothing and lead to what the syllable becomes. The placement list is
+/// empty afterwards, so that no place depends on how syllables were moved. It never refuses.
 pub fn reorder_syllables<R: Reorder>(order: &R, buffer: &mut hb_buffer_t) -> Result<(), ShaperError>
     requires without_positions { buffer.old.positions ≡ [] }
     requires laws { ReorderLaws
@@ -45,5 +46,6 @@ pub fn reorder_syllables<R: Reorder>(order: &R, buffer: &mut hb_buffer_t) -> Res
         order.reorder(buffer, start, end)?;
         start = end;
     }
+    buffer.clear_places();
     Ok(())
 }

@@ -45,6 +45,7 @@ pub fn set_up_syllables(
 
 /// Sets up a text whose glyphs have their syllable bytes already: flags the inside of each syllable
 /// as unsafe to break, and marks whether one is of the broken kind. It takes no memory.
+#[inline]
 pub fn set_up_by_bytes(broken_kind: u8, buffer: &mut hb_buffer_t)
     ensures { buffer.new ≡ set_up_by_bytes broken_kind buffer.old }
 {
@@ -55,6 +56,7 @@ pub fn set_up_by_bytes(broken_kind: u8, buffer: &mut hb_buffer_t)
 }
 
 /// Flags the inside of each syllable of these glyphs as unsafe to break and to concatenate.
+#[inline]
 pub fn flag_syllables_in(glyphs: &mut [hb_glyph_info_t])
     ensures { glyphs.new ≡ unsafe_syllables glyphs.old }
 {

@@ -32,7 +32,8 @@ const JOINING_SCRIPTS: [Script; 13] = [
 /// plan of Arabic. No mask touches a glyph flag bit. It can't refuse and takes no memory.
 pub fn create_data(plan: &hb_ot_shape_plan_t) -> PlanData
     ensures data { let start = plan.now.stretch_start in
-        result ≡ Universal (universal_plan start plan.now.script plan.now.ot_map) }
+        let breaks = plan.now.break_flags in
+        result ≡ Universal (universal_plan start breaks plan.now.script plan.now.ot_map) }
     ensures off_flags { AllByRecursion (λ mask. mask % 8 ≡ 0) (masks_in result) }
 {
     PlanData::Universal(use_shape_plan_t {
@@ -42,8 +43,11 @@ pub fn create_data(plan: &hb_ot_shape_plan_t) -> PlanData
 }
 
 // The plan of Arabic, for a script whose letters join.
+#[inline]
 fn arabic_plan_for(plan: &hb_ot_shape_plan_t) -> Option<arabic_shape_plan_t>
-    ensures data { let plan_of_arabic = arabic_plan plan.now.stretch_start plan.now.ot_map in
+    ensures data { let start = plan.now.stretch_start in
+        let breaks = plan.now.break_flags in
+        let plan_of_arabic = arabic_plan start breaks plan.now.ot_map in
         result ≡ (if joins_letters plan.now.script then Some plan_of_arabic else None) }
     ensures off_flags { AllByRecursion (λ mask. mask % 8 ≡ 0) (joining_masks result) }
 {
@@ -55,6 +59,7 @@ fn arabic_plan_for(plan: &hb_ot_shape_plan_t) -> Option<arabic_shape_plan_t>
 }
 
 // Whether the letters of a script join, where it is known.
+#[inline]
 fn has_arabic_joining(script: Option<Script>) -> bool
     ensures { result ≡ joins_letters script }
 {
@@ -65,6 +70,7 @@ fn has_arabic_joining(script: Option<Script>) -> bool
 }
 
 // Whether the letters of this script join.
+#[inline]
 fn is_joining(script: Script) -> bool
     ensures { result ≡ list_any (λ t. pointwise nat_eq t.0 script.0) joining_scripts }
 {

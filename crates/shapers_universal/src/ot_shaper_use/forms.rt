@@ -1,7 +1,8 @@
 //! The forms of syllables by their places in runs.
-ghost use Rattle.std.specs.Prelude.{◌≡◌, ◌<◌, ◌≤◌, length, map, drop, false};
+ghost use Rattle.std.specs.Prelude.{◌≡◌, ◌%◌, ◌<◌, ◌≤◌, length, map, drop, false};
 ghost use Rattle.shapers_buffer.specs.Clusters.{with_stretch};
 ghost use Rattle.shapers_buffer.specs.Syllables.{syllables};
+ghost use Rattle.shapers_clusters.specs.FlagLaw.{OnlyFlagsAdded};
 ghost use Rattle.shapers_universal.specs.UniversalSyllables.{all_forms, form_mask, form_masks, formed, in_forms, joins_runs, mask_between, with_forms, with_instead};
 
 use shapers_base::buffer::{GlyphWalk, first_syllable_len, hb_buffer_t, hb_glyph_info_t, hb_tag_t};
@@ -19,9 +20,11 @@ pub(super) struct FormMasks {
 
 // Gives each syllable the mask of its form: in each unbroken run of syllables that join, a lone one
 // is isolated, the first initial, the last final, the others medial.
+#[inline]
 pub(super) fn set_forms(map: &hb_ot_map_t, buffer: &mut hb_buffer_t)
-    ensures { let masks = form_masks map.now in
+    ensures forms { let masks = form_masks map.now in
         buffer.new ≡ record buffer.old { glyphs = with_forms masks buffer.old.glyphs } }
+    ensures flags { OnlyFlagsAdded buffer.old.glyphs buffer.new.glyphs }
 {
     let mut masks = FormMasks::of(map);
     if masks.all() != 0 {
@@ -31,8 +34,10 @@ pub(super) fn set_forms(map: &hb_ot_map_t, buffer: &mut hb_buffer_t)
 
 impl FormMasks {
     // The masks in a map.
+    #[inline]
     fn of(map: &hb_ot_map_t) -> Self
-        ensures { result ≡ form_masks map.now }
+        ensures masks { result ≡ form_masks map.now }
+        ensures off_flags { all_forms result % 8 ≡ 0 }
     {
         FormMasks {
             isol: form_mask(map, hb_tag_t(*b"isol")),
@@ -43,13 +48,16 @@ impl FormMasks {
     }
 
     // The bits of all forms.
+    #[inline]
     fn all(self) -> u32
-        ensures { result ≡ all_forms self }
+        ensures bits { result ≡ all_forms self }
+        ensures fits { all_forms self ≤ 0xFFFFFFFF }
     {
         (self.isol | self.init) | (self.medi | self.fina)
     }
 
     // The mask in a run, by whether a syllable of it stands before and whether one stands behind.
+    #[inline]
     fn between(self, before: bool, behind: bool) -> u32
         ensures { result ≡ mask_between self before behind }
     {
@@ -62,6 +70,7 @@ impl FormMasks {
     }
 
     // Gives each syllable the mask of its form.
+    #[inline]
     fn set_in(self, glyphs: &mut [hb_glyph_info_t])
         ensures { glyphs.new ≡ in_forms self false (syllables glyphs.old) }
     {
@@ -77,6 +86,7 @@ impl FormMasks {
     }
 
     // Gives the syllable from `s` to `e` the mask of its form.
+    #[inline]
     fn set_at(self, glyphs: &mut [hb_glyph_info_t], s: usize, e: usize, before: bool)
         requires in_order { s ≤ e }
         requires in_range { e ≤ length glyphs.old }
@@ -88,6 +98,7 @@ impl FormMasks {
     }
 
     // Gives a syllable the mask of its form.
+    #[inline]
     fn set(self, syllable: &mut [hb_glyph_info_t], before: bool, behind: bool)
         ensures { syllable.new ≡ formed self before behind syllable.old }
     {
@@ -113,8 +124,10 @@ impl GlyphWalk for FormMasks {
 }
 
 // The mask of the feature of a form, 0 where it holds for the whole text.
+#[inline]
 fn form_mask(map: &hb_ot_map_t, tag: hb_tag_t) -> u32
-    ensures { result ≡ form_mask map.now tag.0 }
+    ensures mask { result ≡ form_mask map.now tag.0 }
+    ensures off_flags { result % 8 ≡ 0 }
 {
     let mask = map.get_1_mask(tag);
     if mask == map.get_global_mask() {
@@ -124,6 +137,7 @@ fn form_mask(map: &hb_ot_map_t, tag: hb_tag_t) -> u32
 }
 
 // Whether the syllable that opens the text stands in runs.
+#[inline]
 fn joins_runs(glyphs: &[hb_glyph_info_t]) -> bool
     ensures { result ≡ joins_runs glyphs.now }
 {
@@ -137,6 +151,7 @@ fn joins_runs(glyphs: &[hb_glyph_info_t]) -> bool
 }
 
 // Gives all these glyphs a mask in place of the bits of all forms.
+#[inline]
 fn replace_forms(glyphs: &mut [hb_glyph_info_t], all: u32, mask: u32)
     ensures { glyphs.new ≡ map (with_instead all mask) glyphs.old }
 {

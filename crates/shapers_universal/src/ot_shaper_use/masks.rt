@@ -29,6 +29,7 @@ pub fn setup_masks<T: Tables>(plan: &hb_ot_shape_plan_t, tables: &T, buffer: &mu
 }
 
 // Gives each glyph the category of its character.
+#[inline]
 fn set_categories<T: Tables>(tables: &T, buffer: &mut hb_buffer_t)
     ensures { buffer.new ≡ with_categories (T.tables tables.now) buffer.old }
 {
@@ -37,6 +38,7 @@ fn set_categories<T: Tables>(tables: &T, buffer: &mut hb_buffer_t)
 }
 
 /// Gives each of these glyphs the category of its character in the universal shaper.
+#[inline]
 pub fn set_categories_in<T: Tables>(tables: &T, glyphs: &mut [hb_glyph_info_t])
     ensures { glyphs.new ≡ map (categorized (T.tables tables.now).universal) glyphs.old }
 {

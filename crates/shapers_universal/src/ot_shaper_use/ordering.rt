@@ -71,6 +71,7 @@ impl Reorder for UniversalOrder {
 }
 
 // Reorders the syllable from `s` to `e`, in which no reph stands in front.
+#[inline]
 fn reorder_fronts(buffer: &mut hb_buffer_t, s: usize, e: usize)
     requires in_order { s ≤ e }
     requires in_range { e ≤ length buffer.old.glyphs }
@@ -89,6 +90,7 @@ fn reorder_fronts(buffer: &mut hb_buffer_t, s: usize, e: usize)
 
 // The first glyph from `s` to `e` that goes to the front: where its piece starts, and the place
 // behind it.
+#[inline]
 fn first_front(glyphs: &[hb_glyph_info_t], s: usize, e: usize) -> Option<(usize, usize)>
     requires in_order { s ≤ e }
     requires in_range { e ≤ length glyphs.now }
@@ -104,6 +106,7 @@ fn first_front(glyphs: &[hb_glyph_info_t], s: usize, e: usize) -> Option<(usize,
 }
 
 // Where the piece starts in which place `i` of a syllable from `s` on stands.
+#[inline]
 fn piece_start(glyphs: &[hb_glyph_info_t], s: usize, i: usize) -> usize
     requires in_order { s ≤ i }
     requires in_range { i ≤ length glyphs.now }
@@ -119,6 +122,7 @@ fn piece_start(glyphs: &[hb_glyph_info_t], s: usize, i: usize) -> usize
 }
 
 // Merges the glyphs from `start` to `end` and moves the last of them to their front.
+#[inline]
 fn move_to_front(buffer: &mut hb_buffer_t, start: usize, end: usize)
     requires some { start < end }
     requires in_range { end ≤ length buffer.old.glyphs }
@@ -132,6 +136,7 @@ fn move_to_front(buffer: &mut hb_buffer_t, start: usize, end: usize)
 }
 
 // Lists the places from `s` to `e`, the last of them first.
+#[inline]
 fn list_last_first(buffer: &mut hb_buffer_t, s: usize, e: usize)
     requires some { s < e }
     requires in_range { e ≤ length buffer.old.glyphs }
@@ -145,6 +150,7 @@ fn list_last_first(buffer: &mut hb_buffer_t, s: usize, e: usize)
 }
 
 // Whether some glyph goes to the front of its piece.
+#[inline]
 fn some_go_front(glyphs: &[hb_glyph_info_t]) -> bool
     ensures { result ≡ list_any goes_front glyphs.now }
 {
@@ -152,6 +158,7 @@ fn some_go_front(glyphs: &[hb_glyph_info_t]) -> bool
 }
 
 // Whether a reph stands in front.
+#[inline]
 fn has_reph(syllable: &[hb_glyph_info_t]) -> bool
     ensures { result ≡ has_reph syllable.now }
 {
@@ -162,6 +169,7 @@ fn has_reph(syllable: &[hb_glyph_info_t]) -> bool
 }
 
 // Reorders the syllable from `s` to `e`.
+#[inline]
 fn reorder_syllable(buffer: &mut hb_buffer_t, s: usize, e: usize)
     requires in_order { s ≤ e }
     requires in_range { e ≤ length buffer.old.glyphs }
@@ -177,6 +185,7 @@ fn reorder_syllable(buffer: &mut hb_buffer_t, s: usize, e: usize)
 
 // Merges each glyph from `behind` to `e` that goes to the front with all of its piece before it,
 // where the first piece starts at `s`.
+#[inline]
 fn merge_fronts(buffer: &mut hb_buffer_t, s: usize, behind: usize, e: usize)
     requires in_order { s ≤ behind }
     requires inside { behind ≤ e }
@@ -201,6 +210,7 @@ fn merge_fronts(buffer: &mut hb_buffer_t, s: usize, behind: usize, e: usize)
 
 // Lists the order of the syllable from `s` to `e`, of which the reph and what it passes end at
 // `behind`.
+#[inline]
 fn list_order(buffer: &mut hb_buffer_t, s: usize, behind: usize, e: usize)
     requires in_order { s < e }
     requires in_range { e ≤ length buffer.old.glyphs }
@@ -215,6 +225,7 @@ fn list_order(buffer: &mut hb_buffer_t, s: usize, behind: usize, e: usize)
 }
 
 // Lists the order of the pieces from `s` to `e`, where a piece ends with a halant.
+#[inline]
 fn list_pieces(buffer: &mut hb_buffer_t, s: usize, e: usize)
     requires in_order { s ≤ e }
     requires in_range { e ≤ length buffer.old.glyphs }
@@ -231,6 +242,7 @@ fn list_pieces(buffer: &mut hb_buffer_t, s: usize, e: usize)
 
 // Lists the order of the piece from `s` to `e`: what goes to the front, last first; the reph and
 // what it passes, which end at `behind`, with the reph last; and the rest.
+#[inline]
 fn list_piece(buffer: &mut hb_buffer_t, s: usize, behind: usize, e: usize)
     requires in_order { s ≤ behind }
     requires inside { behind ≤ e }
@@ -245,6 +257,7 @@ fn list_piece(buffer: &mut hb_buffer_t, s: usize, behind: usize, e: usize)
 
 // Lists what goes to the front of those from `behind` to `e`, last first, from place `s` on.
 // Answers the place behind them.
+#[inline]
 fn list_fronts(buffer: &mut hb_buffer_t, s: usize, behind: usize, e: usize) -> usize
     requires in_order { s ≤ behind }
     requires inside { behind ≤ e }
@@ -268,6 +281,7 @@ fn list_fronts(buffer: &mut hb_buffer_t, s: usize, behind: usize, e: usize) -> u
 
 // Lists the places from `s` to `behind` from place `at` on, the first of them last. Answers the
 // place behind them.
+#[inline]
 fn list_reph(buffer: &mut hb_buffer_t, s: usize, behind: usize, at: usize) -> usize
     requires in_order { s ≤ behind }
     requires in_range { at + (behind - s) ≤ length buffer.old.glyphs }
@@ -289,6 +303,7 @@ fn list_reph(buffer: &mut hb_buffer_t, s: usize, behind: usize, at: usize) -> us
 }
 
 // Lists what doesn't go to the front of those from `s` to `e`, from place `at` on.
+#[inline]
 fn list_rest(buffer: &mut hb_buffer_t, s: usize, e: usize, at: usize)
     requires in_order { s ≤ e }
     requires in_range { e ≤ length buffer.old.glyphs }
@@ -307,6 +322,7 @@ fn list_rest(buffer: &mut hb_buffer_t, s: usize, e: usize, at: usize)
 }
 
 // Whether syllables of this kind are reordered.
+#[inline]
 fn is_reordered(syllable: &[hb_glyph_info_t]) -> bool
     ensures { result ≡ is_reordered syllable.now }
 {
@@ -323,6 +339,7 @@ fn is_reordered(syllable: &[hb_glyph_info_t]) -> bool
 }
 
 // How many glyphs the reph in front and what it passes are, 0 where no reph stands in front.
+#[inline]
 fn reph_run(syllable: &[hb_glyph_info_t]) -> usize
     ensures len { result ≡ reph_run syllable.now }
     ensures within { result ≤ length syllable.now }
@@ -334,6 +351,7 @@ fn reph_run(syllable: &[hb_glyph_info_t]) -> usize
 }
 
 // How many glyphs in front a reph passes.
+#[inline]
 fn passed_len(glyphs: &[hb_glyph_info_t]) -> usize
     ensures len { result ≡ prefix_len is_passed glyphs.now }
     ensures within { result ≤ length glyphs.now }
@@ -342,6 +360,7 @@ fn passed_len(glyphs: &[hb_glyph_info_t]) -> usize
 }
 
 // Whether a reph passes this glyph: it is no halant and doesn't stand after the base.
+#[inline]
 fn is_passed(glyph: &hb_glyph_info_t) -> bool
     ensures { result ≡ is_passed glyph.now }
 {
@@ -349,6 +368,7 @@ fn is_passed(glyph: &hb_glyph_info_t) -> bool
 }
 
 // Whether glyphs of this category stand after the base.
+#[inline]
 fn is_post_base(category: u8) -> bool
     ensures { result ≡ list_any (λ c. c == category) post_base }
 {
@@ -356,6 +376,7 @@ fn is_post_base(category: u8) -> bool
 }
 
 // Whether a glyph is a halant, and no ligature.
+#[inline]
 fn is_halant(glyph: &hb_glyph_info_t) -> bool
     ensures { result ≡ is_halant glyph.now }
 {
@@ -365,6 +386,7 @@ fn is_halant(glyph: &hb_glyph_info_t) -> bool
 }
 
 // How long the first piece is: up to the first halant, or all.
+#[inline]
 fn piece_len(glyphs: &[hb_glyph_info_t]) -> usize
     ensures len { result ≡ first_piece_len is_halant glyphs.now }
     ensures within { result ≤ length glyphs.now }
@@ -378,6 +400,7 @@ fn piece_len(glyphs: &[hb_glyph_info_t]) -> usize
 }
 
 // Whether a glyph goes to the front of its piece.
+#[inline]
 fn goes_front(glyph: &hb_glyph_info_t) -> bool
     ensures { result ≡ goes_front glyph.now }
 {

@@ -39,6 +39,7 @@ pub fn record_pref(buffer: &mut hb_buffer_t)
 }
 
 /// The same for the syllables of a slice, where `mask` is that of `rphf`.
+#[inline]
 pub fn record_rphf_in(mask: u32, glyphs: &mut [hb_glyph_info_t])
     ensures { glyphs.new ≡ flat_map (rphf_recorded mask) (syllables glyphs.old) }
 {
@@ -47,6 +48,7 @@ pub fn record_rphf_in(mask: u32, glyphs: &mut [hb_glyph_info_t])
 
 /// In each syllable of a slice the first glyph that a lookup put in becomes one that stands before
 /// the base.
+#[inline]
 pub fn record_pref_in(glyphs: &mut [hb_glyph_info_t])
     ensures { glyphs.new ≡ flat_map (first_recorded VPre) (syllables glyphs.old) }
 {
@@ -88,6 +90,7 @@ impl SyllableChange for RecordPref {
 }
 
 // How many glyphs in front have bits of this mask.
+#[inline]
 fn leading_len(glyphs: &[hb_glyph_info_t], mask: u32) -> usize
     ensures len { result ≡ prefix_len (has_bits mask) glyphs.now }
     ensures within { result ≤ length glyphs.now }
@@ -99,6 +102,7 @@ fn leading_len(glyphs: &[hb_glyph_info_t], mask: u32) -> usize
 }
 
 // Gives the first of these glyphs that a lookup put in another category.
+#[inline]
 fn record_first(glyphs: &mut [hb_glyph_info_t], category: u8)
     ensures { glyphs.new ≡ first_recorded category glyphs.old }
 {

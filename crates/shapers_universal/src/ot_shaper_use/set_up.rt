@@ -5,23 +5,24 @@ ghost use Rattle.shapers_buffer.specs.Glyph.{clusters};
 ghost use Rattle.shapers_buffer.specs.GlyphFlags.{with_bits};
 ghost use Rattle.shapers_buffer.specs.Refusals.{RefusesInput};
 ghost use Rattle.shapers_buffer.specs.Syllables.{spans_refusal, syllables};
+ghost use Rattle.shapers_clusters.specs.FlagLaw.{OnlyFlagsAdded};
 ghost use Rattle.shapers_universal.specs.PlanData.{is_universal};
 ghost use Rattle.shapers_universal.specs.UniversalCuts.{UniversalSetUpCutsAtSpans};
-ghost use Rattle.shapers_universal.specs.UniversalSyllables.{reph_len, syllables_set_up, with_rphf, with_syllable_masks};
+ghost use Rattle.shapers_universal.specs.UniversalSyllables.{reph_len, set_up_by_its_bytes, syllables_set_up, with_rphf, with_syllable_masks};
 
 use super::category;
 use super::forms::set_forms;
 use super::syllable_walk::{EachSyllable, SyllableChange};
 use shapers_base::buffer::{ShaperError, Span, hb_buffer_t, hb_glyph_info_t};
 use shapers_base::plan::{PlanData, hb_ot_shape_plan_t};
-use shapers_syllabic::ot_shaper_syllabic::set_up_syllables;
 use shapers_syllabic::ot_shaper_syllabic::use_syllable::BROKEN_CLUSTER;
+use shapers_syllabic::ot_shaper_syllabic::{set_up_by_bytes, set_up_syllables};
 
 /// Cuts the text into the syllables of these spans and flags the inside of each as unsafe to break.
 /// Gives the mask of `rphf` to the first glyph of each syllable if it is a reph, else to its first
 /// three, and, where the plan has no plan of Arabic, the masks of forms by the places of syllables.
 /// Refuses with `SpansDontCover` where a span is empty or the lengths don't add up to the buffer's.
-/// It takes no memory and leaves the clusters as they are.
+/// It takes no memory, leaves the clusters as they are and only adds glyph flags.
 pub fn setup_syllables_use(
     plan: &hb_ot_shape_plan_t,
     spans: &[Span],
@@ -36,6 +37,7 @@ pub fn setup_syllables_use(
         OnOk result
         (UniversalSetUpCutsAtSpans kept plan.now.ot_map spans.now buffer.old buffer.new) }
     ensures clusters { clusters buffer.new.glyphs ≡ clusters buffer.old.glyphs }
+    ensures flags { OnOk result (OnlyFlagsAdded buffer.old.glyphs buffer.new.glyphs) }
     ensures err { OnErr result (buffer.new ≡ buffer.old) }
 {
     set_up_syllables(spans, BROKEN_CLUSTER, buffer)?;
@@ -43,12 +45,26 @@ pub fn setup_syllables_use(
     Ok(())
 }
 
-// Gives each syllable its masks.
-fn set_masks(plan: &hb_ot_shape_plan_t, buffer: &mut hb_buffer_t)
+/// Sets up a text whose glyphs have their syllable bytes already, with the flags, marks and masks of
+/// [`setup_syllables_use`]. It takes no memory and leaves the clusters as they are.
+#[inline]
+pub fn setup_syllables_use_by_bytes(plan: &hb_ot_shape_plan_t, buffer: &mut hb_buffer_t)
     requires { is_universal plan.now.plan_data ≡ true }
     ensures { let kept = plan.now.plan_data in
+        buffer.new ≡ set_up_by_its_bytes kept plan.now.ot_map buffer.old }
+{
+    set_up_by_bytes(BROKEN_CLUSTER, buffer);
+    set_masks(plan, buffer);
+}
+
+// Gives each syllable its masks.
+#[inline]
+fn set_masks(plan: &hb_ot_shape_plan_t, buffer: &mut hb_buffer_t)
+    requires { is_universal plan.now.plan_data ≡ true }
+    ensures masks { let kept = plan.now.plan_data in
         let masked = with_syllable_masks kept plan.now.ot_map buffer.old.glyphs in
         buffer.new ≡ record buffer.old { glyphs = masked } }
+    ensures flags { OnlyFlagsAdded buffer.old.glyphs buffer.new.glyphs }
 {
     match &plan.plan_data {
         PlanData::Universal(universal_plan) => {
@@ -62,9 +78,11 @@ fn set_masks(plan: &hb_ot_shape_plan_t, buffer: &mut hb_buffer_t)
 }
 
 // Gives each syllable the mask of `rphf`.
+#[inline]
 fn set_rphf(mask: u32, buffer: &mut hb_buffer_t)
-    ensures { let masked = flat_map (with_rphf mask) (syllables buffer.old.glyphs) in
+    ensures masks { let masked = flat_map (with_rphf mask) (syllables buffer.old.glyphs) in
         buffer.new ≡ record buffer.old { glyphs = masked } }
+    ensures flags { OnlyFlagsAdded buffer.old.glyphs buffer.new.glyphs }
 {
     buffer.walk(&mut EachSyllable {
         change: &RphfMask { mask },
@@ -90,6 +108,7 @@ impl SyllableChange for RphfMask {
 }
 
 // How many glyphs in front get the mask of `rphf`: a reph alone, else three or all.
+#[inline]
 fn reph_len(syllable: &[hb_glyph_info_t]) -> usize
     ensures len { result ≡ reph_len syllable.now }
     ensures within { result ≤ length syllable.now }
@@ -102,6 +121,7 @@ fn reph_len(syllable: &[hb_glyph_info_t]) -> usize
 }
 
 // Gives all these glyphs the bits of a mask besides their own.
+#[inline]
 fn add_mask(glyphs: &mut [hb_glyph_info_t], mask: u32)
     ensures { glyphs.new ≡ map (with_bits mask) glyphs.old }
 {

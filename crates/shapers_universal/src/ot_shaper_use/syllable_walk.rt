@@ -40,6 +40,7 @@ impl<'a, C: SyllableChange> GlyphWalk for EachSyllable<'a, C> {
 }
 
 // Changes each syllable of these glyphs.
+#[inline]
 pub(super) fn change_syllables<C: SyllableChange>(change: &C, glyphs: &mut [hb_glyph_info_t])
     ensures { glyphs.new ≡ flat_map (C.changed change.now) (syllables glyphs.old) }
 {
@@ -52,6 +53,7 @@ pub(super) fn change_syllables<C: SyllableChange>(change: &C, glyphs: &mut [hb_g
 }
 
 // Changes the glyphs from `s` to `e` as a syllable.
+#[inline]
 fn change_stretch<C: SyllableChange>(change: &C, glyphs: &mut [hb_glyph_info_t], s: usize, e: usize)
     requires in_order { s ≤ e }
     requires in_range { e ≤ length glyphs.old }

@@ -146,6 +146,7 @@ pub struct PlanInput {
     pub found_script: Bool,
     pub has_gpos_mark: Bool,
     pub centres_stretch: Bool,
+    pub sound_breaks: Bool,
     pub global_mask: u32,
     pub features: *const Feature,
     pub features_length: c_uint,

@@ -8,7 +8,7 @@ use super::fields::{
 use super::session::Session;
 use super::tables::Entry;
 use sengadlit::buffer::{BufferClusterLevel, BufferFlags, Direction};
-use sengadlit::plan::{JoiningType, StretchStart};
+use sengadlit::plan::{BreakFlags, JoiningType, StretchStart};
 use sengadlit::{GlyphInfo, Script, Shaper, Span};
 
 impl Session {
@@ -92,6 +92,7 @@ impl Session {
             "maxlen" => self.set_max_len(decimal(value)?)?,
             "global" => self.settings.global_mask = hexadecimal(value)?,
             "stretch" => self.settings.stretch_start = stretch_start(value)?,
+            "breaks" => self.settings.break_flags = break_flags(value)?,
             "positions" => self.set_positions(yes_or_no(value)?),
             _ => return Err(Fault::Unreadable),
         }
@@ -219,6 +220,14 @@ fn stretch_start(name: &str) -> Result<StretchStart, Fault> {
     match name {
         "code" => Ok(StretchStart::AsCode),
         "centred" => Ok(StretchStart::Centred),
+        _ => Err(Fault::Unreadable),
+    }
+}
+
+fn break_flags(name: &str) -> Result<BreakFlags, Fault> {
+    match name {
+        "code" => Ok(BreakFlags::AsCode),
+        "sound" => Ok(BreakFlags::Sound),
         _ => Err(Fault::Unreadable),
     }
 }

@@ -3,7 +3,7 @@
 use super::fault::Fault;
 use sengadlit::alloc::Global;
 use sengadlit::map::FeatureMap;
-use sengadlit::plan::StretchStart;
+use sengadlit::plan::{BreakFlags, StretchStart};
 use sengadlit::{Map, Plan, Script, Shaper, Tag};
 use std::ops::Range;
 
@@ -24,6 +24,7 @@ pub struct Settings {
     pub found: bool,
     pub gpos_mark: bool,
     pub stretch_start: StretchStart,
+    pub break_flags: BreakFlags,
     pub global_mask: u32,
     features: Vec<Feature>,
 }
@@ -37,6 +38,7 @@ impl Default for Settings {
             found: false,
             gpos_mark: false,
             stretch_start: StretchStart::AsCode,
+            break_flags: BreakFlags::AsCode,
             global_mask: 0,
             features: Vec::new(),
         }
@@ -59,6 +61,7 @@ impl Settings {
         let mut plan = Plan::new(self.script, self.map()?);
         plan.has_gpos_mark = self.gpos_mark;
         plan.stretch_start = self.stretch_start;
+        plan.break_flags = self.break_flags;
         Ok(shaper.with_data(plan))
     }
 

@@ -28,6 +28,8 @@ pub fn set(draft: &mut Draft, writing: &Writing) {
     sometimes(draft, 20, format_args!("set global {global:X}"));
     let stretch = draft.numbers.one_of(&["code", "centred"]);
     sometimes(draft, 40, format_args!("set stretch {stretch}"));
+    let breaks = draft.numbers.one_of(&["code", "sound"]);
+    sometimes(draft, 60, format_args!("set breaks {breaks}"));
     let max_len = 8 + draft.numbers.below(40);
     sometimes(draft, 15, format_args!("set maxlen {max_len}"));
     add_features(draft);

@@ -123,6 +123,7 @@ impl Session {
             Setting::Found(found) => self.settings.found = found,
             Setting::GposMark(gpos_mark) => self.settings.gpos_mark = gpos_mark,
             Setting::Stretch(stretch_start) => self.settings.stretch_start = stretch_start,
+            Setting::Breaks(break_flags) => self.settings.break_flags = break_flags,
             Setting::Direction(direction) => self.buffer.set_direction(direction),
             Setting::Level(level) => self.buffer.set_cluster_level(level),
             Setting::Flags(flags) => self.buffer.set_flags(flags),

@@ -12,7 +12,7 @@ use crate::support::alloc::{AllocError, Global};
 use core::ops::Range;
 use sengadlit::buffer::{Script, Span, Tag};
 use sengadlit::map::{FeatureMap, Map};
-use sengadlit::plan::{Plan, StretchStart};
+use sengadlit::plan::{BreakFlags, Plan, StretchStart};
 use sengadlit::shaper::Shaper;
 
 /// A feature's mask and lookups.
@@ -32,6 +32,7 @@ pub(crate) struct Settings {
     pub(crate) found: bool,
     pub(crate) gpos_mark: bool,
     pub(crate) stretch_start: StretchStart,
+    pub(crate) break_flags: BreakFlags,
     pub(crate) global_mask: u32,
     pub(crate) font: LineFont,
     pub(crate) tables: LineTables,
@@ -49,6 +50,7 @@ impl Settings {
             found: false,
             gpos_mark: false,
             stretch_start: StretchStart::AsCode,
+            break_flags: BreakFlags::AsCode,
             global_mask: 0,
             font: LineFont::new(alloc),
             tables: LineTables::new(alloc),
@@ -62,6 +64,7 @@ impl Settings {
         let mut plan = Plan::new(self.script, self.map()?);
         plan.has_gpos_mark = self.gpos_mark;
         plan.stretch_start = self.stretch_start;
+        plan.break_flags = self.break_flags;
         Ok(plan)
     }
 

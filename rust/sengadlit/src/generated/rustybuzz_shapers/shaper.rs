@@ -23,7 +23,7 @@ use crate::generated::shapers_stretch::ot_shaper_arabic_stretch;
 use crate::generated::shapers_text::{ot_shaper_hebrew, ot_shaper_thai};
 use crate::generated::shapers_universal::ot_shaper_use;
 pub use conditions::{has_positions, kinds_fit, lacks_positions, pause_fits};
-pub use pauses::run_pause;
+pub use pauses::{pause_may_change, run_pause};
 
 /// A script shaper.
 #[derive(Clone, Copy, Debug, PartialEq, Eq)]

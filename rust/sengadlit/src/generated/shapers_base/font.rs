@@ -1,7 +1,7 @@
 //! Generated from crates/shapers_base/src/font.rt by rust/erase; edit the source.
 //!
-//! What the shapers ask of a font and of the Unicode tables. Both are functions: the same question
-//! has the same answer.
+//! What the shapers read of a font and of the Unicode tables. Both are functions: the same question
+//! has the same result.
 
 use crate::generated::shapers_base::buffer::{GeneralCategory, Tag};
 use crate::generated::shapers_base::plan::{Category, JoiningType, Position};
@@ -11,7 +11,7 @@ use crate::generated::shapers_base::plan::{Category, JoiningType, Position};
 #[derive(Clone, Copy, Debug, PartialEq, Eq)]
 pub struct GlyphId(pub u16);
 
-/// A font, as far as the shapers ask it.
+/// A font, as far as the shapers read it.
 pub trait Font {
     /// The font's own glyph for a character, before any lookup.
     ///
@@ -26,8 +26,8 @@ pub trait Font {
     /// </details>
     fn get_nominal_glyph(&self, c: u32) -> Option<GlyphId>;
 
-    /// Whether the font has a nominal glyph for a character: an impl has its own answer where it
-    /// can tell that without making the glyph.
+    /// Whether the font has a nominal glyph for a character. An impl overrides this where it knows
+    /// without making the glyph.
     ///
     /// <details><summary>Contract</summary>
     ///
@@ -40,6 +40,7 @@ pub trait Font {
     /// - `has_nominal`: crates/shapers_base/specs/Font.antt
     ///
     /// </details>
+    #[inline]
     fn has_glyph(&self, c: u32) -> bool {
         self.get_nominal_glyph(c).is_some()
     }
@@ -58,7 +59,7 @@ pub trait Font {
     fn glyph_h_advance(&self, glyph: GlyphId) -> i32;
 
     /// Whether the lookup at this place of the list would apply to exactly these glyphs; with
-    /// `zero_context`, only if it asks for no context around them.
+    /// `zero_context`, only if it needs no context around them.
     ///
     /// <details><summary>Contract</summary>
     ///
@@ -71,9 +72,8 @@ pub trait Font {
     /// </details>
     fn would_apply(&self, lookup: u16, glyphs: &[GlyphId], zero_context: bool) -> bool;
 
-    /// Whether one of these lookups would apply to exactly these glyphs. This asks `would_apply`
-    /// about each up to the first that would; an impl has its own answer where it can tell that at
-    /// once.
+    /// Whether one of these lookups would apply to exactly these glyphs. This calls `would_apply`
+    /// for each up to the first that would; an impl overrides it where it knows that at once.
     ///
     /// <details><summary>Contract</summary>
     ///
@@ -86,6 +86,7 @@ pub trait Font {
     /// - `would_one`: crates/shapers_base/specs/Map.antt
     ///
     /// </details>
+    #[inline]
     fn would_apply_any(&self, lookups: &[u16], glyphs: &[GlyphId], zero_context: bool) -> bool {
         lookups
             .iter()
@@ -106,7 +107,7 @@ pub trait Font {
     fn has_feature(&self, tag: Tag) -> bool;
 }
 
-/// The tables of the Unicode Character Database and of the shapers, as far as they are asked.
+/// The tables of the Unicode Character Database and of the shapers, as far as they are read.
 pub trait Tables {
     /// How a character joins its neighbours.
     ///

@@ -37,7 +37,7 @@ pub enum TableIndex {
 pub struct FeatureMap {
     /// The tag of the feature.
     pub tag: Tag,
-    /// The bits of a glyph's mask that ask for the feature.
+    /// The bits of a glyph's mask that turn the feature on.
     pub mask: u32,
     /// The stage that its lookups run in.
     pub stage: usize,
@@ -272,7 +272,7 @@ impl Map {
         }
     }
 
-    /// Whether the table has the script that was asked for.
+    /// Whether the table has the script that was requested.
     ///
     /// <details><summary>Contract</summary>
     ///
@@ -311,11 +311,13 @@ impl Map {
 }
 
 // The first of these features that has this tag.
+#[inline]
 fn first_feature(features: &[FeatureMap], tag: Tag) -> Option<FeatureMap> {
     features.iter().copied().find(|feature| feature.tag == tag)
 }
 
 // A copy of these.
+#[inline]
 fn copied<T: Copy>(alloc: Global, items: &[T]) -> Result<Vec<T>, ShaperError> {
     let mut copy = Vec::new(alloc);
     copy.extend_from_slice(items)?;
@@ -323,6 +325,7 @@ fn copied<T: Copy>(alloc: Global, items: &[T]) -> Result<Vec<T>, ShaperError> {
 }
 
 // A copy of these stages.
+#[inline]
 fn copied_stages(alloc: Global, stages: &[Range<usize>]) -> Result<Vec<Range<usize>>, ShaperError> {
     let mut copy = Vec::new(alloc);
     copy.reserve(stages.len())?;
@@ -334,6 +337,7 @@ fn copied_stages(alloc: Global, stages: &[Range<usize>]) -> Result<Vec<Range<usi
 }
 
 // Whether each stage is a range of a list of this length.
+#[inline]
 fn are_ranges(stages: &[Range<usize>], lookups_len: usize) -> bool {
     stages
         .iter()
@@ -341,6 +345,7 @@ fn are_ranges(stages: &[Range<usize>], lookups_len: usize) -> bool {
 }
 
 // Whether no feature's mask touches a glyph flag bit, one of the low three.
+#[inline]
 fn are_off_flags(features: &[FeatureMap]) -> bool {
     features.iter().all(|feature| feature.mask % 8 == 0)
 }

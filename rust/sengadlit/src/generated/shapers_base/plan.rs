@@ -1,13 +1,14 @@
 //! Generated from crates/shapers_base/src/plan.rt by rust/erase; edit the source.
 //!
-//! The planner and the plan: what the shapers ask of a font, and what they decided for one script
-//! and font before they see a text. With them what two shapers or more name.
+//! The planner and the plan: what the shapers request of a font, and what they decided for one
+//! script and font before they see a text. With them what two shapers or more name.
 
 use crate::generated::shapers_base::buffer::Script;
 pub use crate::generated::shapers_base::buffer::ShaperError;
 use crate::generated::shapers_base::map::Map;
 
 mod arabic;
+mod breaks;
 mod hangul;
 mod indic;
 mod joining;
@@ -20,6 +21,7 @@ mod record;
 mod universal;
 
 pub use arabic::{ArabicPlan, StretchStart};
+pub use breaks::BreakFlags;
 pub use hangul::HangulPlan;
 pub use indic::{
     BlwfMode, IndicConfig, IndicPlan, IndicWouldSubstituteFeature, RephMode, RephPosition,
@@ -37,8 +39,9 @@ pub type Category = u8;
 /// The position of a glyph in its syllable, among those of `ot_position_t`.
 pub type Position = u8;
 
-/// What a shaper does to a text of one script.
+/// What a shaper does to a text of one script. A later version may add fields.
 #[derive(Debug)]
+#[non_exhaustive]
 pub struct Plan {
     /// The script of the text, where it is known.
     pub script: Option<Script>,
@@ -48,13 +51,15 @@ pub struct Plan {
     pub has_gpos_mark: bool,
     /// Where the tiles of a stretched mark begin.
     pub stretch_start: StretchStart,
+    /// Which places are flagged unsafe to break.
+    pub break_flags: BreakFlags,
     /// What the shaper itself keeps.
     pub plan_data: PlanData,
 }
 
 impl Plan {
-    /// A plan whose shaper keeps nothing yet, for a font whose GPOS places no marks; tiles begin as
-    /// the code of HarfBuzz has it.
+    /// A plan whose shaper keeps nothing yet, for a font whose GPOS places no marks; tiles begin
+    /// and breaks are flagged as the code of HarfBuzz has it.
     ///
     /// <details><summary>Contract</summary>
     ///
@@ -67,12 +72,14 @@ impl Plan {
     /// - `new_plan`: crates/shapers_base/specs/Plan.antt
     ///
     /// </details>
+    #[inline]
     pub fn new(script: Option<Script>, ot_map: Map) -> Self {
         Plan {
             script,
             ot_map,
             has_gpos_mark: false,
             stretch_start: StretchStart::AsCode,
+            break_flags: BreakFlags::AsCode,
             plan_data: PlanData::None,
         }
     }
@@ -109,6 +116,7 @@ impl PlanData {
     /// - `as_arabic`: crates/shapers_base/specs/Plan.antt
     ///
     /// </details>
+    #[inline]
     pub fn arabic(&self) -> Option<&ArabicPlan> {
         match self {
             PlanData::Arabic(kept) => Some(kept),
@@ -129,6 +137,7 @@ impl PlanData {
     /// - `as_hangul`: crates/shapers_base/specs/Plan.antt
     ///
     /// </details>
+    #[inline]
     pub fn hangul(&self) -> Option<&HangulPlan> {
         match self {
             PlanData::Hangul(kept) => Some(kept),
@@ -149,6 +158,7 @@ impl PlanData {
     /// - `as_universal`: crates/shapers_base/specs/Plan.antt
     ///
     /// </details>
+    #[inline]
     pub fn universal(&self) -> Option<&UniversalPlan> {
         match self {
             PlanData::Universal(kept) => Some(kept),
@@ -169,6 +179,7 @@ impl PlanData {
     /// - `as_khmer`: crates/shapers_base/specs/Plan.antt
     ///
     /// </details>
+    #[inline]
     pub fn khmer(&self) -> Option<&KhmerPlan> {
         match self {
             PlanData::Khmer(kept) => Some(kept),
@@ -189,6 +200,7 @@ impl PlanData {
     /// - `as_indic`: crates/shapers_base/specs/Plan.antt
     ///
     /// </details>
+    #[inline]
     pub fn indic(&self) -> Option<&IndicPlan> {
         match self {
             PlanData::Indic(kept) => Some(kept),

@@ -62,8 +62,8 @@ pub struct Buffer {
     has_broken_syllable: bool,
     has_stch: bool,
     max_len: usize,
-    // room for a place and for a glyph a glyph, so that a reordering takes no memory; it is written
-    // as far as reorderings came
+    // room for one place and one glyph per glyph, so that a reordering takes no memory; it is
+    // written as far as reorderings came
     places: Vec<usize>,
     spare: Vec<GlyphInfo>,
 }
@@ -82,6 +82,7 @@ impl Buffer {
     /// - `new_buffer`: crates/shapers_buffer/specs/Buffer.antt
     ///
     /// </details>
+    #[inline]
     pub fn new(alloc: Global, max_len: usize) -> Self {
         Buffer {
             info: Vec::new(alloc),
@@ -232,6 +233,7 @@ impl Buffer {
     /// - `RefusesLength`: crates/shapers_buffer/specs/Refusals.antt
     ///
     /// </details>
+    #[inline]
     pub fn grow(&mut self, n: usize) -> Result<(), ShaperError> {
         if self.max_len - self.info.len() < n {
             return Err(ShaperError::TooLong);
@@ -279,6 +281,7 @@ impl Buffer {
     /// ```
     ///
     /// </details>
+    #[inline]
     pub fn copy(&self) -> Result<Self, ShaperError> {
         let alloc = self.alloc();
         Ok(Buffer {
@@ -300,6 +303,7 @@ impl Buffer {
 }
 
 // The five nearest of these characters, which are nearest first.
+#[inline]
 fn context(chars: &[char]) -> ArrayVec<char, CONTEXT_LENGTH> {
     let nearest = &chars[..chars.len().min(CONTEXT_LENGTH)];
     let mut context = ArrayVec::new();

@@ -2,7 +2,7 @@
 //!
 //! The shaper of Hangul.
 
-use crate::generated::shapers_base::buffer::{Buffer, GlyphChange, GlyphInfo, Tag};
+use crate::generated::shapers_base::buffer::{Buffer, GlyphChange, GlyphInfo, Tag, change_each_in};
 use crate::generated::shapers_base::font::Font;
 use crate::generated::shapers_base::map::{F_GLOBAL, F_NONE};
 use crate::generated::shapers_base::plan::{
@@ -140,6 +140,27 @@ impl GlyphChange for JamoMasks {
         let feature = usize::from(glyph.auxiliary);
         glyph.mask |= self.masks.get(feature).copied().unwrap_or(0);
     }
+}
+
+/// Gives each of these glyphs, besides its own mask, the one of the feature in its auxiliary byte.
+///
+/// <details><summary>Contract</summary>
+///
+/// # Contract
+///
+/// ```text
+/// ensures { glyphs.new ≡ map (with_jamo_mask hangul_plan.now.mask_array) glyphs.old }
+/// ```
+///
+/// - `with_jamo_mask`: crates/shapers_hangul/specs/Masks.antt
+///
+/// </details>
+#[inline]
+pub fn setup_masks_in(hangul_plan: &HangulPlan, glyphs: &mut [GlyphInfo]) {
+    let masks = JamoMasks {
+        masks: hangul_plan.mask_array,
+    };
+    change_each_in(glyphs, &masks);
 }
 
 /// Gives each glyph, besides its own mask, the one of the feature in its auxiliary byte: none for

@@ -3,7 +3,8 @@ use Rattle.std.proofs.Common.{refl, sym, subst}
 use Rattle.shapers_base.specs.declared.plan.pause.Pause.{Pause}
 use Rattle.shapers_universal.specs.PlanData.{rphf_of}
 use Rattle.rustybuzz_shapers.specs.Pauses.{PauseKeeps}
-use Rattle.rustybuzz_shapers.proofs.FlagLaws.{bytes_cleared, marks_cleared, pref_record_added, rphf_record_added, set_up_added, tiles_added, unchanged_added}
+use Rattle.shapers_syllabic.proofs.SetUpFlags.{set_up_added}
+use Rattle.rustybuzz_shapers.proofs.FlagLaws.{bytes_cleared, marks_cleared, pref_record_added, rphf_record_added, tiles_added, unchanged_added}
 use Rattle.rustybuzz_shapers.proofs.shaper.pauses.run_pause.Goals as goal
 
 pub returns-in_ok-set_up_syllables-in-SetupSyllablesIndic-clause-laws : goal.returns-in_ok-set_up_syllables-in-SetupSyllablesIndic-clause-laws

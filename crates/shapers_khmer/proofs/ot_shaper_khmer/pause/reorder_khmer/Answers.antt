@@ -2,6 +2,8 @@ use Rattle.std.proofs.Common.{OnOk, subst}
 use Rattle.std.proofs.lemmas.Result.{on_ok_weaker}
 use Rattle.shapers_khmer.specs.declared.ot_shaper_khmer.reordering.KhmerOrder.{KhmerOrder}
 use Rattle.shapers_khmer.specs.Khmer.{khmer_circles, khmer_order, khmer_steps}
+use Rattle.shapers_khmer.specs.KhmerMovers.{ordered_by_movers, steps_by_movers}
+use Rattle.shapers_khmer.proofs.KhmerPauseMovers.{pause_by_movers}
 use Rattle.shapers_khmer.proofs.KhmerLaws.{khmer_laws, khmer_moves_merged}
 use Rattle.shapers_syllabic.specs.Reordering.{PauseReordered, script_circles}
 use Rattle.shapers_syllabic.specs.ReorderingLaws.{PauseCutsAtBorders}
@@ -13,6 +15,12 @@ reorder_pause-requires-clause-laws g c = khmer_laws c.order_of-order.result
 pub returns-clause-ok : goal.returns-clause-ok
 returns-clause-ok g c =
     subst (λ (r : KhmerOrder). OnOk c.reorder_pause.result (PauseReordered (script_circles khmer_circles (g.F.hb_font_t.font c.args.face.now) c.args.buffer.now) (khmer_order r) khmer_steps c.args.buffer.now c.reorder_pause.new.buffer)) c.order_of-order.ensures c.reorder_pause.ensures.ok
+
+pub returns-clause-movers : goal.returns-clause-movers
+returns-clause-movers g c =
+    let circles = script_circles khmer_circles (g.F.hb_font_t.font c.args.face.now) c.args.buffer.now in
+    subst (λ (r : KhmerOrder). OnOk c.reorder_pause.result (PauseReordered circles (ordered_by_movers r) steps_by_movers c.args.buffer.now c.reorder_pause.new.buffer)) c.order_of-order.ensures
+    (on_ok_weaker c.reorder_pause.result (λ ok. pause_by_movers c.order_of-order.result circles c.args.buffer.now c.reorder_pause.new.buffer ok) c.reorder_pause.ensures.ok)
 
 pub returns-clause-cut : goal.returns-clause-cut
 returns-clause-cut g c =

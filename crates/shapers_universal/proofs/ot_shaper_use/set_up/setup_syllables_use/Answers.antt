@@ -1,6 +1,9 @@
 use Rattle.std.proofs.Common.{subst, sym, ◌∙◌, ap}
 use Rattle.shapers_buffer.specs.Buffer.{Buffer}
 use Rattle.shapers_buffer.specs.Glyph.{clusters}
+use Rattle.shapers_clusters.proofs.FlagLaw.{all_added_on}
+use Rattle.shapers_syllabic.specs.declared.ot_shaper_syllabic.kinds.use_syllable.TheConstants.{BROKEN_CLUSTER}
+use Rattle.shapers_syllabic.proofs.SetUpFlags.{set_up_added}
 use Rattle.shapers_universal.specs.UniversalCuts.{UniversalSetUpCutsAtSpans}
 use Rattle.shapers_universal.specs.UniversalSyllables.{with_syllable_masks}
 use Rattle.shapers_universal.proofs.UniversalCuts.{clusters-masks, universal_set_up_cuts}
@@ -14,10 +17,18 @@ returns-clause-cut c =
     let spans = c.args.spans.now in
     let old = c.args.buffer.now in
     let masked : Buffer → Buffer = λ b. record b { glyphs = with_syllable_masks kept m b.glyphs } in
-    subst (UniversalSetUpCutsAtSpans kept m spans old) (sym (c.set_masks.ensures ∙ ap masked c.in_ok-set_up_syllables.ensures.ok)) (universal_set_up_cuts kept m spans old c.requires.kinds)
+    subst (UniversalSetUpCutsAtSpans kept m spans old) (sym (c.set_masks.ensures.masks ∙ ap masked c.in_ok-set_up_syllables.ensures.ok)) (universal_set_up_cuts kept m spans old c.requires.kinds)
 
 -- masks change no cluster
 pub returns-clause-clusters : goal.returns-clause-clusters
 returns-clause-clusters c =
     let mid = c.set_up_syllables.new.buffer in
-    ap (λ (b : Buffer). clusters b.glyphs) c.set_masks.ensures ∙ clusters-masks c.args.plan.now.plan_data c.args.plan.now.ot_map mid.glyphs ∙ c.in_ok-set_up_syllables.ensures.clusters
+    ap (λ (b : Buffer). clusters b.glyphs) c.set_masks.ensures.masks ∙ clusters-masks c.args.plan.now.plan_data c.args.plan.now.ot_map mid.glyphs ∙ c.in_ok-set_up_syllables.ensures.clusters
+
+-- the spans only add flags, and so do the masks
+pub returns-clause-flags : goal.returns-clause-flags
+returns-clause-flags c =
+    let old = c.args.buffer.now in
+    let mid = c.set_up_syllables.new.buffer in
+    let new = c.set_masks.new.buffer in
+    all_added_on old.glyphs mid.glyphs new.glyphs (set_up_added c.args.spans.now BROKEN_CLUSTER old mid c.in_ok-set_up_syllables.ensures.ok) c.set_masks.ensures.flags

@@ -7,7 +7,7 @@ use crate::generated::hbhook_lines::expected::{COUNT, Expected};
 use crate::generated::hbhook_lines::fault::LineFault;
 use crate::support::bitflags::Flags;
 use sengadlit::buffer::{BufferClusterLevel, BufferFlags, Direction, Script, Tag};
-use sengadlit::plan::StretchStart;
+use sengadlit::plan::{BreakFlags, StretchStart};
 use sengadlit::shaper::{
     ARABIC_SHAPER, HANGUL_SHAPER, HEBREW_SHAPER, INDIC_SHAPER, KHMER_SHAPER, MYANMAR_SHAPER,
     MYANMAR_ZAWGYI_SHAPER, Shaper, THAI_SHAPER, UNIVERSAL_SHAPER,
@@ -15,7 +15,7 @@ use sengadlit::shaper::{
 
 // The names of the settings.
 const KEYS: &str = "shaper, script, chosen, found, gposmark, direction, level, flags, maxlen, \
-    global, positions, stretch";
+    global, positions, stretch, breaks";
 
 // The names of the shapers.
 const SHAPERS: &str = "arabic, hangul, hebrew, indic, khmer, myanmar, zawgyi, thai, universal";
@@ -45,6 +45,8 @@ pub(crate) enum Setting {
     Positions(bool),
     /// Where the tiles of a stretched mark begin.
     Stretch(StretchStart),
+    /// Which places are flagged unsafe to break.
+    Breaks(BreakFlags),
 }
 
 impl Setting {
@@ -63,6 +65,7 @@ impl Setting {
             "global" => Ok(Setting::Global(hexadecimal(value)?)),
             "positions" => Ok(Setting::Positions(yes_or_no(value)?)),
             "stretch" => Ok(Setting::Stretch(stretch_start(value)?)),
+            "breaks" => Ok(Setting::Breaks(break_flags(value)?)),
             _ => Err(LineFault::Unreadable(Expected::Word(KEYS))),
         }
     }
@@ -111,5 +114,13 @@ fn stretch_start(name: &str) -> Result<StretchStart, LineFault> {
         "code" => Ok(StretchStart::AsCode),
         "centred" => Ok(StretchStart::Centred),
         _ => Err(LineFault::Unreadable(Expected::Word("code, centred"))),
+    }
+}
+
+fn break_flags(name: &str) -> Result<BreakFlags, LineFault> {
+    match name {
+        "code" => Ok(BreakFlags::AsCode),
+        "sound" => Ok(BreakFlags::Sound),
+        _ => Err(LineFault::Unreadable(Expected::Word("code, sound"))),
     }
 }

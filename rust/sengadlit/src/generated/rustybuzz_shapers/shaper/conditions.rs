@@ -13,7 +13,7 @@ use crate::generated::shapers_universal::ot_shaper_use;
 
 impl Shaper {
     /// The plan with the data that the shaper keeps, if it keeps any. So it fits the shaper's hooks
-    /// and each pause that its lists ask for.
+    /// and each pause that its lists ask for. No mask in these data touches a glyph flag bit.
     ///
     /// <details><summary>Contract</summary>
     ///
@@ -23,10 +23,12 @@ impl Shaper {
     /// ensures data { result ≡ with_created (data_created self plan) plan }
     /// ensures fits { PlanFits self result }
     /// ensures pauses { PausesFit self result }
+    /// ensures off_flags { (standing self).create_data ≡ true → MasksOffFlags result.plan_data }
     /// ```
     ///
-    /// - `PlanFits`, `data_created`, `with_created`: crates/rustybuzz_shapers/specs/Hooks.antt
+    /// - `MasksOffFlags`, `PlanFits`, `data_created`, `with_created`: crates/rustybuzz_shapers/specs/Hooks.antt
     /// - `PausesFit`: crates/rustybuzz_shapers/specs/Pauses.antt
+    /// - `standing`: crates/rustybuzz_shapers/specs/Standing.antt
     ///
     /// </details>
     pub fn with_data(self, mut plan: Plan) -> Plan {

@@ -4,7 +4,7 @@
 
 use crate::generated::shapers_base::buffer::{Buffer, ShaperError, Span};
 use crate::generated::shapers_base::font::Font;
-use crate::generated::shapers_base::plan::{Pause, Plan};
+use crate::generated::shapers_base::plan::{Pause, Plan, PlanData};
 use crate::generated::shapers_indic_final::ot_shaper_indic_final;
 use crate::generated::shapers_indic_initial::ot_shaper_indic_initial;
 use crate::generated::shapers_khmer::ot_shaper_khmer;
@@ -20,7 +20,8 @@ use crate::generated::shapers_universal::ot_shaper_use;
 /// were wanted. Spans are read by the pauses that set syllables alone: those refuse with
 /// `SpansDontCover` where a span is empty or they don't add up. Reorderings refuse unknown kinds of
 /// syllables, but for the universal shaper's, and then as circles do. A refused pause leaves the
-/// buffer as it was.
+/// buffer as it was. A reordering leaves the placement list empty, so that each place reads 0; the
+/// other pauses leave it as it was.
 ///
 /// <details><summary>Contract</summary>
 ///
@@ -76,4 +77,30 @@ pub fn run_pause<F: Font>(
         Pause::ArabicFallbackShape => {}
     }
     Ok(false)
+}
+
+/// Whether the pause can change a buffer under this plan. False for the pauses that do nothing under
+/// it, whatever the buffer: fallback shaping, tiles where the font stretches no marks, and the
+/// record of `rphf` where the plan has no mask for it.
+///
+/// <details><summary>Contract</summary>
+///
+/// # Contract
+///
+/// ```text
+/// requires { PauseFits pause plan.now }
+/// ensures { result ≡ false → PauseStays pause plan.now }
+/// ```
+///
+/// - `PauseFits`, `PauseStays`: crates/rustybuzz_shapers/specs/Pauses.antt
+///
+/// </details>
+#[inline]
+pub fn pause_may_change(pause: Pause, plan: &Plan) -> bool {
+    match (pause, &plan.plan_data) {
+        (Pause::ArabicFallbackShape, _) => false,
+        (Pause::RecordStch, PlanData::Arabic(arabic_plan)) => arabic_plan.has_stch,
+        (Pause::RecordRphf, PlanData::Universal(universal_plan)) => universal_plan.rphf_mask != 0,
+        _ => true,
+    }
 }

@@ -6,14 +6,16 @@ use crate::generated::shapers_base::buffer::Tag;
 use crate::generated::shapers_base::plan::{ArabicPlan, Plan, PlanData};
 
 /// What the shaper keeps in the plan: the masks of the joining forms, which touch no glyph flag
-/// bit, whether marks stretch, and where these begin.
+/// bit, whether marks stretch, where these begin, and which breaks are flagged.
 ///
 /// <details><summary>Contract</summary>
 ///
 /// # Contract
 ///
 /// ```text
-/// ensures data { result ≡ arabic_plan plan.now.stretch_start plan.now.ot_map }
+/// ensures data { let start = plan.now.stretch_start in
+///     let breaks = plan.now.break_flags in
+///     result ≡ arabic_plan start breaks plan.now.ot_map }
 /// ensures off_flags { AllByRecursion (λ mask. mask % 8 ≡ 0) result.mask_array }
 /// ```
 ///
@@ -35,6 +37,7 @@ pub fn data_create_arabic(plan: &Plan) -> ArabicPlan {
         ],
         has_stch: map.get_1_mask(Tag(*b"stch")) != 0,
         stretch_start: plan.stretch_start,
+        break_flags: plan.break_flags,
     }
 }
 
@@ -45,7 +48,9 @@ pub fn data_create_arabic(plan: &Plan) -> ArabicPlan {
 /// # Contract
 ///
 /// ```text
-/// ensures data { result ≡ PlanData.Arabic (arabic_plan plan.now.stretch_start plan.now.ot_map) }
+/// ensures data { let start = plan.now.stretch_start in
+///     let breaks = plan.now.break_flags in
+///     result ≡ PlanData.Arabic (arabic_plan start breaks plan.now.ot_map) }
 /// ensures off_flags { AllByRecursion (λ mask. mask % 8 ≡ 0) (masks_of result) }
 /// ```
 ///

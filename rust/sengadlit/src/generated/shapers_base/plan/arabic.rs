@@ -1,5 +1,7 @@
 //! Generated from crates/shapers_base/src/plan/arabic.rt by rust/erase; edit the source.
 
+use super::breaks::BreakFlags;
+
 /// Where the tiles of a stretched mark begin to be laid, beside the word that they stretch over.
 #[derive(Clone, Copy, Debug, PartialEq, Eq, Default)]
 pub enum StretchStart {
@@ -19,4 +21,6 @@ pub struct ArabicPlan {
     pub has_stch: bool,
     /// Where the tiles of a stretched mark begin.
     pub stretch_start: StretchStart,
+    /// Which places are flagged unsafe to break.
+    pub break_flags: BreakFlags,
 }

@@ -42,7 +42,7 @@ pub enum BlwfMode {
     PostOnly,
 }
 
-/// What the rules of one script ask for.
+/// The properties of one script that the rules depend on.
 #[derive(Clone, Copy, Debug, PartialEq, Eq)]
 pub struct IndicConfig {
     /// The script, or none for any other.
@@ -68,7 +68,7 @@ pub struct IndicWouldSubstituteFeature {
 
 impl IndicWouldSubstituteFeature {
     /// The question about the lookups of a feature's stage. With `zero_context` only those count
-    /// that ask for no context around the glyphs.
+    /// that need no context around the glyphs.
     ///
     /// <details><summary>Contract</summary>
     ///
@@ -81,6 +81,7 @@ impl IndicWouldSubstituteFeature {
     /// - `question_for`: crates/shapers_base/specs/Questions.antt
     ///
     /// </details>
+    #[inline]
     pub fn new(map: &Map, feature_tag: Tag, zero_context: bool) -> Self {
         let lookups = match map.get_feature_stage(TableIndex::GSUB, feature_tag) {
             Some(stage) => map.stage_lookup_range(TableIndex::GSUB, stage),
@@ -105,6 +106,7 @@ impl IndicWouldSubstituteFeature {
     /// - `would_by`: crates/shapers_base/specs/Questions.antt
     ///
     /// </details>
+    #[inline]
     pub fn would_substitute<F: Font>(&self, map: &Map, face: &F, glyphs: &[GlyphId]) -> bool {
         face.would_apply_any(self.lookups(map), glyphs, self.zero_context)
     }
@@ -127,7 +129,7 @@ impl IndicWouldSubstituteFeature {
         map.lookups(&self.lookups)
     }
 
-    /// Whether only those count that ask for no context around the glyphs.
+    /// Whether only those count that need no context around the glyphs.
     ///
     /// <details><summary>Contract</summary>
     ///
@@ -147,7 +149,7 @@ impl IndicWouldSubstituteFeature {
 /// What the shaper of the Indic scripts keeps in the plan.
 #[derive(Clone, Debug, PartialEq, Eq)]
 pub struct IndicPlan {
-    /// What the script asks for.
+    /// The properties of the script.
     pub config: IndicConfig,
     /// Whether the font follows the older specification.
     pub is_old_spec: bool,

@@ -48,6 +48,7 @@ impl JoiningType {
     /// - `joining_number`, `joining_types`: crates/shapers_base/specs/Numbers.antt
     ///
     /// </details>
+    #[inline]
     pub fn from_number(number: u8) -> Option<Self> {
         match number {
             0 => Some(Self::U),
@@ -75,6 +76,7 @@ impl JoiningType {
     /// - `joining_number`: crates/shapers_base/specs/Numbers.antt
     ///
     /// </details>
+    #[inline]
     pub fn number(self) -> u8 {
         self as u8
     }

@@ -69,6 +69,7 @@ impl Pause {
     /// - `pauses`: crates/shapers_base/specs/Numbers.antt
     ///
     /// </details>
+    #[inline]
     pub fn from_number(number: u8) -> Option<Self> {
         Self::ALL.as_slice().get(number as usize).copied()
     }
@@ -86,6 +87,7 @@ impl Pause {
     /// - `pauses`: crates/shapers_base/specs/Numbers.antt
     ///
     /// </details>
+    #[inline]
     pub fn number(self) -> u8 {
         self as u8
     }

@@ -8,7 +8,7 @@ use crate::generated::shapers_base::map::F_GLOBAL;
 use crate::generated::shapers_base::plan::pause::Pause;
 use crate::support::alloc::Global;
 
-/// What a shaper asks of the map, in order.
+/// A request of a shaper to the map.
 #[derive(Clone, Copy, Debug, PartialEq, Eq)]
 pub enum Request {
     /// A feature, with flags and a value; 0 turns it off.
@@ -25,7 +25,7 @@ impl Default for Request {
     }
 }
 
-/// Collects what a shaper asks of the map for one script.
+/// Collects what a shaper requests of the map for one script.
 #[derive(Debug)]
 pub struct Planner {
     script: Option<Script>,
@@ -68,7 +68,7 @@ impl Planner {
         self.script
     }
 
-    /// What was asked so far, in order.
+    /// The requests so far, in order.
     ///
     /// <details><summary>Contract</summary>
     ///
@@ -100,7 +100,7 @@ impl Planner {
         face.has_feature(tag)
     }
 
-    /// Asks for a feature. The only refusal is `Memory`.
+    /// Requests a feature. The only refusal is `Memory`.
     ///
     /// <details><summary>Contract</summary>
     ///
@@ -121,7 +121,7 @@ impl Planner {
         self.add_requests(&[Request::Feature(tag, flags, value)])
     }
 
-    /// Asks for a feature that holds for the whole text. The only refusal is `Memory`.
+    /// Requests a feature that holds for the whole text. The only refusal is `Memory`.
     ///
     /// <details><summary>Contract</summary>
     ///
@@ -142,7 +142,7 @@ impl Planner {
         self.add_feature(tag, flags | F_GLOBAL, value)
     }
 
-    /// Asks that a feature be off. The only refusal is `Memory`.
+    /// Requests that a feature be off. The only refusal is `Memory`.
     ///
     /// <details><summary>Contract</summary>
     ///
@@ -163,7 +163,7 @@ impl Planner {
         self.add_feature(tag, F_GLOBAL, 0)
     }
 
-    /// Asks for a pause between two stages. The only refusal is `Memory`.
+    /// Requests a pause between two stages. The only refusal is `Memory`.
     ///
     /// <details><summary>Contract</summary>
     ///
@@ -183,7 +183,7 @@ impl Planner {
         self.add_requests(&[Request::Pause(pause)])
     }
 
-    /// Asks for a whole list: all of it, or nothing where memory is refused.
+    /// Requests a whole list: all of it, or nothing where memory is refused.
     ///
     /// <details><summary>Contract</summary>
     ///
@@ -198,6 +198,7 @@ impl Planner {
     /// - `with_requests`: crates/shapers_base/specs/Planner.antt
     ///
     /// </details>
+    #[inline]
     pub fn add_requests(&mut self, requests: &[Request]) -> Result<(), ShaperError> {
         self.requests.extend_from_slice(requests)?;
         Ok(())

@@ -115,6 +115,7 @@ impl GeneralCategory {
     /// - `categories`: crates/shapers_buffer/specs/Numbers.antt
     ///
     /// </details>
+    #[inline]
     pub fn from_number(number: u8) -> Option<Self> {
         Self::ALL.as_slice().get(number as usize).copied()
     }
@@ -132,6 +133,7 @@ impl GeneralCategory {
     /// - `categories`: crates/shapers_buffer/specs/Numbers.antt
     ///
     /// </details>
+    #[inline]
     pub fn number(self) -> u8 {
         self as u8
     }

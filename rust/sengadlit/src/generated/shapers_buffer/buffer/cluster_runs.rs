@@ -28,7 +28,7 @@ impl ClusterRun {
 impl Buffer {
     /// Merges the glyphs from `s` to `e`, as `merge_clusters`, of the buffer with a run in its
     /// cluster. Where they start in the run nothing is written and only what is new is read, else
-    /// the run is written and another begins. Answers the run that is to be written then.
+    /// the run is written and another begins. Returns the run that is to be written then.
     ///
     /// <details><summary>Contract</summary>
     ///
@@ -127,6 +127,7 @@ pub fn write_run_in(glyphs: &mut [GlyphInfo], run: ClusterRun) {
 }
 
 // Merges the glyphs from `s` to `e`, of at least two places.
+#[inline]
 fn merge_two(glyphs: &mut [GlyphInfo], run: ClusterRun, s: usize, e: usize) -> ClusterRun {
     let run = reaching(glyphs, run, s);
     if run.start <= s && s < run.end {
@@ -141,6 +142,7 @@ fn merge_two(glyphs: &mut [GlyphInfo], run: ClusterRun, s: usize, e: usize) -> C
 }
 
 // The run with the glyphs behind it up to place `s`, if these are all in its cluster.
+#[inline]
 fn reaching(glyphs: &[GlyphInfo], run: ClusterRun, s: usize) -> ClusterRun {
     if run.start < run.end && run.end <= s && are_in(&glyphs[run.end..s + 1], run.cluster) {
         ClusterRun { end: s + 1, ..run }
@@ -150,11 +152,13 @@ fn reaching(glyphs: &[GlyphInfo], run: ClusterRun, s: usize) -> ClusterRun {
 }
 
 // Whether all glyphs are in a cluster.
+#[inline]
 fn are_in(glyphs: &[GlyphInfo], cluster: u32) -> bool {
     glyphs.iter().all(|glyph| glyph.cluster == cluster)
 }
 
 // One glyph as a run.
+#[inline]
 fn run_of_one(glyphs: &[GlyphInfo], s: usize) -> ClusterRun {
     ClusterRun {
         start: s,
@@ -164,6 +168,7 @@ fn run_of_one(glyphs: &[GlyphInfo], s: usize) -> ClusterRun {
 }
 
 // The run that a merge from a place of this one to `e` makes, if that lies behind it.
+#[inline]
 fn grown(glyphs: &[GlyphInfo], run: ClusterRun, e: usize) -> ClusterRun {
     let added = &glyphs[run.end..e];
     let last = added[added.len() - 1].cluster;
@@ -178,6 +183,7 @@ fn grown(glyphs: &[GlyphInfo], run: ClusterRun, e: usize) -> ClusterRun {
 }
 
 // How many glyphs of cluster `from` end the list, if that becomes another one.
+#[inline]
 fn equal_before(glyphs: &[GlyphInfo], from: u32, to: u32) -> usize {
     if from == to {
         0
@@ -187,6 +193,7 @@ fn equal_before(glyphs: &[GlyphInfo], from: u32, to: u32) -> usize {
 }
 
 // How many glyphs of cluster `from` open the list, if that becomes another one.
+#[inline]
 fn equal_behind(glyphs: &[GlyphInfo], from: u32, to: u32) -> usize {
     if from == to {
         0
@@ -196,6 +203,7 @@ fn equal_behind(glyphs: &[GlyphInfo], from: u32, to: u32) -> usize {
 }
 
 // How many glyphs of a cluster end the list.
+#[inline]
 fn len_at_end(glyphs: &[GlyphInfo], cluster: u32) -> usize {
     glyphs
         .iter()
@@ -205,6 +213,7 @@ fn len_at_end(glyphs: &[GlyphInfo], cluster: u32) -> usize {
 }
 
 // How many glyphs of a cluster open the list.
+#[inline]
 fn len_in_front(glyphs: &[GlyphInfo], cluster: u32) -> usize {
     glyphs
         .iter()

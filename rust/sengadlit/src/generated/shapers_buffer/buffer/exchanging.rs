@@ -26,6 +26,7 @@ impl Buffer {
     /// ```
     ///
     /// </details>
+    #[inline]
     pub fn take_glyphs(&mut self) -> Vec<GlyphInfo> {
         let empty = Vec::new(self.alloc());
         self.pos.clear();
@@ -44,6 +45,7 @@ impl Buffer {
     /// ```
     ///
     /// </details>
+    #[inline]
     pub fn take_positions(&mut self) -> Vec<GlyphPosition> {
         let empty = Vec::new(self.alloc());
         mem::replace(&mut self.pos, empty)
@@ -68,6 +70,7 @@ impl Buffer {
     /// - `RefusesLength`: crates/shapers_buffer/specs/Refusals.antt
     ///
     /// </details>
+    #[inline]
     pub fn exchange_glyphs(&mut self, glyphs: &mut Vec<GlyphInfo>) -> Result<(), ShaperError> {
         if glyphs.len() > self.max_len {
             return Err(ShaperError::TooLong);
@@ -78,8 +81,8 @@ impl Buffer {
         Ok(())
     }
 
-    /// Exchanges the buffer's positions for those of the list, none or one a glyph, and answers
-    /// true; for any other number of them nothing changes.
+    /// Exchanges the buffer's positions for those of the list, none or one per glyph, and returns
+    /// true; for any other number of them it returns false and nothing changes.
     ///
     /// <details><summary>Contract</summary>
     ///
@@ -96,6 +99,7 @@ impl Buffer {
     /// - `can_be_positions`: crates/shapers_buffer/specs/Buffer.antt
     ///
     /// </details>
+    #[inline]
     pub fn exchange_positions(&mut self, positions: &mut Vec<GlyphPosition>) -> bool {
         let fits = positions.is_empty() || positions.len() == self.info.len();
         if fits {
@@ -104,7 +108,7 @@ impl Buffer {
         fits
     }
 
-    /// Exchanges the buffer's text for another: its glyphs, its positions (none, or one a glyph)
+    /// Exchanges the buffer's text for another: its glyphs, its positions (none, or one per glyph)
     /// and its settings. Refuses by the number of glyphs, and then all is as it was.
     ///
     /// <details><summary>Contract</summary>
@@ -127,6 +131,7 @@ impl Buffer {
     /// - `are_paired`, `with_text`: crates/shapers_buffer/specs/Settings.antt
     ///
     /// </details>
+    #[inline]
     pub fn exchange_text(
         &mut self,
         glyphs: &mut Vec<GlyphInfo>,

@@ -42,7 +42,7 @@ impl Buffer {
         self.pos[i] = position;
     }
 
-    /// Where the glyphs are drawn: none, or one a glyph.
+    /// Where the glyphs are drawn: none, or one per glyph.
     ///
     /// <details><summary>Contract</summary>
     ///
@@ -58,7 +58,7 @@ impl Buffer {
         self.pos.as_slice()
     }
 
-    /// How many positions there are: none, or one a glyph.
+    /// How many positions there are: none, or one per glyph.
     ///
     /// <details><summary>Contract</summary>
     ///
@@ -75,8 +75,8 @@ impl Buffer {
         self.pos.len()
     }
 
-    /// Takes positions, none or one a glyph, and answers true; for any other number of them nothing
-    /// changes.
+    /// Takes positions, none or one per glyph, and returns true; for any other number of them it
+    /// returns false and nothing changes.
     ///
     /// <details><summary>Contract</summary>
     ///
@@ -196,7 +196,7 @@ impl Buffer {
         self.cluster_level = cluster_level;
     }
 
-    /// What the caller asks of the shapers.
+    /// What the caller wants of the shapers.
     ///
     /// <details><summary>Contract</summary>
     ///
@@ -212,7 +212,7 @@ impl Buffer {
         self.flags
     }
 
-    /// Sets what the caller asks of the shapers.
+    /// Sets what the caller wants of the shapers.
     ///
     /// <details><summary>Contract</summary>
     ///

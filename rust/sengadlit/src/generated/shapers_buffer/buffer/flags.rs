@@ -2,7 +2,7 @@
 
 use crate::support::bitflags::{Flag, Flags, bitflag_items};
 
-/// What the caller asks of the shapers; the numbers are this crate's own.
+/// What the caller wants of the shapers; the numbers are this crate's own.
 #[repr(transparent)]
 #[derive(Clone, Copy, Debug, PartialEq, Eq)]
 pub struct BufferFlags(pub u32);
@@ -59,6 +59,7 @@ impl BufferFlags {
     /// - `from_harfbuzz`: crates/shapers_buffer/specs/Numbers.antt
     ///
     /// </details>
+    #[inline]
     pub fn from_harfbuzz(bits: u32) -> Self {
         let circle = flag_where(bits, HARFBUZZ_CIRCLE, Self::DO_NOT_INSERT_DOTTED_CIRCLE.0);
         let concat = flag_where(bits, HARFBUZZ_CONCAT, Self::PRODUCE_UNSAFE_TO_CONCAT.0);
@@ -83,6 +84,7 @@ impl BufferFlags {
     /// - `to_harfbuzz`: crates/shapers_buffer/specs/Numbers.antt
     ///
     /// </details>
+    #[inline]
     pub fn to_harfbuzz(self) -> u32 {
         let circle = flag_where(self.0, Self::DO_NOT_INSERT_DOTTED_CIRCLE.0, HARFBUZZ_CIRCLE);
         let concat = flag_where(self.0, Self::PRODUCE_UNSAFE_TO_CONCAT.0, HARFBUZZ_CONCAT);
@@ -95,7 +97,8 @@ impl BufferFlags {
     }
 }
 
-// The flag, where this bit is asked for.
+// The flag, where this bit is set.
+#[inline]
 fn flag_where(bits: u32, asked: u32, flag: u32) -> u32 {
     if bits & asked == asked { flag } else { 0 }
 }

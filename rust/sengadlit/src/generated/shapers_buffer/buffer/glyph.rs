@@ -26,7 +26,7 @@ pub struct GlyphInfo {
     pub general_category: GeneralCategory,
     /// The character's canonical combining class, as HarfBuzz renumbers it (`modified_combining_class`).
     pub modified_combining_class: u8,
-    /// The component of a ligature that a mark stands on, 0 to 15.
+    /// The component of a ligature that a mark is attached to, 0 to 15.
     pub lig_comp: u8,
     /// What lookups did to the glyph, and what its character is to the shapers.
     pub marks: GlyphMarks,

@@ -1,6 +1,6 @@
 //! Generated from crates/shapers_buffer/src/buffer/glyph_flags.rt by rust/erase; edit the source.
 //!
-//! The glyph flags: the low three bits of a mask, which tell line breakers and the like what a
+//! The glyph flags: the low three bits of a mask, from which line breakers and the like see what a
 //! change of the text at a glyph would do.
 
 use super::glyph::GlyphInfo;
@@ -41,7 +41,7 @@ impl Buffer {
         unsafe_to_break_in(&mut self.info, s, e);
     }
 
-    /// Flags every place from `s` to `e` as unsafe to concatenate, where the buffer asks for that
+    /// Flags every place from `s` to `e` as unsafe to concatenate, where the buffer wants that
     /// flag.
     ///
     /// <details><summary>Contract</summary>
@@ -66,7 +66,7 @@ impl Buffer {
     }
 
     /// Flags the places from `s` to `e` whose cluster isn't the least one there: safe to insert a
-    /// tatweel, where the buffer asks for that flag, else as `unsafe_to_break`.
+    /// tatweel, where the buffer wants that flag, else as `unsafe_to_break`.
     ///
     /// <details><summary>Contract</summary>
     ///
@@ -109,7 +109,7 @@ pub fn unsafe_to_break_in(glyphs: &mut [GlyphInfo], s: usize, e: usize) {
     flag(&mut glyphs[s..e], UNSAFE_TO_BREAK | UNSAFE_TO_CONCAT);
 }
 
-/// No concatenation in the stretch, where the flags ask for that, over glyphs in a slice, as
+/// No concatenation in the stretch, where the flags want that, over glyphs in a slice, as
 /// `Buffer::unsafe_to_concat`.
 ///
 /// <details><summary>Contract</summary>
@@ -160,6 +160,7 @@ pub fn safe_to_insert_tatweel_in(flags: BufferFlags, glyphs: &mut [GlyphInfo], s
 }
 
 // Adds mask bits to every glyph whose cluster isn't the least one of the stretch.
+#[inline]
 fn flag(stretch: &mut [GlyphInfo], bits: u32) {
     if stretch.is_empty() {
         return;
@@ -173,6 +174,7 @@ fn flag(stretch: &mut [GlyphInfo], bits: u32) {
 }
 
 // Adds mask bits to every glyph of the stretch.
+#[inline]
 fn flag_all(stretch: &mut [GlyphInfo], bits: u32) {
     for glyph in stretch.iter_mut() {
         glyph.mask |= bits;

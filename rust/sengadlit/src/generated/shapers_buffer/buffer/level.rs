@@ -33,6 +33,7 @@ impl BufferClusterLevel {
     /// - `levels`: crates/shapers_buffer/specs/Numbers.antt
     ///
     /// </details>
+    #[inline]
     pub fn from_number(number: u8) -> Option<Self> {
         Self::ALL.as_slice().get(number as usize).copied()
     }
@@ -50,6 +51,7 @@ impl BufferClusterLevel {
     /// - `levels`: crates/shapers_buffer/specs/Numbers.antt
     ///
     /// </details>
+    #[inline]
     pub fn number(self) -> u8 {
         self as u8
     }
@@ -93,6 +95,7 @@ impl Direction {
     /// - `direction_number`, `directions`: crates/shapers_buffer/specs/Numbers.antt
     ///
     /// </details>
+    #[inline]
     pub fn from_number(number: u8) -> Option<Self> {
         match number {
             0 => Some(Self::Invalid),
@@ -117,6 +120,7 @@ impl Direction {
     /// - `direction_number`: crates/shapers_buffer/specs/Numbers.antt
     ///
     /// </details>
+    #[inline]
     pub fn number(self) -> u8 {
         self as u8
     }

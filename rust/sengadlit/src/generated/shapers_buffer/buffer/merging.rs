@@ -61,6 +61,7 @@ pub(super) fn merges(level: BufferClusterLevel) -> bool {
 }
 
 // Merges the stretch from `s` to `e`, of at least two places.
+#[inline]
 fn merge_stretch(info: &mut [GlyphInfo], s: usize, e: usize) {
     let (before, rest) = info.split_at_mut(s);
     let (stretch, after) = rest.split_at_mut(e - s);
@@ -87,6 +88,7 @@ fn merge_stretch(info: &mut [GlyphInfo], s: usize, e: usize) {
 /// - `clusters`: crates/shapers_buffer/specs/Glyph.antt
 ///
 /// </details>
+#[inline]
 pub fn least_cluster(stretch: &[GlyphInfo]) -> u32 {
     let mut least = stretch[0].cluster;
     for glyph in stretch {
@@ -96,6 +98,7 @@ pub fn least_cluster(stretch: &[GlyphInfo]) -> u32 {
 }
 
 // Puts a glyph into a cluster; if that is another one, its glyph flags go.
+#[inline]
 fn move_to_cluster(glyph: &mut GlyphInfo, cluster: u32) {
     if glyph.cluster != cluster {
         glyph.cluster = cluster;
@@ -104,6 +107,7 @@ fn move_to_cluster(glyph: &mut GlyphInfo, cluster: u32) {
 }
 
 // Puts all these glyphs into a cluster.
+#[inline]
 pub(super) fn set_cluster(stretch: &mut [GlyphInfo], cluster: u32) {
     for glyph in stretch.iter_mut() {
         move_to_cluster(glyph, cluster);
@@ -111,6 +115,7 @@ pub(super) fn set_cluster(stretch: &mut [GlyphInfo], cluster: u32) {
 }
 
 // Puts the glyphs of cluster `from` that open the list into cluster `to`.
+#[inline]
 fn flood_after(glyphs: &mut [GlyphInfo], from: u32, to: u32) {
     if from == to {
         return;
@@ -124,6 +129,7 @@ fn flood_after(glyphs: &mut [GlyphInfo], from: u32, to: u32) {
 }
 
 // Puts the glyphs of cluster `from` that end the list into cluster `to`.
+#[inline]
 fn flood_before(glyphs: &mut [GlyphInfo], from: u32, to: u32) {
     if from == to {
         return;

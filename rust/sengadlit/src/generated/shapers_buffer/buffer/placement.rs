@@ -51,6 +51,22 @@ impl Buffer {
         self.places[i] = place;
     }
 
+    /// Empties the list, so that each place reads 0. It takes no memory.
+    ///
+    /// <details><summary>Contract</summary>
+    ///
+    /// # Contract
+    ///
+    /// ```text
+    /// ensures { self.new ≡ record self.old { places = [] } }
+    /// ```
+    ///
+    /// </details>
+    #[inline]
+    pub fn clear_places(&mut self) {
+        self.places.clear();
+    }
+
     /// Gives each place from `start` to `end` the glyph of the place listed for it; each place from
     /// `start` to `end` is listed once. Positions stay. It takes no memory.
     ///
@@ -78,6 +94,7 @@ impl Buffer {
 }
 
 // Gives each place from `start` to `end` the glyph of the place listed for it.
+#[inline]
 fn reorder(
     glyphs: &mut [GlyphInfo],
     places: &[usize],
@@ -91,6 +108,7 @@ fn reorder(
 }
 
 // Writes the glyphs of these places, in the order of the places.
+#[inline]
 fn gather(glyphs: &[GlyphInfo], places: &[usize], to: &mut [GlyphInfo]) {
     for (i, place) in places.iter().enumerate() {
         to[i] = glyphs[*place];
@@ -102,6 +120,7 @@ const OPENED: usize = 64;
 
 // Opens the first `n` places of the room that is there, and some more. What is opened reads 0, as
 // it did.
+#[inline]
 fn open_places(places: &mut Vec<usize>, n: usize) {
     if places.len() < n {
         let ahead = n.max(places.capacity().min(n.saturating_add(OPENED)));
@@ -110,6 +129,7 @@ fn open_places(places: &mut Vec<usize>, n: usize) {
 }
 
 // Opens the first `n` glyphs of the room that is there.
+#[inline]
 fn open_spare(spare: &mut Vec<GlyphInfo>, n: usize) {
     if spare.len() < n {
         spare.resize(n, GlyphInfo::DEFAULT).unwrap();
@@ -117,6 +137,7 @@ fn open_spare(spare: &mut Vec<GlyphInfo>, n: usize) {
 }
 
 // Makes room for `n` places and glyphs, and writes nothing there.
+#[inline]
 pub(super) fn make_room(
     places: &mut Vec<usize>,
     spare: &mut Vec<GlyphInfo>,
@@ -132,6 +153,7 @@ pub(super) fn make_room(
 }
 
 // These places, with room for `n`.
+#[inline]
 pub(super) fn copy_places(
     alloc: Global,
     places: &[usize],

@@ -27,6 +27,7 @@ impl Buffer {
     /// - `RefusesLength`: crates/shapers_buffer/specs/Refusals.antt
     ///
     /// </details>
+    #[inline]
     pub fn replace_glyphs(&mut self, glyphs: Vec<GlyphInfo>) -> Result<(), ShaperError> {
         if glyphs.len() > self.max_len {
             return Err(ShaperError::TooLong);

@@ -15,7 +15,7 @@ pub struct BufferSettings<'a> {
     pub script: Option<Script>,
     /// How clusters merge.
     pub cluster_level: BufferClusterLevel,
-    /// What the caller asks of the shapers.
+    /// What the caller wants of the shapers.
     pub flags: BufferFlags,
     /// The text before, nearest character first; the buffer keeps the five nearest.
     pub pre_context: &'a [char],
@@ -44,6 +44,7 @@ impl<'a> BufferSettings<'a> {
     /// - `with_settings`: crates/shapers_buffer/specs/Settings.antt
     ///
     /// </details>
+    #[inline]
     pub fn new(max_len: usize) -> Self {
         BufferSettings {
             direction: Direction::LeftToRight,
@@ -73,6 +74,7 @@ impl<'a> BufferSettings<'a> {
 /// - `character_of`: crates/shapers_buffer/specs/Settings.antt
 ///
 /// </details>
+#[inline]
 pub fn context_characters(numbers: &[u32]) -> ArrayVec<char, CONTEXT_LENGTH> {
     let nearest = &numbers[..numbers.len().min(CONTEXT_LENGTH)];
     let mut characters = ArrayVec::new();
@@ -83,6 +85,7 @@ pub fn context_characters(numbers: &[u32]) -> ArrayVec<char, CONTEXT_LENGTH> {
 }
 
 // The character of this code point, or U+FFFD where it is none.
+#[inline]
 fn character(number: u32) -> char {
     char::from_u32(number).unwrap_or(char::REPLACEMENT_CHARACTER)
 }
@@ -103,6 +106,7 @@ impl Buffer {
     /// - `with_settings`: crates/shapers_buffer/specs/Settings.antt
     ///
     /// </details>
+    #[inline]
     pub fn settings(&self) -> BufferSettings<'_> {
         BufferSettings {
             direction: self.direction,
@@ -131,6 +135,7 @@ impl Buffer {
     /// - `with_settings`: crates/shapers_buffer/specs/Settings.antt
     ///
     /// </details>
+    #[inline]
     pub fn set_settings(&mut self, settings: &BufferSettings) {
         self.direction = settings.direction;
         self.script = settings.script;

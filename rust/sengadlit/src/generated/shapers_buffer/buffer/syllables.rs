@@ -76,6 +76,7 @@ impl Buffer {
     /// - `spans_refusal`, `with_spans`: crates/shapers_buffer/specs/Syllables.antt
     ///
     /// </details>
+    #[inline]
     pub fn set_spans(&mut self, spans: &[Span], broken_kind: u8) -> Result<(), ShaperError> {
         if !spans_cover(self.info.len(), spans) {
             return Err(ShaperError::SpansDontCover);
@@ -110,6 +111,7 @@ pub fn first_syllable_len(glyphs: &[GlyphInfo]) -> usize {
 }
 
 // How many glyphs at the front have this syllable byte.
+#[inline]
 fn syllable_run_len(glyphs: &[GlyphInfo], byte: u8) -> usize {
     glyphs
         .iter()
@@ -118,6 +120,7 @@ fn syllable_run_len(glyphs: &[GlyphInfo], byte: u8) -> usize {
 }
 
 // The first place whose kind is above this one.
+#[inline]
 fn first_above(glyphs: &[GlyphInfo], last_kind: u8) -> Option<usize> {
     glyphs
         .iter()
@@ -153,6 +156,7 @@ pub fn has_span_of_kind(spans: &[Span], kind: u8) -> bool {
 /// - `spans_cover`: crates/shapers_buffer/specs/Syllables.antt
 ///
 /// </details>
+#[inline]
 pub fn spans_cover(len: usize, spans: &[Span]) -> bool {
     let mut rest = len;
     for span in spans {
@@ -165,6 +169,7 @@ pub fn spans_cover(len: usize, spans: &[Span]) -> bool {
 }
 
 // Gives each place the byte of the span that covers it.
+#[inline]
 fn set_bytes(glyphs: &mut [GlyphInfo], spans: &[Span]) {
     let mut start = 0;
     for (i, span) in spans.iter().enumerate() {
@@ -176,6 +181,7 @@ fn set_bytes(glyphs: &mut [GlyphInfo], spans: &[Span]) {
 }
 
 // Gives the glyphs from `s` to `e` one syllable byte.
+#[inline]
 fn set_syllable_in(glyphs: &mut [GlyphInfo], s: usize, e: usize, byte: u8) {
     set_syllable(&mut glyphs[s..e], byte);
 }
@@ -193,6 +199,7 @@ fn set_syllable_in(glyphs: &mut [GlyphInfo], s: usize, e: usize, byte: u8) {
 /// - `in_syllable`: crates/shapers_buffer/specs/Syllables.antt
 ///
 /// </details>
+#[inline]
 pub fn set_syllable(glyphs: &mut [GlyphInfo], byte: u8) {
     for glyph in glyphs.iter_mut() {
         glyph.syllable = byte;

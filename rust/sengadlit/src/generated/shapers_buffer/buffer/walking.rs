@@ -112,6 +112,7 @@ impl Buffer {
     /// ```
     ///
     /// </details>
+    #[inline]
     pub fn with_glyphs_mut<R, F: FnOnce(&mut [GlyphInfo]) -> R>(&mut self, change: F) -> R {
         change(&mut self.info)
     }
@@ -132,6 +133,7 @@ impl Buffer {
     /// ```
     ///
     /// </details>
+    #[inline]
     pub fn with_positions_mut<R, F: FnOnce(&mut [GlyphPosition]) -> R>(&mut self, change: F) -> R {
         change(&mut self.pos)
     }
@@ -170,6 +172,7 @@ impl Buffer {
 /// ```
 ///
 /// </details>
+#[inline]
 pub fn change_each_in<C: GlyphChange>(glyphs: &mut [GlyphInfo], change: &C) {
     for glyph in glyphs.iter_mut() {
         change.change(glyph);

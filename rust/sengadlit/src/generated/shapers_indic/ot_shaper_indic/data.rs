@@ -111,11 +111,13 @@ static INDIC_CONFIGS: [IndicConfig; 10] = [
 ];
 
 // What a script asks for.
+#[inline]
 fn config_of(script: Option<Script>) -> IndicConfig {
     listed_config(script).unwrap_or(DEFAULT)
 }
 
 // The row of a script in the table, if there is one.
+#[inline]
 fn listed_config(script: Option<Script>) -> Option<IndicConfig> {
     INDIC_CONFIGS
         .iter()
@@ -124,6 +126,7 @@ fn listed_config(script: Option<Script>) -> Option<IndicConfig> {
 }
 
 // Whether a font's script isn't one of the newer specification, whose tags end in 2; so is none.
+#[inline]
 fn is_old_script(chosen: Option<Tag>) -> bool {
     match chosen {
         Some(tag) => tag.0[3] != b'2',

@@ -22,6 +22,7 @@ pub(super) struct Based {
 
 // Finds the base of the syllable from `start` to `end`, and gives the glyphs that become it the
 // base's position.
+#[inline]
 pub(super) fn settle_base(
     rules: &Rules,
     script: Option<Script>,
@@ -61,6 +62,7 @@ impl GlyphWalk for BaseWalk {
 }
 
 // Finds the base of a syllable, and gives the glyphs that become it the base's position.
+#[inline]
 fn find_base(rules: &Rules, script: Option<Script>, glyphs: &mut [GlyphInfo]) -> Based {
     let first = first_base(glyphs);
     let unformed = unformed_pref(rules.pref, first, glyphs);
@@ -74,6 +76,7 @@ fn find_base(rules: &Rules, script: Option<Script>, glyphs: &mut [GlyphInfo]) ->
 
 // The first glyph whose position is the base's or one after it, else the end.
 #[allow(clippy::needless_range_loop)]
+#[inline]
 fn first_base(glyphs: &[GlyphInfo]) -> usize {
     for i in 0..glyphs.len() {
         if is_from_base_on(&glyphs[i]) {
@@ -84,11 +87,13 @@ fn first_base(glyphs: &[GlyphInfo]) -> usize {
 }
 
 // Whether a glyph has the base's position or one after it.
+#[inline]
 fn is_from_base_on(glyph: &GlyphInfo) -> bool {
     glyph.auxiliary >= POS_BASE_C
 }
 
 // The first glyph after the base with the mask of `pref`, if it is not substituted and formed.
+#[inline]
 fn unformed_pref(pref: u32, base: usize, glyphs: &[GlyphInfo]) -> Option<usize> {
     let i = pref_place(pref, base, glyphs)?;
     if is_unformed(&glyphs[i]) {
@@ -99,11 +104,13 @@ fn unformed_pref(pref: u32, base: usize, glyphs: &[GlyphInfo]) -> Option<usize> 
 }
 
 // Whether a glyph is not both substituted and formed.
+#[inline]
 fn is_unformed(glyph: &GlyphInfo) -> bool {
     !(glyph.marks.is_substituted() && is_formed(glyph))
 }
 
 // The base by `pref`, which gets the base's position.
+#[inline]
 fn set_pref_base(pref: u32, base: usize, glyphs: &mut [GlyphInfo]) -> usize {
     match unformed_pref(pref, base, glyphs) {
         Some(i) => {
@@ -116,16 +123,19 @@ fn set_pref_base(pref: u32, base: usize, glyphs: &mut [GlyphInfo]) -> usize {
 }
 
 // The first glyph from a place on that is no halant, else the end.
+#[inline]
 fn behind_halants(glyphs: &[GlyphInfo], i: usize) -> usize {
     i + halants_len(&glyphs[i..])
 }
 
 // How many halants stand in front.
+#[inline]
 fn halants_len(glyphs: &[GlyphInfo]) -> usize {
     glyphs.iter().take_while(|glyph| is_halant(glyph)).count()
 }
 
 // Gives the glyph of a place, if there is one, the base's position.
+#[inline]
 fn set_base_at(i: usize, glyphs: &mut [GlyphInfo]) {
     if i < glyphs.len() {
         set_base(&mut glyphs[i..i + 1]);
@@ -133,6 +143,7 @@ fn set_base_at(i: usize, glyphs: &mut [GlyphInfo]) {
 }
 
 // Gives these glyphs the base's position.
+#[inline]
 fn set_base(glyphs: &mut [GlyphInfo]) {
     for glyph in glyphs.iter_mut() {
         glyph.auxiliary = POS_BASE_C;
@@ -140,6 +151,7 @@ fn set_base(glyphs: &mut [GlyphInfo]) {
 }
 
 // What stands before the base, where the base's position is one after the base's.
+#[inline]
 fn stepped_back(base: usize, glyphs: &[GlyphInfo]) -> usize {
     if base < glyphs.len() && is_behind_base(&glyphs[base]) {
         base.saturating_sub(1)
@@ -149,16 +161,19 @@ fn stepped_back(base: usize, glyphs: &[GlyphInfo]) -> usize {
 }
 
 // Whether a glyph has a position after the base's.
+#[inline]
 fn is_behind_base(glyph: &GlyphInfo) -> bool {
     glyph.auxiliary > POS_BASE_C
 }
 
 // Where the base settles: before a joiner at the end, and before nuktas and halants.
+#[inline]
 fn settled_base(base: usize, glyphs: &[GlyphInfo]) -> usize {
     before_halants(before_joiner(base, glyphs), glyphs)
 }
 
 // From the end back over a ZWJ there.
+#[inline]
 fn before_joiner(base: usize, glyphs: &[GlyphInfo]) -> usize {
     if base == glyphs.len() && base > 0 && is_zwj(&glyphs[base - 1]) {
         base - 1
@@ -168,11 +183,13 @@ fn before_joiner(base: usize, glyphs: &[GlyphInfo]) -> usize {
 }
 
 // Whether a glyph is a ZWJ, and no lookup put it in for several.
+#[inline]
 fn is_zwj(glyph: &GlyphInfo) -> bool {
     !glyph.marks.is_ligated() && glyph.category == OT_ZWJ
 }
 
 // Back to the nearest glyph that is neither a nukta nor a halant, else to the start.
+#[inline]
 fn before_halants(base: usize, glyphs: &[GlyphInfo]) -> usize {
     if base == glyphs.len() {
         base
@@ -182,6 +199,7 @@ fn before_halants(base: usize, glyphs: &[GlyphInfo]) -> usize {
 }
 
 // The nearest glyph from the base leftwards that is neither a nukta nor a halant, else the start.
+#[inline]
 fn nearest_settled(base: usize, glyphs: &[GlyphInfo]) -> usize {
     for i in (1..base + 1).rev() {
         if may_be_settled(&glyphs[i]) {
@@ -192,11 +210,13 @@ fn nearest_settled(base: usize, glyphs: &[GlyphInfo]) -> usize {
 }
 
 // Whether a glyph is neither a nukta nor a halant.
+#[inline]
 fn may_be_settled(glyph: &GlyphInfo) -> bool {
     glyph.marks.is_ligated() || !matches!(glyph.category, OT_N | OT_H)
 }
 
 // The base by links, in Malayalam; the last glyphs of links that become it get the base's position.
+#[inline]
 fn set_links(script: Option<Script>, base: usize, glyphs: &mut [GlyphInfo]) -> usize {
     if is_malayalam(script) {
         set_along_links(base, glyphs)
@@ -229,6 +249,7 @@ fn set_along_links(base: usize, glyphs: &mut [GlyphInfo]) -> usize {
 
 // Gives the last glyph of a link, of place `i`, the base's position, if its below-base form was not
 // made. Answers the base then, which was `last` before.
+#[inline]
 fn set_link(glyph: &mut GlyphInfo, i: usize, last: usize) -> usize {
     if is_unformed_below(glyph) {
         glyph.auxiliary = POS_BASE_C;
@@ -239,6 +260,7 @@ fn set_link(glyph: &mut GlyphInfo, i: usize, last: usize) -> usize {
 }
 
 // Whether a glyph is a consonant whose below-base form was not made.
+#[inline]
 fn is_unformed_below(glyph: &GlyphInfo) -> bool {
     is_consonant(glyph) && glyph.auxiliary == POS_BELOW_C
 }

@@ -38,6 +38,7 @@ pub(super) fn end_of_base(base: usize, glyphs: &[GlyphInfo]) -> usize {
 
 // The first left matra before the base.
 #[allow(clippy::manual_find, clippy::needless_range_loop)]
+#[inline]
 pub(super) fn first_left(base: usize, glyphs: &[GlyphInfo]) -> Option<usize> {
     for i in 0..base {
         if is_left(&glyphs[i]) {
@@ -48,6 +49,7 @@ pub(super) fn first_left(base: usize, glyphs: &[GlyphInfo]) -> Option<usize> {
 }
 
 // The place that left matras go to, the start if they stay.
+#[inline]
 pub(super) fn matra_target(script: Option<Script>, base: usize, glyphs: &[GlyphInfo]) -> usize {
     let before = if base == glyphs.len() {
         base - 2
@@ -63,12 +65,14 @@ pub(super) fn matra_target(script: Option<Script>, base: usize, glyphs: &[GlyphI
 
 // The halant that left matras go behind: the nearest from a place leftwards, if nothing ends the
 // search before it; else the start.
+#[inline]
 fn nearest_halant(p: usize, glyphs: &[GlyphInfo]) -> usize {
     let end = search_end(p, glyphs);
     if is_free_halant(&glyphs[end]) { end } else { 0 }
 }
 
 // Where the search for a halant ends, else the start.
+#[inline]
 fn search_end(p: usize, glyphs: &[GlyphInfo]) -> usize {
     for i in (0..p + 1).rev() {
         if ends_search(glyphs, i) {
@@ -79,12 +83,14 @@ fn search_end(p: usize, glyphs: &[GlyphInfo]) -> usize {
 }
 
 // Whether the glyph at place `i` ends the search for a halant.
+#[inline]
 fn ends_search(glyphs: &[GlyphInfo], i: usize) -> bool {
     is_matra_or_halant(&glyphs[i])
         && !(is_free_halant(&glyphs[i]) && glyphs[i + 1].category == OT_ZWJ)
 }
 
 // Whether a glyph is a halant that belongs to no left matra.
+#[inline]
 fn is_free_halant(glyph: &GlyphInfo) -> bool {
     is_halant(glyph) && !is_left(glyph)
 }

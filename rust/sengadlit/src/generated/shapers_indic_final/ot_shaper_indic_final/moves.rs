@@ -28,18 +28,21 @@ pub(super) fn move_matra(buffer: &mut Buffer, s: usize, b: usize, i: usize, j: u
 }
 
 // Moves the first glyph of the stretch from `s` to `e` behind the others.
+#[inline]
 fn move_first_last(buffer: &mut Buffer, s: usize, e: usize) {
     list_first_last(buffer, s, e);
     buffer.apply(s, e);
 }
 
 // Moves the last glyph of the stretch from `s` to `e` before the others.
+#[inline]
 fn move_last_first(buffer: &mut Buffer, s: usize, e: usize) {
     list_last_first(buffer, s, e);
     buffer.apply(s, e);
 }
 
 // Lists the first place of the stretch from `s` to `e` behind the others.
+#[inline]
 fn list_first_last(buffer: &mut Buffer, s: usize, e: usize) {
     for i in s..e - 1 {
         buffer.set_place(i, i + 1);
@@ -48,6 +51,7 @@ fn list_first_last(buffer: &mut Buffer, s: usize, e: usize) {
 }
 
 // Lists the last place of the stretch from `s` to `e` before the others.
+#[inline]
 fn list_last_first(buffer: &mut Buffer, s: usize, e: usize) {
     buffer.set_place(s, e - 1);
     for i in s..e - 1 {

@@ -20,6 +20,7 @@ pub(super) fn open_syllable(init: u32, buffer: &mut Buffer, s: usize) {
 }
 
 // Whether a word goes on behind what stands before a place.
+#[inline]
 fn goes_on(glyphs: &[GlyphInfo], s: usize) -> bool {
     if s == 0 {
         return false;
@@ -41,6 +42,7 @@ impl GlyphChange for AddInit {
 }
 
 // Whether a word goes on behind a glyph of this category.
+#[inline]
 fn continues_word(category: GeneralCategory) -> bool {
     matches!(
         category,

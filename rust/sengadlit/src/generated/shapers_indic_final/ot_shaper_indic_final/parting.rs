@@ -23,6 +23,7 @@ struct Runs {
 
 // Moves the left matras before place `p` of the syllable from `s` to `e` there, the last one first,
 // and merges each with all up to place `b`.
+#[inline]
 pub(super) fn part_matras(p: usize, b: usize, buffer: &mut Buffer, s: usize, e: usize) {
     for i in (0..p).rev() {
         if is_left(&buffer.glyphs()[s..e][i]) {
@@ -35,6 +36,7 @@ pub(super) fn part_matras(p: usize, b: usize, buffer: &mut Buffer, s: usize, e: 
 
 // Moves the left matras before place `top` of the syllable from `s` on to the places before `p`,
 // where one stands that has merged with all up to place `b`, and merges each.
+#[inline]
 fn part_further(top: usize, p: usize, b: usize, buffer: &mut Buffer, s: usize) {
     if !has_left(&buffer.glyphs()[s..s + top]) {
         return;
@@ -47,12 +49,14 @@ fn part_further(top: usize, p: usize, b: usize, buffer: &mut Buffer, s: usize) {
 }
 
 // Whether some glyph is a left matra.
+#[inline]
 fn has_left(glyphs: &[GlyphInfo]) -> bool {
     glyphs.iter().any(is_left)
 }
 
 // What the merges of the left matras before place `top` of the syllable from `s` on make, as
 // `part_further`.
+#[inline]
 fn merged_runs(top: usize, p: usize, b: usize, glyphs: &[GlyphInfo], s: usize) -> Runs {
     let mut runs = Runs {
         start: s + p - 1,
@@ -95,6 +99,7 @@ fn with_matra(i: usize, top: usize, glyphs: &[GlyphInfo], runs: Runs) -> Runs {
 }
 
 // How many glyphs of a cluster open the list.
+#[inline]
 fn len_in_front(glyphs: &[GlyphInfo], cluster: u32) -> usize {
     glyphs
         .iter()
@@ -103,11 +108,13 @@ fn len_in_front(glyphs: &[GlyphInfo], cluster: u32) -> usize {
 }
 
 // Whether a left matra that has gone stood at place `j`: those from `i` on and before `top` have.
+#[inline]
 fn has_gone(i: usize, top: usize, glyphs: &[GlyphInfo], j: usize) -> bool {
     i <= j && j < top && is_left(&glyphs[j])
 }
 
 // How far to the left glyphs before place `start` are in a cluster, but for matras that have gone.
+#[inline]
 fn reached(i: usize, top: usize, glyphs: &[GlyphInfo], start: usize, cluster: u32) -> usize {
     for j in (0..start).rev() {
         if !is_passed(i, top, glyphs, j, cluster) {
@@ -118,11 +125,13 @@ fn reached(i: usize, top: usize, glyphs: &[GlyphInfo], start: usize, cluster: u3
 }
 
 // Whether what stood at place `j` has gone, or is in a cluster.
+#[inline]
 fn is_passed(i: usize, top: usize, glyphs: &[GlyphInfo], j: usize, cluster: u32) -> bool {
     has_gone(i, top, glyphs, j) || glyphs[j].cluster == cluster
 }
 
 // How many glyphs from place `s` to `e` have stayed.
+#[inline]
 fn len_staying(i: usize, top: usize, glyphs: &[GlyphInfo], s: usize, e: usize) -> usize {
     let mut len = 0;
     for j in s..e {
@@ -134,12 +143,14 @@ fn len_staying(i: usize, top: usize, glyphs: &[GlyphInfo], s: usize, e: usize) -
 }
 
 // Whether place `j` is listed: of what has gone, or of what has stayed.
+#[inline]
 fn is_listed(gone: bool, i: usize, top: usize, glyphs: &[GlyphInfo], j: usize) -> bool {
     has_gone(i, top, glyphs, j) == gone
 }
 
 // Lists the places from `s` to `e` of what has gone, or of what has stayed, from place `at` on.
 // Answers the place behind them.
+#[inline]
 fn list_places(
     gone: bool,
     top: usize,
@@ -160,6 +171,7 @@ fn list_places(
 
 // Moves the left matras before `top` of the stretch from `s` to `e` behind what stays. Answers the
 // place of the first of them.
+#[inline]
 fn move_matras(top: usize, buffer: &mut Buffer, s: usize, e: usize) -> usize {
     let at = list_places(false, top, buffer, s, e, s);
     list_places(true, top, buffer, s, e, at);
@@ -184,6 +196,7 @@ impl GlyphChange for PutInCluster {
 }
 
 // Puts the glyphs from `s` to `e` into a cluster, at a level that merges.
+#[inline]
 fn put(buffer: &mut Buffer, s: usize, e: usize, cluster: u32) {
     match buffer.cluster_level() {
         BufferClusterLevel::MonotoneGraphemes | BufferClusterLevel::MonotoneCharacters => {

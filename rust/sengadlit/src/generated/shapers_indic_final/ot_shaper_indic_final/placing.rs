@@ -45,6 +45,7 @@ pub(super) fn place_pref(
 }
 
 // Puts the left matras of the syllable from `s` to `e` in their place.
+#[inline]
 pub(super) fn place_matras(
     script: Option<Script>,
     base: usize,
@@ -65,6 +66,7 @@ pub(super) fn place_matras(
 }
 
 // Merges the syllable from `s` to `e` from its first left matra before the base up to place `b`.
+#[inline]
 fn merge_matras(base: usize, b: usize, buffer: &mut Buffer, s: usize, e: usize) {
     let first = first_left(base, &buffer.glyphs()[s..e]);
     if let Some(i) = first {

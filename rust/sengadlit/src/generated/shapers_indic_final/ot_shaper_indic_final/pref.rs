@@ -10,6 +10,7 @@ use crate::generated::shapers_indic::ot_shaper_indic::glyphs::is_joiner;
 
 // The first glyph after the base with the mask of `pref`.
 #[allow(clippy::manual_find, clippy::needless_range_loop)]
+#[inline]
 pub(super) fn pref_place(pref: u32, base: usize, glyphs: &[GlyphInfo]) -> Option<usize> {
     for i in base + 1..glyphs.len() {
         if has_mask(pref, &glyphs[i]) {
@@ -38,6 +39,7 @@ pub(super) fn pref_target(script: Option<Script>, base: usize, glyphs: &[GlyphIn
 }
 
 // The place behind the nearest vowel sign or halant before the base; the base without half forms.
+#[inline]
 fn place_before_base(script: Option<Script>, base: usize, glyphs: &[GlyphInfo]) -> usize {
     if has_no_half_forms(script) {
         base
@@ -47,6 +49,7 @@ fn place_before_base(script: Option<Script>, base: usize, glyphs: &[GlyphInfo]) 
 }
 
 // The place behind the nearest vowel sign or halant before the base, else the start.
+#[inline]
 fn behind_sign(base: usize, glyphs: &[GlyphInfo]) -> usize {
     for i in (0..base).rev() {
         if is_matra_or_halant(&glyphs[i]) {
@@ -57,6 +60,7 @@ fn behind_sign(base: usize, glyphs: &[GlyphInfo]) -> usize {
 }
 
 // Whether a joiner stands at a place, and a halant before it.
+#[inline]
 fn is_joiner_behind_halant(glyphs: &[GlyphInfo], i: usize) -> bool {
     i > 0 && is_halant(&glyphs[i - 1]) && is_joiner(&glyphs[i])
 }

@@ -10,6 +10,7 @@ use super::viramas::recover_viramas;
 use crate::generated::shapers_base::buffer::{Buffer, Script};
 
 // Reorders each syllable of the text and opens it, from left to right.
+#[inline]
 pub(super) fn reorder_text(rules: &Rules, script: Option<Script>, buffer: &mut Buffer) {
     let mut start = 0;
     while start < buffer.len() {
@@ -18,10 +19,12 @@ pub(super) fn reorder_text(rules: &Rules, script: Option<Script>, buffer: &mut B
         open_syllable(rules.init, buffer, start);
         start = end;
     }
+    buffer.clear_places();
 }
 
 // Reorders the syllable from `s` to `e`: its viramas, its base, its left matras, its reph, and a
 // glyph that `pref` formed.
+#[inline]
 fn reorder_syllable(
     rules: &Rules,
     script: Option<Script>,

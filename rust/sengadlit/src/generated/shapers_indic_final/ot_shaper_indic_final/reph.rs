@@ -21,6 +21,7 @@ pub(super) fn opens_with_reph(glyphs: &[GlyphInfo]) -> bool {
 }
 
 // Whether a glyph is a reph that moves: a formed one, or a character of its own that is not formed.
+#[inline]
 fn is_moving_reph(glyph: &GlyphInfo) -> bool {
     glyph.auxiliary == POS_RA_TO_BECOME_REPH && (glyph.category == OT_Repha) != is_formed(glyph)
 }
@@ -46,6 +47,7 @@ pub(super) fn base_after_reph(base: usize, target: usize) -> usize {
 
 // The first halant between the start and the base.
 #[allow(clippy::manual_find, clippy::needless_range_loop)]
+#[inline]
 fn halant_after_start(base: usize, glyphs: &[GlyphInfo]) -> Option<usize> {
     for i in 1..base {
         if is_halant(&glyphs[i]) {
@@ -56,6 +58,7 @@ fn halant_after_start(base: usize, glyphs: &[GlyphInfo]) -> Option<usize> {
 }
 
 // A halant, or a joiner behind it that stands before the base.
+#[inline]
 fn with_joiner(base: usize, glyphs: &[GlyphInfo], halant: usize) -> usize {
     if halant + 1 < base && is_joiner(&glyphs[halant + 1]) {
         halant + 1
@@ -65,6 +68,7 @@ fn with_joiner(base: usize, glyphs: &[GlyphInfo], halant: usize) -> usize {
 }
 
 // Where the reph goes without a halant before the base.
+#[inline]
 fn behind_base(position: RephPosition, base: usize, glyphs: &[GlyphInfo]) -> usize {
     if base == glyphs.len() {
         return at_end(base, glyphs);
@@ -79,6 +83,7 @@ fn behind_base(position: RephPosition, base: usize, glyphs: &[GlyphInfo]) -> usi
 }
 
 // How many glyphs in front stand directly after the main consonant.
+#[inline]
 fn with_main_len(glyphs: &[GlyphInfo]) -> usize {
     glyphs
         .iter()
@@ -87,16 +92,19 @@ fn with_main_len(glyphs: &[GlyphInfo]) -> usize {
 }
 
 // How many glyphs in front stand before post-base forms and signs.
+#[inline]
 fn with_sub_len(glyphs: &[GlyphInfo]) -> usize {
     glyphs.iter().take_while(|glyph| is_with_sub(glyph)).count()
 }
 
 // Whether a glyph stands before post-base forms and signs.
+#[inline]
 fn is_with_sub(glyph: &GlyphInfo) -> bool {
     !matches!(glyph.auxiliary, POS_POST_C | POS_AFTER_POST | POS_SMVD)
 }
 
 // The last glyph that is no sign; where it is a halant, less the vowel signs between the base and it.
+#[inline]
 fn at_end(base: usize, glyphs: &[GlyphInfo]) -> usize {
     let last = last_but_signs(glyphs);
     if is_halant(&glyphs[last]) && base < last {
@@ -107,6 +115,7 @@ fn at_end(base: usize, glyphs: &[GlyphInfo]) -> usize {
 }
 
 // The last glyph that is no sign, else the start.
+#[inline]
 fn last_but_signs(glyphs: &[GlyphInfo]) -> usize {
     for i in (0..glyphs.len()).rev() {
         if !is_sign(&glyphs[i]) {
@@ -117,11 +126,13 @@ fn last_but_signs(glyphs: &[GlyphInfo]) -> usize {
 }
 
 // Whether a glyph is a sign at the end of the syllable.
+#[inline]
 fn is_sign(glyph: &GlyphInfo) -> bool {
     glyph.auxiliary == POS_SMVD
 }
 
 // How many vowel signs there are.
+#[inline]
 fn count_matras(glyphs: &[GlyphInfo]) -> usize {
     glyphs.iter().filter(|glyph| is_matra(glyph)).count()
 }

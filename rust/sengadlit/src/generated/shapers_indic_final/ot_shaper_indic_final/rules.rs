@@ -39,6 +39,7 @@ impl Rules {
     /// - `rules_of`: crates/shapers_indic_final/specs/FinalRules.antt
     ///
     /// </details>
+    #[inline]
     pub fn new<F: Font>(plan: &IndicPlan, face: &F) -> Self {
         Rules {
             reph_pos: plan.config.reph_pos,

@@ -7,6 +7,7 @@ use crate::generated::shapers_base::font::GlyphId;
 use crate::generated::shapers_base::plan::ot_category_t::OT_H;
 
 // Recovers the viramas of the syllable from `s` to `e`.
+#[inline]
 pub(super) fn recover_viramas(virama: Option<GlyphId>, buffer: &mut Buffer, s: usize, e: usize) {
     buffer.change_each(s, e, &Recover { virama });
 }
@@ -29,6 +30,7 @@ impl GlyphChange for Recover {
 }
 
 // Whether a glyph is the virama's, and lookups put it in for several and then took it apart.
+#[inline]
 fn is_lost_virama(virama: Option<GlyphId>, glyph: &GlyphInfo) -> bool {
     match virama {
         Some(virama) => {

@@ -22,6 +22,7 @@ pub(super) struct Base {
 }
 
 /// Finds the base of a syllable and its reph.
+#[inline]
 pub(super) fn find_base<F: Font>(
     plan: &IndicPlan,
     map: &Map,
@@ -51,6 +52,7 @@ fn last_or_first(lo: usize, glyphs: &[GlyphInfo]) -> Option<usize> {
 
 // The last consonant without a below-base or post-base form from place `lo` on, or behind what
 // stops the search.
+#[inline]
 fn last_base(lo: usize, glyphs: &[GlyphInfo]) -> Option<usize> {
     let mut below = false;
     for i in (lo..glyphs.len()).rev() {
@@ -67,6 +69,7 @@ fn last_base(lo: usize, glyphs: &[GlyphInfo]) -> Option<usize> {
 
 // Whether the search may end with a glyph: a consonant that has no below-base form, nor a post-base
 // one unless a consonant with a below-base form follows.
+#[inline]
 fn is_base(glyph: &GlyphInfo, below: bool) -> bool {
     is_base_candidate(glyph)
         && glyph.auxiliary != POS_BELOW_C
@@ -74,11 +77,13 @@ fn is_base(glyph: &GlyphInfo, below: bool) -> bool {
 }
 
 // Whether a glyph is a consonant with a below-base form.
+#[inline]
 fn is_below(glyph: &GlyphInfo) -> bool {
     is_base_candidate(glyph) && glyph.auxiliary == POS_BELOW_C
 }
 
 // Where the search ends: behind the last glyph that stops it, or at place `lo`.
+#[inline]
 fn search_from(lo: usize, glyphs: &[GlyphInfo]) -> usize {
     for i in (lo..glyphs.len()).rev() {
         if stops_search(glyphs, i) {
@@ -90,6 +95,7 @@ fn search_from(lo: usize, glyphs: &[GlyphInfo]) -> usize {
 
 // The first consonant that may be the base from place `start` on.
 #[allow(clippy::manual_find, clippy::needless_range_loop)]
+#[inline]
 fn first_candidate(start: usize, glyphs: &[GlyphInfo]) -> Option<usize> {
     for i in start..glyphs.len() {
         if is_base_candidate(&glyphs[i]) {
@@ -100,11 +106,13 @@ fn first_candidate(start: usize, glyphs: &[GlyphInfo]) -> Option<usize> {
 }
 
 // Whether the glyph at place `i` stops the search: a ZWJ behind an H.
+#[inline]
 fn stops_search(glyphs: &[GlyphInfo], i: usize) -> bool {
     i > 0 && glyphs[i].category == OT_ZWJ && glyphs[i - 1].category == OT_H
 }
 
 // Whether a glyph is a consonant that may be the base.
+#[inline]
 fn is_base_candidate(glyph: &GlyphInfo) -> bool {
     !glyph.marks.is_ligated()
         && matches!(

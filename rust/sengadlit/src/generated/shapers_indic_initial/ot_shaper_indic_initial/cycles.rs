@@ -6,17 +6,20 @@
 use crate::generated::shapers_base::buffer::Buffer;
 
 // The place that the glyph at `start + i` came from, from `start` on.
+#[inline]
 fn old_place(buffer: &Buffer, start: usize, i: usize) -> usize {
     buffer.place(start + i).saturating_sub(start)
 }
 
 // Spends a place: it is a cycle of its own from now on.
+#[inline]
 fn spend_place(buffer: &mut Buffer, start: usize, i: usize) {
     buffer.set_place(start + i, start + i);
 }
 
 // Walks along the cycle of place `p` and spends each of its places as it passes. Answers the least
 // and the greatest.
+#[inline]
 fn spend_cycle(buffer: &mut Buffer, start: usize, end: usize, p: usize) -> (usize, usize) {
     let mut least = p;
     let mut greatest = p;
@@ -37,6 +40,7 @@ fn spend_cycle(buffer: &mut Buffer, start: usize, end: usize, p: usize) -> (usiz
 
 // Each cycle with a place from `base` on merges, from its least place, or `base` if that is
 // greater, to its greatest. `base` counts from `start`.
+#[inline]
 fn merge_cycles(buffer: &mut Buffer, start: usize, end: usize, base: usize) {
     for p in base..end - start {
         if old_place(buffer, start, p) != p {

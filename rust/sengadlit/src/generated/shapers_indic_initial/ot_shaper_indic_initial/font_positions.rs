@@ -11,6 +11,7 @@ use crate::generated::shapers_indic::ot_shaper_indic::glyphs::number;
 
 /// Gives consonants of position BASE_C for which the font has a below-base or a post-base form, by
 /// its glyph for the script's virama, that form's position. It takes no memory.
+#[inline]
 pub(super) fn update_consonant_positions<F: Font>(
     plan: &IndicPlan,
     map: &Map,
@@ -52,6 +53,7 @@ struct ByVirama<'a, F: Font> {
 
 impl<'a, F: Font> ByVirama<'a, F> {
     // The position of a consonant.
+    #[inline]
     fn consonant_position_from_face(&self, consonant: GlyphId) -> Position {
         let plan = self.plan;
         if self.joins(&plan.blwf, consonant) || self.joins(&plan.vatu, consonant) {
@@ -64,6 +66,7 @@ impl<'a, F: Font> ByVirama<'a, F> {
     }
 
     // A consonant with its position.
+    #[inline]
     fn asked(&self, consonant: GlyphId) -> Known {
         Known {
             consonant,
@@ -72,6 +75,7 @@ impl<'a, F: Font> ByVirama<'a, F> {
     }
 
     // The position of a consonant, for which the font is asked only where it isn't known.
+    #[inline]
     fn position_of(&self, known: &mut [Known; KNOWN], consonant: GlyphId) -> Position {
         let slot = usize::from(consonant.0) % KNOWN;
         let kept = known[slot];
@@ -84,6 +88,7 @@ impl<'a, F: Font> ByVirama<'a, F> {
     }
 
     // Gives a glyph its position, if it is a consonant of position BASE_C.
+    #[inline]
     fn position_one(&self, known: &mut [Known; KNOWN], glyph: &mut GlyphInfo) {
         if glyph.auxiliary == POS_BASE_C {
             glyph.auxiliary = self.position_of(known, number(glyph));
@@ -91,6 +96,7 @@ impl<'a, F: Font> ByVirama<'a, F> {
     }
 
     // Gives all consonants of position BASE_C their positions, where that of one is known.
+    #[inline]
     fn position_each(&self, first: Known, glyphs: &mut [GlyphInfo]) {
         let mut known = [first; KNOWN];
         for glyph in glyphs.iter_mut() {
@@ -99,6 +105,7 @@ impl<'a, F: Font> ByVirama<'a, F> {
     }
 
     // Gives all consonants of position BASE_C their positions.
+    #[inline]
     fn position_all(&self, glyphs: &mut [GlyphInfo]) {
         if let Some(first) = first_consonant(glyphs) {
             self.position_each(self.asked(number(&first)), glyphs);
@@ -121,6 +128,7 @@ impl<'a, F: Font> GlyphWalk for ByVirama<'a, F> {
 }
 
 // The first consonant of position BASE_C.
+#[inline]
 fn first_consonant(glyphs: &[GlyphInfo]) -> Option<GlyphInfo> {
     glyphs
         .iter()

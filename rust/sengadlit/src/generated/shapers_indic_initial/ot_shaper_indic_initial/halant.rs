@@ -27,6 +27,7 @@ pub(super) fn halant_move(
 
 // The place of the first H after the base.
 #[allow(clippy::manual_find, clippy::needless_range_loop)]
+#[inline]
 fn halant_after(base: usize, glyphs: &[GlyphInfo]) -> Option<usize> {
     if base >= glyphs.len() {
         return None;
@@ -41,6 +42,7 @@ fn halant_after(base: usize, glyphs: &[GlyphInfo]) -> Option<usize> {
 
 // The place of the last glyph after an H at this place over which the H goes.
 #[allow(clippy::manual_find)]
+#[inline]
 fn last_after_halant(script: Option<Script>, halant: usize, glyphs: &[GlyphInfo]) -> Option<usize> {
     for i in (halant + 1..glyphs.len()).rev() {
         if is_passed_by_halant(script, &glyphs[i]) {
@@ -51,6 +53,7 @@ fn last_after_halant(script: Option<Script>, halant: usize, glyphs: &[GlyphInfo]
 }
 
 // Whether an H goes over a glyph, or stays before it.
+#[inline]
 fn is_passed_by_halant(script: Option<Script>, glyph: &GlyphInfo) -> bool {
     is_consonant(glyph) || (glyph.category == OT_H && script == KANNADA)
 }
@@ -62,6 +65,7 @@ pub(super) fn joiner_comes_first(script: Option<Script>, glyphs: &[GlyphInfo]) -
 }
 
 // Whether a syllable opens with Ra, H, ZWJ.
+#[inline]
 fn opens_with_ra_h_zwj(glyphs: &[GlyphInfo]) -> bool {
     match glyphs {
         [a, b, c, ..] => is_plain(a, OT_Ra) && is_plain(b, OT_H) && is_plain(c, OT_ZWJ),
@@ -70,6 +74,7 @@ fn opens_with_ra_h_zwj(glyphs: &[GlyphInfo]) -> bool {
 }
 
 // Whether a glyph is of this category, and no lookup put it in for several.
+#[inline]
 fn is_plain(glyph: &GlyphInfo, category: u8) -> bool {
     glyph.category == category && !glyph.marks.is_ligated()
 }

@@ -42,6 +42,7 @@ fn bits_of(plan: &IndicPlan, feature: usize) -> u32 {
 }
 
 // Gives all these glyphs mask bits.
+#[inline]
 fn add_bits(bits: u32, glyphs: &mut [GlyphInfo]) {
     for glyph in glyphs.iter_mut() {
         glyph.mask |= bits;
@@ -49,12 +50,14 @@ fn add_bits(bits: u32, glyphs: &mut [GlyphInfo]) {
 }
 
 // Gives the glyphs of a reph that opens the syllable mask bits.
+#[inline]
 fn set_reph_bits(bits: u32, glyphs: &mut [GlyphInfo]) {
     let len = reph_run_len(glyphs);
     add_bits(bits, &mut glyphs[..len]);
 }
 
 // How many glyphs of the reph's position stand in front.
+#[inline]
 fn reph_run_len(glyphs: &[GlyphInfo]) -> usize {
     glyphs
         .iter()
@@ -63,6 +66,7 @@ fn reph_run_len(glyphs: &[GlyphInfo]) -> usize {
 }
 
 // Gives the glyphs before the base some mask bits, and those after it others.
+#[inline]
 fn set_bits_around(before: u32, after: u32, base: usize, glyphs: &mut [GlyphInfo]) {
     add_bits(before, &mut glyphs[..base]);
     if base < glyphs.len() {
@@ -82,6 +86,7 @@ fn bits_before_base(plan: &IndicPlan) -> u32 {
 }
 
 // Whether below-base forms stand before the base, too.
+#[inline]
 fn applies_before_base(mode: BlwfMode) -> bool {
     match mode {
         BlwfMode::PreAndPost => true,
@@ -96,6 +101,7 @@ fn bits_after_base(plan: &IndicPlan) -> u32 {
 }
 
 // Gives each Ra and H of an eyelash Ra the mask of below-base forms, where they have one.
+#[inline]
 fn set_eyelash_mask(
     plan: &IndicPlan,
     script: Option<Script>,
@@ -109,11 +115,13 @@ fn set_eyelash_mask(
 
 // Whether Ra and H before the base get the mask of below-base forms: in the older specification of
 // Devanagari.
+#[inline]
 fn has_eyelash(plan: &IndicPlan, script: Option<Script>) -> bool {
     plan.is_old_spec && script == Some(DEVANAGARI)
 }
 
 // Gives each Ra and H of an eyelash Ra mask bits.
+#[inline]
 fn set_eyelash_bits(bits: u32, base: usize, glyphs: &mut [GlyphInfo]) {
     for i in 0..glyphs.len() {
         if is_in_eyelash(base, glyphs, i) {
@@ -123,11 +131,13 @@ fn set_eyelash_bits(bits: u32, base: usize, glyphs: &mut [GlyphInfo]) {
 }
 
 // Whether the glyph at `i` belongs to an eyelash Ra.
+#[inline]
 fn is_in_eyelash(base: usize, glyphs: &[GlyphInfo], i: usize) -> bool {
     opens_eyelash(base, glyphs, i) || (0 < i && opens_eyelash(base, glyphs, i - 1))
 }
 
 // Whether an eyelash Ra stands at `i`: Ra and H before the base, and no ZWJ behind them before it.
+#[inline]
 fn opens_eyelash(base: usize, glyphs: &[GlyphInfo], i: usize) -> bool {
     i + 1 < base
         && is_of_category(glyphs, i, OT_Ra)
@@ -136,6 +146,7 @@ fn opens_eyelash(base: usize, glyphs: &[GlyphInfo], i: usize) -> bool {
 }
 
 // Whether there is a glyph of this category at `i`.
+#[inline]
 fn is_of_category(glyphs: &[GlyphInfo], i: usize, category: Category) -> bool {
     match glyphs.get(i) {
         Some(glyph) => glyph.category == category,
@@ -144,6 +155,7 @@ fn is_of_category(glyphs: &[GlyphInfo], i: usize, category: Category) -> bool {
 }
 
 // Gives the first two neighbours after the base that pref would substitute its mask.
+#[inline]
 fn set_pref_mask<F: Font>(
     plan: &IndicPlan,
     map: &Map,
@@ -157,6 +169,7 @@ fn set_pref_mask<F: Font>(
 }
 
 // The place of the first two neighbours after the base that pref would substitute.
+#[inline]
 fn pref_pair<F: Font>(
     plan: &IndicPlan,
     map: &Map,
@@ -178,6 +191,7 @@ fn pref_pair<F: Font>(
 
 // A ZWNJ takes mask bits from the glyphs before it back to the nearest consonant, that one
 // included. Most syllables have none.
+#[inline]
 fn clear_half(bits: u32, glyphs: &mut [GlyphInfo]) {
     if has_non_joiner(glyphs) {
         clear_half_each(bits, glyphs);
@@ -185,11 +199,13 @@ fn clear_half(bits: u32, glyphs: &mut [GlyphInfo]) {
 }
 
 // Whether there is a ZWNJ.
+#[inline]
 fn has_non_joiner(glyphs: &[GlyphInfo]) -> bool {
     glyphs.iter().any(is_non_joiner)
 }
 
 // The same, glyph by glyph, from the last one on.
+#[inline]
 fn clear_half_each(bits: u32, glyphs: &mut [GlyphInfo]) {
     let mut loses = false;
     for i in (0..glyphs.len()).rev() {
@@ -202,6 +218,7 @@ fn clear_half_each(bits: u32, glyphs: &mut [GlyphInfo]) {
 }
 
 // Whether the glyph before this one loses half, where this one does so or doesn't.
+#[inline]
 fn keeps_losing(glyph: &GlyphInfo, loses: bool) -> bool {
     if loses {
         return !is_consonant(glyph);
@@ -210,6 +227,7 @@ fn keeps_losing(glyph: &GlyphInfo, loses: bool) -> bool {
 }
 
 // Whether a glyph is a ZWNJ, and no lookup put it in for several.
+#[inline]
 fn is_non_joiner(glyph: &GlyphInfo) -> bool {
     glyph.category == OT_ZWNJ && !glyph.marks.is_ligated()
 }

@@ -33,6 +33,7 @@ pub(super) fn set_positions<F: Font>(
 }
 
 // Merges an H and the ZWJ behind it and lets them change places, where Kannada has it so.
+#[inline]
 fn put_joiner_first(script: Option<Script>, buffer: &mut Buffer, start: usize, end: usize) {
     if joiner_comes_first(script, &buffer.glyphs()[start..end]) {
         buffer.merge_clusters(start + 1, start + 3);
@@ -41,6 +42,7 @@ fn put_joiner_first(script: Option<Script>, buffer: &mut Buffer, start: usize, e
 }
 
 // Moves the H after the base, by the older specification.
+#[inline]
 fn move_halant(
     is_old_spec: bool,
     script: Option<Script>,
@@ -58,6 +60,7 @@ fn move_halant(
 }
 
 // Moves the glyph at place `from` behind all others up to `end`.
+#[inline]
 fn move_to_end(buffer: &mut Buffer, from: usize, end: usize) {
     let last = end - 1;
     for i in from..last {
@@ -96,6 +99,7 @@ impl GlyphWalk for PositionsOfMarks {
 }
 
 // Sets the positions of a syllable with this base by what its glyphs go with.
+#[inline]
 fn set_positions_of_marks(base: usize, syllable: &mut [GlyphInfo]) {
     attach_marks(syllable);
     own(base, syllable);

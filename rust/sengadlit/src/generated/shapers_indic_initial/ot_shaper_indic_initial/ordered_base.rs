@@ -12,6 +12,7 @@ pub(super) fn ordered_base(glyphs: &[GlyphInfo]) -> usize {
 }
 
 // The place of the first glyph of position BASE_C.
+#[inline]
 fn first_base(glyphs: &[GlyphInfo]) -> Option<usize> {
     glyphs
         .iter()

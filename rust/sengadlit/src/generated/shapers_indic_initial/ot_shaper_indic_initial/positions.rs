@@ -16,6 +16,7 @@ use crate::generated::shapers_syllabic::ot_shaper_syllabic::is_consonant;
 
 /// Sets the positions of the reph, of what stands before the base, and of the base.
 #[allow(clippy::needless_range_loop)]
+#[inline]
 pub(super) fn set_positions_by_base(base: Base, glyphs: &mut [GlyphInfo]) {
     let end = if base.place < glyphs.len() {
         base.place + 1
@@ -28,6 +29,7 @@ pub(super) fn set_positions_by_base(base: Base, glyphs: &mut [GlyphInfo]) {
 }
 
 // The position of the glyph at place `i`, where it has this one so far.
+#[inline]
 fn position_by_base(base: Base, i: usize, position: u8) -> u8 {
     if base.has_reph && i == 0 {
         POS_RA_TO_BECOME_REPH
@@ -41,6 +43,7 @@ fn position_by_base(base: Base, i: usize, position: u8) -> u8 {
 }
 
 /// Gives signs, joiners and halants the positions of what they go with.
+#[inline]
 pub(super) fn attach_marks(glyphs: &mut [GlyphInfo]) {
     let mut carrier = 0;
     let mut behind = POS_PRE_M;
@@ -55,6 +58,7 @@ pub(super) fn attach_marks(glyphs: &mut [GlyphInfo]) {
 // The position of the glyph at place `i` behind a carrier of this position: that of its carrier, if
 // it is attached, and that of the matra directly behind it, if it is a sign that goes with it. And
 // the position of the nearest carrier before what follows the glyph.
+#[inline]
 fn drawn_position(glyphs: &[GlyphInfo], i: usize, carrier: u8) -> (u8, u8) {
     let glyph = &glyphs[i];
     if is_attached(glyph) {
@@ -73,6 +77,7 @@ fn drawn_position(glyphs: &[GlyphInfo], i: usize, carrier: u8) -> (u8, u8) {
 }
 
 // Whether a glyph goes with what stands before it.
+#[inline]
 fn is_attached(glyph: &GlyphInfo) -> bool {
     matches!(
         glyph.category,
@@ -81,12 +86,14 @@ fn is_attached(glyph: &GlyphInfo) -> bool {
 }
 
 // Whether a glyph is a syllable modifier that goes with the one directly behind it.
+#[inline]
 fn draws_sign(glyph: &GlyphInfo, next: &GlyphInfo) -> bool {
     glyph.category == OT_SM && next.category == OT_MPst && next.auxiliary != POS_SMVD
 }
 
 // The position of a glyph that has this one so far: a halant doesn't go with a left matra, but with
 // what stands behind it.
+#[inline]
 fn parted_position(glyph: &GlyphInfo, position: u8, behind: u8) -> u8 {
     if glyph.category == OT_H && position == POS_PRE_M {
         behind
@@ -97,6 +104,7 @@ fn parted_position(glyph: &GlyphInfo, position: u8, behind: u8) -> u8 {
 
 // The position of the nearest glyph that doesn't go with a left matra before what follows a glyph
 // of this position.
+#[inline]
 fn next_behind(position: u8, behind: u8) -> u8 {
     if position == POS_PRE_M {
         behind
@@ -114,6 +122,7 @@ pub(super) fn own(base: usize, glyphs: &mut [GlyphInfo]) {
 }
 
 // Gives each glyph that a consonant owns that consonant's position.
+#[inline]
 fn own_each(glyphs: &mut [GlyphInfo]) {
     let mut owner = None;
     for i in (0..glyphs.len()).rev() {
@@ -126,6 +135,7 @@ fn own_each(glyphs: &mut [GlyphInfo]) {
 }
 
 // The position of a glyph if it is a consonant.
+#[inline]
 fn consonant_position(glyph: &GlyphInfo) -> Option<u8> {
     if is_consonant(glyph) {
         Some(glyph.auxiliary)
@@ -136,6 +146,7 @@ fn consonant_position(glyph: &GlyphInfo) -> Option<u8> {
 
 // The position of what a consonant of this position owns, if one does, where it has `position` so
 // far.
+#[inline]
 fn owned_position(owner: Option<u8>, position: u8) -> u8 {
     if position >= POS_SMVD {
         return position;
@@ -144,6 +155,7 @@ fn owned_position(owner: Option<u8>, position: u8) -> u8 {
 }
 
 // Whether a glyph bounds what a consonant owns: it is a consonant or a matra.
+#[inline]
 fn bounds(glyph: &GlyphInfo) -> bool {
     is_consonant(glyph) || is_matra(glyph)
 }

@@ -37,6 +37,7 @@ impl<'a, F: Font> Reorder for InitialOrder<'a, F> {
 
 impl<'a, F: Font> InitialOrder<'a, F> {
     // Gives the glyphs of an ordered syllable their masks.
+    #[inline]
     fn mask_syllable(&self, buffer: &mut Buffer, start: usize, end: usize) {
         let mut masks = Masks {
             plan: self.plan,

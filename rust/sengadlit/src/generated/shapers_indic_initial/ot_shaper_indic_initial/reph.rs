@@ -13,6 +13,7 @@ use crate::generated::shapers_indic::ot_shaper_indic::indic_feature::RPHF;
 
 /// How many glyphs the reph that opens a syllable has, without joiners behind it; 0 if there is
 /// none.
+#[inline]
 pub(crate) fn reph_len<F: Font>(
     plan: &IndicPlan,
     map: &Map,
@@ -44,6 +45,7 @@ pub(crate) fn limit(reph_len: usize, glyphs: &[GlyphInfo]) -> usize {
 }
 
 // How many joiners stand in front.
+#[inline]
 fn joiners_len(glyphs: &[GlyphInfo]) -> usize {
     glyphs.iter().take_while(|glyph| is_joiner(glyph)).count()
 }
@@ -59,6 +61,7 @@ fn third_lets_reph(mode: RephMode, glyphs: &[GlyphInfo]) -> bool {
 }
 
 // Whether the font forms a reph of what opens the syllable.
+#[inline]
 fn is_formed<F: Font>(plan: &IndicPlan, map: &Map, face: &F, glyphs: &[GlyphInfo]) -> bool {
     let opening = [number(&glyphs[0]), number(&glyphs[1]), number(&glyphs[2])];
     match plan.config.reph_mode {

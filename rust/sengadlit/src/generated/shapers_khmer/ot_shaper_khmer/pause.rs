@@ -22,10 +22,11 @@ const CIRCLES: ScriptCircles = ScriptCircles {
 };
 
 /// Gives broken syllables their dotted circles, and then brings Coeng Ro and the vowels that stand
-/// before their base to the front of each syllable, with the masks of the plan. Answers whether
-/// circles were wanted. Every cluster afterwards is one that the text had. Refuses with
-/// `UnknownSyllable`, before anything changes; with `TooLong`; and with `Memory`, but not where no
-/// circle opens. (OpenType, "Developing OpenType Fonts for Khmer".)
+/// before their base to the front of each syllable, with the masks of the plan; in a regular
+/// syllable these are its movers, the last one first. Answers whether circles were wanted. Every
+/// cluster afterwards is one that the text had. Refuses with `UnknownSyllable`, before anything
+/// changes; with `TooLong`; and with `Memory`, but not where no circle opens. (OpenType,
+/// "Developing OpenType Fonts for Khmer".)
 ///
 /// <details><summary>Contract</summary>
 ///
@@ -39,6 +40,9 @@ const CIRCLES: ScriptCircles = ScriptCircles {
 /// ensures ok { let circles = script_circles khmer_circles (F.font face.now) buffer.old in
 ///     OnOk result (PauseReordered circles
 ///     (khmer_order (order_in plan.now.plan_data)) khmer_steps buffer.old buffer.new) }
+/// ensures movers { let circles = script_circles khmer_circles (F.font face.now) buffer.old in
+///     OnOk result (PauseReordered circles
+///     (ordered_by_movers (order_in plan.now.plan_data)) steps_by_movers buffer.old buffer.new) }
 /// ensures cut { let circles = script_circles khmer_circles (F.font face.now) buffer.old in
 ///     OnOk result (PauseCutsAtBorders circles
 ///     (khmer_order (order_in plan.now.plan_data)) khmer_steps buffer.old buffer.new) }
@@ -62,6 +66,7 @@ const CIRCLES: ScriptCircles = ScriptCircles {
 /// - `unknown_refusal`: crates/shapers_buffer/specs/Syllables.antt
 /// - `ReorderedHold`: crates/shapers_clusters/specs/Laws.antt
 /// - `khmer_circles`, `khmer_order`, `khmer_steps`, `order_in`: crates/shapers_khmer/specs/Khmer.antt
+/// - `ordered_by_movers`, `steps_by_movers`: crates/shapers_khmer/specs/KhmerMovers.antt
 /// - `is_khmer_data`: crates/shapers_khmer/specs/Plan.antt
 /// - `NoNewCluster`: crates/shapers_syllabic/specs/CircleLaws.antt
 /// - `circled`: crates/shapers_syllabic/specs/Circles.antt
@@ -79,6 +84,7 @@ pub fn reorder_khmer<F: Font>(
 }
 
 // The masks of the order, as the plan keeps them.
+#[inline]
 fn order_of(plan_data: &PlanData) -> KhmerOrder {
     match plan_data {
         PlanData::Khmer(kept) => {

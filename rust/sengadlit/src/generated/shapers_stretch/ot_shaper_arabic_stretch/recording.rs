@@ -73,6 +73,7 @@ impl GlyphWalk for TileRecorder {
 /// - `recorded`: crates/shapers_stretch/specs/Recorded.antt
 ///
 /// </details>
+#[inline]
 pub fn record_stch_in(glyphs: &mut [GlyphInfo]) -> bool {
     let mut has_stch = false;
     for glyph in glyphs.iter_mut() {

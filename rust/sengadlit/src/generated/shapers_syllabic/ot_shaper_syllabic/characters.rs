@@ -61,6 +61,7 @@ pub fn set_categories<T: Tables>(tables: &T, buffer: &mut Buffer) {
 /// - `with_category`: crates/shapers_syllabic/specs/Characters.antt
 ///
 /// </details>
+#[inline]
 pub fn set_categories_in<T: Tables>(tables: &T, glyphs: &mut [GlyphInfo]) {
     change_each_in(glyphs, &ByTable { tables });
 }
@@ -100,6 +101,7 @@ pub fn set_categories_and_positions<T: Tables>(tables: &T, buffer: &mut Buffer) 
 /// - `with_category_and_position`: crates/shapers_syllabic/specs/Characters.antt
 ///
 /// </details>
+#[inline]
 pub fn set_categories_and_positions_in<T: Tables>(tables: &T, glyphs: &mut [GlyphInfo]) {
     change_each_in(glyphs, &PlacedByTable { tables });
 }

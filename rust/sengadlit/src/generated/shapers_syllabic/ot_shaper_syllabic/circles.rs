@@ -30,7 +30,8 @@ struct Places {
 
 /// Gives each broken syllable a dotted circle, behind its leading glyphs of the repha category
 /// where one is given, else in front. Answers false, with nothing changed, where no syllable is
-/// broken, the caller forbids circles or the font has none. Refuses with `TooLong` where the text
+/// broken, the caller forbids circles or the font has none. Without its circles the text is what it
+/// was. Refuses with `TooLong` where the text
 /// would be longer than `max_len`, and with `Memory`; where no circle opens it takes none.
 ///
 /// <details><summary>Contract</summary>
@@ -48,6 +49,10 @@ struct Places {
 ///     repha_category dottedcircle_position buffer.old in
 ///     OnOk result (buffer.new ≡
 ///     record buffer.old { glyphs = circled circles buffer.old.glyphs }) }
+/// ensures erased { let circles = circles_for ((F.font face.now).nominal dotted_circle)
+///     broken_syllable_type dottedcircle_category
+///     repha_category dottedcircle_position buffer.old in
+///     OnOk result (CirclesErased circles buffer.old.glyphs buffer.new.glyphs) }
 /// ensures length { let circles = circles_for ((F.font face.now).nominal dotted_circle)
 ///     broken_syllable_type dottedcircle_category
 ///     repha_category dottedcircle_position buffer.old in
@@ -61,6 +66,7 @@ struct Places {
 ///
 /// - `dotted_circle`: crates/shapers_base/specs/Font.antt
 /// - `RefusesLength`: crates/shapers_buffer/specs/Refusals.antt
+/// - `CirclesErased`: crates/shapers_syllabic/specs/CircleLaws.antt
 /// - `circled`, `circles_for`: crates/shapers_syllabic/specs/Circles.antt
 ///
 /// </details>

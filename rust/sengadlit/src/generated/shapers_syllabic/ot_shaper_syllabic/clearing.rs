@@ -36,6 +36,7 @@ pub fn clear_syllables(buffer: &mut Buffer) {
 /// - `in_syllable`: crates/shapers_buffer/specs/Syllables.antt
 ///
 /// </details>
+#[inline]
 pub fn clear_syllables_in(glyphs: &mut [GlyphInfo]) {
     change_each_in(glyphs, &OutOfSyllable);
 }
@@ -72,6 +73,7 @@ pub fn clear_substitution_flags(buffer: &mut Buffer) {
 /// - `unsubstituted`: crates/shapers_syllabic/specs/Syllabic.antt
 ///
 /// </details>
+#[inline]
 pub fn clear_substitution_flags_in(glyphs: &mut [GlyphInfo]) {
     change_each_in(glyphs, &Unsubstituted);
 }

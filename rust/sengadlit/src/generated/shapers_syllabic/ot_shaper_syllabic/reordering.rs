@@ -30,7 +30,8 @@ pub trait Reorder {
 }
 
 /// Reorders each syllable of the text, from left to right. It asks for the laws of the order: its
-/// steps fit a syllable, lose nothing and lead to what the syllable becomes. It never refuses.
+/// steps fit a syllable, lose nothing and lead to what the syllable becomes. The placement list is
+/// empty afterwards, so that no place depends on how syllables were moved. It never refuses.
 ///
 /// <details><summary>Contract</summary>
 ///
@@ -57,5 +58,6 @@ pub fn reorder_syllables<R: Reorder>(order: &R, buffer: &mut Buffer) -> Result<(
         order.reorder(buffer, start, end)?;
         start = end;
     }
+    buffer.clear_places();
     Ok(())
 }

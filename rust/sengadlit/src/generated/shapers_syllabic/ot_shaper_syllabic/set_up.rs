@@ -64,6 +64,7 @@ pub fn set_up_syllables(
 /// - `set_up_by_bytes`: crates/shapers_syllabic/specs/Syllabic.antt
 ///
 /// </details>
+#[inline]
 pub fn set_up_by_bytes(broken_kind: u8, buffer: &mut Buffer) {
     if has_syllable_of_kind(buffer.glyphs(), broken_kind) {
         buffer.set_has_broken_syllable(true);
@@ -84,6 +85,7 @@ pub fn set_up_by_bytes(broken_kind: u8, buffer: &mut Buffer) {
 /// - `unsafe_syllables`: crates/shapers_syllabic/specs/Syllabic.antt
 ///
 /// </details>
+#[inline]
 pub fn flag_syllables_in(glyphs: &mut [GlyphInfo]) {
     let mut start = 0;
     while start < glyphs.len() {

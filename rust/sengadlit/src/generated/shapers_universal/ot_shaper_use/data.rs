@@ -32,7 +32,8 @@ const JOINING_SCRIPTS: [Script; 13] = [
 ///
 /// ```text
 /// ensures data { let start = plan.now.stretch_start in
-///     result ≡ Universal (universal_plan start plan.now.script plan.now.ot_map) }
+///     let breaks = plan.now.break_flags in
+///     result ≡ Universal (universal_plan start breaks plan.now.script plan.now.ot_map) }
 /// ensures off_flags { AllByRecursion (λ mask. mask % 8 ≡ 0) (masks_in result) }
 /// ```
 ///
@@ -48,6 +49,7 @@ pub fn create_data(plan: &Plan) -> PlanData {
 }
 
 // The plan of Arabic, for a script whose letters join.
+#[inline]
 fn arabic_plan_for(plan: &Plan) -> Option<ArabicPlan> {
     if has_arabic_joining(plan.script) {
         Some(data_create_arabic(plan))
@@ -57,6 +59,7 @@ fn arabic_plan_for(plan: &Plan) -> Option<ArabicPlan> {
 }
 
 // Whether the letters of a script join, where it is known.
+#[inline]
 fn has_arabic_joining(script: Option<Script>) -> bool {
     match script {
         None => false,
@@ -65,6 +68,7 @@ fn has_arabic_joining(script: Option<Script>) -> bool {
 }
 
 // Whether the letters of this script join.
+#[inline]
 fn is_joining(script: Script) -> bool {
     JOINING_SCRIPTS.contains(&script)
 }

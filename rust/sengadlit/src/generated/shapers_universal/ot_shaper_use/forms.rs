@@ -21,6 +21,7 @@ pub(super) struct FormMasks {
 
 // Gives each syllable the mask of its form: in each unbroken run of syllables that join, a lone one
 // is isolated, the first initial, the last final, the others medial.
+#[inline]
 pub(super) fn set_forms(map: &Map, buffer: &mut Buffer) {
     let mut masks = FormMasks::of(map);
     if masks.all() != 0 {
@@ -30,6 +31,7 @@ pub(super) fn set_forms(map: &Map, buffer: &mut Buffer) {
 
 impl FormMasks {
     // The masks in a map.
+    #[inline]
     fn of(map: &Map) -> Self {
         FormMasks {
             isol: form_mask(map, Tag(*b"isol")),
@@ -40,11 +42,13 @@ impl FormMasks {
     }
 
     // The bits of all forms.
+    #[inline]
     fn all(self) -> u32 {
         (self.isol | self.init) | (self.medi | self.fina)
     }
 
     // The mask in a run, by whether a syllable of it stands before and whether one stands behind.
+    #[inline]
     fn between(self, before: bool, behind: bool) -> u32 {
         match (before, behind) {
             (false, false) => self.isol,
@@ -55,6 +59,7 @@ impl FormMasks {
     }
 
     // Gives each syllable the mask of its form.
+    #[inline]
     fn set_in(self, glyphs: &mut [GlyphInfo]) {
         let mut start = 0;
         let mut before = false;
@@ -68,12 +73,14 @@ impl FormMasks {
     }
 
     // Gives the syllable from `s` to `e` the mask of its form.
+    #[inline]
     fn set_at(self, glyphs: &mut [GlyphInfo], s: usize, e: usize, before: bool) {
         let behind = joins_runs(&glyphs[e..]);
         self.set(&mut glyphs[s..e], before, behind);
     }
 
     // Gives a syllable the mask of its form.
+    #[inline]
     fn set(self, syllable: &mut [GlyphInfo], before: bool, behind: bool) {
         if joins_runs(syllable) {
             replace_forms(syllable, self.all(), self.between(before, behind));
@@ -89,6 +96,7 @@ impl GlyphWalk for FormMasks {
 }
 
 // The mask of the feature of a form, 0 where it holds for the whole text.
+#[inline]
 fn form_mask(map: &Map, tag: Tag) -> u32 {
     let mask = map.get_1_mask(tag);
     if mask == map.get_global_mask() {
@@ -98,6 +106,7 @@ fn form_mask(map: &Map, tag: Tag) -> u32 {
 }
 
 // Whether the syllable that opens the text stands in runs.
+#[inline]
 fn joins_runs(glyphs: &[GlyphInfo]) -> bool {
     match glyphs.first() {
         None => false,
@@ -109,6 +118,7 @@ fn joins_runs(glyphs: &[GlyphInfo]) -> bool {
 }
 
 // Gives all these glyphs a mask in place of the bits of all forms.
+#[inline]
 fn replace_forms(glyphs: &mut [GlyphInfo], all: u32, mask: u32) {
     for glyph in glyphs.iter_mut() {
         glyph.mask = glyph.mask & !all | mask;

@@ -39,6 +39,7 @@ pub fn setup_masks<T: Tables>(plan: &Plan, tables: &T, buffer: &mut Buffer) {
 }
 
 // Gives each glyph the category of its character.
+#[inline]
 fn set_categories<T: Tables>(tables: &T, buffer: &mut Buffer) {
     let len = buffer.len();
     buffer.change_each(0, len, &Categories { tables });
@@ -57,6 +58,7 @@ fn set_categories<T: Tables>(tables: &T, buffer: &mut Buffer) {
 /// - `categorized`: crates/shapers_universal/specs/UniversalMasks.antt
 ///
 /// </details>
+#[inline]
 pub fn set_categories_in<T: Tables>(tables: &T, glyphs: &mut [GlyphInfo]) {
     change_each_in(glyphs, &Categories { tables });
 }

@@ -53,6 +53,7 @@ impl Reorder for UniversalOrder {
 }
 
 // Reorders the syllable from `s` to `e`, in which no reph stands in front.
+#[inline]
 fn reorder_fronts(buffer: &mut Buffer, s: usize, e: usize) {
     if let Some((start, behind)) = first_front(buffer.glyphs(), s, e) {
         if some_go_front(&buffer.glyphs()[behind..e]) {
@@ -65,6 +66,7 @@ fn reorder_fronts(buffer: &mut Buffer, s: usize, e: usize) {
 
 // The first glyph from `s` to `e` that goes to the front: where its piece starts, and the place
 // behind it.
+#[inline]
 fn first_front(glyphs: &[GlyphInfo], s: usize, e: usize) -> Option<(usize, usize)> {
     for i in s..e {
         if goes_front(&glyphs[i]) {
@@ -75,6 +77,7 @@ fn first_front(glyphs: &[GlyphInfo], s: usize, e: usize) -> Option<(usize, usize
 }
 
 // Where the piece starts in which place `i` of a syllable from `s` on stands.
+#[inline]
 fn piece_start(glyphs: &[GlyphInfo], s: usize, i: usize) -> usize {
     for end in (s + 1..i + 1).rev() {
         if is_halant(&glyphs[end - 1]) {
@@ -85,6 +88,7 @@ fn piece_start(glyphs: &[GlyphInfo], s: usize, i: usize) -> usize {
 }
 
 // Merges the glyphs from `start` to `end` and moves the last of them to their front.
+#[inline]
 fn move_to_front(buffer: &mut Buffer, start: usize, end: usize) {
     buffer.merge_clusters(start, end);
     list_last_first(buffer, start, end);
@@ -92,6 +96,7 @@ fn move_to_front(buffer: &mut Buffer, start: usize, end: usize) {
 }
 
 // Lists the places from `s` to `e`, the last of them first.
+#[inline]
 fn list_last_first(buffer: &mut Buffer, s: usize, e: usize) {
     buffer.set_place(s, e - 1);
     for i in s + 1..e {
@@ -100,11 +105,13 @@ fn list_last_first(buffer: &mut Buffer, s: usize, e: usize) {
 }
 
 // Whether some glyph goes to the front of its piece.
+#[inline]
 fn some_go_front(glyphs: &[GlyphInfo]) -> bool {
     glyphs.iter().any(goes_front)
 }
 
 // Whether a reph stands in front.
+#[inline]
 fn has_reph(syllable: &[GlyphInfo]) -> bool {
     match syllable.first() {
         None => false,
@@ -113,6 +120,7 @@ fn has_reph(syllable: &[GlyphInfo]) -> bool {
 }
 
 // Reorders the syllable from `s` to `e`.
+#[inline]
 fn reorder_syllable(buffer: &mut Buffer, s: usize, e: usize) {
     let behind = s + reph_run(&buffer.glyphs()[s..e]);
     list_order(buffer, s, behind, e);
@@ -123,6 +131,7 @@ fn reorder_syllable(buffer: &mut Buffer, s: usize, e: usize) {
 
 // Merges each glyph from `behind` to `e` that goes to the front with all of its piece before it,
 // where the first piece starts at `s`.
+#[inline]
 fn merge_fronts(buffer: &mut Buffer, s: usize, behind: usize, e: usize) {
     // where the piece starts, and what has merged but isn't written
     let mut start = s;
@@ -139,6 +148,7 @@ fn merge_fronts(buffer: &mut Buffer, s: usize, behind: usize, e: usize) {
 
 // Lists the order of the syllable from `s` to `e`, of which the reph and what it passes end at
 // `behind`.
+#[inline]
 fn list_order(buffer: &mut Buffer, s: usize, behind: usize, e: usize) {
     let end = behind + piece_len(&buffer.glyphs()[behind..e]);
     list_piece(buffer, s, behind, end);
@@ -146,6 +156,7 @@ fn list_order(buffer: &mut Buffer, s: usize, behind: usize, e: usize) {
 }
 
 // Lists the order of the pieces from `s` to `e`, where a piece ends with a halant.
+#[inline]
 fn list_pieces(buffer: &mut Buffer, s: usize, e: usize) {
     let mut start = s;
     while start < e {
@@ -157,6 +168,7 @@ fn list_pieces(buffer: &mut Buffer, s: usize, e: usize) {
 
 // Lists the order of the piece from `s` to `e`: what goes to the front, last first; the reph and
 // what it passes, which end at `behind`, with the reph last; and the rest.
+#[inline]
 fn list_piece(buffer: &mut Buffer, s: usize, behind: usize, e: usize) {
     let at = list_fronts(buffer, s, behind, e);
     let at = list_reph(buffer, s, behind, at);
@@ -165,6 +177,7 @@ fn list_piece(buffer: &mut Buffer, s: usize, behind: usize, e: usize) {
 
 // Lists what goes to the front of those from `behind` to `e`, last first, from place `s` on.
 // Answers the place behind them.
+#[inline]
 fn list_fronts(buffer: &mut Buffer, s: usize, behind: usize, e: usize) -> usize {
     let mut at = s;
     for i in (behind..e).rev() {
@@ -178,6 +191,7 @@ fn list_fronts(buffer: &mut Buffer, s: usize, behind: usize, e: usize) -> usize 
 
 // Lists the places from `s` to `behind` from place `at` on, the first of them last. Answers the
 // place behind them.
+#[inline]
 fn list_reph(buffer: &mut Buffer, s: usize, behind: usize, at: usize) -> usize {
     if s == behind {
         return at;
@@ -192,6 +206,7 @@ fn list_reph(buffer: &mut Buffer, s: usize, behind: usize, at: usize) -> usize {
 }
 
 // Lists what doesn't go to the front of those from `s` to `e`, from place `at` on.
+#[inline]
 fn list_rest(buffer: &mut Buffer, s: usize, e: usize, at: usize) {
     let mut at = at;
     for i in s..e {
@@ -203,6 +218,7 @@ fn list_rest(buffer: &mut Buffer, s: usize, e: usize, at: usize) {
 }
 
 // Whether syllables of this kind are reordered.
+#[inline]
 fn is_reordered(syllable: &[GlyphInfo]) -> bool {
     match syllable.first() {
         None => false,
@@ -217,6 +233,7 @@ fn is_reordered(syllable: &[GlyphInfo]) -> bool {
 }
 
 // How many glyphs the reph in front and what it passes are, 0 where no reph stands in front.
+#[inline]
 fn reph_run(syllable: &[GlyphInfo]) -> usize {
     match syllable.split_first() {
         Some((first, others)) if first.category == category::R => 1 + passed_len(others),
@@ -225,21 +242,25 @@ fn reph_run(syllable: &[GlyphInfo]) -> usize {
 }
 
 // How many glyphs in front a reph passes.
+#[inline]
 fn passed_len(glyphs: &[GlyphInfo]) -> usize {
     glyphs.iter().take_while(|glyph| is_passed(glyph)).count()
 }
 
 // Whether a reph passes this glyph: it is no halant and doesn't stand after the base.
+#[inline]
 fn is_passed(glyph: &GlyphInfo) -> bool {
     !(is_post_base(glyph.category) || is_halant(glyph))
 }
 
 // Whether glyphs of this category stand after the base.
+#[inline]
 fn is_post_base(category: u8) -> bool {
     POST_BASE.contains(&category)
 }
 
 // Whether a glyph is a halant, and no ligature.
+#[inline]
 fn is_halant(glyph: &GlyphInfo) -> bool {
     let category = glyph.category;
     (category == category::H || category == category::HVM || category == category::IS)
@@ -247,6 +268,7 @@ fn is_halant(glyph: &GlyphInfo) -> bool {
 }
 
 // How long the first piece is: up to the first halant, or all.
+#[inline]
 fn piece_len(glyphs: &[GlyphInfo]) -> usize {
     for (i, glyph) in glyphs.iter().enumerate() {
         if is_halant(glyph) {
@@ -257,6 +279,7 @@ fn piece_len(glyphs: &[GlyphInfo]) -> usize {
 }
 
 // Whether a glyph goes to the front of its piece.
+#[inline]
 fn goes_front(glyph: &GlyphInfo) -> bool {
     (glyph.category == category::VPre || glyph.category == category::VMPre) && glyph.lig_comp == 0
 }

@@ -69,6 +69,7 @@ pub fn record_pref(buffer: &mut Buffer) {
 /// - `rphf_recorded`: crates/shapers_universal/specs/UniversalSyllables.antt
 ///
 /// </details>
+#[inline]
 pub fn record_rphf_in(mask: u32, glyphs: &mut [GlyphInfo]) {
     change_syllables(&RecordRphf { mask }, glyphs);
 }
@@ -88,6 +89,7 @@ pub fn record_rphf_in(mask: u32, glyphs: &mut [GlyphInfo]) {
 /// - `first_recorded`: crates/shapers_universal/specs/UniversalSyllables.antt
 ///
 /// </details>
+#[inline]
 pub fn record_pref_in(glyphs: &mut [GlyphInfo]) {
     change_syllables(&RecordPref, glyphs);
 }
@@ -118,6 +120,7 @@ impl SyllableChange for RecordPref {
 }
 
 // How many glyphs in front have bits of this mask.
+#[inline]
 fn leading_len(glyphs: &[GlyphInfo], mask: u32) -> usize {
     glyphs
         .iter()
@@ -126,6 +129,7 @@ fn leading_len(glyphs: &[GlyphInfo], mask: u32) -> usize {
 }
 
 // Gives the first of these glyphs that a lookup put in another category.
+#[inline]
 fn record_first(glyphs: &mut [GlyphInfo], category: u8) {
     for glyph in glyphs.iter_mut() {
         if glyph.marks.is_substituted() {

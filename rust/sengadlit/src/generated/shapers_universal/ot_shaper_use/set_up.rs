@@ -7,14 +7,14 @@ use super::forms::set_forms;
 use super::syllable_walk::{EachSyllable, SyllableChange};
 use crate::generated::shapers_base::buffer::{Buffer, GlyphInfo, ShaperError, Span};
 use crate::generated::shapers_base::plan::{Plan, PlanData};
-use crate::generated::shapers_syllabic::ot_shaper_syllabic::set_up_syllables;
 use crate::generated::shapers_syllabic::ot_shaper_syllabic::use_syllable::BROKEN_CLUSTER;
+use crate::generated::shapers_syllabic::ot_shaper_syllabic::{set_up_by_bytes, set_up_syllables};
 
 /// Cuts the text into the syllables of these spans and flags the inside of each as unsafe to break.
 /// Gives the mask of `rphf` to the first glyph of each syllable if it is a reph, else to its first
 /// three, and, where the plan has no plan of Arabic, the masks of forms by the places of syllables.
 /// Refuses with `SpansDontCover` where a span is empty or the lengths don't add up to the buffer's.
-/// It takes no memory and leaves the clusters as they are.
+/// It takes no memory, leaves the clusters as they are and only adds glyph flags.
 ///
 /// <details><summary>Contract</summary>
 ///
@@ -30,12 +30,14 @@ use crate::generated::shapers_syllabic::ot_shaper_syllabic::use_syllable::BROKEN
 ///     OnOk result
 ///     (UniversalSetUpCutsAtSpans kept plan.now.ot_map spans.now buffer.old buffer.new) }
 /// ensures clusters { clusters buffer.new.glyphs ≡ clusters buffer.old.glyphs }
+/// ensures flags { OnOk result (OnlyFlagsAdded buffer.old.glyphs buffer.new.glyphs) }
 /// ensures err { OnErr result (buffer.new ≡ buffer.old) }
 /// ```
 ///
 /// - `clusters`: crates/shapers_buffer/specs/Glyph.antt
 /// - `RefusesInput`: crates/shapers_buffer/specs/Refusals.antt
 /// - `spans_refusal`: crates/shapers_buffer/specs/Syllables.antt
+/// - `OnlyFlagsAdded`: crates/shapers_clusters/specs/FlagLaw.antt
 /// - `is_universal`: crates/shapers_universal/specs/PlanData.antt
 /// - `UniversalSetUpCutsAtSpans`: crates/shapers_universal/specs/UniversalCuts.antt
 /// - `syllables_set_up`: crates/shapers_universal/specs/UniversalSyllables.antt
@@ -51,7 +53,31 @@ pub fn setup_syllables_use(
     Ok(())
 }
 
+/// Sets up a text whose glyphs have their syllable bytes already, with the flags, marks and masks of
+/// [`setup_syllables_use`]. It takes no memory and leaves the clusters as they are.
+///
+/// <details><summary>Contract</summary>
+///
+/// # Contract
+///
+/// ```text
+/// requires { is_universal plan.now.plan_data ≡ true }
+/// ensures { let kept = plan.now.plan_data in
+///     buffer.new ≡ set_up_by_its_bytes kept plan.now.ot_map buffer.old }
+/// ```
+///
+/// - `is_universal`: crates/shapers_universal/specs/PlanData.antt
+/// - `set_up_by_its_bytes`: crates/shapers_universal/specs/UniversalSyllables.antt
+///
+/// </details>
+#[inline]
+pub fn setup_syllables_use_by_bytes(plan: &Plan, buffer: &mut Buffer) {
+    set_up_by_bytes(BROKEN_CLUSTER, buffer);
+    set_masks(plan, buffer);
+}
+
 // Gives each syllable its masks.
+#[inline]
 fn set_masks(plan: &Plan, buffer: &mut Buffer) {
     match &plan.plan_data {
         PlanData::Universal(universal_plan) => {
@@ -65,6 +91,7 @@ fn set_masks(plan: &Plan, buffer: &mut Buffer) {
 }
 
 // Gives each syllable the mask of `rphf`.
+#[inline]
 fn set_rphf(mask: u32, buffer: &mut Buffer) {
     buffer.walk(&mut EachSyllable {
         change: &RphfMask { mask },
@@ -86,6 +113,7 @@ impl SyllableChange for RphfMask {
 }
 
 // How many glyphs in front get the mask of `rphf`: a reph alone, else three or all.
+#[inline]
 fn reph_len(syllable: &[GlyphInfo]) -> usize {
     match syllable.first() {
         None => 0,
@@ -95,6 +123,7 @@ fn reph_len(syllable: &[GlyphInfo]) -> usize {
 }
 
 // Gives all these glyphs the bits of a mask besides their own.
+#[inline]
 fn add_mask(glyphs: &mut [GlyphInfo], mask: u32) {
     for glyph in glyphs.iter_mut() {
         glyph.mask |= mask;

@@ -23,6 +23,7 @@ impl<'a, C: SyllableChange> GlyphWalk for EachSyllable<'a, C> {
 }
 
 // Changes each syllable of these glyphs.
+#[inline]
 pub(super) fn change_syllables<C: SyllableChange>(change: &C, glyphs: &mut [GlyphInfo]) {
     let mut start = 0;
     while start < glyphs.len() {
@@ -33,6 +34,7 @@ pub(super) fn change_syllables<C: SyllableChange>(change: &C, glyphs: &mut [Glyp
 }
 
 // Changes the glyphs from `s` to `e` as a syllable.
+#[inline]
 fn change_stretch<C: SyllableChange>(change: &C, glyphs: &mut [GlyphInfo], s: usize, e: usize) {
     change.change(&mut glyphs[s..e]);
 }

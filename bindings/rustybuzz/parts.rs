@@ -1,0 +1,195 @@
+//! What rustybuzz has otherwise than HarfRust: its types, its font, its tables, its cluster levels.
+
+use sengadlit::font::{Glyphs, GlyphsOnly};
+use sengadlit::{BufferClusterLevel, GeneralCategory, GlyphId, JoiningType, Pause, Shaper, Tables, Tag};
+
+use crate::hb::buffer::*;
+use crate::hb::face::hb_font_t;
+use crate::hb::ot_layout::*;
+use crate::hb::ot_layout_gsubgpos::{WouldApply, WouldApplyContext};
+use crate::hb::unicode::{CharExt, GeneralCategoryExt};
+use crate::hb::{hb_tag_t, Script};
+
+pub use crate::hb::buffer::hb_glyph_info_t as Info;
+
+pub type Codepoint = char;
+
+// ---- Fonts ----
+
+pub type FontRef<'f, 'a> = &'f hb_font_t<'a>;
+
+pub fn font<'f, 'a>(font: FontRef<'f, 'a>) -> GlyphsOnly<FontRef<'f, 'a>> {
+    GlyphsOnly(font)
+}
+
+impl Glyphs for hb_font_t<'_> {
+    fn get_nominal_glyph(&self, c: u32) -> Option<GlyphId> {
+        hb_font_t::get_nominal_glyph(self, c).map(|glyph| GlyphId(glyph.0))
+    }
+
+    fn has_glyph(&self, c: u32) -> bool {
+        hb_font_t::has_glyph(self, c)
+    }
+
+    fn glyph_h_advance(&self, glyph: GlyphId) -> i32 {
+        hb_font_t::glyph_h_advance(self, ttf_parser::GlyphId(glyph.0))
+    }
+
+    fn would_apply(&self, lookup: u16, glyphs: &[GlyphId], zero_context: bool) -> bool {
+        self.would_apply_any(&[lookup], glyphs, zero_context)
+    }
+
+    fn would_apply_any(&self, lookups: &[u16], glyphs: &[GlyphId], zero_context: bool) -> bool {
+        let Some(gsub) = self.gsub.as_ref() else {
+            return false;
+        };
+        let mut room = [ttf_parser::GlyphId(0); 8];
+        let glyphs = glyphs_in(&mut room, glyphs);
+        let context = WouldApplyContext { glyphs, zero_context };
+        lookups.iter().filter_map(|lookup| gsub.get_lookup(*lookup)).any(|lookup| lookup.would_apply(&context))
+    }
+}
+
+/// These as rustybuzz's glyphs: hooks ask about two or three.
+fn glyphs_in<'a>(room: &'a mut [ttf_parser::GlyphId; 8], glyphs: &[GlyphId]) -> &'a [ttf_parser::GlyphId] {
+    for (to, from) in room.iter_mut().zip(glyphs) {
+        to.0 = from.0;
+    }
+    &room[..glyphs.len()]
+}
+
+// ---- Tables ----
+
+/// rustybuzz's tables of Unicode.
+pub struct Ucd;
+
+impl Tables for Ucd {
+    fn joining_type(&self, c: char) -> JoiningType {
+        use crate::hb::ot_shaper_arabic::hb_arabic_joining_type_t as Theirs;
+        match crate::hb::ot_shaper_arabic_table::joining_type(c) {
+            Theirs::U => JoiningType::U,
+            Theirs::L => JoiningType::L,
+            Theirs::R => JoiningType::R,
+            Theirs::D => JoiningType::D,
+            Theirs::GroupAlaph => JoiningType::GroupAlaph,
+            Theirs::GroupDalathRish => JoiningType::GroupDalathRish,
+            Theirs::T => JoiningType::T,
+            Theirs::X => JoiningType::X,
+        }
+    }
+
+    fn general_category(&self, c: char) -> GeneralCategory {
+        super::CATEGORIES[c.general_category().to_rb() as usize & 31]
+    }
+
+    fn indic_categories(&self, c: u32) -> (u8, u8) {
+        crate::hb::ot_shaper_indic_table::get_categories(c)
+    }
+
+    fn use_category(&self, c: u32) -> u8 {
+        crate::hb::ot_shaper_use_table::hb_use_get_category(c)
+    }
+
+    fn compose(&self, a: char, b: char) -> Option<char> {
+        crate::hb::unicode::compose(a, b)
+    }
+
+    fn decompose(&self, ab: char) -> Option<(char, char)> {
+        crate::hb::unicode::decompose(ab)
+    }
+}
+
+pub fn character(c: Codepoint) -> Option<char> {
+    Some(c)
+}
+
+pub fn character_or_replacement(c: Codepoint) -> char {
+    c
+}
+
+// ---- Glyphs ----
+
+pub fn info(glyph_id: u32, mask: u32, cluster: u32, var1: u32) -> Info {
+    Info { glyph_id, mask, cluster, var1, var2: 0 }
+}
+
+pub fn var1(info: &Info) -> u32 {
+    info.var1
+}
+
+pub fn lig_comp(info: &Info) -> u8 {
+    _hb_glyph_info_get_lig_comp(info)
+}
+
+pub fn combining_class(info: &Info) -> u8 {
+    _hb_glyph_info_get_modified_combining_class(info)
+}
+
+pub fn is_substituted(info: &Info) -> bool {
+    _hb_glyph_info_substituted(info)
+}
+
+pub fn clear_substituted(info: &mut Info) {
+    _hb_glyph_info_clear_substituted(info);
+}
+
+/// No bytes are reserved here.
+pub fn reserve_syllables(_: Pause, _: &mut hb_buffer_t) {}
+
+// ---- Settings ----
+
+pub fn tag_of(tag: hb_tag_t) -> Tag {
+    Tag(tag.to_bytes())
+}
+
+pub const fn hb_tag(tag: Tag) -> hb_tag_t {
+    hb_tag_t::from_bytes(&tag.0)
+}
+
+/// No marks are placed by their classes but those that the hooks name.
+pub const fn places_marks(_: Shaper) -> bool {
+    false
+}
+
+pub fn cluster_level(level: hb_buffer_cluster_level_t, _: Option<Script>) -> BufferClusterLevel {
+    match level {
+        HB_BUFFER_CLUSTER_LEVEL_MONOTONE_CHARACTERS => BufferClusterLevel::MonotoneCharacters,
+        HB_BUFFER_CLUSTER_LEVEL_CHARACTERS => BufferClusterLevel::Characters,
+        _ => BufferClusterLevel::MonotoneGraphemes,
+    }
+}
+
+// ---- Names of the nine files that tables and machines use ----
+
+#[cfg(not(feature = "shadow"))]
+pub mod names {
+    pub mod ot_shaper_arabic {
+        pub use sengadlit::JoiningType as hb_arabic_joining_type_t;
+    }
+
+    pub mod ot_shaper_indic {
+        pub use sengadlit::plan::{ot_category_t, ot_position_t};
+    }
+
+    pub mod ot_shaper_use {
+        pub use sengadlit::ot_shaper_use::category;
+    }
+
+    impl super::Info {
+        pub(crate) fn indic_category(&self) -> u8 {
+            self.ot_shaper_var_u8_category()
+        }
+
+        pub(crate) fn khmer_category(&self) -> u8 {
+            self.ot_shaper_var_u8_category()
+        }
+
+        pub(crate) fn myanmar_category(&self) -> u8 {
+            self.ot_shaper_var_u8_category()
+        }
+
+        pub(crate) fn use_category(&self) -> u8 {
+            self.ot_shaper_var_u8_category()
+        }
+    }
+}

@@ -1,0 +1,159 @@
+-- Where each glyph is a cluster of its own and clusters rise, a call flags no place but those where it forbids a break.
+use Rattle.std.proofs.Common.{◌≡◌, ℕ, ◌+◌, ◌-◌, ◌<◌, ◌≤◌, ◌≢◌, Bool, true, false, cond, eqb, ltb, ◌&&◌, max, List, [], ◌∷◌, ◌++◌, length, map, take, drop, get_or, refl, sym, ap, ◌∙◌, subst, arith, inl, inr, length-take, length-drop}
+use Rattle.std.specs.Int.Bits.{bit_or}
+use Rattle.std.specs.List.{AllByRecursion, AllPairs}
+use Rattle.std.proofs.lemmas.Bool.{eq-eqb, eqb-false, ne_eqb, lt-ltb, and_from, and_left, and_right, or_from, or_parts, cases_lt, cases_eq, cases_order, both_ways}
+use Rattle.std.proofs.lemmas.List.{length-map, length-take-le, get_or-map, get_or-take, get_or-drop, get_or_append_left, get_or-append-add}
+use Rattle.std.proofs.lemmas.List.Elements.{All-from_recursion, All-from_get_or, All-get_or}
+use Rattle.std.proofs.lemmas.List.Folds.{list_any_none}
+use Rattle.std.proofs.lemmas.Nat.Bits.{bit_at_or}
+use Rattle.shapers_buffer.specs.Glyph.{clusters, default_glyph}
+use Rattle.shapers_buffer.specs.Clusters.{least, stretch_of, with_stretch}
+use Rattle.shapers_buffer.specs.GlyphFlags.{FlagCall, UnsafeToBreak, UnsafeToConcat, SafeToInsertTatweel, with_bits, with_bits_off, flagged, unsafe_to_concat_in, flag_called, flags_called}
+use Rattle.shapers_buffer.specs.declared.buffer.glyph.hb_glyph_info_t.{hb_glyph_info_t}
+use Rattle.shapers_clusters.specs.Flags.{bit_at, InOrder}
+use Rattle.shapers_clusters.proofs.FlagCalls.{flag_called-alone, flags_called-alone}
+use Rattle.shapers_clusters.proofs.Joined.{least-le, least-among}
+use Rattle.shapers_clusters.specs.Breaks.{forbids, IsFree, is_unsafe, greater, NeedlessLaw}
+use Rattle.shapers_clusters.proofs.ClearPlaces.{held, unsafe_bits, in-stretch, length-same}
+
+-- glyphs without either bit
+pub none-unsafe : (g : hb_glyph_info_t) → is_unsafe g ≡ false → unsafe_bits g.mask ≡ 0
+none-unsafe g e =
+    let both = or_parts (eqb (bit_at 0 g.mask) 1) (eqb (bit_at 2 g.mask) 1) e in
+    let x : bit_at 0 g.mask ≡ 0 = elim (cases_eq (bit_at 0 g.mask) 1) [ inl one ↦ absurd (eqb-false _ _ both.0 one) | inr n ↦ omega arith ] in
+    let y : bit_at 2 g.mask ≡ 0 = elim (cases_eq (bit_at 2 g.mask) 1) [ inl one ↦ absurd (eqb-false _ _ both.1 one) | inr n ↦ omega arith ] in
+    omega (arith, x, y)
+
+pub unsafe-none : (g : hb_glyph_info_t) → unsafe_bits g.mask ≡ 0 → is_unsafe g ≡ false
+unsafe-none g e = or_from _ _ (ne_eqb (bit_at 0 g.mask) 1 (λ one. absurd (omega (arith, one, e)))) (ne_eqb (bit_at 2 g.mask) 1 (λ one. absurd (omega (arith, one, e))))
+
+-- a place outside a stretch
+before-stretch : (f : hb_glyph_info_t → hb_glyph_info_t) (s e k : ℕ) (gs : List hb_glyph_info_t) (d : hb_glyph_info_t) → k < s → k < length gs → get_or (with_stretch s e (map f) gs) k d ≡ get_or gs k d
+before-stretch f s e k gs d h within =
+    get_or_append_left (take s gs) (map f (stretch_of s e gs) ++ drop e gs) d k (omega (arith, length-take s gs)) ∙ get_or-take s gs k d h
+
+behind-stretch : (f : hb_glyph_info_t → hb_glyph_info_t) (s e k : ℕ) (gs : List hb_glyph_info_t) (d : hb_glyph_info_t) → s ≤ e → e ≤ k → k < length gs → get_or (with_stretch s e (map f) gs) k d ≡ get_or gs k d
+behind-stretch f s e k gs d order h within =
+    let front = take s gs in
+    let part = map f (stretch_of s e gs) in
+    let a : length front ≡ s = length-take-le s gs (omega arith) in
+    let b : length part ≡ e - s = length-map (stretch_of s e gs) f ∙ length-take-le (e - s) (drop s gs) (omega (arith, length-drop s gs)) in
+    let first : k ≡ length front + (k - s) = omega arith in
+    let second : k - s ≡ length part + (k - e) = omega arith in
+    let there : e + (k - e) ≡ k = omega arith in
+    ap (λ i. get_or (front ++ (part ++ drop e gs)) i d) first
+    ∙ get_or-append-add front (part ++ drop e gs) (k - s) d
+    ∙ ap (λ i. get_or (part ++ drop e gs) i d) second
+    ∙ get_or-append-add part (drop e gs) (k - e) d
+    ∙ get_or-drop e gs (k - e) d
+    ∙ ap (λ i. get_or gs i d) there
+
+-- the first glyph of a stretch has its least cluster
+least-first : (s e : ℕ) (gs : List hb_glyph_info_t) (d : hb_glyph_info_t) → AllPairs (λ a b. a < b) (clusters gs) → s < e → s < length gs → least (clusters (stretch_of s e gs)) ≡ (get_or gs s d).cluster
+least-first s e gs d rises h within =
+    let part = stretch_of s e gs in
+    let cs = clusters part in
+    let long : length cs ≡ length part = length-map part (λ (g : hb_glyph_info_t). g.cluster) in
+    let some : 0 < length cs = omega (arith, length-take (e - s) (drop s gs), length-drop s gs) in
+    let (k, inside, is) = least-among cs some in
+    let zero_in : 0 < length part = omega arith in
+    let at_k : get_or cs k 0 ≡ get_or (clusters gs) (s + k) 0 =
+    get_or-map (λ (g : hb_glyph_info_t). g.cluster) part k d 0 (omega arith)
+    ∙ ap (λ (g : hb_glyph_info_t). g.cluster) (get_or-take (e - s) (drop s gs) k d (omega (arith, length-take (e - s) (drop s gs))) ∙ get_or-drop s gs k d)
+    ∙ sym (get_or-map (λ (g : hb_glyph_info_t). g.cluster) gs (s + k) d 0 (omega (arith, length-take (e - s) (drop s gs), length-drop s gs))) in
+    let none : s + 0 ≡ s = omega arith in
+    let at_s : get_or cs 0 0 ≡ (get_or gs s d).cluster =
+    get_or-map (λ (g : hb_glyph_info_t). g.cluster) part 0 d 0 zero_in
+    ∙ ap (λ (g : hb_glyph_info_t). g.cluster) (get_or-take (e - s) (drop s gs) 0 d (omega arith) ∙ get_or-drop s gs 0 d ∙ ap (λ i. get_or gs i d) none) in
+    let own : get_or (clusters gs) s 0 ≡ (get_or gs s d).cluster = get_or-map (λ (g : hb_glyph_info_t). g.cluster) gs s d 0 within in
+    let low = least-le cs 0 some in
+    elim (cases_lt 0 k) [
+      | inl more ↦ absurd (omega (arith, rises s (s + k) 0 (omega arith) (omega (arith, length-map gs (λ (g : hb_glyph_info_t). g.cluster), length-take (e - s) (drop s gs), length-drop s gs))))
+      | inr first ↦ let z : k ≡ 0 = omega arith in sym (sym (at_s) ∙ ap (λ i. get_or cs i 0) (sym z) ∙ is)
+    ]
+
+-- the flag of the glyph at place p through a call that forbids no break there
+off-least : (bits m : ℕ) (g : hb_glyph_info_t) → m ≡ g.cluster → with_bits_off bits m g ≡ g
+off-least bits m g e = ap (λ b. let r : hb_glyph_info_t = cond b g (with_bits bits g) in r) (eq-eqb g.cluster m (sym e))
+
+break-spares : (bits s e p : ℕ) (gs : List hb_glyph_info_t) (d : hb_glyph_info_t) → s ≤ e → AllPairs (λ a b. a < b) (clusters gs) → p < length gs → (ltb s p && ltb p e) ≡ false → get_or (with_stretch s e (flagged bits) gs) p d ≡ get_or gs p d
+break-spares bits s e p gs d order rises within free =
+    let m = least (clusters (stretch_of s e gs)) in
+    elim (cases_lt p s) [
+      | inl less ↦ before-stretch (with_bits_off bits m) s e p gs d less within
+      | inr from ↦ elim (cases_lt p e) [
+        | inr past ↦ behind-stretch (with_bits_off bits m) s e p gs d order past within
+        | inl inner ↦ elim (cases_lt s p) [
+          | inl more ↦ absurd (both_ways _ free (and_from (ltb s p) (ltb p e) (lt-ltb s p more) (lt-ltb p e inner)))
+          | inr at ↦
+              let is : s ≡ p = omega arith in
+              in-stretch (with_bits_off bits m) s e p gs d from inner within
+              ∙ off-least bits m (get_or gs p d) (least-first s e gs d rises (omega arith) (omega arith) ∙ ap (λ i. (get_or gs i d).cluster) is)
+        ]
+      ]
+    ]
+
+bit-two : (mask : ℕ) → unsafe_bits (bit_or mask 2) ≡ unsafe_bits mask
+bit-two mask =
+    let none : bit_at 0 2 ≡ 0 = refl in
+    let zero : bit_at 2 2 ≡ 0 = refl in
+    omega (arith, bit_at_or mask 2 0, bit_at_or mask 2 2, none, zero)
+
+concat-spares : (asked : Bool) (s e p : ℕ) (gs : List hb_glyph_info_t) (d : hb_glyph_info_t) → s ≤ e → p < length gs → unsafe_bits (get_or (unsafe_to_concat_in asked s e gs) p d).mask ≡ unsafe_bits (get_or gs p d).mask
+concat-spares false s e p gs d order within = refl
+concat-spares true s e p gs d order within =
+    let bit = λ (g : hb_glyph_info_t). unsafe_bits g.mask in
+    elim (cases_lt p s) [
+      | inl less ↦ ap bit (before-stretch (with_bits 2) s e p gs d less within)
+      | inr from ↦ elim (cases_lt p e) [
+        | inr past ↦ ap bit (behind-stretch (with_bits 2) s e p gs d order past within)
+        | inl inner ↦ ap bit (in-stretch (with_bits 2) s e p gs d from inner within) ∙ bit-two (get_or gs p d).mask
+      ]
+    ]
+
+call-spares : (concat tatweel : Bool) (call : FlagCall) (p : ℕ) (gs : List hb_glyph_info_t) (d : hb_glyph_info_t) → InOrder call → AllPairs (λ a b. a < b) (clusters gs) → p < length gs → forbids p call ≡ false → unsafe_bits (get_or (flag_called concat tatweel call gs) p d).mask ≡ unsafe_bits (get_or gs p d).mask
+call-spares concat tatweel (UnsafeToBreak s e) p gs d order rises within free = ap (λ (g : hb_glyph_info_t). unsafe_bits g.mask) (break-spares 3 s e p gs d order rises within free)
+call-spares concat tatweel (UnsafeToConcat s e) p gs d order rises within free = concat-spares concat s e p gs d order within
+call-spares concat tatweel (SafeToInsertTatweel s e) p gs d order rises within free = ap (λ (g : hb_glyph_info_t). unsafe_bits g.mask) (break-spares (cond tatweel 4 3) s e p gs d order rises within free)
+
+calls-spare : (concat tatweel : Bool) (calls : List FlagCall) (p : ℕ) (gs : List hb_glyph_info_t) (d : hb_glyph_info_t) → AllByRecursion InOrder calls → AllPairs (λ a b. a < b) (clusters gs) → p < length gs → IsFree calls p → unsafe_bits (get_or (flags_called concat tatweel calls gs) p d).mask ≡ unsafe_bits (get_or gs p d).mask
+calls-spare concat tatweel [] p gs d all rises within free = refl
+calls-spare concat tatweel (call ∷ calls) p gs d all rises within free =
+    let once = flag_called concat tatweel call gs in
+    let same = (flag_called-alone concat tatweel call gs all.0).same_clusters in
+    let long = length-same gs once same in
+    let both = or_parts (forbids p call) (held p calls) free in
+    let P : List ℕ → Type 0 = λ cs. AllPairs (λ a b. a < b) cs in
+    calls-spare concat tatweel calls p once d all.1 (subst P (sym same) rises) (omega arith) both.1
+    ∙ call-spares concat tatweel call p gs d all.0 rises within both.0
+
+apart : (k p : ℕ) (cs : List ℕ) → AllPairs (λ a b. a < b) cs → k < length cs → p < length cs → k ≢ p → get_or cs k 0 ≡ get_or cs p 0 → ⊥
+apart k p cs rises h i n e = elim (cases_order k p) [
+  | inl same ↦ n same
+  | inr (inl less) ↦ absurd (omega (arith, rises k p 0 less i))
+  | inr (inr more) ↦ absurd (omega (arith, rises p k 0 more h))
+]
+
+-- so a free place is clear
+pub needless : NeedlessLaw
+needless concat tatweel calls gs p all rises unflagged pos within free =
+    let new = flags_called concat tatweel calls gs in
+    let same = (flags_called-alone concat tatweel calls gs all).same_clusters in
+    let long = length-same gs new same in
+    let cs = clusters gs in
+    let many : length cs ≡ length gs = length-map gs (λ (g : hb_glyph_info_t). g.cluster) in
+    let less : get_or cs (p - 1) 0 < get_or cs p 0 = rises (p - 1) p 0 (omega arith) (omega arith) in
+    let P : List ℕ → Type 0 = λ xs. get_or xs (p - 1) 0 ≢ get_or xs p 0 in
+    let top : greater new p ≡ get_or cs p 0 = ap (λ xs. max (get_or xs (p - 1) 0) (get_or xs p 0)) same ∙ omega arith in
+    let test = λ (g : hb_glyph_info_t). eqb g.cluster (greater new p) && is_unsafe g in
+    let Q : hb_glyph_info_t → Type 0 = λ g. test g ≡ false in
+    let R : hb_glyph_info_t → Type 0 = λ g. is_unsafe g ≡ false in
+    let bit : unsafe_bits (get_or new p default_glyph).mask ≡ 0 = calls-spare concat tatweel calls p gs default_glyph all rises within free ∙ none-unsafe (get_or gs p default_glyph) (All-get_or R gs p default_glyph within (All-from_recursion R gs unflagged)) in
+    let each : (k : ℕ) → k < length new → Q (get_or new k default_glyph) = λ k inside.
+    let own : (get_or new k default_glyph).cluster ≡ get_or cs k 0 = sym (get_or-map (λ (g : hb_glyph_info_t). g.cluster) new k default_glyph 0 inside) ∙ ap (λ xs. get_or xs k 0) same in
+    elim (cases_eq k p) [
+      | inl e ↦ and_right _ _ (unsafe-none (get_or new k default_glyph) (ap (λ i. unsafe_bits (get_or new i default_glyph).mask) e ∙ bit))
+      | inr n ↦ and_left _ _ (ne_eqb (get_or new k default_glyph).cluster (greater new p) (λ e. apart k p cs rises (omega arith) (omega arith) n (sym own ∙ e ∙ top)))
+    ] in
+    record { differ = subst P (sym same) (λ e. absurd (omega arith)); unflagged = list_any_none test new (All-from_get_or Q new default_glyph each) }
