@@ -5,16 +5,16 @@ pub const LEVELS: [&str; 4] = ["MonotoneGraphemes", "MonotoneCharacters", "Chara
 
 /// The reasons of bindings/harfrust/reasons.
 pub const REASONS: &[&str] = &[
-    "merge-flags", "least-cluster", "long-stretch", "category-range", "medial", "copied-marks", "continuation", "yiddish-yod-yod",
-    "dotted-circles",
+    "merge-flags", "least-cluster", "long-stretch", "category-range", "medial", "copied-marks", "graphemes", "continuation",
+    "yiddish-yod-yod", "dotted-circles",
 ];
 
 macro_rules! calls {
     ($module:ident, $harfrust:ident) => {
         pub mod $module {
-            use crate::{caught, parts, Glyph, Setting, Shaped, FEATURES};
+            use crate::{caught, parts, serialized, Glyph, Setting, Shaped, FEATURES};
             use $harfrust::{
-                BufferClusterLevel, BufferFlags, Direction, Feature, FontRef, GlyphBuffer, Script, ShapeOptions, ShapePlan, ShaperData, Tag,
+                BufferClusterLevel, BufferFlags, Direction, Feature, FontRef, GlyphBuffer, GlyphFlags, Script, SerializeFlags, ShapeOptions, ShapePlan, ShaperData, Tag,
                 UnicodeBuffer,
             };
 
@@ -47,7 +47,7 @@ macro_rules! calls {
                 let glyphs = buffer.glyph_infos().iter().zip(positions).map(|(glyph, position)| Glyph {
                     number: glyph.glyph_id,
                     cluster: glyph.cluster,
-                    flags: glyph.flags().to_bits(),
+                    flags: glyph.flags().to_bits() & GlyphFlags::ALL.to_bits(),
                     advance: (position.x_advance, position.y_advance),
                     offset: (position.x_offset, position.y_offset),
                 });
@@ -73,6 +73,18 @@ macro_rules! calls {
                     caught(|| glyphs(&shaper.shape(buffer, options)))
                 };
                 texts.iter().map(shape).collect()
+            }
+
+            /// The shaped text with the names of its glyphs, as `hb-shape --show-flags` writes it.
+            pub fn told(font: &[u8], text: &str, setting: &Setting) -> String {
+                let font = FontRef::new(font).expect("a font");
+                let data = ShaperData::new(&font);
+                let shaper = data.shaper(&font).build();
+                let features = features(setting);
+                let mut buffer = UnicodeBuffer::new();
+                fill(&mut buffer, text, setting);
+                let options = ShapeOptions::new().features(&features).scale(setting.scale);
+                serialized(|| shaper.shape(buffer, options).serialize(&shaper, SerializeFlags::GLYPH_FLAGS))
             }
 
             /// Shapes each text so many times into one buffer, and gives the sum of the glyphs' numbers.

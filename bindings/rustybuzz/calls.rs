@@ -11,10 +11,10 @@ pub const REASONS: &[&str] = &[
 macro_rules! calls {
     ($module:ident, $rustybuzz:ident) => {
         pub mod $module {
-            use crate::{caught, parts, Glyph, Setting, Shaped, FEATURES};
+            use crate::{caught, parts, serialized, Glyph, Setting, Shaped, FEATURES};
             use $rustybuzz::ttf_parser::Tag;
             use $rustybuzz::{
-                shape_with_plan, BufferClusterLevel, BufferFlags, Direction, Face, Feature, GlyphBuffer, Script, SerializeFlags, ShapePlan,
+                shape, shape_with_plan, BufferClusterLevel, BufferFlags, Direction, Face, Feature, GlyphBuffer, Script, SerializeFlags, ShapePlan,
                 UnicodeBuffer,
             };
 
@@ -73,6 +73,14 @@ macro_rules! calls {
                     caught(|| glyphs(&face, &shape_with_plan(&face, &plan.2, buffer)))
                 };
                 texts.iter().map(shape).collect()
+            }
+
+            /// The shaped text with the names of its glyphs, as `hb-shape --show-flags` writes it.
+            pub fn told(font: &[u8], text: &str, setting: &Setting) -> String {
+                let face = Face::from_slice(font, 0).expect("a font");
+                let mut buffer = UnicodeBuffer::new();
+                fill(&mut buffer, text, setting);
+                serialized(|| format!("[{}]", shape(&face, &features(setting), buffer).serialize(&face, SerializeFlags::GLYPH_FLAGS)))
             }
 
             /// Shapes each text so many times into one buffer, and gives the sum of the glyphs' numbers.

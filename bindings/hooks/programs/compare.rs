@@ -38,7 +38,7 @@ struct Script {
     real: usize,
 }
 
-/// Outputs that differ, and those of them that are of real words.
+/// Outputs that differ, and those of them that are of whole real words.
 #[derive(Clone, Copy, Default)]
 struct Count {
     all: usize,
@@ -180,7 +180,7 @@ fn compare(script: &Script, path: &Path, font: &[u8], setting: &Setting, show: u
     let explained = explain(font, &chosen, setting, &one, &other);
     for (number, &place) in places.iter().enumerate() {
         let kind = kind(&one[number], &other[number]).unwrap_or_default();
-        let real = place < script.real;
+        let real = place < script.real && !setting.contexts;
         let told = format!(
             "{}, {}, level {}, flags {:X}{}{}: {}",
             path.file_name().unwrap_or_default().to_string_lossy(),

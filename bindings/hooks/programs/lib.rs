@@ -3,6 +3,8 @@
 
 use std::fmt;
 
+pub mod fonts;
+
 #[macro_use]
 mod calls;
 pub use calls::{LEVELS, REASONS};
@@ -88,15 +90,20 @@ impl fmt::Display for Shaped {
     }
 }
 
-/// Shapes, and tells a panic.
+/// Shapes; the error is what a panic said.
+fn without_panic<T>(shape: impl FnOnce() -> T) -> Result<T, String> {
+    std::panic::catch_unwind(std::panic::AssertUnwindSafe(shape)).map_err(|told| match told.downcast::<String>() {
+        Ok(text) => *text,
+        Err(told) => told.downcast_ref::<&str>().map_or(String::new(), ToString::to_string),
+    })
+}
+
 fn caught(shape: impl FnOnce() -> Vec<Glyph>) -> Shaped {
-    match std::panic::catch_unwind(std::panic::AssertUnwindSafe(shape)) {
-        Ok(glyphs) => Shaped::Glyphs(glyphs),
-        Err(told) => Shaped::Panic(match told.downcast::<String>() {
-            Ok(text) => *text,
-            Err(told) => told.downcast_ref::<&str>().map_or(String::new(), ToString::to_string),
-        }),
-    }
+    without_panic(shape).map_or_else(Shaped::Panic, Shaped::Glyphs)
+}
+
+fn serialized(shape: impl FnOnce() -> String) -> String {
+    without_panic(shape).unwrap_or_else(|told| format!("panic: {told}"))
 }
 
 /// A text with its contexts: what stands before it, the text, and what stands behind it.
@@ -106,4 +113,20 @@ fn parts(text: &str, setting: &Setting) -> [String; 3] {
     let (before, rest) = characters.split_at(third);
     let (inside, after) = rest.split_at(rest.len() - third);
     [before, inside, after].map(|part| part.iter().collect())
+}
+
+/// The text of code points in hexadecimal, each with how often it comes where that isn't once: `0915 0951*256`.
+///
+/// # Panics
+///
+/// Where it isn't such a list.
+pub fn text_of(code_points: &str) -> String {
+    let mut text = String::new();
+    for item in code_points.split_whitespace() {
+        let (number, times) = item.split_once('*').unwrap_or((item, "1"));
+        let number = u32::from_str_radix(number, 16).expect("a hexadecimal number");
+        let character = char::from_u32(number).expect("a code point");
+        text.extend(std::iter::repeat_n(character, times.parse().expect("a number")));
+    }
+    text
 }

@@ -1,0 +1,107 @@
+# shellcheck shell=sh disable=SC2154
+# What test.sh and speed.sh, which source this file, have in common: texts, and the programs of bindings/hooks/programs for a
+# crate that `build` has copied. They set $here, the folder of the crate, and $crate. Beside what `build` makes there is
+# then in $out/$crate:
+#
+#   reasons     the crate as it is, with the known differences edited away, each by its name
+#   programs    compare, show, shape_stock, shape_proved and the tests of the faults
+
+hooks=$(dirname "$here")/hooks
+passed=0
+failed=0
+
+# shellcheck source=bindings/hooks/debian.sh
+. "$hooks/debian.sh"
+made=$out/$crate
+texts=$out/texts
+export SENGADLIT_FONTS="$root/usr/share/fonts"
+
+words='hunspell-ar hunspell-bn hunspell-bo hunspell-dz hunspell-gu hunspell-he hunspell-hi hunspell-ko hunspell-lo hunspell-ml
+    hunspell-ne hunspell-si hunspell-te hunspell-th myspell-fa iso-codes unicode-cldr-core'
+fonts='fonts-culmus fonts-dejavu-core fonts-freefont-ttf fonts-hosny-amiri fonts-khmeros fonts-lohit-deva fonts-nanum
+    fonts-noto-core fonts-sil-padauk fonts-tlwg-garuda-ttf'
+
+stop() {
+    echo "bindings/$crate: $*" >&2
+    exit 2
+}
+
+# step NAME COMMAND..: runs a command, counts it, and shows the end of what it printed if it failed.
+step() {
+    name=$1
+    shift
+    if "$@" >"$made/step.log" 2>&1 </dev/null; then
+        echo "ok: $name"
+        passed=$((passed + 1))
+    else
+        tail -n 30 "$made/step.log" | sed 's/^/    /'
+        echo "FAILED: $name"
+        failed=$((failed + 1))
+        return 1
+    fi
+}
+
+# Ends with what was counted so far, if a step that others need failed.
+need() {
+    step "$@" && return
+    echo "$passed passed, $failed failed"
+    exit 1
+}
+
+# Words and fonts of Debian's stable release, and the texts made of them.
+fetch_texts() {
+    packages=
+    for package in $words $fonts; do
+        packages="$packages $package/trixie"
+    done
+    # shellcheck disable=SC2086
+    unpack_alone $packages || return
+    [ -n "$(find "$texts/scripts" -newer "$hooks/texts" -newer "$hooks/../words.py" 2>/dev/null)" ] || python3 "$hooks/texts" "$root" "$texts"
+}
+
+# copy FILE..  FOLDER: copies files that differ, so that cargo builds again what has changed alone.
+copy() {
+    for target in "$@"; do :; done
+    for file in "$@"; do
+        [ "$file" = "$target" ] || cmp -s "$file" "$target/${file##*/}" || cp "$file" "$target" || return
+    done
+}
+
+copy_reasons() {
+    rm -rf "$made/new" && cp -r "$made/stock" "$made/new" && cp "$hooks/reasons.rs" "$made/new/src" &&
+        python3 "$hooks/edit.py" "$here/reasons" "$made/new" || return
+    if diff -qr "$made/new" "$made/reasons" >/dev/null 2>&1; then
+        rm -rf "$made/new"
+    else
+        rm -rf "$made/reasons" && mv "$made/new" "$made/reasons"
+    fi
+}
+
+# program NAME: its part of the manifest.
+program() {
+    printf '\n[[bin]]\nname = "%s"\npath = "src/%s.rs"\n' "$1" "$1"
+}
+
+write_programs() {
+    mkdir -p "$made/programs/src" "$made/programs/tests" || return
+    copy "$hooks"/programs/*.rs "$here/calls.rs" "$made/programs/src" && copy "$here/faults.rs" "$made/programs/tests" || return
+    {
+        printf '[package]\nname = "programs"\nversion = "0.0.0"\nedition = "2021"\nautobins = false\n\n'
+        printf '[lib]\npath = "src/lib.rs"\n\n[features]\nshadow = ["proved/shadow"]\n\n[dependencies]\n'
+        for copy in stock proved reasons; do
+            printf '%s = { package = "%s", path = "../%s" }\n' "$copy" "$crate" "$copy"
+        done
+        for name in compare show shape_stock shape_proved; do
+            program "$name"
+        done
+    } >"$made/programs/Cargo.toml"
+}
+
+# build TARGET OPTION..: builds the programs; `build` has the two crates in the same folder of targets.
+build() {
+    target=$1
+    shift
+    (cd "$made/programs" && cargo build --offline --release --target-dir "$made/both/$target" "$@")
+}
+
+[ -f "$made/stock/Cargo.toml" ] && [ -f "$made/proved/Cargo.toml" ] || stop "there is no $made: run bindings/$crate/build first"

@@ -1,0 +1,25 @@
+//! show FONT [--level N] [--flags HEX] [--scale N] CODE_POINTS: shapes one text by the crate as it is and by the proved one.
+//! Of a code point that comes several times the number stands behind it: `show FONT 0915 0951*256`.
+
+use programs::{proved, stock, text_of, Setting};
+
+fn main() {
+    let mut arguments = std::env::args().skip(1);
+    let path = arguments.next().expect("show FONT [--level N] [--flags HEX] [--scale N] CODE_POINTS");
+    let font = std::fs::read(&path).unwrap_or_else(|error| panic!("{path}: {error}"));
+    let mut setting = Setting::default();
+    let mut code_points = Vec::new();
+    while let Some(argument) = arguments.next() {
+        let mut value = || arguments.next().expect("a number");
+        match argument.as_str() {
+            "--level" => setting.level = value().parse().expect("a level"),
+            "--flags" => setting.flags = u32::from_str_radix(&value(), 16).expect("flags"),
+            "--scale" => setting.scale = Some(value().parse().expect("a scale")),
+            _ => code_points.push(argument),
+        }
+    }
+    let text = text_of(&code_points.join(" "));
+    std::panic::set_hook(Box::new(|_| {}));
+    println!("stock  {}", stock::told(&font, &text, &setting));
+    println!("proved {}", proved::told(&font, &text, &setting));
+}

@@ -1,0 +1,16 @@
+# shellcheck shell=sh disable=SC2154
+# What bindings/harfrust/speed and bindings/rustybuzz/speed do; they source this file, with $here, their folder, and $crate.
+
+# shellcheck source=bindings/hooks/programs.sh
+. "$(dirname "$here")/hooks/programs.sh"
+
+command -v valgrind >/dev/null 2>&1 || stop 'there is no valgrind'
+{
+    need 'words and fonts are unpacked, and texts made' fetch_texts
+    need 'the copy with the reasons is edited' copy_reasons
+    need 'the programs are written' write_programs
+    need 'the programs are built, with the release profile' build target --bin shape_stock --bin shape_proved
+    export CARGO_PROFILE_RELEASE_LTO=fat CARGO_PROFILE_RELEASE_CODEGEN_UNITS=1
+    need 'the programs are built, with fat lto and one unit' build target/lto --bin shape_stock --bin shape_proved
+} >&2
+exec python3 "$hooks/speed.py" "$texts" "$root" "$made/both/target/release" "$made/both/target/lto/release"
