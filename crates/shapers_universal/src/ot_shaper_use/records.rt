@@ -89,7 +89,7 @@ impl FrontChange for RecordPref {
     }
 }
 
-// Gives a glyph that a lookup put in another category, and returns whether it is none.
+// Gives the glyph another category if a lookup put it in, and returns whether none did.
 #[inline]
 fn record_glyph(glyph: &mut hb_glyph_info_t, category: u8) -> bool
     ensures { (rest : List hb_glyph_info_t) → first_recorded category (glyph.old ∷ rest)

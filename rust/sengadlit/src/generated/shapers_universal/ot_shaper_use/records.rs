@@ -118,7 +118,7 @@ impl FrontChange for RecordPref {
     }
 }
 
-// Gives a glyph that a lookup put in another category, and returns whether it is none.
+// Gives the glyph another category if a lookup put it in, and returns whether none did.
 #[inline]
 fn record_glyph(glyph: &mut GlyphInfo, category: u8) -> bool {
     if !glyph.marks.is_substituted() {
