@@ -1,3 +1,4 @@
+mod Breaks
 mod CheckedRows
 mod Cuts
 mod FlagLaws

@@ -9,7 +9,7 @@ use Rattle.shapers_buffer.specs.Refusals.{Refuses, RefusesLength}
 use Rattle.shapers_arabic.specs.Marks as arabic
 use Rattle.shapers_arabic.specs.Marks.{marks_merged, marks_reordered}
 use Rattle.shapers_arabic.specs.JoinedText.{AreCharacters, CutsAsHalves, joined}
-use Rattle.shapers_arabic.specs.PlanData.{arabic_plan, IsArabic, masks_of}
+use Rattle.shapers_arabic.specs.PlanData.{arabic_plan, breaks_of, IsArabic, masks_of}
 use Rattle.shapers_buffer.specs.declared.buffer.glyph.hb_glyph_info_t.{hb_glyph_info_t}
 use Rattle.shapers_buffer.specs.declared.buffer.refusal.ShaperError.{ShaperError}
 use Rattle.shapers_base.specs.declared.plan.hb_ot_shape_plan_t.{hb_ot_shape_plan_t}
@@ -184,7 +184,9 @@ Decomposed shaper plan tables ab answer = Lacking (standing shaper).decompose (a
 abbrev pub MasksSet :
     hb_ot_shaper_t → hb_ot_shape_plan_t → CharacterTables → Buffer → Buffer → Type 0
 MasksSet Arabic plan tables old new =
-    (new ≡ joined (masks_of plan.plan_data) plan.script tables.joining tables.general old)
+    let breaks = breaks_of plan.plan_data in
+    let masks = masks_of plan.plan_data in
+    (new ≡ joined breaks masks plan.script tables.joining tables.general old)
     × CutsAsHalves plan.script tables.joining tables.general old new
 MasksSet Hangul plan tables old new = new ≡ with_jamo_masks plan.plan_data old
 MasksSet Indic plan tables old new =

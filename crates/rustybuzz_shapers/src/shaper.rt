@@ -19,7 +19,9 @@ mod laws;
 mod pauses;
 
 pub use conditions::{has_positions, kinds_fit, lacks_positions, pause_fits};
-pub use laws::{cuts_at_borders_law, headline, stretches_cover_law, syllables_regrouped_law};
+pub use laws::{
+    breaks_law, cuts_at_borders_law, headline, stretches_cover_law, syllables_regrouped_law,
+};
 pub use pauses::run_pause;
 use shapers_arabic::ot_shaper_arabic;
 pub use shapers_base::plan::{NormalizationMode, Pause, PlanData, Preprocess, ZeroWidthMarks};

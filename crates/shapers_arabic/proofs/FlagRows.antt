@@ -5,6 +5,7 @@ use Rattle.shapers_buffer.specs.Glyph.{default_glyph}
 use Rattle.shapers_buffer.specs.GlyphFlags.{FlagCall, UnsafeToBreak, UnsafeToConcat, SafeToInsertTatweel}
 use Rattle.shapers_buffer.specs.declared.buffer.category.hb_unicode_general_category_t.TheVariants.{Lo, Mn}
 use Rattle.shapers_buffer.specs.declared.buffer.glyph.hb_glyph_info_t.{hb_glyph_info_t}
+use Rattle.shapers_base.specs.declared.plan.breaks.BreakFlags.TheVariants.{AsCode}
 use Rattle.shapers_base.specs.declared.plan.joining.hb_arabic_joining_type_t.{hb_arabic_joining_type_t}
 use Rattle.shapers_base.specs.declared.plan.joining.hb_arabic_joining_type_t.TheVariants.{U, L, R, D, GroupAlaph, GroupDalathRish, T}
 use Rattle.shapers_arabic.specs.JoiningFlags.{Letter, nearest_letter, changes, can_change, letter_flags, end_flags, joining_flags}
@@ -177,7 +178,7 @@ abbrev text_with : ℕ → List ℕ → List (ℕ × ℕ) → List ℕ → Buffe
 text_with flags before gs after = let b : Buffer = record (new_buffer 9) { glyphs = map (λ p. let g : hb_glyph_info_t = record default_glyph { glyph_id = p.0; cluster = p.1 } in g) gs; before = before; after = after; flags = record { 0 = flags } } in b
 
 abbrev masks_after : Buffer → List ℕ
-masks_after b = map (λ g. g.mask) (joined (0 ∷ 0x20 ∷ 0 ∷ 0 ∷ 0x80 ∷ 0 ∷ 0x10 ∷ 0 ∷ []) None joining_of (λ c. Lo) b).glyphs
+masks_after b = map (λ g. g.mask) (joined AsCode (0 ∷ 0x20 ∷ 0 ∷ 0 ∷ 0x80 ∷ 0 ∷ 0x10 ∷ 0 ∷ []) None joining_of (λ c. Lo) b).glyphs
 
 by_buffer_flags : map (λ flags. masks_after (text_with flags [] ((1, 0) ∷ (1, 1) ∷ (1, 2) ∷ []) [])) (0 ∷ 0x40 ∷ 0x80 ∷ 0xC0 ∷ []) ≡ (0x10 ∷ 0x83 ∷ 0x23 ∷ []) ∷ (0x12 ∷ 0x83 ∷ 0x23 ∷ []) ∷ (0x10 ∷ 0x84 ∷ 0x24 ∷ []) ∷ (0x12 ∷ 0x84 ∷ 0x24 ∷ []) ∷ []
 by_buffer_flags = refl

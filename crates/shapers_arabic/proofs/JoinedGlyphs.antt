@@ -1,7 +1,7 @@
 -- Joining, the selectors and the masks together: each glyph in its form, with the flags of joining.
 use Rattle.std.proofs.Common.{◌≡◌, ℕ, ◌<◌, Bool, true, false, cond, List, [], ◌∷◌, ◌++◌, length, map, get_or, Option, None, Some, refl, sym, ap, ◌∙◌, subst, arith}
 use Rattle.std.specs.List.{AllByRecursion, zip}
-use Rattle.std.proofs.lemmas.List.{length-map}
+use Rattle.std.proofs.lemmas.List.{append-nil, length-map}
 use Rattle.std.proofs.lemmas.Simd.{map-map}
 use Rattle.std.proofs.lemmas.Slice.Zip.{firsts-zip, seconds-zip}
 use Rattle.shapers_buffer.specs.Buffer.{has_flag}
@@ -13,14 +13,18 @@ use Rattle.shapers_buffer.proofs.MaskBits.{or_swap}
 use Rattle.shapers_clusters.specs.Flags.{InOrder}
 use Rattle.shapers_clusters.proofs.FlagCalls.{map-flags_called}
 use Rattle.shapers_clusters.proofs.FlagsThrough.{PassesFlags, flags_called-through}
+use Rattle.shapers_base.specs.declared.plan.breaks.BreakFlags.{BreakFlags}
+use Rattle.shapers_base.specs.declared.plan.breaks.BreakFlags.TheVariants.{AsCode, Sound}
 use Rattle.shapers_base.specs.declared.plan.joining.hb_arabic_joining_type_t.{hb_arabic_joining_type_t}
 use Rattle.shapers_base.specs.declared.plan.joining.hb_arabic_joining_type_t.TheVariants.{L, R, D, GroupAlaph, GroupDalathRish}
 use Rattle.shapers_arabic.specs.Joining.{nearest, act, form, joins_on, joins_back, alaph_after, forms, is_selector, form_behind, selected}
 use Rattle.shapers_arabic.specs.JoiningFlags.{joining_flags}
-use Rattle.shapers_arabic.specs.JoinedText.{Text, is_mongolian, forms_of, stored_types, with_form, with_forms}
-use Rattle.shapers_arabic.specs.JoiningWalk.{FlaggedBy, HaveMasks, JoinsTo, copied, unformed, with_copied, with_mask, JoinsAll}
+use Rattle.shapers_arabic.specs.JoinedText.{Text, flag_calls, is_mongolian, forms_of, stored_types, with_form, with_forms}
+use Rattle.shapers_arabic.specs.JoiningWalk.{Called, FlaggedBy, calls_added, HaveMasks, JoinsTo, copied, unformed, with_copied, with_mask, JoinsAll}
 use Rattle.shapers_arabic.proofs.FlagLists.{joining-in_order}
-use Rattle.shapers_arabic.proofs.FlaggedGlyphs.{unformed-passes, same-text, map-same_text, length-same_text}
+use Rattle.shapers_arabic.proofs.FlaggedGlyphs.{unformed-passes, flagged-again, same-text, map-same_text}
+use Rattle.shapers_arabic.proofs.SoundOrder.{calls-in_order, added-in_order as text-in_order}
+use Rattle.shapers_arabic.proofs.SoundWalk.{added-at}
 
 -- every form has a mask
 form-below : (back on : Bool) → form back on < 8
@@ -134,7 +138,7 @@ formed masks fs flags calls gs hs long ordered f u =
     ∙ ap (flags_called concat tatweel calls) (map-map (with_mask masks) (λ (p : ℕ × hb_glyph_info_t). let g : hb_glyph_info_t = record p.1 { auxiliary = p.0 } in g) (zip fs gs))
 
 -- the text of glyphs between two contexts
-abbrev text_between : List hb_arabic_joining_type_t → (ℕ → hb_arabic_joining_type_t) → List hb_glyph_info_t → List hb_arabic_joining_type_t → Text
+abbrev pub text_between : List hb_arabic_joining_type_t → (ℕ → hb_arabic_joining_type_t) → List hb_glyph_info_t → List hb_arabic_joining_type_t → Text
 text_between front joining gs behind = record { before = front; characters = map (λ g. g.glyph_id) gs; types = stored_types joining gs; after = behind }
 
 -- joining with the selectors, or without
@@ -150,24 +154,55 @@ selected-or script joining front behind gs hs c f =
       | false ↦ f
     ]
 
-pub joins-all : (masks : List ℕ) (flags : BufferFlags) (script : Option Script) (joining : ℕ → hb_arabic_joining_type_t) (before after : Option hb_arabic_joining_type_t) (gs hs ks : List hb_glyph_info_t) → JoinsTo flags joining before after gs hs → ks ≡ map (with_mask masks) (cond (is_mongolian script) (with_copied None hs) hs) → JoinsAll masks flags script joining before after gs ks
-joins-all masks flags script joining before after gs hs ks joins k front behind e d =
+-- the flags that the choice adds, after joining's own
+called-by : (flags : BufferFlags) (xs ys : List FlagCall) (gs hs ks : List hb_glyph_info_t) → FlaggedBy flags xs gs hs → Called ys hs ks → FlaggedBy flags (xs ++ ys) gs ks
+called-by flags xs ys gs hs ks a b =
+    let concat = has_flag 0x40 flags in
+    let tatweel = has_flag 0x80 flags in
+    flagged-again flags xs ys gs hs ks a (ap (map unformed) (b concat tatweel) ∙ flags_called-through unformed unformed-passes concat tatweel ys hs)
+
+added-by : (breaks : BreakFlags) (script : Option Script) (text : Text) (hs : List hb_glyph_info_t) → map (λ g. g.glyph_id) hs ≡ text.characters → map (λ g. g.auxiliary) hs ≡ forms text.before text.types text.after → joining_flags text.before text.types text.after ++ calls_added breaks script hs ≡ flag_calls breaks script text
+added-by AsCode script text hs c f = append-nil (joining_flags text.before text.types text.after)
+added-by Sound script text hs c f = ap (λ calls. joining_flags text.before text.types text.after ++ calls) (added-at script text hs c f)
+
+added-in_order : (breaks : BreakFlags) (script : Option Script) (text : Text) (hs : List hb_glyph_info_t) → map (λ g. g.glyph_id) hs ≡ text.characters → map (λ g. g.auxiliary) hs ≡ forms text.before text.types text.after → AllByRecursion InOrder (calls_added breaks script hs)
+added-in_order AsCode script text hs c f = tt
+added-in_order Sound script text hs c f = let P : List FlagCall → Type 0 = λ calls. AllByRecursion InOrder calls in subst P (sym (added-at script text hs c f)) (text-in_order script text)
+
+-- which leave the forms
+pub forms-kept : (breaks : BreakFlags) (script : Option Script) (text : Text) (hs ms : List hb_glyph_info_t) → map (λ g. g.glyph_id) hs ≡ text.characters → map (λ g. g.auxiliary) hs ≡ forms text.before text.types text.after → Called (calls_added breaks script hs) hs ms → map (λ g. g.auxiliary) ms ≡ forms text.before text.types text.after
+forms-kept breaks script text hs ms c f added = ap (map (λ (g : hb_glyph_info_t). g.auxiliary)) (added false false) ∙ map-flags_called (λ g. g.auxiliary) (λ bits g low. refl) false false (calls_added breaks script hs) hs (added-in_order breaks script text hs c f) ∙ f
+
+pub joined-characters : (flags : BufferFlags) (front types behind : List hb_arabic_joining_type_t) (gs hs : List hb_glyph_info_t) → FlaggedBy flags (joining_flags front types behind) gs hs → map (λ g. g.glyph_id) hs ≡ map (λ g. g.glyph_id) gs
+joined-characters flags front types behind gs hs flagged = map-same_text (λ g. g.glyph_id) (λ g. refl) gs hs (same-text flags (joining_flags front types behind) gs hs (joining-in_order front types behind) flagged)
+
+pub joins-all : (breaks : BreakFlags) (masks : List ℕ) (flags : BufferFlags) (script : Option Script) (joining : ℕ → hb_arabic_joining_type_t) (before after : Option hb_arabic_joining_type_t) (gs hs ms ks : List hb_glyph_info_t) → JoinsTo flags joining before after gs hs → Called (calls_added breaks script hs) hs ms → ks ≡ map (with_mask masks) (cond (is_mongolian script) (with_copied None ms) ms) → JoinsAll breaks masks flags script joining before after gs ks
+joins-all breaks masks flags script joining before after gs hs ms ks joins added k front behind e d =
     let done = joins front behind e d in
-    let calls = joining_flags front (stored_types joining gs) behind in
-    let ordered = joining-in_order front (stored_types joining gs) behind in
-    let same = same-text flags calls gs hs ordered done.flagged in
-    let chosen = cond (is_mongolian script) (with_copied None hs) hs in
-    let characters : map (λ g. g.glyph_id) hs ≡ map (λ g. g.glyph_id) gs = map-same_text (λ g. g.glyph_id) (λ g. refl) gs hs same in
-    let has_forms = selected-or script joining front behind gs hs characters done.forms_are in
-    let has_rest : map unformed chosen ≡ map unformed hs = elim (is_mongolian script) as (λ b. map unformed (cond b (with_copied None hs) hs) ≡ map unformed hs) [ true ↦ unformed-copied None hs | false ↦ refl ] in
+    let text = text_between front joining gs behind in
+    let first = joining_flags front (stored_types joining gs) behind in
+    let joined_characters = joined-characters flags front (stored_types joining gs) behind gs hs done.flagged in
+    let calls = flag_calls breaks script text in
+    let concat = has_flag 0x40 flags in
+    let tatweel = has_flag 0x80 flags in
+    let more = calls_added breaks script hs in
+    let more_ordered = added-in_order breaks script text hs joined_characters done.forms_are in
+    let flagged : FlaggedBy flags calls gs ms = subst (λ cs. FlaggedBy flags cs gs ms) (added-by breaks script text hs joined_characters done.forms_are) (called-by flags first more gs hs ms done.flagged added) in
+    let characters : map (λ g. g.glyph_id) ms ≡ map (λ g. g.glyph_id) gs = ap (map (λ (g : hb_glyph_info_t). g.glyph_id)) (added concat tatweel) ∙ map-flags_called (λ g. g.glyph_id) (λ bits g low. refl) concat tatweel more hs more_ordered ∙ joined_characters in
+    let forms_are = forms-kept breaks script text hs ms joined_characters done.forms_are added in
+    let chosen = cond (is_mongolian script) (with_copied None ms) ms in
+    let has_forms = selected-or script joining front behind gs ms characters forms_are in
+    let has_rest : map unformed chosen ≡ map unformed ms = elim (is_mongolian script) as (λ b. map unformed (cond b (with_copied None ms) ms) ≡ map unformed ms) [ true ↦ unformed-copied None ms | false ↦ refl ] in
     let long : length gs ≡ length (forms_of script (text_between front joining gs behind)) =
-    sym (length-same_text gs hs same)
-    ∙ sym (length-map hs unformed)
+    sym (length-map gs (λ g. g.glyph_id))
+    ∙ ap length (sym characters)
+    ∙ length-map ms (λ g. g.glyph_id)
+    ∙ sym (length-map ms unformed)
     ∙ sym (ap length has_rest)
     ∙ length-map chosen unformed
     ∙ sym (length-map chosen (λ g. g.auxiliary))
     ∙ ap length has_forms in
-    k ∙ formed masks (forms_of script (text_between front joining gs behind)) flags calls gs chosen long ordered has_forms (has_rest ∙ done.flagged)
+    k ∙ formed masks (forms_of script (text_between front joining gs behind)) flags calls gs chosen long (calls-in_order breaks script text) has_forms (has_rest ∙ flagged)
 
 -- the auxiliary bytes are the forms
 pub forms-joined : (masks fs : List ℕ) (flags : BufferFlags) (calls : List FlagCall) (gs : List hb_glyph_info_t) → length gs ≡ length fs → AllByRecursion InOrder calls → map (λ g. g.auxiliary) (flags_called (has_flag 0x40 flags) (has_flag 0x80 flags) calls (with_forms masks fs gs)) ≡ fs

@@ -1,7 +1,7 @@
--- The selector rule over parts of a text, and the law of the cut.
-use Rattle.std.proofs.Common.{◌≡◌, ℕ, zero, suc, ◌+◌, ◌≤◌, Bool, true, false, cond, List, [], ◌∷◌, ◌++◌, length, map, take, drop, reverse, Option, Some, refl, sym, ap, ◌∙◌, subst, arith, append_assoc, inl, inr}
+-- The law of the cut.
+use Rattle.std.proofs.Common.{◌≡◌, ℕ, zero, suc, ◌+◌, ◌≤◌, Bool, true, false, cond, List, [], ◌∷◌, ◌++◌, length, map, take, drop, reverse, Option, Some, refl, sym, ap, ◌∙◌, subst, arith, inl, inr}
 use Rattle.std.specs.List.{prefix_len, zip}
-use Rattle.std.proofs.lemmas.List.{length-map, length-take-le, take-append-drop, take-map, drop-map, take_all, take_at, drop_at, drop-drop, reverse-append, map-append}
+use Rattle.std.proofs.lemmas.List.{length-map, length-take-le, take-append-drop, take-map, drop-map, take_all, take_at, drop_at, drop-drop, map-append}
 use Rattle.std.proofs.lemmas.Slice.Zip.{length-zip}
 use Rattle.std.specs.Option.{is_some}
 use Rattle.shapers_buffer.proofs.MappedLists.{map-reverse}
@@ -11,34 +11,12 @@ use Rattle.shapers_buffer.specs.declared.buffer.glyph.hb_glyph_info_t.{hb_glyph_
 use Rattle.shapers_buffer.specs.declared.buffer.tag.Script.{Script}
 use Rattle.shapers_base.specs.declared.plan.joining.hb_arabic_joining_type_t.{hb_arabic_joining_type_t}
 use Rattle.shapers_arabic.specs.Joining.{resolved, nearest, is_transparent, forms, is_selector, form_behind, selected}
-use Rattle.shapers_arabic.specs.JoinedText.{Text, is_mongolian, forms_of, first_half, second_half, opening, HoldsCut, stored_types, context_types, text_of, joined, CutsAsHalves, Shows, AgreesWithTable, first_of, second_of, CopiedContextsShow, CopiedContextsCut}
-use Rattle.shapers_arabic.specs.JoiningFlags.{joining_flags}
-use Rattle.shapers_arabic.proofs.FlagLists.{joining-in_order}
+use Rattle.shapers_arabic.specs.JoinedText.{Text, flag_calls, is_mongolian, forms_of, first_half, second_half, opening, HoldsCut, stored_types, context_types, text_of, joined, CutsAsHalves, Shows, AgreesWithTable, first_of, second_of, CopiedContextsShow, CopiedContextsCut}
+use Rattle.shapers_base.specs.declared.plan.breaks.BreakFlags.{BreakFlags}
+use Rattle.shapers_arabic.proofs.SoundOrder.{calls-in_order}
 use Rattle.shapers_arabic.proofs.JoinedGlyphs.{forms-joined}
+use Rattle.shapers_arabic.proofs.SelectedLists.{length-selected, selected-append, selected-same, zip-append}
 use Rattle.shapers_arabic.proofs.JoiningLists.{forms-contexts, length-forms, forms-append}
-
-zip-append : (cs ds : List ℕ) (fs gs : List ℕ) → length fs ≡ length cs → zip (cs ++ ds) (fs ++ gs) ≡ zip cs fs ++ zip ds gs
-zip-append [] ds [] gs e = refl
-zip-append [] ds (f ∷ fs) gs e = absurd (omega arith)
-zip-append (c ∷ cs) ds [] gs e = absurd (omega arith)
-zip-append (c ∷ cs) ds (f ∷ fs) gs e = ap (λ ps. (c, f) ∷ ps) (zip-append cs ds fs gs (omega arith))
-
-pub length-selected : (before places : List (ℕ × ℕ)) → length (selected before places) ≡ length places
-length-selected before [] = refl
-length-selected before ((c, a) ∷ ps) = ap suc (length-selected ((c, a) ∷ before) ps)
-
-selected-append : (before xs ys : List (ℕ × ℕ)) → selected before (xs ++ ys) ≡ selected before xs ++ selected (reverse xs ++ before) ys
-selected-append before [] ys = refl
-selected-append before ((c, a) ∷ xs) ys =
-    let seen : reverse xs ++ ((c, a) ∷ before) ≡ reverse ((c, a) ∷ xs) ++ before = sym (ap (λ r. r ++ before) (reverse-append ((c, a) ∷ []) xs) ∙ append_assoc (reverse xs) ((c, a) ∷ []) before) in
-    ap (λ fs. (cond (is_selector c) (form_behind before a) a) ∷ fs) (selected-append ((c, a) ∷ before) xs ys ∙ ap (λ us. selected ((c, a) ∷ before) xs ++ selected us ys) seen)
-
--- behind a place that is no selector nothing earlier counts
-selected-same : (before others places : List (ℕ × ℕ)) → ((own : ℕ) → form_behind before own ≡ form_behind others own) → selected before places ≡ selected others places
-selected-same before others [] e = refl
-selected-same before others ((c, a) ∷ ps) e =
-    ap (λ x. cond (is_selector c) x a ∷ selected ((c, a) ∷ before) ps) (e a)
-    ∙ ap (λ fs. cond (is_selector c) (form_behind others a) a ∷ fs) (selected-same ((c, a) ∷ before) ((c, a) ∷ others) ps (λ own. ap (λ x. cond (is_selector c) x a) (e a)))
 
 -- so two texts before differ in the selectors that open the text alone
 selected-opening : (before others : List (ℕ × ℕ)) (cs fs : List ℕ) → drop (prefix_len is_selector cs) (selected before (zip cs fs)) ≡ drop (prefix_len is_selector cs) (selected others (zip cs fs))
@@ -107,22 +85,22 @@ length-forms_of script text long =
 pub text_long : (joining : ℕ → hb_arabic_joining_type_t) (general : ℕ → hb_unicode_general_category_t) (old : Buffer) → let text = text_of joining general old in length text.characters ≡ length text.types
 text_long joining general old = length-map old.glyphs (λ g. g.glyph_id) ∙ sym (length-map old.glyphs (λ g. resolved (joining g.glyph_id) g.general_category))
 
-pub forms_left : (masks : List ℕ) (script : Option Script) (joining : ℕ → hb_arabic_joining_type_t) (general : ℕ → hb_unicode_general_category_t) (old new : Buffer) → new ≡ joined masks script joining general old → map (λ g. g.auxiliary) new.glyphs ≡ forms_of script (text_of joining general old)
-forms_left masks script joining general old new is =
+pub forms_left : (breaks : BreakFlags) (masks : List ℕ) (script : Option Script) (joining : ℕ → hb_arabic_joining_type_t) (general : ℕ → hb_unicode_general_category_t) (old new : Buffer) → new ≡ joined breaks masks script joining general old → map (λ g. g.auxiliary) new.glyphs ≡ forms_of script (text_of joining general old)
+forms_left breaks masks script joining general old new is =
     let text = text_of joining general old in
-    let calls = joining_flags text.before text.types text.after in
+    let calls = flag_calls breaks script text in
     let types_long : length text.types ≡ length old.glyphs = length-map old.glyphs (λ g. resolved (joining g.glyph_id) g.general_category) in
     let fs_long : length old.glyphs ≡ length (forms_of script text) = sym types_long ∙ sym (length-forms_of script text (text_long joining general old)) in
-    ap (λ (b : Buffer). map (λ g. g.auxiliary) b.glyphs) is ∙ forms-joined masks (forms_of script text) old.flags calls old.glyphs fs_long (joining-in_order text.before text.types text.after)
+    ap (λ (b : Buffer). map (λ g. g.auxiliary) b.glyphs) is ∙ forms-joined masks (forms_of script text) old.flags calls old.glyphs fs_long (calls-in_order breaks script text)
 
 -- what joining left is cut as the forms are
-pub cut-joined : (masks : List ℕ) (script : Option Script) (joining : ℕ → hb_arabic_joining_type_t) (general : ℕ → hb_unicode_general_category_t) (old new : Buffer) → new ≡ joined masks script joining general old → CutsAsHalves script joining general old new
-cut-joined masks script joining general old new is =
+pub cut-joined : (breaks : BreakFlags) (masks : List ℕ) (script : Option Script) (joining : ℕ → hb_arabic_joining_type_t) (general : ℕ → hb_unicode_general_category_t) (old new : Buffer) → new ≡ joined breaks masks script joining general old → CutsAsHalves script joining general old new
+cut-joined breaks masks script joining general old new is =
     let text = text_of joining general old in
-    subst (λ fs. HoldsCut script text fs) (sym (forms_left masks script joining general old new is)) (holds-cut script text (text_long joining general old))
+    subst (λ fs. HoldsCut script text fs) (sym (forms_left breaks masks script joining general old new is)) (holds-cut script text (text_long joining general old))
 
 -- a front that shows a type shows the nearest
-nearest-of_front : (ts us : List hb_arabic_joining_type_t) → is_some (nearest ts) ≡ true → nearest (ts ++ us) ≡ nearest ts
+pub nearest-of_front : (ts us : List hb_arabic_joining_type_t) → is_some (nearest ts) ≡ true → nearest (ts ++ us) ≡ nearest ts
 nearest-of_front [] us e = cc
 nearest-of_front (t ∷ ts) us e =
     elim (is_transparent t) as (λ b. is_some (cond b (nearest ts) (Some t)) ≡ true → cond b (nearest (ts ++ us)) (Some t) ≡ cond b (nearest ts) (Some t)) [

@@ -1,8 +1,14 @@
+pub mod BreakLists
+mod BreakRows
+pub mod BrokenGlyphs
+pub mod Concatenation
 mod ConstantRows
+pub mod Edits
 pub mod FlagLists
 mod FlagRows
 pub mod FlagWalk
 pub mod FlaggedGlyphs
+pub mod FlaggedPlaces
 pub mod JoinedFlags
 pub mod JoinedGlyphs
 pub mod JoiningLaws
@@ -10,9 +16,15 @@ pub mod JoiningLists
 mod JoiningRows
 pub mod JoiningTable
 pub mod JoiningWalk
+pub mod LostForms
 pub mod MarkLaws
 pub mod MarkLists
 pub mod MarkMoves
 mod MarkRows
 mod PlanRows
 mod RequestRows
+pub mod SelectedLists
+pub mod Selectors
+pub mod SoundOrder
+pub mod SoundSteps
+pub mod SoundWalk

@@ -5,14 +5,17 @@ use Rattle.std.specs.Char.{IsScalar}
 use Rattle.std.specs.List.{AllByRecursion}
 use Rattle.std.specs.Cmp.Lexicographic.{pointwise}
 use Rattle.shapers_buffer.specs.Buffer.{Buffer, flags_concat, flags_tatweel, has_flag}
-use Rattle.shapers_buffer.specs.GlyphFlags.{flags_called}
+use Rattle.shapers_buffer.specs.GlyphFlags.{FlagCall, flags_called}
 use Rattle.shapers_buffer.specs.declared.buffer.flags.BufferFlags.{BufferFlags}
 use Rattle.shapers_buffer.specs.declared.buffer.category.hb_unicode_general_category_t.{hb_unicode_general_category_t}
 use Rattle.shapers_buffer.specs.declared.buffer.glyph.hb_glyph_info_t.{hb_glyph_info_t}
 use Rattle.shapers_buffer.specs.declared.buffer.tag.Script.{Script}
+use Rattle.shapers_base.specs.declared.plan.breaks.BreakFlags.{BreakFlags}
+use Rattle.shapers_base.specs.declared.plan.breaks.BreakFlags.TheVariants.{AsCode, Sound}
 use Rattle.shapers_base.specs.declared.plan.joining.hb_arabic_joining_type_t.{hb_arabic_joining_type_t}
 use Rattle.shapers_arabic.specs.Joining.{resolved, nearest, is_transparent, forms, is_selector, selected}
 use Rattle.shapers_arabic.specs.JoiningFlags.{joining_flags}
+use Rattle.shapers_arabic.specs.SoundFlags.{form_flags_along, selector_flags}
 
 -- whether the script is Mongolian
 abbrev pub is_mongolian : Option Script → Bool
@@ -63,21 +66,36 @@ with_form masks form g =
 abbrev pub with_forms : List ℕ → List ℕ → List hb_glyph_info_t → List hb_glyph_info_t
 with_forms masks forms gs = map (λ p. with_form masks p.0 p.1) (zip forms gs)
 
+-- what Sound flags besides: forms that the text's pieces would lose, and with the script Mongolian
+-- copied forms
+abbrev pub added_calls : Option Script → Text → List FlagCall
+added_calls script text =
+    let by_rule = forms text.before text.types text.after in
+    let copied = selector_flags [] (zip text.characters by_rule) in
+    form_flags_along text.before [] text.types text.after
+    ++ (if is_mongolian script then copied else [])
+
+-- all flags of joining in a text, by the choice of break flags
+abbrev pub flag_calls : BreakFlags → Option Script → Text → List FlagCall
+flag_calls AsCode script text = joining_flags text.before text.types text.after
+flag_calls Sound script text =
+    joining_flags text.before text.types text.after ++ added_calls script text
+
 -- the glyphs of a text after joining: each in its form, and the flags of joining, as far as the
 -- buffer asks for them
-abbrev pub joined_glyphs :
-    List ℕ → BufferFlags → Option Script → Text → List hb_glyph_info_t → List hb_glyph_info_t
-joined_glyphs masks flags script text gs =
-    let calls = joining_flags text.before text.types text.after in
+abbrev pub joined_glyphs : BreakFlags → List ℕ → BufferFlags → Option Script → Text →
+    List hb_glyph_info_t → List hb_glyph_info_t
+joined_glyphs breaks masks flags script text gs =
+    let calls = flag_calls breaks script text in
     let formed = with_forms masks (forms_of script text) gs in
     flags_called (has_flag flags_concat flags) (has_flag flags_tatweel flags) calls formed
 
 -- the buffer after joining: nothing but its glyphs changes
-abbrev pub joined : List ℕ → Option Script → (ℕ → hb_arabic_joining_type_t) →
+abbrev pub joined : BreakFlags → List ℕ → Option Script → (ℕ → hb_arabic_joining_type_t) →
     (ℕ → hb_unicode_general_category_t) → Buffer → Buffer
-joined masks script joining general b =
+joined breaks masks script joining general b =
     let text = text_of joining general b in
-    record b { glyphs = joined_glyphs masks b.flags script text b.glyphs }
+    record b { glyphs = joined_glyphs breaks masks b.flags script text b.glyphs }
 
 -- how many characters of a context are looked up: up to the first that isn't transparent, and that
 -- one

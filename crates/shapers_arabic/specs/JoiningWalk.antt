@@ -1,11 +1,13 @@
 -- Words for the walk along the letters of a text, which the contracts of its steps cite: the
 -- table's cells and states, and what holds after some places.
-use Rattle.std.specs.Prelude.{◌≡◌, ℕ, ◌+◌, ◌<◌, ◌==◌, nat_le, map, bit_or, Bool, false, ◌&&◌, ◌||◌, List, [], ◌∷◌, ◌++◌, length, take, reverse, slice_set, slice_index, slice_index_or, Option, None, Some, if◌then◌else◌}
+use Rattle.std.specs.Prelude.{◌≡◌, ℕ, suc, ◌+◌, ◌-◌, ◌<◌, ◌==◌, nat_le, map, bit_or, Bool, false, ◌&&◌, ◌||◌, List, [], ◌∷◌, ◌++◌, length, take, reverse, slice_set, slice_index, slice_index_or, Option, None, Some, if◌then◌else◌}
 use Rattle.std.specs.List.{AllByRecursion}
 use Rattle.shapers_buffer.specs.Buffer.{flags_concat, flags_tatweel, has_flag}
-use Rattle.shapers_buffer.specs.GlyphFlags.{FlagCall, UnsafeToConcat, SafeToInsertTatweel, flags_called}
+use Rattle.shapers_buffer.specs.GlyphFlags.{FlagCall, UnsafeToBreak, UnsafeToConcat, SafeToInsertTatweel, flags_called}
 use Rattle.shapers_buffer.specs.declared.buffer.flags.BufferFlags.{BufferFlags}
 use Rattle.shapers_buffer.specs.declared.buffer.glyph.hb_glyph_info_t.{hb_glyph_info_t}
+use Rattle.shapers_base.specs.declared.plan.breaks.BreakFlags.{BreakFlags}
+use Rattle.shapers_base.specs.declared.plan.breaks.BreakFlags.TheVariants.{AsCode, Sound}
 use Rattle.shapers_base.specs.declared.plan.joining.hb_arabic_joining_type_t.{hb_arabic_joining_type_t}
 use Rattle.shapers_base.specs.declared.plan.joining.hb_arabic_joining_type_t.TheVariants.{U, L, R, D, GroupAlaph, GroupDalathRish}
 use Rattle.shapers_buffer.specs.declared.buffer.tag.Script.{Script}
@@ -13,9 +15,10 @@ use Rattle.shapers_arabic.specs.declared.ot_shaper_arabic.arabic_action_t.TheCon
 use Rattle.shapers_arabic.specs.declared.ot_shaper_arabic.joining.TheConstants.{STATE_TABLE}
 use Rattle.shapers_arabic.specs.declared.ot_shaper_arabic.joining.Letters.{Letters}
 use Rattle.shapers_arabic.specs.declared.ot_shaper_arabic.joining.Transition.{Transition}
-use Rattle.shapers_arabic.specs.JoinedText.{joined_glyphs, stored_types}
+use Rattle.shapers_arabic.specs.JoinedText.{is_mongolian, joined_glyphs, stored_types}
 use Rattle.shapers_arabic.specs.JoiningFlags.{flags_along, joining_flags}
 use Rattle.shapers_arabic.specs.Joining.{is_transparent, nearest, forms, is_selector, joins_on}
+use Rattle.shapers_arabic.specs.SoundFlags.{is_second_or_third, is_taken}
 
 -- the column of a letter
 abbrev pub column_of : hb_arabic_joining_type_t → ℕ
@@ -196,6 +199,52 @@ with_copied previous [] = []
 with_copied previous (g ∷ gs) =
     record g { auxiliary = copied previous g } ∷ with_copied (Some (copied previous g)) gs
 
+-- no break inside the stretches of these calls, whatever the buffer asks for
+abbrev pub Called : List FlagCall → List hb_glyph_info_t → List hb_glyph_info_t → Type 0
+Called calls gs hs = (concat tatweel : Bool) → hs ≡ flags_called concat tatweel calls gs
+
+-- the calls that Sound adds at a letter that ends before place end, in its final form, behind the
+-- last place with a form, if there is one
+abbrev pub form_calls : Option ℕ → ℕ → ℕ → List FlagCall
+form_calls None form end = if is_taken form then UnsafeToBreak 0 end ∷ [] else []
+form_calls (Some k) form end = if is_second_or_third form then UnsafeToBreak k end ∷ [] else []
+
+-- the same along these forms, of which the first is that of place i
+abbrev pub form_calls_along : Option ℕ → ℕ → List ℕ → List FlagCall
+form_calls_along last i [] = []
+form_calls_along last i (f ∷ fs) =
+    if f == NONE then form_calls_along last (suc i) fs
+    else form_calls last f (suc i) ++ form_calls_along (Some i) (suc i) fs
+
+-- a glyph's character and form
+abbrev pub place_of : hb_glyph_info_t → ℕ × ℕ
+place_of g = (g.glyph_id, g.auxiliary)
+
+-- the form of a character in this form once the one before it is done
+abbrev pub copied_form : Option ℕ → ℕ → ℕ → ℕ
+copied_form None c own = own
+copied_form (Some form) c own = if is_selector c then form else own
+
+-- the calls that Sound adds along these characters and forms, of which the first is that of place
+-- i, where a copied form isn't the character's own
+abbrev pub copied_calls : Option ℕ → ℕ → List (ℕ × ℕ) → List FlagCall
+copied_calls previous i [] = []
+copied_calls previous i ((c, a) ∷ places) =
+    let form = copied_form previous c a in
+    (if form == a then [] else UnsafeToBreak (i - 1) (suc i) ∷ [])
+    ++ copied_calls (Some form) (suc i) places
+
+-- the calls that Sound adds at these glyphs
+abbrev pub sound_calls_at : Option Script → List hb_glyph_info_t → List FlagCall
+sound_calls_at script gs =
+    form_calls_along None 0 (written gs)
+    ++ (if is_mongolian script then copied_calls None 0 (map place_of gs) else [])
+
+-- the same by the choice
+abbrev pub calls_added : BreakFlags → Option Script → List hb_glyph_info_t → List FlagCall
+calls_added AsCode script gs = []
+calls_added Sound script gs = sound_calls_at script gs
+
 -- the glyph with the mask of its form besides its own
 abbrev pub with_mask : List ℕ → hb_glyph_info_t → hb_glyph_info_t
 with_mask masks g = record g { mask = bit_or g.mask (slice_index masks g.auxiliary) }
@@ -209,13 +258,13 @@ abbrev pub IsNearest : Option hb_arabic_joining_type_t → Type 0
 IsNearest o = (ts : List hb_arabic_joining_type_t) × (nearest ts ≡ o)
 
 -- the glyphs after joining, between all contexts with these nearest types
-abbrev pub JoinsAll : List ℕ → BufferFlags → Option Script → (ℕ → hb_arabic_joining_type_t) →
-    Option hb_arabic_joining_type_t → Option hb_arabic_joining_type_t → List hb_glyph_info_t →
-    List hb_glyph_info_t → Type 0
-JoinsAll masks flags script joining before after gs hs =
+abbrev pub JoinsAll : BreakFlags → List ℕ → BufferFlags → Option Script →
+    (ℕ → hb_arabic_joining_type_t) → Option hb_arabic_joining_type_t →
+    Option hb_arabic_joining_type_t → List hb_glyph_info_t → List hb_glyph_info_t → Type 0
+JoinsAll breaks masks flags script joining before after gs hs =
     (front behind : List hb_arabic_joining_type_t) → nearest front ≡ before →
     nearest behind ≡ after →
-    hs ≡ joined_glyphs masks flags script (record {
+    hs ≡ joined_glyphs breaks masks flags script (record {
       before = front;
       characters = map (λ g. g.glyph_id) gs;
       types = stored_types joining gs;

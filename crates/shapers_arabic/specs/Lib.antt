@@ -1,3 +1,6 @@
+pub mod Breaks
+pub mod Concatenation
+pub mod Edits
 pub mod JoinedText
 pub mod Joining
 pub mod JoiningFlags
@@ -6,3 +9,4 @@ pub mod MarkParts
 pub mod Marks
 pub mod PlanData
 pub mod Requests
+pub mod SoundFlags

@@ -6,6 +6,7 @@ use Rattle.shapers_base.specs.declared.plan.PlanData.TheVariants.{Arabic}
 use Rattle.shapers_base.specs.declared.plan.arabic.arabic_shape_plan_t.{arabic_shape_plan_t}
 use Rattle.shapers_base.specs.declared.plan.arabic.StretchStart.{StretchStart}
 use Rattle.shapers_base.specs.declared.plan.breaks.BreakFlags.{BreakFlags}
+use Rattle.shapers_base.specs.declared.plan.breaks.BreakFlags.TheVariants.{AsCode}
 
 -- the plan of Arabic: the masks of its features in the order of the forms, none for NONE, and
 -- whether there is a mask for stretched marks, where these begin, and which breaks are flagged
@@ -22,6 +23,11 @@ arabic_plan start breaks m = record {
 abbrev pub IsArabic : PlanData → Type 0
 IsArabic (Arabic p) = Unit {0}
 IsArabic _ = ⊥
+
+-- the choice of break flags, the default without such data
+abbrev pub breaks_of : PlanData → BreakFlags
+breaks_of (Arabic p) = p.break_flags
+breaks_of _ = AsCode
 
 -- the masks of the forms, and none without such data
 abbrev pub masks_of : PlanData → List ℕ

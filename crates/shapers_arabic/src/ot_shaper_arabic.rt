@@ -3,8 +3,9 @@ ghost use Rattle.std.specs.Prelude.{◌≡◌, ◌+◌, ◌<◌, OnOk, OnErr, Is
 ghost use Rattle.shapers_buffer.specs.declared.buffer.refusal.ShaperError.TheVariants.{Memory};
 ghost use Rattle.shapers_base.specs.Planner.{with_requests};
 ghost use Rattle.shapers_arabic.specs.Requests.{arabic_list, is_arabic, joining_list, rclt};
+ghost use Rattle.shapers_arabic.specs.Breaks.{BreaksWhereClear, NoneNeedless};
 ghost use Rattle.shapers_arabic.specs.JoinedText.{AreCharacters, CutsAsHalves, joined, look_ups, text_of};
-ghost use Rattle.shapers_arabic.specs.PlanData.{IsArabic, masks_of};
+ghost use Rattle.shapers_arabic.specs.PlanData.{IsArabic, breaks_of, masks_of};
 ghost use Rattle.shapers_clusters.specs.FlagLaw.{OnlyFlagsAdded};
 
 use arrayvec::ArrayVec;
@@ -18,6 +19,7 @@ use std::marker::Brand;
 use std::sync::ledger::{Blank, Ledger};
 
 pub mod arabic_action_t;
+mod breaks;
 mod data;
 mod joining;
 mod laws;
@@ -28,7 +30,9 @@ mod walk;
 
 pub use data::{create_data, data_create_arabic};
 use joining::nearest_in;
-pub use laws::copied_contexts_law;
+pub use laws::{
+    copied_contexts_law, joining_breaks_law, joining_concatenation_law, joining_edits_law,
+};
 pub use look_ups::LookUps;
 pub use marks::{reorder_marks, reorder_marks_in};
 pub use shapers_base::plan::{arabic_shape_plan_t, hb_arabic_joining_type_t};
@@ -128,12 +132,20 @@ pub fn setup_masks_counted<T: Tables, L: Ledger>(
 )
     requires { AreCharacters buffer.old.glyphs }
     ensures joined { let table = T.tables tables.now in
-        let masks = arabic_plan.now.mask_array in
-        buffer.new ≡ joined masks script table.joining table.general buffer.old }
+        let masks = arabic_plan.now.mask_array in let breaks = arabic_plan.now.break_flags in
+        buffer.new ≡ joined breaks masks script table.joining table.general buffer.old }
     ensures counted { let table = T.tables tables.now in
         count.new ≡ count.old + look_ups (text_of table.joining table.general buffer.old) }
     ensures cut { let table = T.tables tables.now in
         CutsAsHalves script table.joining table.general buffer.old buffer.new }
+    ensures breaks { let table = T.tables tables.now in
+        let masks = arabic_plan.now.mask_array in let breaks = arabic_plan.now.break_flags in
+        let before = buffer.old in let after = buffer.new in
+        BreaksWhereClear breaks masks script table.joining table.general before after }
+    ensures needless { let table = T.tables tables.now in
+        let masks = arabic_plan.now.mask_array in let breaks = arabic_plan.now.break_flags in
+        let before = buffer.old in let after = buffer.new in
+        NoneNeedless breaks masks script table.joining table.general before after }
     ensures flags { OnlyFlagsAdded buffer.old.glyphs buffer.new.glyphs }
 {
     let before = nearest_in(buffer.pre_context(), tables, count);
@@ -141,6 +153,7 @@ pub fn setup_masks_counted<T: Tables, L: Ledger>(
     let flags = buffer.flags();
     let mut walk = JoiningWalk {
         masks: &arabic_plan.mask_array,
+        breaks: arabic_plan.break_flags,
         script,
         flags,
         before,
@@ -162,10 +175,18 @@ pub fn setup_masks_inner<T: Tables>(
 )
     requires { AreCharacters buffer.old.glyphs }
     ensures joined { let table = T.tables tables.now in
-        let masks = arabic_plan.now.mask_array in
-        buffer.new ≡ joined masks script table.joining table.general buffer.old }
+        let masks = arabic_plan.now.mask_array in let breaks = arabic_plan.now.break_flags in
+        buffer.new ≡ joined breaks masks script table.joining table.general buffer.old }
     ensures cut { let table = T.tables tables.now in
         CutsAsHalves script table.joining table.general buffer.old buffer.new }
+    ensures breaks { let table = T.tables tables.now in
+        let masks = arabic_plan.now.mask_array in let breaks = arabic_plan.now.break_flags in
+        let before = buffer.old in let after = buffer.new in
+        BreaksWhereClear breaks masks script table.joining table.general before after }
+    ensures needless { let table = T.tables tables.now in
+        let masks = arabic_plan.now.mask_array in let breaks = arabic_plan.now.break_flags in
+        let before = buffer.old in let after = buffer.new in
+        NoneNeedless breaks masks script table.joining table.general before after }
     ensures flags { OnlyFlagsAdded buffer.old.glyphs buffer.new.glyphs }
 {
     setup_masks_with::<T, Brand>(arabic_plan, script, buffer, tables, Blank::new(1));
@@ -184,10 +205,18 @@ fn setup_masks_with<T: Tables, L: Ledger>(
     requires some { 0 < blank.parts }
     requires characters { AreCharacters buffer.old.glyphs }
     ensures joined { let table = T.tables tables.now in
-        let masks = arabic_plan.now.mask_array in
-        buffer.new ≡ joined masks script table.joining table.general buffer.old }
+        let masks = arabic_plan.now.mask_array in let breaks = arabic_plan.now.break_flags in
+        buffer.new ≡ joined breaks masks script table.joining table.general buffer.old }
     ensures cut { let table = T.tables tables.now in
         CutsAsHalves script table.joining table.general buffer.old buffer.new }
+    ensures breaks { let table = T.tables tables.now in
+        let masks = arabic_plan.now.mask_array in let breaks = arabic_plan.now.break_flags in
+        let before = buffer.old in let after = buffer.new in
+        BreaksWhereClear breaks masks script table.joining table.general before after }
+    ensures needless { let table = T.tables tables.now in
+        let masks = arabic_plan.now.mask_array in let breaks = arabic_plan.now.break_flags in
+        let before = buffer.old in let after = buffer.new in
+        NoneNeedless breaks masks script table.joining table.general before after }
     ensures flags { OnlyFlagsAdded buffer.old.glyphs buffer.new.glyphs }
 {
     let mut count = LookUps::<L>::new(blank);
@@ -200,9 +229,18 @@ pub fn setup_masks<T: Tables>(plan: &hb_ot_shape_plan_t, tables: &T, buffer: &mu
     requires data { IsArabic plan.now.plan_data }
     requires characters { AreCharacters buffer.old.glyphs }
     ensures joined { let table = T.tables tables.now in let masks = masks_of plan.now.plan_data in
-        buffer.new ≡ joined masks plan.now.script table.joining table.general buffer.old }
+        let breaks = breaks_of plan.now.plan_data in
+        buffer.new ≡ joined breaks masks plan.now.script table.joining table.general buffer.old }
     ensures cut { let table = T.tables tables.now in
         CutsAsHalves plan.now.script table.joining table.general buffer.old buffer.new }
+    ensures breaks { let table = T.tables tables.now in let script = plan.now.script in
+        let masks = masks_of plan.now.plan_data in let breaks = breaks_of plan.now.plan_data in
+        let before = buffer.old in let after = buffer.new in
+        BreaksWhereClear breaks masks script table.joining table.general before after }
+    ensures needless { let table = T.tables tables.now in let script = plan.now.script in
+        let masks = masks_of plan.now.plan_data in let breaks = breaks_of plan.now.plan_data in
+        let before = buffer.old in let after = buffer.new in
+        NoneNeedless breaks masks script table.joining table.general before after }
     ensures flags { OnlyFlagsAdded buffer.old.glyphs buffer.new.glyphs }
 {
     match &plan.plan_data {

@@ -18,7 +18,7 @@ use Rattle.shapers_clusters.specs.Breaks.{forbids, IsFree, is_unsafe, greater, N
 use Rattle.shapers_clusters.proofs.ClearPlaces.{held, unsafe_bits, in-stretch, length-same}
 
 -- glyphs without either bit
-none-unsafe : (g : hb_glyph_info_t) → is_unsafe g ≡ false → unsafe_bits g.mask ≡ 0
+pub none-unsafe : (g : hb_glyph_info_t) → is_unsafe g ≡ false → unsafe_bits g.mask ≡ 0
 none-unsafe g e =
     let both = or_parts (eqb (bit_at 0 g.mask) 1) (eqb (bit_at 2 g.mask) 1) e in
     let x : bit_at 0 g.mask ≡ 0 = elim (cases_eq (bit_at 0 g.mask) 1) [ inl one ↦ absurd (eqb-false _ _ both.0 one) | inr n ↦ omega arith ] in

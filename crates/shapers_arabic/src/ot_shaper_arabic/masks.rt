@@ -1,9 +1,17 @@
 //! What follows joining: the selectors of Mongolian, and the masks of the forms.
 ghost use Rattle.std.specs.Prelude.{◌≡◌, None, map};
+ghost use Rattle.shapers_arabic.specs.JoinedText.{is_mongolian};
 ghost use Rattle.shapers_arabic.specs.Joining.{is_selector};
 ghost use Rattle.shapers_arabic.specs.JoiningWalk.{HaveMasks, copied, with_copied, with_mask};
 
-use shapers_base::buffer::hb_glyph_info_t;
+use shapers_base::buffer::{Script, hb_glyph_info_t};
+
+// Whether the script is Mongolian.
+pub(super) fn is_mongolian(script: Option<Script>) -> bool
+    ensures { result ≡ is_mongolian script }
+{
+    script == Some(Script(*b"Mong"))
+}
 
 // Whether a character is a free variation selector of Mongolian.
 fn is_selector(c: u32) -> bool
@@ -13,7 +21,7 @@ fn is_selector(c: u32) -> bool
 }
 
 // The form of a glyph behind one of the form `previous`.
-fn form_behind(previous: Option<u8>, glyph: &hb_glyph_info_t) -> u8
+pub(super) fn form_behind(previous: Option<u8>, glyph: &hb_glyph_info_t) -> u8
     ensures { result ≡ copied previous glyph.now }
 {
     match previous {

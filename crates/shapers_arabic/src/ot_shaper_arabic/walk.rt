@@ -1,14 +1,15 @@
-//! One walk over the glyphs of a buffer: joining, the selectors, and the masks.
+//! One walk over the glyphs of a buffer: joining, the flags of breaks, the selectors, and the masks.
 ghost use Rattle.std.specs.Prelude.{◌≡◌, None, map, if◌then◌else◌};
 ghost use Rattle.shapers_arabic.specs.JoinedText.{is_mongolian};
 ghost use Rattle.shapers_arabic.specs.JoiningWalk.{HaveMasks, with_copied, with_mask};
 
+use super::breaks::flag_breaks;
 use super::joining::join;
 use super::look_ups::LookUps;
-use super::masks::{add_masks, copy_to_selectors};
+use super::masks::{add_masks, copy_to_selectors, is_mongolian};
 use shapers_base::buffer::{BufferFlags, GlyphWalk, Script, hb_glyph_info_t};
 use shapers_base::font::Tables;
-use shapers_base::plan::hb_arabic_joining_type_t;
+use shapers_base::plan::{BreakFlags, hb_arabic_joining_type_t};
 use std::sync::ledger::Ledger;
 
 // What joining needs besides the glyphs: the masks of the forms, and the nearest letters before and
@@ -16,6 +17,7 @@ use std::sync::ledger::Ledger;
 #[derive(Drop)]
 pub(super) struct JoiningWalk<'a, T: Tables, L: Ledger> {
     pub(super) masks: &'a [u32; 8],
+    pub(super) breaks: BreakFlags,
     pub(super) script: Option<Script>,
     pub(super) flags: BufferFlags,
     pub(super) before: Option<hb_arabic_joining_type_t>,
@@ -32,7 +34,7 @@ impl<'a, T: Tables, L: Ledger> GlyphWalk for JoiningWalk<'a, T, L> {
     ghost can_walk = { λ w gs. AreCharacters gs × IsNearest w.before × IsNearest w.after };
 
     ghost walks = { λ v w gs hs.
-        JoinsAll v.masks.now v.flags v.script (T.tables v.tables.now).joining v.before v.after gs hs
+        JoinsAll v.breaks v.masks.now v.flags v.script (T.tables v.tables.now).joining v.before v.after gs hs
         × (w.count.now ≡ v.count.now + length gs)
         × (w.count.ghost_name ≡ v.count.ghost_name) };
 
@@ -45,6 +47,7 @@ impl<'a, T: Tables, L: Ledger> GlyphWalk for JoiningWalk<'a, T, L> {
             self.tables,
             self.count,
         );
+        flag_breaks(self.breaks, self.script, glyphs);
         finish_forms(self.script, self.masks, glyphs);
     }
 }
@@ -56,7 +59,7 @@ fn finish_forms(script: Option<Script>, masks: &[u32; 8], glyphs: &mut [hb_glyph
         let formed = if is_mongolian script then copied else glyphs.old in
         glyphs.new ≡ map (with_mask masks.now) formed }
 {
-    if script == Some(Script(*b"Mong")) {
+    if is_mongolian(script) {
         copy_to_selectors(glyphs);
         add_masks(masks, glyphs);
     } else {

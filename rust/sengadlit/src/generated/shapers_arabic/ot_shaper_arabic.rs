@@ -9,6 +9,7 @@ use crate::generated::shapers_base::plan::{Pause, Plan, PlanData, Planner, Reque
 use crate::support::arrayvec::ArrayVec;
 
 pub mod arabic_action_t;
+mod breaks;
 mod data;
 mod joining;
 mod marks;
@@ -122,13 +123,22 @@ fn joining_requests(flags: u32) -> [Request; 14] {
 /// ```text
 /// requires { AreCharacters buffer.old.glyphs }
 /// ensures joined { let table = T.tables tables.now in
-///     let masks = arabic_plan.now.mask_array in
-///     buffer.new ≡ joined masks script table.joining table.general buffer.old }
+///     let masks = arabic_plan.now.mask_array in let breaks = arabic_plan.now.break_flags in
+///     buffer.new ≡ joined breaks masks script table.joining table.general buffer.old }
 /// ensures cut { let table = T.tables tables.now in
 ///     CutsAsHalves script table.joining table.general buffer.old buffer.new }
+/// ensures breaks { let table = T.tables tables.now in
+///     let masks = arabic_plan.now.mask_array in let breaks = arabic_plan.now.break_flags in
+///     let before = buffer.old in let after = buffer.new in
+///     BreaksWhereClear breaks masks script table.joining table.general before after }
+/// ensures needless { let table = T.tables tables.now in
+///     let masks = arabic_plan.now.mask_array in let breaks = arabic_plan.now.break_flags in
+///     let before = buffer.old in let after = buffer.new in
+///     NoneNeedless breaks masks script table.joining table.general before after }
 /// ensures flags { OnlyFlagsAdded buffer.old.glyphs buffer.new.glyphs }
 /// ```
 ///
+/// - `BreaksWhereClear`, `NoneNeedless`: crates/shapers_arabic/specs/Breaks.antt
 /// - `AreCharacters`, `CutsAsHalves`, `joined`: crates/shapers_arabic/specs/JoinedText.antt
 /// - `OnlyFlagsAdded`: crates/shapers_clusters/specs/FlagLaw.antt
 ///
@@ -144,6 +154,7 @@ pub fn setup_masks_inner<T: Tables>(
     let flags = buffer.flags();
     let mut walk = JoiningWalk {
         masks: &arabic_plan.mask_array,
+        breaks: arabic_plan.break_flags,
         script,
         flags,
         before,
@@ -164,14 +175,24 @@ pub fn setup_masks_inner<T: Tables>(
 /// requires data { IsArabic plan.now.plan_data }
 /// requires characters { AreCharacters buffer.old.glyphs }
 /// ensures joined { let table = T.tables tables.now in let masks = masks_of plan.now.plan_data in
-///     buffer.new ≡ joined masks plan.now.script table.joining table.general buffer.old }
+///     let breaks = breaks_of plan.now.plan_data in
+///     buffer.new ≡ joined breaks masks plan.now.script table.joining table.general buffer.old }
 /// ensures cut { let table = T.tables tables.now in
 ///     CutsAsHalves plan.now.script table.joining table.general buffer.old buffer.new }
+/// ensures breaks { let table = T.tables tables.now in let script = plan.now.script in
+///     let masks = masks_of plan.now.plan_data in let breaks = breaks_of plan.now.plan_data in
+///     let before = buffer.old in let after = buffer.new in
+///     BreaksWhereClear breaks masks script table.joining table.general before after }
+/// ensures needless { let table = T.tables tables.now in let script = plan.now.script in
+///     let masks = masks_of plan.now.plan_data in let breaks = breaks_of plan.now.plan_data in
+///     let before = buffer.old in let after = buffer.new in
+///     NoneNeedless breaks masks script table.joining table.general before after }
 /// ensures flags { OnlyFlagsAdded buffer.old.glyphs buffer.new.glyphs }
 /// ```
 ///
+/// - `BreaksWhereClear`, `NoneNeedless`: crates/shapers_arabic/specs/Breaks.antt
 /// - `AreCharacters`, `CutsAsHalves`, `joined`: crates/shapers_arabic/specs/JoinedText.antt
-/// - `IsArabic`, `masks_of`: crates/shapers_arabic/specs/PlanData.antt
+/// - `IsArabic`, `breaks_of`, `masks_of`: crates/shapers_arabic/specs/PlanData.antt
 /// - `OnlyFlagsAdded`: crates/shapers_clusters/specs/FlagLaw.antt
 ///
 /// </details>

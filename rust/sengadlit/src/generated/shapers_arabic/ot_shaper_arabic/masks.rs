@@ -2,7 +2,12 @@
 //!
 //! What follows joining: the selectors of Mongolian, and the masks of the forms.
 
-use crate::generated::shapers_base::buffer::GlyphInfo;
+use crate::generated::shapers_base::buffer::{GlyphInfo, Script};
+
+// Whether the script is Mongolian.
+pub(super) fn is_mongolian(script: Option<Script>) -> bool {
+    script == Some(Script(*b"Mong"))
+}
 
 // Whether a character is a free variation selector of Mongolian.
 fn is_selector(c: u32) -> bool {
@@ -10,7 +15,7 @@ fn is_selector(c: u32) -> bool {
 }
 
 // The form of a glyph behind one of the form `previous`.
-fn form_behind(previous: Option<u8>, glyph: &GlyphInfo) -> u8 {
+pub(super) fn form_behind(previous: Option<u8>, glyph: &GlyphInfo) -> u8 {
     match previous {
         Some(form) if is_selector(glyph.glyph_id) => form,
         _ => glyph.auxiliary,

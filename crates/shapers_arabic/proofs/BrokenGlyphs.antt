@@ -1,0 +1,229 @@
+-- Where no call forbids a break, the glyphs of a text are those of its halves; and where they are, with Sound no call does.
+use Rattle.std.proofs.Common.{◌≡◌, ℕ, zero, suc, ◌%◌, ◌<◌, Bool, true, false, cond, List, [], ◌∷◌, ◌++◌, length, map, take, drop, get_or, Option, refl, sym, ap, ◌∙◌, subst, arith, append_assoc}
+use Rattle.std.specs.Int.Bits.{bit_or}
+use Rattle.std.specs.List.{AllByRecursion, AllPairs, zip}
+use Rattle.std.proofs.lemmas.Bool.{or_from, or_parts}
+use Rattle.std.proofs.lemmas.List.{map-append, length-map, length-take-le, take-append-drop, length-drop, take-map, drop-map}
+use Rattle.std.proofs.lemmas.List.Folds.{list_any-append}
+use Rattle.std.proofs.lemmas.Nat.Bits.{bit_at_or}
+use Rattle.std.proofs.lemmas.Simd.{map-map}
+use Rattle.std.proofs.lemmas.Slice.Zip.{length-zip}
+use Rattle.shapers_buffer.specs.Buffer.{Buffer, flags_concat, flags_tatweel, has_flag}
+use Rattle.shapers_buffer.specs.Glyph.{clusters, plain, order_view}
+use Rattle.shapers_buffer.specs.declared.buffer.category.hb_unicode_general_category_t.{hb_unicode_general_category_t}
+use Rattle.shapers_buffer.specs.declared.buffer.flags.BufferFlags.{BufferFlags}
+use Rattle.shapers_buffer.specs.declared.buffer.glyph.hb_glyph_info_t.{hb_glyph_info_t}
+use Rattle.shapers_buffer.specs.declared.buffer.tag.Script.{Script}
+use Rattle.shapers_base.specs.declared.plan.breaks.BreakFlags.{BreakFlags}
+use Rattle.shapers_base.specs.declared.plan.breaks.BreakFlags.TheVariants.{AsCode, Sound}
+use Rattle.shapers_base.specs.declared.plan.joining.hb_arabic_joining_type_t.{hb_arabic_joining_type_t}
+use Rattle.shapers_clusters.specs.Breaks.{forbids, IsFree, IsClear, is_unsafe}
+use Rattle.shapers_clusters.specs.Flags.{bit_at}
+use Rattle.shapers_clusters.proofs.ClearPlaces.{held, clear-places}
+use Rattle.shapers_clusters.proofs.FlagCalls.{map-flags_called, plain-with_bits}
+use Rattle.shapers_clusters.proofs.Needless.{needless, none-unsafe, unsafe-none}
+use Rattle.shapers_arabic.specs.Breaks.{sound_flags, MayBreak, front_at, back_at, IsSpared, BreaksWhereClear, NoneNeedless}
+use Rattle.shapers_arabic.specs.Joining.{resolved, forms, selected}
+use Rattle.shapers_arabic.specs.JoiningFlags.{joining_flags}
+use Rattle.shapers_arabic.specs.JoinedText.{Text, is_mongolian, added_calls, flag_calls, forms_of, first_half, second_half, with_form, with_forms, joined_glyphs, joined, text_of, stored_types, context_types}
+use Rattle.shapers_arabic.specs.SoundFlags.{form_flags_along, selector_flags}
+use Rattle.shapers_arabic.proofs.BreakLists.{exact}
+use Rattle.shapers_arabic.proofs.JoinedGlyphs.{forms-joined}
+use Rattle.shapers_arabic.proofs.JoiningLaws.{length-forms_of}
+use Rattle.shapers_arabic.proofs.JoiningLists.{length-forms}
+use Rattle.shapers_arabic.proofs.Selectors.{selected-halves}
+use Rattle.shapers_arabic.proofs.SoundOrder.{calls-in_order}
+
+-- flags don't show in the order view
+view-joined : (breaks : BreakFlags) (masks : List ℕ) (flags : BufferFlags) (script : Option Script) (text : Text) (gs : List hb_glyph_info_t) → order_view (joined_glyphs breaks masks flags script text gs) ≡ order_view (with_forms masks (forms_of script text) gs)
+view-joined breaks masks flags script text gs =
+    map-flags_called plain (λ bits g low. plain-with_bits bits g low) (has_flag flags_concat flags) (has_flag flags_tatweel flags) (flag_calls breaks script text) (with_forms masks (forms_of script text) gs) (calls-in_order breaks script text)
+
+with_forms-parts : (masks fs hs : List ℕ) (xs ys : List hb_glyph_info_t) → length fs ≡ length xs → with_forms masks (fs ++ hs) (xs ++ ys) ≡ with_forms masks fs xs ++ with_forms masks hs ys
+with_forms-parts masks [] hs [] ys e = refl
+with_forms-parts masks [] hs (x ∷ xs) ys e = absurd (omega arith)
+with_forms-parts masks (f ∷ fs) hs [] ys e = absurd (omega arith)
+with_forms-parts masks (f ∷ fs) hs (x ∷ xs) ys e = ap (λ gs. with_form masks f x ∷ gs) (with_forms-parts masks fs hs xs ys (omega arith))
+
+-- where no call of Sound forbids a break: the forms are those of the halves
+pub forms-break : (script : Option Script) (text : Text) (n : ℕ) → length text.characters ≡ length text.types → 0 < n → n < length text.types → IsFree (flag_calls Sound script text) n → forms_of script text ≡ forms_of script (first_half n [] text) ++ forms_of script (second_half n [] text)
+forms-break script text n same pos within free =
+    let ts = take n text.types in
+    let us = drop n text.types in
+    let cs = take n text.characters in
+    let ds = drop n text.characters in
+    let rule = forms text.before text.types text.after in
+    let fs = forms text.before ts [] in
+    let hs = forms [] us text.after in
+    let whole : ts ++ us ≡ text.types = take-append-drop n text.types in
+    let at : length ts ≡ n = length-take-le n text.types (omega arith) in
+    let c_at : length cs ≡ n = length-take-le n text.characters (omega arith) in
+    let first = sound_flags text.before text.types text.after in
+    let rest = λ (b : Bool) (xs : List ℕ) (ys : List ℕ). cond b (selector_flags [] (zip xs ys)) [] in
+    let split = or_parts (held n first) (held n (rest (is_mongolian script) text.characters rule)) (sym (ap (held n) (sym (append_assoc (joining_flags text.before text.types text.after) (form_flags_along text.before [] text.types text.after) (rest (is_mongolian script) text.characters rule))) ∙ list_any-append (forbids n) first (rest (is_mongolian script) text.characters rule)) ∙ free) in
+    let Q : ℕ → Type 0 = λ m. IsFree first m in
+    let R : List hb_arabic_joining_type_t → Type 0 = λ xs. IsFree (sound_flags text.before xs text.after) (length ts) in
+    let may = (exact text.before ts us text.after (omega arith) (omega (arith, length-drop n text.types))).0 (subst R (sym whole) (subst Q (sym at) split.0)) in
+    let by_rule : rule ≡ fs ++ hs = ap (λ xs. forms text.before xs text.after) (sym whole) ∙ may in
+    elim (is_mongolian script) as (λ b. held n (rest b text.characters rule) ≡ false → cond b (selected [] (zip text.characters rule)) rule ≡ cond b (selected [] (zip cs fs)) fs ++ cond b (selected [] (zip ds hs)) hs) [
+      | false ↦ λ f. by_rule
+      | true ↦ λ f.
+          let parts : zip text.characters rule ≡ zip (cs ++ ds) (fs ++ hs) = ap (λ xs. zip xs rule) (sym (take-append-drop n text.characters)) ∙ ap (zip (cs ++ ds)) by_rule in
+          ap (selected []) parts
+          ∙ selected-halves cs ds fs hs (length-forms text.before ts [] ∙ at ∙ sym c_at) (omega arith) (ap (λ m. held m (selector_flags [] (zip (cs ++ ds) (fs ++ hs)))) c_at ∙ ap (λ ps. held n (selector_flags [] ps)) (sym parts) ∙ f)
+    ] split.1
+
+-- the glyphs are then those of the halves
+halves-free : (breaks : BreakFlags) (masks : List ℕ) (flags : BufferFlags) (script : Option Script) (text : Text) (gs : List hb_glyph_info_t) (n : ℕ) → length text.characters ≡ length gs → length text.types ≡ length gs → 0 < n → n < length gs → IsFree (flag_calls Sound script text) n → order_view (joined_glyphs breaks masks flags script text gs) ≡ order_view (joined_glyphs breaks masks flags script (first_half n [] text) (take n gs)) ++ order_view (joined_glyphs breaks masks flags script (second_half n [] text) (drop n gs))
+halves-free breaks masks flags script text gs n characters long pos within free =
+    let one = first_half n [] text in
+    let two = second_half n [] text in
+    let same : length text.characters ≡ length text.types = characters ∙ sym long in
+    let halves = forms-break script text n same pos (omega arith) free in
+    let half : length one.characters ≡ length one.types = length-take-le n text.characters (omega arith) ∙ sym (length-take-le n text.types (omega arith)) in
+    let first : length (forms_of script one) ≡ length (take n gs) = length-forms_of script one half ∙ length-take-le n text.types (omega arith) ∙ sym (length-take-le n gs (omega arith)) in
+    view-joined breaks masks flags script text gs
+    ∙ ap (λ xs. order_view (with_forms masks xs gs)) halves
+    ∙ ap (λ xs. order_view (with_forms masks (forms_of script one ++ forms_of script two) xs)) (sym (take-append-drop n gs))
+    ∙ ap order_view (with_forms-parts masks (forms_of script one) (forms_of script two) (take n gs) (drop n gs) first)
+    ∙ map-append plain (with_forms masks (forms_of script one) (take n gs)) (with_forms masks (forms_of script two) (drop n gs))
+    ∙ ap (λ xs. xs ++ order_view (with_forms masks (forms_of script two) (drop n gs))) (sym (view-joined breaks masks flags script one (take n gs)))
+    ∙ ap (λ xs. order_view (joined_glyphs breaks masks flags script one (take n gs)) ++ xs) (sym (view-joined breaks masks flags script two (drop n gs)))
+
+-- a clear place that is spared is free
+free-clear : (breaks : BreakFlags) (masks : List ℕ) (flags : BufferFlags) (script : Option Script) (text : Text) (gs : List hb_glyph_info_t) (n : ℕ) → length text.characters ≡ length gs → length text.types ≡ length gs → 0 < n → n < length gs → IsClear (joined_glyphs breaks masks flags script text gs) n → IsFree (flag_calls breaks script text) n
+free-clear breaks masks flags script text gs n characters long pos within clear =
+    let formed = with_forms masks (forms_of script text) gs in
+    let all_long : length (forms_of script text) ≡ length text.types = length-forms_of script text (characters ∙ sym long) in
+    let formed_long : length formed ≡ length gs = length-map (zip (forms_of script text) gs) (λ p. with_form masks p.0 p.1) ∙ omega (arith, length-zip (forms_of script text) gs) in
+    clear-places (has_flag flags_concat flags) (has_flag flags_tatweel flags) (flag_calls breaks script text) formed n (calls-in_order breaks script text) pos (omega arith) clear
+
+spared-free : (breaks : BreakFlags) (script : Option Script) (text : Text) (n : ℕ) → IsFree (flag_calls breaks script text) n → IsSpared breaks script text n → IsFree (flag_calls Sound script text) n
+spared-free AsCode script text n free spared =
+    list_any-append (forbids n) (joining_flags text.before text.types text.after) (added_calls script text) ∙ or_from (held n (joining_flags text.before text.types text.after)) (held n (added_calls script text)) free spared
+spared-free Sound script text n free spared = free
+
+-- the texts of the halves of a buffer
+text-front : (joining : ℕ → hb_arabic_joining_type_t) (general : ℕ → hb_unicode_general_category_t) (n : ℕ) (b : Buffer) → text_of joining general (front_at n b) ≡ first_half n [] (text_of joining general b)
+text-front joining general n b =
+    let before = context_types joining general b.before in
+    ap (λ cs. let t : Text = record { before = before; characters = cs; types = stored_types joining (take n b.glyphs); after = [] } in t) (sym (take-map (λ g. g.glyph_id) n b.glyphs))
+    ∙ ap (λ ts. let t : Text = record { before = before; characters = take n (map (λ g. g.glyph_id) b.glyphs); types = ts; after = [] } in t) (sym (take-map (λ g. resolved (joining g.glyph_id) g.general_category) n b.glyphs))
+
+text-back : (joining : ℕ → hb_arabic_joining_type_t) (general : ℕ → hb_unicode_general_category_t) (n : ℕ) (b : Buffer) → text_of joining general (back_at n b) ≡ second_half n [] (text_of joining general b)
+text-back joining general n b =
+    let after = context_types joining general b.after in
+    ap (λ cs. let t : Text = record { before = []; characters = cs; types = stored_types joining (drop n b.glyphs); after = after } in t) (sym (drop-map (λ g. g.glyph_id) n b.glyphs))
+    ∙ ap (λ ts. let t : Text = record { before = []; characters = drop n (map (λ g. g.glyph_id) b.glyphs); types = ts; after = after } in t) (sym (drop-map (λ g. resolved (joining g.glyph_id) g.general_category) n b.glyphs))
+
+types_long : (joining : ℕ → hb_arabic_joining_type_t) (gs : List hb_glyph_info_t) → length (stored_types joining gs) ≡ length gs
+types_long joining gs = length-map gs (λ g. resolved (joining g.glyph_id) g.general_category)
+
+-- the halves of a buffer, joined by themselves
+halves-are : (breaks : BreakFlags) (masks : List ℕ) (script : Option Script) (joining : ℕ → hb_arabic_joining_type_t) (general : ℕ → hb_unicode_general_category_t) (n : ℕ) (b : Buffer) → let text = text_of joining general b in order_view (joined breaks masks script joining general (front_at n b)).glyphs ++ order_view (joined breaks masks script joining general (back_at n b)).glyphs ≡ order_view (joined_glyphs breaks masks b.flags script (first_half n [] text) (take n b.glyphs)) ++ order_view (joined_glyphs breaks masks b.flags script (second_half n [] text) (drop n b.glyphs))
+halves-are breaks masks script joining general n b =
+    ap (λ t. order_view (joined_glyphs breaks masks b.flags script t (take n b.glyphs)) ++ order_view (joined breaks masks script joining general (back_at n b)).glyphs) (text-front joining general n b)
+    ∙ ap (λ t. order_view (joined_glyphs breaks masks b.flags script (first_half n [] (text_of joining general b)) (take n b.glyphs)) ++ order_view (joined_glyphs breaks masks b.flags script t (drop n b.glyphs))) (text-back joining general n b)
+
+pub breaks-where_clear : (breaks : BreakFlags) (masks : List ℕ) (script : Option Script) (joining : ℕ → hb_arabic_joining_type_t) (general : ℕ → hb_unicode_general_category_t) (old new : Buffer) → new ≡ joined breaks masks script joining general old → BreaksWhereClear breaks masks script joining general old new
+breaks-where_clear breaks masks script joining general old new is n pos within clear spared =
+    let text = text_of joining general old in
+    let gs = old.glyphs in
+    let characters = length-map gs (λ g. g.glyph_id) in
+    let long = types_long joining gs in
+    let whole : new.glyphs ≡ joined_glyphs breaks masks old.flags script text gs = ap (λ (b : Buffer). b.glyphs) is in
+    let free = free-clear breaks masks old.flags script text gs n characters long pos within (subst (λ hs. IsClear hs n) whole clear) in
+    ap order_view whole
+    ∙ halves-free breaks masks old.flags script text gs n characters long pos within (spared-free breaks script text n free spared)
+    ∙ sym (halves-are breaks masks script joining general n old)
+
+-- forms and their masks leave clusters, and set no bit of a break where no mask has a glyph flag bit
+clusters-formed : (masks fs : List ℕ) (gs : List hb_glyph_info_t) → length fs ≡ length gs → clusters (with_forms masks fs gs) ≡ clusters gs
+clusters-formed masks [] [] e = refl
+clusters-formed masks [] (g ∷ gs) e = absurd (omega arith)
+clusters-formed masks (f ∷ fs) [] e = absurd (omega arith)
+clusters-formed masks (f ∷ fs) (g ∷ gs) e = ap (λ cs. g.cluster ∷ cs) (clusters-formed masks fs gs (omega arith))
+
+mask-at : (masks : List ℕ) (i : ℕ) → AllByRecursion (λ m. m % 8 ≡ 0) masks → get_or masks i 0 % 8 ≡ 0
+mask-at [] i all = refl
+mask-at (m ∷ ms) zero all = all.0
+mask-at (m ∷ ms) (suc i) all = mask-at ms i all.1
+
+unflagged-one : (g : hb_glyph_info_t) (form m : ℕ) → is_unsafe g ≡ false → m % 8 ≡ 0 → is_unsafe (record g { auxiliary = form; mask = bit_or g.mask m }) ≡ false
+unflagged-one g form m e low =
+    let before = none-unsafe g e in
+    let first : bit_at 0 m ≡ 0 = omega arith in
+    let third : bit_at 2 m ≡ 0 = omega arith in
+    unsafe-none (record g { auxiliary = form; mask = bit_or g.mask m }) (omega (arith, bit_at_or g.mask m 0, bit_at_or g.mask m 2, first, third, before))
+
+unflagged-formed : (masks fs : List ℕ) (gs : List hb_glyph_info_t) → AllByRecursion (λ m. m % 8 ≡ 0) masks → AllByRecursion (λ g. is_unsafe g ≡ false) gs → AllByRecursion (λ g. is_unsafe g ≡ false) (with_forms masks fs gs)
+unflagged-formed masks [] gs m all = tt
+unflagged-formed masks (f ∷ fs) [] m all = tt
+unflagged-formed masks (f ∷ fs) (g ∷ gs) m all = (unflagged-one g f (get_or masks f 0) all.0 (mask-at masks f m), unflagged-formed masks fs gs m all.1)
+
+-- the forms are shown in the order view
+forms-shown : (masks : List ℕ) (flags : BufferFlags) (script : Option Script) (text : Text) (gs : List hb_glyph_info_t) → length gs ≡ length (forms_of script text) → map (λ g. g.auxiliary) (order_view (joined_glyphs Sound masks flags script text gs)) ≡ forms_of script text
+forms-shown masks flags script text gs long =
+    map-map (λ (g : hb_glyph_info_t). g.auxiliary) plain (joined_glyphs Sound masks flags script text gs)
+    ∙ forms-joined masks (forms_of script text) flags (flag_calls Sound script text) gs long (calls-in_order Sound script text)
+
+by-rule : (script : Option Script) (text : Text) → is_mongolian script ≡ false → forms_of script text ≡ forms text.before text.types text.after
+by-rule script text e =
+    let rule = forms text.before text.types text.after in
+    ap (λ b. cond b (selected [] (zip text.characters rule)) rule) e
+
+-- so where the halves are the whole the place is clear
+clear-broken : (masks : List ℕ) (flags : BufferFlags) (script : Option Script) (text : Text) (gs : List hb_glyph_info_t) (n : ℕ) → is_mongolian script ≡ false → length text.types ≡ length gs → AllPairs (λ a b. a < b) (clusters gs) → AllByRecursion (λ g. is_unsafe g ≡ false) gs → AllByRecursion (λ m. m % 8 ≡ 0) masks → 0 < n → n < length gs → order_view (joined_glyphs Sound masks flags script text gs) ≡ order_view (joined_glyphs Sound masks flags script (first_half n [] text) (take n gs)) ++ order_view (joined_glyphs Sound masks flags script (second_half n [] text) (drop n gs)) → IsClear (joined_glyphs Sound masks flags script text gs) n
+clear-broken masks flags script text gs n none long rises unflagged low pos within may =
+    let concat = has_flag flags_concat flags in
+    let tatweel = has_flag flags_tatweel flags in
+    let calls = flag_calls Sound script text in
+    let all = forms_of script text in
+    let formed = with_forms masks all gs in
+    let one = first_half n [] text in
+    let two = second_half n [] text in
+    let ts = take n text.types in
+    let us = drop n text.types in
+    let rule = forms text.before text.types text.after in
+    let fs = forms text.before ts [] in
+    let hs = forms [] us text.after in
+    let whole : ts ++ us ≡ text.types = take-append-drop n text.types in
+    let at : length ts ≡ n = length-take-le n text.types (omega arith) in
+    let all_is = by-rule script text none in
+    let one_is = by-rule script one none in
+    let two_is = by-rule script two none in
+    let all_long : length gs ≡ length all = sym (ap length all_is ∙ length-forms text.before text.types text.after ∙ long) in
+    let one_long : length (take n gs) ≡ length (forms_of script one) = length-take-le n gs (omega arith) ∙ sym (ap length one_is ∙ length-forms text.before ts [] ∙ at) in
+    let two_long : length (drop n gs) ≡ length (forms_of script two) = omega (arith, length-drop n gs, length-drop n text.types, ap length two_is, length-forms [] us text.after) in
+    let forms_fall : all ≡ forms_of script one ++ forms_of script two =
+    sym (forms-shown masks flags script text gs all_long)
+    ∙ ap (map (λ (g : hb_glyph_info_t). g.auxiliary)) may
+    ∙ map-append (λ (g : hb_glyph_info_t). g.auxiliary) (order_view (joined_glyphs Sound masks flags script one (take n gs))) (order_view (joined_glyphs Sound masks flags script two (drop n gs)))
+    ∙ ap (λ xs. xs ++ map (λ (g : hb_glyph_info_t). g.auxiliary) (order_view (joined_glyphs Sound masks flags script two (drop n gs)))) (forms-shown masks flags script one (take n gs) one_long)
+    ∙ ap (λ xs. forms_of script one ++ xs) (forms-shown masks flags script two (drop n gs) two_long) in
+    let breaks : MayBreak text.before ts us text.after =
+    ap (λ xs. forms text.before xs text.after) whole
+    ∙ sym all_is
+    ∙ forms_fall
+    ∙ ap (λ xs. xs ++ forms_of script two) one_is
+    ∙ ap (λ xs. fs ++ xs) two_is in
+    let free_parts = (exact text.before ts us text.after (omega arith) (omega (arith, length-drop n text.types))).1 breaks in
+    let first = sound_flags text.before text.types text.after in
+    let R : List hb_arabic_joining_type_t → Type 0 = λ xs. IsFree (sound_flags text.before xs text.after) (length ts) in
+    let Q : ℕ → Type 0 = λ m. IsFree first m in
+    let free_first : IsFree first n = subst Q at (subst R whole free_parts) in
+    let rest = cond (is_mongolian script) (selector_flags [] (zip text.characters rule)) [] in
+    let free_rest : IsFree rest n = ap (λ b. held n (cond b (selector_flags [] (zip text.characters rule)) [])) none in
+    let free : IsFree calls n = ap (held n) (sym (append_assoc (joining_flags text.before text.types text.after) (form_flags_along text.before [] text.types text.after) rest)) ∙ list_any-append (forbids n) first rest ∙ or_from (held n first) (held n rest) free_first free_rest in
+    let same = clusters-formed masks all gs (sym all_long) in
+    let formed_long : length formed ≡ length gs = sym (length-map formed (λ (g : hb_glyph_info_t). g.cluster)) ∙ ap length same ∙ length-map gs (λ (g : hb_glyph_info_t). g.cluster) in
+    let A : List ℕ → Type 0 = λ cs. AllPairs (λ a b. a < b) cs in
+    needless concat tatweel calls formed n (calls-in_order Sound script text) (subst A (sym same) rises) (unflagged-formed masks all gs low unflagged) pos (omega arith) free
+
+pub none-needless : (breaks : BreakFlags) (masks : List ℕ) (script : Option Script) (joining : ℕ → hb_arabic_joining_type_t) (general : ℕ → hb_unicode_general_category_t) (old new : Buffer) → new ≡ joined breaks masks script joining general old → NoneNeedless breaks masks script joining general old new
+none-needless AsCode masks script joining general old new is e none rises unflagged low n pos within may = cc
+none-needless Sound masks script joining general old new is e none rises unflagged low n pos within may =
+    let text = text_of joining general old in
+    let gs = old.glyphs in
+    let whole : new.glyphs ≡ joined_glyphs Sound masks old.flags script text gs = ap (λ (b : Buffer). b.glyphs) is in
+    subst (λ hs. IsClear hs n) (sym whole) (clear-broken masks old.flags script text gs n none (types_long joining gs) rises unflagged low pos within (sym (ap order_view whole) ∙ may ∙ halves-are Sound masks script joining general n old))
