@@ -26,3 +26,8 @@ keeps r old new laws reads done =
 pub on_kept : (P : Type 0) (result : Result Bool ShaperError) (r : Reordering) (old new : Buffer) → ReorderLaws r.order r.steps → ReadsNoSerials r.order r.steps → OnOk result (Reordered r old new) → OnOk result P → OnOk result (ReorderingKeeps r old new × P)
 on_kept P (Ok _) r old new laws reads done more = (keeps r old new laws reads done, more)
 on_kept P (Err _) r old new laws reads done more = tt
+
+-- and where two more things are kept
+pub both : (P Q : Type 0) (result : Result Bool ShaperError) → OnOk result P → OnOk result Q → OnOk result (P × Q)
+both P Q (Ok _) p q = (p, q)
+both P Q (Err _) p q = tt

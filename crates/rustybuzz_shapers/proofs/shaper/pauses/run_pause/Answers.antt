@@ -16,7 +16,7 @@ use Rattle.shapers_universal.proofs.UniversalView.{universal_laws}
 use Rattle.rustybuzz_shapers.specs.Pauses.{PauseKeeps, by_initial, by_khmer, by_myanmar, by_universal}
 use Rattle.shapers_syllabic.proofs.SetUpFlags.{set_up_added}
 use Rattle.rustybuzz_shapers.proofs.FlagLaws.{bytes_cleared, marks_cleared, pref_record_added, rphf_record_added, tiles_added, unchanged_added}
-use Rattle.rustybuzz_shapers.proofs.PauseLaws.{on_kept}
+use Rattle.rustybuzz_shapers.proofs.PauseLaws.{both, on_kept}
 use Rattle.rustybuzz_shapers.proofs.shaper.pauses.run_pause.Goals as goal
 
 pub returns-in_ok-set_up_syllables-in-SetupSyllablesIndic-clause-laws : goal.returns-in_ok-set_up_syllables-in-SetupSyllablesIndic-clause-laws
@@ -87,7 +87,7 @@ returns-in-ReorderKhmer-clause-laws g c =
     let font = g.F.hb_font_t.font c.args.face.now in
     let old = c.args.buffer.now in
     let new = c.reorder_khmer.new.buffer in
-    subst (λ (p : Pause). OnOk c.reorder_khmer.result (PauseKeeps p plan font c.args.spans.now old new)) (sym c.in-ReorderKhmer.is) (on_kept _ c.reorder_khmer.result (by_khmer plan font old) old new (khmer_laws (order_in plan.plan_data)) (khmer_reads_no_serials (order_in plan.plan_data)) c.reorder_khmer.ensures.ok c.reorder_khmer.ensures.laws)
+    subst (λ (p : Pause). OnOk c.reorder_khmer.result (PauseKeeps p plan font c.args.spans.now old new)) (sym c.in-ReorderKhmer.is) (on_kept _ c.reorder_khmer.result (by_khmer plan font old) old new (khmer_laws (order_in plan.plan_data)) (khmer_reads_no_serials (order_in plan.plan_data)) c.reorder_khmer.ensures.ok (both _ _ c.reorder_khmer.result c.reorder_khmer.ensures.laws c.reorder_khmer.ensures.movers))
 
 pub returns-in-ReorderMyanmar-clause-laws : goal.returns-in-ReorderMyanmar-clause-laws
 returns-in-ReorderMyanmar-clause-laws g c =
