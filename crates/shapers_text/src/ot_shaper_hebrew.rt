@@ -1,6 +1,6 @@
 //! Hebrew: the order of marks, and the letters that compose with points where the font places no
 //! marks.
-ghost use Rattle.std.specs.Prelude.{◌≡◌, ◌==◌, ◌&&◌, ◌≤◌, ◌∷◌, [], find, length, option_map, swap, ◌+◌, ◌^◌, ◌<◌, IfSome};
+ghost use Rattle.std.specs.Prelude.{◌≡◌, ◌==◌, ◌&&◌, ◌≤◌, find, length, option_map, swap, ◌+◌, ◌^◌, ◌<◌, IfSome};
 ghost use Rattle.shapers_buffer.specs.Clusters.{merge};
 ghost use Rattle.shapers_buffer.specs.Glyph.{order_view};
 ghost use Rattle.shapers_clusters.specs.Steps.{run_step};

@@ -11,6 +11,7 @@ use sengadlit::buffer::{Buffer, Script, ShaperError, Tag};
 use sengadlit::font::FeaturesOnly;
 use sengadlit::plan::{Pause, PlanData, Planner};
 use sengadlit::shaper::{Hook, Shaper};
+use sengadlit::{ot_shaper_hangul, ot_shaper_thai};
 use std::cell::RefCell;
 
 /// Makes a call of a shaper on a text.
@@ -183,6 +184,40 @@ fn shapers_keep_data() {
         };
         assert!(is_kept, "{shaper:?}");
         assert_eq!(shaper.has_hook(Hook::CreateData), kept != PlanData::None);
+    }
+}
+
+#[test]
+fn thai_tells_whether_it_rewrote_the_text() {
+    let without_forms = plan_of(Shaper::Thai, b"Laoo");
+    let with_forms = plan_of(Shaper::Thai, b"Thai");
+    let cases = [
+        (&without_forms, &[0xE1B, 0xE49][..], false),
+        (&without_forms, &[0xE1B, 0xE33], true),
+        (&with_forms, &[0xE1B, 0xE49], true),
+    ];
+    for (plan, characters, changes) in cases {
+        let mut text = text_of(characters, 10);
+        let before = Contents::of(&text);
+        let result = ot_shaper_thai::preprocess_text_changes(plan, &PlainFont(0), &mut text);
+        assert_eq!(result, Ok(changes));
+        assert!(changes || Contents::of(&text) == before);
+    }
+}
+
+#[test]
+fn hangul_tells_whether_it_rewrote_the_text() {
+    let plan = plan_of(Shaper::Hangul, b"Hang");
+    let cases = [
+        (&[0x1100, 0x41][..], false),
+        (&[0x41, 0x1100, 0x1161], true),
+    ];
+    for (characters, changes) in cases {
+        let mut text = text_of(characters, 10);
+        let before = Contents::of(&text);
+        let result = ot_shaper_hangul::preprocess_text_changes(&plan, &PlainFont(0), &mut text);
+        assert_eq!(result, Ok(changes));
+        assert_eq!(Contents::of(&text) == before, !changes);
     }
 }
 

@@ -1,5 +1,5 @@
 //! The text rewritten, item after item.
-ghost use Rattle.std.specs.Prelude.{◌≡◌, ◌+◌, ◌-◌, ◌<◌, ◌≤◌, ◌++◌, ◌∷◌, [], true, false, drop, length, take, OnOk, OnErr, IfOk, IfErr, IsOk, IsOkUnless};
+ghost use Rattle.std.specs.Prelude.{◌≡◌, ◌+◌, ◌-◌, ◌<◌, ◌≤◌, ◌++◌, ◌∷◌, [], true, false, drop, length, take, Ok, OnOk, OnErr, IfOk, IfErr, IsOk, IsOkUnless};
 ghost use Rattle.shapers_buffer.specs.Glyph.{characters};
 ghost use Rattle.shapers_hangul.specs.HangulLaws.{AllKept};
 ghost use Rattle.shapers_hangul.specs.RewritingWalk.{changes, InTurn, change_output, changed_from};
@@ -229,6 +229,28 @@ fn wants_circles(buffer: &hb_buffer_t) -> bool
     !buffer
         .flags()
         .contains(BufferFlags::DO_NOT_INSERT_DOTTED_CIRCLE)
+}
+
+/// Rewrites the text, unless every character stays as it is, and returns whether it did.
+pub(super) fn rewrite_changes<F: hb_font_t>(
+    face: &F,
+    buffer: &mut hb_buffer_t,
+) -> Result<bool, ShaperError>
+    requires { buffer.old.positions ≡ [] }
+    ensures ok { OnOk result (buffer.new ≡ rewritten (F.font face.now) buffer.old) }
+    ensures kept { AllKept (F.font face.now) buffer.old → result ≡ Ok false }
+    ensures unchanged { result ≡ Ok false → buffer.new ≡ buffer.old }
+    ensures length { let text = (rewritten (F.font face.now) buffer.old).glyphs in
+        RefusesLength buffer.old.max_len (length text) result }
+    ensures err { OnErr result (buffer.new ≡ buffer.old) }
+{
+    let circles = wants_circles(buffer);
+    let glyphs = buffer.glyphs();
+    if kept_len(face, circles, glyphs) == buffer.len() {
+        return Ok(false);
+    }
+    rewrite(face, buffer)?;
+    Ok(true)
 }
 
 // Rewrites the text.

@@ -49,6 +49,7 @@ pub fn postprocess_glyphs<F: hb_font_t>(
 }
 
 // The same, where stretches begin so.
+#[inline]
 fn stretch_marks<F: hb_font_t>(
     face: &F,
     choice: StretchStart,

@@ -78,6 +78,7 @@ pub fn record_stch_in(glyphs: &mut [hb_glyph_info_t]) -> bool
 }
 
 // The tile that a multiplied glyph of this component is.
+#[inline]
 fn tile_action(component: u8) -> u8
     ensures { result ≡ tile_action component }
 {

@@ -8,7 +8,7 @@ use crate::generated::shapers_base::map::{F_GLOBAL, F_NONE};
 use crate::generated::shapers_base::plan::{
     HangulPlan, Plan, PlanData, Planner, Request, ShaperError,
 };
-use rewriting::rewrite;
+use rewriting::{rewrite, rewrite_changes};
 
 mod item;
 mod jamo;
@@ -102,6 +102,36 @@ pub fn preprocess_text<F: Font>(
     buffer: &mut Buffer,
 ) -> Result<(), ShaperError> {
     rewrite(face, buffer)
+}
+
+/// `preprocess_text`, which returns whether it rewrote the text: where every character stays as it
+/// is, it returns false and has changed nothing.
+///
+/// <details><summary>Contract</summary>
+///
+/// # Contract
+///
+/// ```text
+/// requires { buffer.old.positions ≡ [] }
+/// ensures ok { OnOk result (buffer.new ≡ rewritten (F.font face.now) buffer.old) }
+/// ensures kept { AllKept (F.font face.now) buffer.old → result ≡ Ok false }
+/// ensures unchanged { result ≡ Ok false → buffer.new ≡ buffer.old }
+/// ensures length { let text = (rewritten (F.font face.now) buffer.old).glyphs in
+///     RefusesLength buffer.old.max_len (length text) result }
+/// ensures err { OnErr result (buffer.new ≡ buffer.old) }
+/// ```
+///
+/// - `RefusesLength`: crates/shapers_buffer/specs/Refusals.antt
+/// - `rewritten`: crates/shapers_hangul/specs/Hangul.antt
+/// - `AllKept`: crates/shapers_hangul/specs/HangulLaws.antt
+///
+/// </details>
+pub fn preprocess_text_changes<F: Font>(
+    _plan: &Plan,
+    face: &F,
+    buffer: &mut Buffer,
+) -> Result<bool, ShaperError> {
+    rewrite_changes(face, buffer)
 }
 
 /// Keeps the masks of the features of jamo in the plan. None of them touches a glyph flag bit.

@@ -165,6 +165,17 @@ fn wants_circles(buffer: &Buffer) -> bool {
         .contains(BufferFlags::DO_NOT_INSERT_DOTTED_CIRCLE)
 }
 
+/// Rewrites the text, unless every character stays as it is, and returns whether it did.
+pub(super) fn rewrite_changes<F: Font>(face: &F, buffer: &mut Buffer) -> Result<bool, ShaperError> {
+    let circles = wants_circles(buffer);
+    let glyphs = buffer.glyphs();
+    if kept_len(face, circles, glyphs) == buffer.len() {
+        return Ok(false);
+    }
+    rewrite(face, buffer)?;
+    Ok(true)
+}
+
 // Rewrites the text.
 pub(super) fn rewrite<F: Font>(face: &F, buffer: &mut Buffer) -> Result<(), ShaperError> {
     let circles = wants_circles(buffer);

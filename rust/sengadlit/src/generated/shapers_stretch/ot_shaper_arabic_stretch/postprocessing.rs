@@ -56,6 +56,7 @@ pub fn postprocess_glyphs<F: Font>(
 }
 
 // The same, where stretches begin so.
+#[inline]
 fn stretch_marks<F: Font>(
     face: &F,
     choice: StretchStart,

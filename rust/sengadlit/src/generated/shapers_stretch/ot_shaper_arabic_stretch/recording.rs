@@ -86,6 +86,7 @@ pub fn record_stch_in(glyphs: &mut [GlyphInfo]) -> bool {
 }
 
 // The tile that a multiplied glyph of this component is.
+#[inline]
 fn tile_action(component: u8) -> u8 {
     if component % 2 == 1 {
         STRETCHING_REPEATING

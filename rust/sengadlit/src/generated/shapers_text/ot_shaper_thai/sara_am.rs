@@ -46,6 +46,15 @@ fn count_sara_am(buffer: &Buffer) -> usize {
         .count()
 }
 
+/// Whether the text has a SARA AM.
+#[inline]
+pub(super) fn has_sara_am(buffer: &Buffer) -> bool {
+    buffer
+        .glyphs()
+        .iter()
+        .any(|glyph| is_sara_am(glyph.glyph_id))
+}
+
 // How many above-base marks stand right before `place`.
 fn count_marks_before(glyphs: &[GlyphInfo], place: usize) -> usize {
     glyphs[..place]
