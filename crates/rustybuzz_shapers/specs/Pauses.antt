@@ -68,8 +68,8 @@ pauses_in (request.Pause (Some pause) ∷ rs) = pause ∷ pauses_in rs
 pauses_in (request.Pause None ∷ rs) = pauses_in rs
 pauses_in (request.Feature tag flags value ∷ rs) = pauses_in rs
 
--- the plan's data are of the kind that each pause reads that a shaper's lists ask for, for any
--- script, and a font with rclt or without
+-- the plan's data are of the kind that each pause in a shaper's lists reads, for any script, and a
+-- font with rclt or without
 abbrev pub PausesFit : hb_ot_shaper_t → hb_ot_shape_plan_t → Type 0
 PausesFit shaper plan = (script : Option Script) (has_rclt : Bool) →
     AllFit plan (pauses_in (unwrap_or (collected shaper script has_rclt) []))
@@ -144,7 +144,7 @@ reordering_of SyllabicClearVar plan font b = None
 reordering_of ClearSubstitutionFlags plan font b = None
 reordering_of ArabicFallbackShape plan font b = None
 
--- the dotted circles that it opens, if any: true is answered exactly where circles are wanted
+-- the dotted circles that it opens, if any: true is returned exactly where circles are wanted
 abbrev pub circles_of : Pause → hb_ot_shape_plan_t → Font → Buffer → Option DottedCircles
 circles_of pause plan font b = option_and_then (λ r. r.circles) (reordering_of pause plan font b)
 

@@ -199,7 +199,7 @@ with_copied previous [] = []
 with_copied previous (g ∷ gs) =
     record g { auxiliary = copied previous g } ∷ with_copied (Some (copied previous g)) gs
 
--- no break inside the stretches of these calls, whatever the buffer asks for
+-- no break inside the stretches of these calls, whatever the buffer wants
 abbrev pub Called : List FlagCall → List hb_glyph_info_t → List hb_glyph_info_t → Type 0
 Called calls gs hs = (concat tatweel : Bool) → hs ≡ flags_called concat tatweel calls gs
 

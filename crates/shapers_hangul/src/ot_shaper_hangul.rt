@@ -35,7 +35,7 @@ const REQUESTS: [Request; 3] = [
 // Some fonts put all jamo forms into `calt` as well, so it stays off.
 const OVERRIDES: [Request; 1] = [Request::Feature(hb_tag_t(*b"calt"), F_GLOBAL, 0)];
 
-/// Asks for the forms of jamo.
+/// Requests the forms of jamo.
 /// The only refusal is `Memory`, which leaves the planner as it was.
 pub fn collect_features(planner: &mut hb_ot_shape_planner_t) -> Result<(), ShaperError>
     ensures ok { OnOk result (planner.new ≡ with_requests hangul_list planner.old) }
@@ -62,6 +62,7 @@ pub fn override_features(planner: &mut hb_ot_shape_planner_t) -> Result<(), Shap
 /// break would tear apart is flagged. Refuses as a growth to the length of the result does, and
 /// never where every character stays as it is. (The Unicode Standard, "Conjoining Jamo
 /// Behavior"; OpenType's notes on Hangul.)
+#[inline]
 pub fn preprocess_text<F: hb_font_t>(
     _plan: &hb_ot_shape_plan_t,
     face: &F,
@@ -83,6 +84,7 @@ pub fn preprocess_text<F: hb_font_t>(
 
 /// `preprocess_text`, which returns whether it rewrote the text: where every character stays as it
 /// is, it returns false and has changed nothing.
+#[inline]
 pub fn preprocess_text_changes<F: hb_font_t>(
     _plan: &hb_ot_shape_plan_t,
     face: &F,
@@ -148,6 +150,7 @@ pub fn setup_masks_in(hangul_plan: &hangul_shape_plan_t, glyphs: &mut [hb_glyph_
 
 /// Gives each glyph, besides its own mask, the one of the feature in its auxiliary byte: none for
 /// 0, then those of leading, vowel and trailing jamo. It takes no memory.
+#[inline]
 pub fn setup_masks(plan: &hb_ot_shape_plan_t, buffer: &mut hb_buffer_t)
     requires { is_hangul_data plan.now.plan_data ≡ true }
     ensures masks { buffer.new ≡ with_jamo_masks plan.now.plan_data buffer.old }

@@ -8,7 +8,7 @@ use Rattle.shapers_base.specs.declared.font.GlyphId.{GlyphId}
 use Rattle.shapers_base.specs.declared.plan.ot_category_t.TheConstants.{OT_C, OT_M, OT_MPst, OT_ZWJ, OT_ZWNJ}
 use Rattle.shapers_base.specs.declared.plan.ot_position_t.TheConstants.{POS_BASE_C}
 
--- glyphs by their numbers, as fonts are asked about them: those of fonts have 16 bits
+-- glyphs by their numbers, as fonts take them: those of fonts have 16 bits
 abbrev pub number : hb_glyph_info_t → GlyphId
 number g = record { 0 = g.glyph_id % 65536 }
 

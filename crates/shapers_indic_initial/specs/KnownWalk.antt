@@ -1,4 +1,4 @@
--- Words of the code's walk that gives consonants positions by the font and keeps what it asked.
+-- Words of the code's walk that gives consonants positions by the font and keeps what it found.
 use Rattle.std.specs.Prelude.{◌≡◌, ◌==◌, ◌||◌, Bool, List, All, length, not}
 use Rattle.shapers_base.specs.declared.font.GlyphId.{GlyphId}
 use Rattle.shapers_base.specs.declared.plan.indic.IndicWouldSubstituteFeature.{IndicWouldSubstituteFeature}

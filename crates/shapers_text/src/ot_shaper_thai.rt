@@ -30,6 +30,7 @@ const THAI: Script = Script(*b"Thai");
 /// them.
 /// Refuses as a growth does, and takes no memory for a text without SARA AM. (OpenType's notes on
 /// Thai and Lao, and the note on Thai OpenType shaping.)
+#[inline]
 pub fn preprocess_text<F: hb_font_t>(
     plan: &hb_ot_shape_plan_t,
     face: &F,
@@ -59,6 +60,7 @@ pub fn preprocess_text<F: hb_font_t>(
 
 /// `preprocess_text`, which returns whether it rewrote the text: where there is no SARA AM and the
 /// plan asks for no private use forms, it returns false and has changed nothing.
+#[inline]
 pub fn preprocess_text_changes<F: hb_font_t>(
     plan: &hb_ot_shape_plan_t,
     face: &F,
@@ -82,7 +84,8 @@ pub fn preprocess_text_changes<F: hb_font_t>(
     Ok(true)
 }
 
-// Whether the plan asks for private use forms.
+// Whether the plan wants private use forms.
+#[inline]
 fn wants_forms(plan: &hb_ot_shape_plan_t) -> bool
     ensures { result ≡ asks_for_forms plan.now }
 {
@@ -90,6 +93,7 @@ fn wants_forms(plan: &hb_ot_shape_plan_t) -> bool
 }
 
 // Whether the script is Thai.
+#[inline]
 fn is_thai(script: Option<Script>) -> bool
     ensures { result ≡ is_thai script }
 {

@@ -22,8 +22,9 @@ use shapers_universal::ot_shaper_use::universal_cuts_between_spans;
 /// The headline, of each call that didn't refuse, from what its contract says. Each Arabic action is
 /// the written rule of three joining types, so cut halves whose contexts show the neighbours act as
 /// the whole, one opening run of selectors apart. Every pause that reorders regroups each syllable
-/// by itself. A fitting stretched mark is its word's width, or wider by less than one unit an added
-/// copy.
+/// by itself. A stretched mark that fits is as wide as its word, or wider by less than one unit
+/// per added copy.
+#[inline]
 pub fn headline()
     ensures actions { ActionsByRule }
     ensures syllables { SyllablesRegrouped }
@@ -38,6 +39,7 @@ pub fn headline()
 /// what joining flags by itself are the places where the first half loses a form, and what Sound
 /// flags those where either does. Texts without a flag at their borders may be put together, and
 /// edits stay near.
+#[inline]
 pub fn breaks_law()
     ensures texts { TextsBreakAsFlagged }
     ensures as_code { AsCodeLaw }
@@ -61,6 +63,7 @@ pub fn stretches_cover_law()
 /// For each shaper of syllables a set-up and the reorderings that run directly after it, cut between
 /// any two spans, give what they give on the halves, one after the other; clusters too where the
 /// halves share none. The halves' bytes may have other serials.
+#[inline]
 pub fn cuts_at_borders_law()
     ensures khmer { KhmerIsCut }
     ensures myanmar { MyanmarIsCut }

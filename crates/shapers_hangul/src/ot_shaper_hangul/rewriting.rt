@@ -16,6 +16,7 @@ use shapers_base::font::hb_font_t;
 use std::alloc::Global;
 
 // The item at a place of the text.
+#[inline]
 fn item_at<F: hb_font_t>(face: &F, circles: bool, glyphs: &[hb_glyph_info_t], place: usize) -> Item
     requires { place < length glyphs.now }
     ensures item { let us = characters (drop place glyphs.now) in
@@ -36,6 +37,7 @@ fn rest_from(glyphs: &[hb_glyph_info_t], place: usize) -> &[hb_glyph_info_t]
 }
 
 // Whether the item at a place of the text is one character that stays as it is.
+#[inline]
 fn stays_at<F: hb_font_t>(face: &F, circles: bool, glyphs: &[hb_glyph_info_t], place: usize) -> bool
     requires { place < length glyphs.now }
     ensures { let us = characters (drop place glyphs.now) in
@@ -46,6 +48,7 @@ fn stays_at<F: hb_font_t>(face: &F, circles: bool, glyphs: &[hb_glyph_info_t], p
 }
 
 // How far the text stays as it is: the place of the first item that changes it, or its end.
+#[inline]
 fn kept_len<F: hb_font_t>(face: &F, circles: bool, glyphs: &[hb_glyph_info_t]) -> usize
     ensures kept { KeptBefore (F.font face.now) circles glyphs.now result }
     ensures stops { let us = characters (drop result glyphs.now) in
@@ -98,6 +101,7 @@ impl Cut {
 
 // The length of the result, where the text stays up to the place `kept`, and the items that change
 // it from there on. Refuses where the result would be longer than `limit`, and for nothing else.
+#[inline]
 fn measure<F: hb_font_t>(
     face: &F,
     circles: bool,
@@ -130,6 +134,7 @@ fn measure<F: hb_font_t>(
 }
 
 // Flags and merges what the items flag and merge, one after another.
+#[inline]
 fn join_items(cut: &[(usize, Item)], level: BufferClusterLevel, glyphs: &mut [hb_glyph_info_t])
     requires { Fit (length glyphs.old) cut.now }
     ensures { glyphs.new ≡ all_joined level cut.now glyphs.old }
@@ -140,6 +145,7 @@ fn join_items(cut: &[(usize, Item)], level: BufferClusterLevel, glyphs: &mut [hb
 }
 
 // Adds the text from one place to another.
+#[inline]
 fn write_stretch(
     glyphs: &[hb_glyph_info_t],
     place: usize,
@@ -160,6 +166,7 @@ fn write_stretch(
 }
 
 // Adds the text from a place on up to an item, and what the item becomes.
+#[inline]
 fn write_change(
     entry: &(usize, Item),
     glyphs: &[hb_glyph_info_t],
@@ -177,6 +184,7 @@ fn write_change(
 }
 
 // Adds the text from a place on, in which these items become what they become.
+#[inline]
 fn write_changes(
     cut: &[(usize, Item)],
     glyphs: &[hb_glyph_info_t],
@@ -199,6 +207,7 @@ fn write_changes(
 
 // The text rewritten, to a length that is known: what its items flag and merge, on the old places,
 // and then what they become, behind what stays.
+#[inline]
 fn rewritten(
     cut: &[(usize, Item)],
     level: BufferClusterLevel,
@@ -223,6 +232,7 @@ fn rewritten(
 }
 
 // Whether the caller lets circles be inserted.
+#[inline]
 fn wants_circles(buffer: &hb_buffer_t) -> bool
     ensures { result ≡ wants_circles buffer.now }
 {
@@ -232,6 +242,7 @@ fn wants_circles(buffer: &hb_buffer_t) -> bool
 }
 
 /// Rewrites the text, unless every character stays as it is, and returns whether it did.
+#[inline]
 pub(super) fn rewrite_changes<F: hb_font_t>(
     face: &F,
     buffer: &mut hb_buffer_t,
@@ -254,6 +265,7 @@ pub(super) fn rewrite_changes<F: hb_font_t>(
 }
 
 // Rewrites the text.
+#[inline]
 pub(super) fn rewrite<F: hb_font_t>(face: &F, buffer: &mut hb_buffer_t) -> Result<(), ShaperError>
     requires { buffer.old.positions ≡ [] }
     ensures ok { OnOk result (buffer.new ≡ rewritten (F.font face.now) buffer.old) }

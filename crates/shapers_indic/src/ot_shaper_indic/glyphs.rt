@@ -1,4 +1,4 @@
-//! What both reorderings ask of a glyph.
+//! What both reorderings read of a glyph.
 ghost use Rattle.std.specs.Prelude.{◌≡◌};
 ghost use Rattle.shapers_indic.specs.Glyphs.{is_joiner, is_matra, is_plain_consonant, number};
 
@@ -7,7 +7,7 @@ use shapers_base::font::GlyphId;
 use shapers_base::plan::ot_category_t::{OT_C, OT_M, OT_MPst, OT_ZWJ, OT_ZWNJ};
 use shapers_base::plan::ot_position_t::POS_BASE_C;
 
-/// A glyph as fonts are asked about it.
+/// The glyph's number, as fonts take it.
 #[inline]
 pub fn number(glyph: &hb_glyph_info_t) -> GlyphId
     ensures { result ≡ number glyph.now }

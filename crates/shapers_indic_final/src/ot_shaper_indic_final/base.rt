@@ -342,7 +342,7 @@ fn set_along_links(base: usize, glyphs: &mut [hb_glyph_info_t]) -> usize
 }
 
 // Gives the last glyph of a link, of place `i`, the base's position, if its below-base form was not
-// made. Answers the base then, which was `last` before.
+// made. Returns the base then, which was `last` before.
 #[inline]
 fn set_link(glyph: &mut hb_glyph_info_t, i: usize, last: usize) -> usize
     ensures glyph { glyph.new ≡ as_linked glyph.old }

@@ -58,7 +58,7 @@ fn has_forms(plan: &indic_shape_plan_t, map: &hb_ot_map_t) -> bool
 // How many consonants are known at once.
 const KNOWN: usize = 32;
 
-// A consonant and its position by the font. It is known so that the font isn't asked again.
+// A consonant and its position by the font, kept so that the font isn't queried again.
 #[derive(Clone, Copy)]
 struct Known {
     consonant: GlyphId,
@@ -105,7 +105,7 @@ impl<'a, F: hb_font_t> ByVirama<'a, F> {
         }
     }
 
-    // The position of a consonant, for which the font is asked only where it isn't known.
+    // The position of a consonant, for which the font is queried only where it isn't known.
     #[inline]
     fn position_of(&self, known: &mut [Known; KNOWN], consonant: GlyphId) -> Position
         requires { let font = F.font self.now.face.now in

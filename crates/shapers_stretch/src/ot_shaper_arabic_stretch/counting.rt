@@ -14,6 +14,7 @@ use shapers_base::plan::StretchStart;
 
 /// How many cells a text has more when it is stretched, unless one of its numbers doesn't fit 32
 /// bits.
+#[inline]
 pub(super) fn count_added<F: hb_font_t>(
     face: &F,
     choice: StretchStart,
@@ -51,6 +52,7 @@ struct Counted {
 }
 
 // Counts the last part of a text, unless one of its numbers doesn't fit 32 bits.
+#[inline]
 fn count_last<F: hb_font_t>(
     face: &F,
     choice: StretchStart,

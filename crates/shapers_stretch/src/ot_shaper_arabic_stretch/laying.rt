@@ -56,6 +56,7 @@ impl<'a, F: hb_font_t> PositionedWalk for TileLaying<'a, F> {
 }
 
 /// Stretches the text of the first `len` cells over the whole slices.
+#[inline]
 pub(super) fn lay_all<F: hb_font_t>(
     face: &F,
     choice: StretchStart,
@@ -88,6 +89,7 @@ struct Unlaid {
 }
 
 // Lays the last part of the unlaid text: its run first, then what stands before it moves up.
+#[inline]
 fn lay_last<F: hb_font_t>(
     face: &F,
     choice: StretchStart,

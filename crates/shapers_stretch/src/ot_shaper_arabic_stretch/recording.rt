@@ -12,6 +12,7 @@ use shapers_base::plan::{PlanData, hb_ot_shape_plan_t};
 /// Where the font stretches marks, gives each multiplied glyph the action of its tile, which
 /// repeats if the glyph's component is odd, and marks the buffer if there is one. It can't refuse
 /// and takes no memory. (OpenType `stch`.)
+#[inline]
 pub fn record_stch(plan: &hb_ot_shape_plan_t, buffer: &mut hb_buffer_t)
     requires { IsArabic plan.now.plan_data }
     ensures { buffer.new ≡ tiles_recorded plan.now.plan_data buffer.old }
@@ -27,6 +28,7 @@ pub fn record_stch(plan: &hb_ot_shape_plan_t, buffer: &mut hb_buffer_t)
 }
 
 // The same where the font stretches marks.
+#[inline]
 fn record_tiles(buffer: &mut hb_buffer_t)
     ensures { buffer.new ≡ with_tiles buffer.old }
 {

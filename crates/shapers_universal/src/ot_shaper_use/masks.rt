@@ -11,6 +11,7 @@ use shapers_base::plan::{PlanData, hb_ot_shape_plan_t};
 /// Gives each letter its form, the form's mask and the glyph flags of joining, where the plan has a
 /// plan of Arabic, and each glyph the category of its character in the universal shaper. It can't
 /// refuse and takes no memory.
+#[inline]
 pub fn setup_masks<T: Tables>(plan: &hb_ot_shape_plan_t, tables: &T, buffer: &mut hb_buffer_t)
     requires data { is_universal plan.now.plan_data ≡ true }
     requires characters { CanJoin (arabic_of plan.now.plan_data) buffer.old.glyphs }

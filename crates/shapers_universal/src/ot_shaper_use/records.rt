@@ -14,6 +14,7 @@ use shapers_base::plan::{PlanData, hb_ot_shape_plan_t};
 
 /// Among the leading glyphs of each syllable that have the mask of `rphf`, the first that a lookup
 /// put in becomes a reph. It takes no memory.
+#[inline]
 pub fn record_rphf(plan: &hb_ot_shape_plan_t, buffer: &mut hb_buffer_t)
     requires { is_universal plan.now.plan_data ≡ true }
     ensures { buffer.new ≡ with_rphf_recorded (rphf_of plan.now.plan_data) buffer.old }
@@ -31,6 +32,7 @@ pub fn record_rphf(plan: &hb_ot_shape_plan_t, buffer: &mut hb_buffer_t)
 
 /// In each syllable the first glyph that a lookup put in becomes one that stands before the base.
 /// It takes no memory.
+#[inline]
 pub fn record_pref(buffer: &mut hb_buffer_t)
     ensures { buffer.new ≡ with_pref_recorded buffer.old }
 {

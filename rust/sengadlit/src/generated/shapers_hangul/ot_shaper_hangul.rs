@@ -24,7 +24,7 @@ const REQUESTS: [Request; 3] = [
 // Some fonts put all jamo forms into `calt` as well, so it stays off.
 const OVERRIDES: [Request; 1] = [Request::Feature(Tag(*b"calt"), F_GLOBAL, 0)];
 
-/// Asks for the forms of jamo.
+/// Requests the forms of jamo.
 /// The only refusal is `Memory`, which leaves the planner as it was.
 ///
 /// <details><summary>Contract</summary>
@@ -96,6 +96,7 @@ pub fn override_features(planner: &mut Planner) -> Result<(), ShaperError> {
 /// - `AllKept`, `KeepsClusters`, `KeepsGlyphFlags`, `SpellsByUnits`, `SpellsSame`: crates/shapers_hangul/specs/HangulLaws.antt
 ///
 /// </details>
+#[inline]
 pub fn preprocess_text<F: Font>(
     _plan: &Plan,
     face: &F,
@@ -126,6 +127,7 @@ pub fn preprocess_text<F: Font>(
 /// - `AllKept`: crates/shapers_hangul/specs/HangulLaws.antt
 ///
 /// </details>
+#[inline]
 pub fn preprocess_text_changes<F: Font>(
     _plan: &Plan,
     face: &F,
@@ -210,6 +212,7 @@ pub fn setup_masks_in(hangul_plan: &HangulPlan, glyphs: &mut [GlyphInfo]) {
 /// - `is_hangul_data`, `with_jamo_masks`: crates/shapers_hangul/specs/Masks.antt
 ///
 /// </details>
+#[inline]
 pub fn setup_masks(plan: &Plan, buffer: &mut Buffer) {
     match &plan.plan_data {
         PlanData::Hangul(data) => {

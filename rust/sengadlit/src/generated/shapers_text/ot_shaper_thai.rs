@@ -52,6 +52,7 @@ const THAI: Script = Script(*b"Thai");
 /// - `ClustersInTwo`, `FlagsInTwo`, `KeptInTwo`: crates/shapers_text/specs/ThaiLaws.antt
 ///
 /// </details>
+#[inline]
 pub fn preprocess_text<F: Font>(
     plan: &Plan,
     face: &F,
@@ -88,6 +89,7 @@ pub fn preprocess_text<F: Font>(
 /// - `asks_for_forms`, `preprocessed_in_thai`: crates/shapers_text/specs/ThaiForms.antt
 ///
 /// </details>
+#[inline]
 pub fn preprocess_text_changes<F: Font>(
     plan: &Plan,
     face: &F,
@@ -100,12 +102,14 @@ pub fn preprocess_text_changes<F: Font>(
     Ok(true)
 }
 
-// Whether the plan asks for private use forms.
+// Whether the plan wants private use forms.
+#[inline]
 fn wants_forms(plan: &Plan) -> bool {
     is_thai(plan.script) && !plan.ot_map.found_script(TableIndex::GSUB)
 }
 
 // Whether the script is Thai.
+#[inline]
 fn is_thai(script: Option<Script>) -> bool {
     match script {
         None => false,

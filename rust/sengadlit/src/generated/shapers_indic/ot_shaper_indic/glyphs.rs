@@ -1,13 +1,13 @@
 //! Generated from crates/shapers_indic/src/ot_shaper_indic/glyphs.rt by rust/erase; edit the source.
 //!
-//! What both reorderings ask of a glyph.
+//! What both reorderings read of a glyph.
 
 use crate::generated::shapers_base::buffer::GlyphInfo;
 use crate::generated::shapers_base::font::GlyphId;
 use crate::generated::shapers_base::plan::ot_category_t::{OT_C, OT_M, OT_MPst, OT_ZWJ, OT_ZWNJ};
 use crate::generated::shapers_base::plan::ot_position_t::POS_BASE_C;
 
-/// A glyph as fonts are asked about it.
+/// The glyph's number, as fonts take it.
 ///
 /// <details><summary>Contract</summary>
 ///

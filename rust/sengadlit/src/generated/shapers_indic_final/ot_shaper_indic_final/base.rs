@@ -243,7 +243,7 @@ fn set_along_links(base: usize, glyphs: &mut [GlyphInfo]) -> usize {
 }
 
 // Gives the last glyph of a link, of place `i`, the base's position, if its below-base form was not
-// made. Answers the base then, which was `last` before.
+// made. Returns the base then, which was `last` before.
 #[inline]
 fn set_link(glyph: &mut GlyphInfo, i: usize, last: usize) -> usize {
     if is_unformed_below(glyph) {

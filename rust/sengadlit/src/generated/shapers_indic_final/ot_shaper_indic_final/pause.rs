@@ -35,6 +35,7 @@ use crate::generated::shapers_indic::ot_shaper_indic::indic_in;
 /// - `NoNewCluster`: crates/shapers_syllabic/specs/CircleLaws.antt
 ///
 /// </details>
+#[inline]
 pub fn final_reordering<F: Font>(plan: &Plan, face: &F, buffer: &mut Buffer) {
     let rules = Rules::new(indic_in(plan), face);
     let script = buffer.script();

@@ -49,7 +49,7 @@ fn has_forms(plan: &IndicPlan, map: &Map) -> bool {
 // How many consonants are known at once.
 const KNOWN: usize = 32;
 
-// A consonant and its position by the font. It is known so that the font isn't asked again.
+// A consonant and its position by the font, kept so that the font isn't queried again.
 #[derive(Clone, Copy)]
 struct Known {
     consonant: GlyphId,
@@ -87,7 +87,7 @@ impl<'a, F: Font> ByVirama<'a, F> {
         }
     }
 
-    // The position of a consonant, for which the font is asked only where it isn't known.
+    // The position of a consonant, for which the font is queried only where it isn't known.
     #[inline]
     fn position_of(&self, known: &mut [Known; KNOWN], consonant: GlyphId) -> Position {
         let slot = usize::from(consonant.0) % KNOWN;

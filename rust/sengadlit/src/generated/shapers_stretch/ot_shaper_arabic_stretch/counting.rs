@@ -11,6 +11,7 @@ use crate::generated::shapers_base::plan::StretchStart;
 
 /// How many cells a text has more when it is stretched, unless one of its numbers doesn't fit 32
 /// bits.
+#[inline]
 pub(super) fn count_added<F: Font>(
     face: &F,
     choice: StretchStart,
@@ -42,6 +43,7 @@ struct Counted {
 }
 
 // Counts the last part of a text, unless one of its numbers doesn't fit 32 bits.
+#[inline]
 fn count_last<F: Font>(
     face: &F,
     choice: StretchStart,

@@ -38,6 +38,7 @@ impl<'a, F: Font> PositionedWalk for TileLaying<'a, F> {
 }
 
 /// Stretches the text of the first `len` cells over the whole slices.
+#[inline]
 pub(super) fn lay_all<F: Font>(
     face: &F,
     choice: StretchStart,
@@ -63,6 +64,7 @@ struct Unlaid {
 }
 
 // Lays the last part of the unlaid text: its run first, then what stands before it moves up.
+#[inline]
 fn lay_last<F: Font>(
     face: &F,
     choice: StretchStart,

@@ -25,6 +25,7 @@ use crate::generated::shapers_base::plan::{Plan, PlanData};
 /// - `tiles_recorded`: crates/shapers_stretch/specs/Recorded.antt
 ///
 /// </details>
+#[inline]
 pub fn record_stch(plan: &Plan, buffer: &mut Buffer) {
     match &plan.plan_data {
         PlanData::Arabic(arabic_plan) => {
@@ -37,6 +38,7 @@ pub fn record_stch(plan: &Plan, buffer: &mut Buffer) {
 }
 
 // The same where the font stretches marks.
+#[inline]
 fn record_tiles(buffer: &mut Buffer) {
     let mut recorder = TileRecorder { has_stch: false };
     buffer.walk(&mut recorder);

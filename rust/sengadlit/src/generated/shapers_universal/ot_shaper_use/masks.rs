@@ -28,6 +28,7 @@ use crate::generated::shapers_base::plan::{Plan, PlanData};
 /// - `BreaksAsJoining`, `CanJoin`, `MasksAreSet`: crates/shapers_universal/specs/UniversalMasks.antt
 ///
 /// </details>
+#[inline]
 pub fn setup_masks<T: Tables>(plan: &Plan, tables: &T, buffer: &mut Buffer) {
     match &plan.plan_data {
         PlanData::Universal(universal_plan) => {

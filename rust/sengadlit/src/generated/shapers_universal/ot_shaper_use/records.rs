@@ -23,6 +23,7 @@ use crate::generated::shapers_base::plan::{Plan, PlanData};
 /// - `with_rphf_recorded`: crates/shapers_universal/specs/UniversalSyllables.antt
 ///
 /// </details>
+#[inline]
 pub fn record_rphf(plan: &Plan, buffer: &mut Buffer) {
     match &plan.plan_data {
         PlanData::Universal(universal_plan) => {
@@ -49,6 +50,7 @@ pub fn record_rphf(plan: &Plan, buffer: &mut Buffer) {
 /// - `with_pref_recorded`: crates/shapers_universal/specs/UniversalSyllables.antt
 ///
 /// </details>
+#[inline]
 pub fn record_pref(buffer: &mut Buffer) {
     buffer.walk(&mut EachFront {
         change: &RecordPref,
