@@ -16,7 +16,7 @@ use Rattle.rustybuzz_shapers.specs.Pauses.{Reordered, by_initial, by_khmer, by_m
 pub khmer_is_cut : KhmerCutsBetweenSpans → KhmerIsCut
 khmer_is_cut law plan font spans unread old mid new kinds set_up reordered =
     let r = by_khmer plan font mid in
-    law (order_in plan.plan_data) r.circles spans old new kinds (subst (λ (b : Buffer). Reordered r b new) set_up reordered)
+    law (order_in plan.plan_data) r.circles spans old new kinds (subst (λ (b : Buffer). Reordered r b new) set_up reordered.0)
 
 pub myanmar_is_cut : MyanmarCutsBetweenSpans → MyanmarIsCut
 myanmar_is_cut law plan font spans unread old mid new kinds set_up reordered =

@@ -44,7 +44,7 @@ pub syllables_regrouped : SyllablesRegrouped
 syllables_regrouped InitialReordering plan font spans old new done =
     let laws = order_by_font_laws font plan.ot_map (indic_in plan) old.script in
     record { order = done.0.order; numbers = numbers_by _ _ _ new laws done.0; each = each_kept _ _ laws }
-syllables_regrouped ReorderKhmer plan font spans old new done = let laws = khmer_laws (order_in plan.plan_data) in record { order = done.order; numbers = numbers_by _ _ _ new laws done; each = each_kept _ _ laws }
+syllables_regrouped ReorderKhmer plan font spans old new done = let laws = khmer_laws (order_in plan.plan_data) in record { order = done.0.order; numbers = numbers_by _ _ _ new laws done.0; each = each_kept _ _ laws }
 syllables_regrouped ReorderMyanmar plan font spans old new done = record { order = done.order; numbers = numbers_by _ _ _ new myanmar_laws done; each = each_kept _ _ myanmar_laws }
 syllables_regrouped ReorderUse plan font spans old new done = record { order = done.order; numbers = numbers_by _ _ _ new universal_laws done; each = each_kept _ _ universal_laws }
 syllables_regrouped FinalReordering plan font spans old new done = record { order = done.order; numbers = (finally_kept (final_rules font (indic_in plan)) old new done).numbers; each = each_kept _ _ (final_laws (final_rules font (indic_in plan)) old.script) }

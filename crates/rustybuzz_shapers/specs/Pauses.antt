@@ -163,7 +163,8 @@ Paused SetupSyllablesUse plan font spans old new =
 Paused InitialReordering plan font spans old new =
     Reordered (by_initial plan font old) old new
     × InitiallyReordered font plan.ot_map (indic_in plan) old new
-Paused ReorderKhmer plan font spans old new = Reordered (by_khmer plan font old) old new
+Paused ReorderKhmer plan font spans old new =
+    Reordered (by_khmer plan font old) old new × Reordered (by_khmer_movers plan font old) old new
 Paused ReorderMyanmar plan font spans old new = Reordered (by_myanmar font old) old new
 Paused ReorderUse plan font spans old new = Reordered (by_universal font old) old new
 Paused FinalReordering plan font spans old new =
@@ -200,7 +201,7 @@ ClustersStay old new = clusters new.glyphs ≡ clusters old.glyphs
 -- The laws of a pause: spans may be cut between any two, and texts at any border of syllables;
 -- what becomes of clusters and glyph flags. What doesn't reorder leaves clusters, and only adds
 -- flags. In the initial reordering of Indic clusters merge by the cycles of its order, in the final
--- one by its moves. The movers of a regular syllable of Khmer stand in front, the last one first.
+-- one by its moves.
 abbrev pub PauseKeeps : Pause → hb_ot_shape_plan_t → Font → List Span → Buffer → Buffer → Type 0
 PauseKeeps SetupSyllablesIndic plan font spans old new =
     SetUpCutsAtSpans spans 4 old new × ClustersStay old new
@@ -218,7 +219,6 @@ PauseKeeps InitialReordering plan font spans old new =
     × InitiallyMerged font plan.ot_map (indic_in plan) old new
 PauseKeeps ReorderKhmer plan font spans old new =
     ReorderingKeeps (by_khmer plan font old) old new × MergedFirst (by_khmer plan font old) old new
-    × Reordered (by_khmer_movers plan font old) old new
 PauseKeeps ReorderMyanmar plan font spans old new =
     ReorderingKeeps (by_myanmar font old) old new × MergedFirst (by_myanmar font old) old new
 PauseKeeps ReorderUse plan font spans old new =
