@@ -1,8 +1,8 @@
 //! The script shapers: each hook and pause is that of the crate `sengadlit`, on a text that glyphs are copied into and
 //! back. What one host has otherwise than another is in `parts`.
 //!
-//! A glyph of the host fits whole: `var` carries its glyph and ligature properties, a spare bit of the marks HIDDEN,
-//! the combining class the high byte of its Unicode properties. After a pause the text is the newer of the two until
+//! A glyph of the host fits whole: `var` carries its glyph and ligature properties, the combining class the high byte of
+//! its Unicode properties, and bits 3 to 5 of the marks IGNORABLE, HIDDEN and CONTINUATION. After a pause the text is the newer of the two until
 //! lookups are about to read the buffer (`settle`), so that a run of pauses copies once.
 
 use alloc::boxed::Box;
@@ -111,9 +111,7 @@ const CATEGORIES: [GeneralCategory; 32] = {
 #[inline(always)]
 fn glyph_of(info: &Info) -> Glyph {
     let props = info.unicode_props();
-    let substitution = (info.glyph_props() >> 4) as u8 & 7;
-    // IGNORABLE, CONTINUATION, HIDDEN
-    let flags = (props >> 2) as u8 & 8 | (props >> 3) as u8 & 16 | (props >> 1) as u8 & 32;
+    let marks = (info.glyph_props() >> 4) as u8 & 7 | (props >> 2) as u8 & 0x38;
     Glyph {
         glyph_id: info.glyph_id,
         cluster: info.cluster,
@@ -125,19 +123,18 @@ fn glyph_of(info: &Info) -> Glyph {
         general_category: CATEGORIES[usize::from(props & 31)],
         modified_combining_class: (props >> 8) as u8,
         lig_comp: parts::lig_comp(info),
-        marks: GlyphMarks(substitution | flags),
+        marks: GlyphMarks(marks),
     }
 }
 
 #[inline(always)]
 fn info_of(glyph: &Glyph) -> Info {
     let marks = u16::from(glyph.marks.0);
-    let flags = (marks & 8) << 2 | (marks & 16) << 3 | (marks & 32) << 1;
     let class = u16::from(glyph.modified_combining_class) << 8;
     let mut info = parts::info(glyph.glyph_id, glyph.mask, glyph.cluster, glyph.var);
     info.set_glyph_props(info.glyph_props() & !0x70 | (marks & 7) << 4);
     info.set_syllable(glyph.syllable);
-    info.set_unicode_props(glyph.general_category as u16 | flags | class);
+    info.set_unicode_props(glyph.general_category as u16 | (marks & 0x38) << 2 | class);
     info.set_ot_shaper_var_u8_category(glyph.category);
     info.set_ot_shaper_var_u8_auxiliary(glyph.auxiliary);
     info
@@ -255,8 +252,22 @@ fn preprocess_text<const S: usize>(plan: &hb_ot_shape_plan_t, font: FontRef, buf
     if matches!(shaper, Shaper::Indic | Shaper::Universal) {
         super::ot_shaper_vowel_constraints::preprocess_text_vowel_constraints(buffer);
     } else if may_rewrite(shaper, plan_of(plan), font, &buffer.info[..buffer.len]) {
-        on_text(buffer, 0..buffer.len, |text| shaper.preprocess_text(plan_of(plan), &parts::font(font), text));
+        on_text(buffer, 0..buffer.len, |text| {
+            exchange_flags(text);
+            shaper.preprocess_text(plan_of(plan), &parts::font(font), text)?;
+            exchange_flags(text);
+            Ok(())
+        });
     }
+}
+
+/// Lets HIDDEN and CONTINUATION change places: Thai marks continuations, and no other hook reads or sets these two.
+fn exchange_flags(text: &mut Buffer) {
+    text.with_glyphs_mut(|glyphs| {
+        for GlyphMarks(bits) in glyphs.iter_mut().map(|glyph| &mut glyph.marks) {
+            *bits = *bits & !0x30 | (*bits & 0x10) << 1 | (*bits & 0x20) >> 1;
+        }
+    });
 }
 
 /// Whether preprocessing may change a text. It leaves Thai without SARA AM where GSUB has the script, and Hangul of
