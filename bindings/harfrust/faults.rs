@@ -1,7 +1,7 @@
 //! What harfrust 0.12.0 does otherwise than the proved hooks, through its own interface: what it gives as it is, and what it
 //! gives with the hooks. Where the comment doesn't say otherwise, HarfBuzz 6.0.0 gives what the hooks do. Clusters are bytes.
 
-use programs::fonts::{font, with_tracking, without};
+use programs::fonts::{font, pref_without_ra, with, with_tracking, without};
 use programs::{proved, stock, text_of, Setting, Shaped};
 
 const NOTO: &str = "truetype/noto";
@@ -96,6 +96,21 @@ fn sums_of_a_stretch_wrap() {
     let moved = |shaped: &Shaped| shaped.glyphs().iter().filter(|glyph| glyph.offset.0 != 0).count();
     assert!(matches!(stock, Shaped::Panic(_)) || moved(&stock) > 0);
     assert!(!proved.glyphs().is_empty() && moved(&proved) == 0);
+}
+
+/// Indic's final reordering: where the base is past the last glyph, the one behind the syllable is read, and what it is decides
+/// where a left matra goes. It takes a font that drops a glyph after the initial reordering: here RA, so that its virama is a
+/// `pref` that didn't form. What is read is the dropped RA, so that nothing panics; no font that is known does such a thing.
+#[test]
+fn the_glyph_behind_the_syllable_is_read() {
+    let plain = without(&noto("NotoSansMalayalam"), b"GSUB");
+    let glyph = |code_point: &str| u16::try_from(both_glyphs(&plain, code_point, Setting::default())[0].glyphs()[0].number).expect("a glyph");
+    let (ka, virama, ra, e) = (glyph("0D15"), glyph("0D4D"), glyph("0D30"), glyph("0D46"));
+    let font = with(&plain, b"GSUB", pref_without_ra(virama, ra, ka));
+    let numbers = |shaped: &Shaped| shaped.glyphs().iter().map(|glyph| glyph.number as u16).collect::<Vec<_>>();
+    let [stock, proved] = both_glyphs(&font, "0D15 0D4D 0D30 0D46", Setting::default());
+    assert_eq!(numbers(&stock), [e, ka, virama]);
+    assert_eq!(numbers(&proved), [ka, e, virama]);
 }
 
 // ---- Faults of other files ----

@@ -88,11 +88,11 @@ write_programs() {
     {
         printf '[package]\nname = "programs"\nversion = "0.0.0"\nedition = "2021"\nautobins = false\n\n'
         printf '[lib]\npath = "src/lib.rs"\n\n[features]\nshadow = ["proved/shadow"]\n\n[dependencies]\n'
-        for copy in stock proved reasons; do
-            printf '%s = { package = "%s", path = "../%s" }\n' "$copy" "$crate" "$copy"
+        for which in stock proved reasons; do
+            printf '%s = { package = "%s", path = "../%s" }\n' "$which" "$crate" "$which"
         done
-        for name in compare show shape_stock shape_proved; do
-            program "$name"
+        for binary in compare show shape_stock shape_proved; do
+            program "$binary"
         done
     } >"$made/programs/Cargo.toml"
 }
