@@ -9,7 +9,7 @@ use crate::hb::ot_layout::LayoutTable;
 use crate::hb::ot_layout_gsubgpos::WouldApplyContext;
 use crate::hb::unicode::CharExt;
 use crate::hb::{hb_tag_t, script, Script};
-use crate::GlyphId;
+use crate::{BufferFlags, GlyphId};
 
 pub use crate::hb::buffer::GlyphInfo as Info;
 pub use crate::hb::unicode::Codepoint;
@@ -44,22 +44,12 @@ impl WideGlyphs for FontFuncsDispatch<'_, '_> {
         let Some(gsub) = font.ot_tables.gsub.as_ref() else {
             return false;
         };
-        let mut room = [GlyphId::NOTDEF; 8];
-        let glyphs = glyphs_in(&mut room, glyphs);
-        let context = WouldApplyContext { glyphs, zero_context };
+        let context = WouldApplyContext { glyphs: bytemuck::cast_slice(glyphs), zero_context };
         lookups
             .iter()
             .filter_map(|lookup| gsub.get_lookup(*lookup))
             .any(|lookup| lookup.would_apply(font, &context) == Some(true))
     }
-}
-
-/// These numbers as glyphs: hooks ask about two or three.
-fn glyphs_in<'a>(room: &'a mut [GlyphId; 8], numbers: &[u32]) -> &'a [GlyphId] {
-    for (glyph, number) in room.iter_mut().zip(numbers) {
-        *glyph = GlyphId::new(*number);
-    }
-    &room[..numbers.len()]
 }
 
 // ---- Tables ----
@@ -109,9 +99,7 @@ pub fn character(c: Codepoint) -> Option<char> {
     char::from_u32(c)
 }
 
-pub fn character_or_replacement(c: Codepoint) -> char {
-    character(c).unwrap_or(char::REPLACEMENT_CHARACTER)
-}
+pub use sengadlit::buffer::context_characters as context;
 
 // ---- Glyphs ----
 
@@ -160,6 +148,13 @@ pub fn tag_of(tag: hb_tag_t) -> Tag {
 pub const fn hb_tag(tag: Tag) -> hb_tag_t {
     hb_tag_t::new(&tag.0)
 }
+
+pub fn flag_bits(flags: BufferFlags) -> u32 {
+    flags.bits()
+}
+
+/// Nothing is noted of masks.
+pub fn note_masks(_: u32, _: &mut hb_buffer_t) {}
 
 /// Hangul's marks are placed by their classes; HarfBuzz and rustybuzz don't place them.
 pub const fn places_marks(shaper: Shaper) -> bool {

@@ -150,42 +150,50 @@ fn position_of(position: &GlyphPosition) -> Position {
 
 // ---- The text that hooks work on ----
 
-/// The text of the hooks. It lives with the host's buffer, for its room.
+/// The text of the hooks. It stays with the host's buffer, for its room.
+#[derive(Default)]
 pub struct Work {
-    text: Buffer,
+    text: Option<Box<Buffer>>,
     /// Whether the text is newer than the host's buffer.
     is_newer: bool,
 }
 
 impl Work {
-    pub fn new() -> Self {
-        Work { text: Buffer::new(Global, 0), is_newer: false }
+    #[inline]
+    fn text(&mut self) -> &mut Buffer {
+        self.text.get_or_insert_with(Box::default)
     }
 }
 
 const HAS_BROKEN_SYLLABLE: hb_buffer_scratch_flags_t = HB_BUFFER_SCRATCH_FLAG_HAS_BROKEN_SYLLABLE;
 const HAS_STCH: hb_buffer_scratch_flags_t = HB_BUFFER_SCRATCH_FLAG_SHAPER0;
 
-/// Makes the text one of the glyphs at these places.
-fn load(buffer: &mut hb_buffer_t, places: Range<usize>) -> Result<(), ShaperError> {
+/// Makes the text one of the glyphs at these places, and returns it.
+#[inline(always)]
+fn load(
+    buffer: &mut hb_buffer_t,
+    places: Range<usize>,
+    glyph_of: impl Fn(&Info) -> Glyph,
+) -> Result<&mut Buffer, ShaperError> {
     let others = buffer.len - places.len();
-    let text = &mut buffer.work.text;
+    let text = buffer.work.text();
     let mut glyphs: Vec<Glyph> = text.take_glyphs().into();
     glyphs.clear();
     glyphs.extend(buffer.info[places].iter().map(glyph_of));
     text.set_max_len(buffer.max_len.max(buffer.len) - others);
     text.set_cluster_level(parts::cluster_level(buffer.cluster_level, buffer.script));
-    text.set_flags(BufferFlags::from_harfbuzz(buffer.flags.bits()));
+    text.set_flags(BufferFlags::from_harfbuzz(parts::flag_bits(buffer.flags)));
     text.set_direction(direction_of(buffer.direction));
     text.set_script(script_of(buffer.script));
     text.set_has_broken_syllable(buffer.scratch_flags & HAS_BROKEN_SYLLABLE != 0);
     text.set_has_stch(buffer.scratch_flags & HAS_STCH != 0);
-    text.replace_glyphs(glyphs.into())
+    text.replace_glyphs(glyphs.into())?;
+    Ok(text)
 }
 
 /// Puts the text's glyphs in place of those at these places.
 fn store(buffer: &mut hb_buffer_t, places: Range<usize>) {
-    let (old, new) = (places.len(), buffer.work.text.len());
+    let (old, new) = (places.len(), buffer.work.text().len());
     if new != old {
         let len = buffer.len;
         if !buffer.ensure(len.max(len - old + new)) {
@@ -194,21 +202,19 @@ fn store(buffer: &mut hb_buffer_t, places: Range<usize>) {
         buffer.info.copy_within(places.end..len, places.start + new);
         buffer.len = len - old + new;
     }
-    let text = &buffer.work.text;
+    let text = buffer.work.text();
+    let mut masks = 0;
     for (info, glyph) in buffer.info[places.start..].iter_mut().zip(text.glyphs()) {
         *info = info_of(glyph);
+        masks |= glyph.mask;
     }
-    store_marks(buffer);
-}
-
-/// Sets what the hooks marked of the whole text.
-fn store_marks(buffer: &mut hb_buffer_t) {
-    if buffer.work.text.has_broken_syllable() {
+    if text.has_broken_syllable() {
         buffer.scratch_flags |= HAS_BROKEN_SYLLABLE;
     }
-    if buffer.work.text.has_stch() {
+    if text.has_stch() {
         buffer.scratch_flags |= HAS_STCH;
     }
+    parts::note_masks(masks, buffer);
 }
 
 /// Brings the host's buffer up to date.
@@ -226,8 +232,7 @@ fn on_text<T>(
     places: Range<usize>,
     hook: impl FnOnce(&mut Buffer) -> Result<T, ShaperError>,
 ) {
-    let called = load(buffer, places.clone()).and_then(|()| hook(&mut buffer.work.text));
-    match called {
+    match load(buffer, places.clone(), glyph_of).and_then(hook) {
         Ok(_) => store(buffer, places),
         Err(_) => buffer.successful = false,
     }
@@ -249,16 +254,26 @@ fn preprocess_text<const S: usize>(plan: &hb_ot_shape_plan_t, font: FontRef, buf
     let shaper = SHAPERS[S];
     if matches!(shaper, Shaper::Indic | Shaper::Universal) {
         super::ot_shaper_vowel_constraints::preprocess_text_vowel_constraints(buffer);
-    } else if may_rewrite(shaper, plan_of(plan), buffer) {
+    } else if may_rewrite(shaper, plan_of(plan), font, &buffer.info[..buffer.len]) {
         on_text(buffer, 0..buffer.len, |text| shaper.preprocess_text(plan_of(plan), &parts::font(font), text));
     }
 }
 
-/// Whether preprocessing may change the text: Thai without SARA AM it changes where GSUB has not the script alone.
-fn may_rewrite(shaper: Shaper, plan: &Plan, buffer: &hb_buffer_t) -> bool {
-    shaper != Shaper::Thai
-        || !plan.ot_map.found_script(sengadlit::map::TableIndex::GSUB)
-        || buffer.info[..buffer.len].iter().any(|info| info.glyph_id & !0x80 == 0x0E33)
+/// Whether preprocessing may change a text. It leaves Thai without SARA AM where GSUB has the script, and Hangul of
+/// syllables that the font has.
+fn may_rewrite(shaper: Shaper, plan: &Plan, font: FontRef, infos: &[Info]) -> bool {
+    let mut characters = infos.iter().map(|info| info.glyph_id);
+    match shaper {
+        Shaper::Thai if plan.ot_map.found_script(sengadlit::map::TableIndex::GSUB) => {
+            characters.any(|c| matches!(c, 0x0E33 | 0x0EB3))
+        }
+        Shaper::Hangul => characters.any(|c| match c {
+            0x1100..=0x11FF | 0x302E..=0x302F | 0xA960..=0xA97F | 0xD7B0..=0xD7FF => true,
+            0xAC00..=0xD7A3 => !font.has_glyph(c),
+            _ => false,
+        }),
+        _ => true,
+    }
 }
 
 fn setup_masks<const S: usize>(plan: &hb_ot_shape_plan_t, _: FontRef, buffer: &mut hb_buffer_t) {
@@ -302,15 +317,35 @@ fn joins(plan: &Plan) -> bool {
     plan.plan_data.universal().is_some_and(|data| data.arabic_plan.is_some())
 }
 
+/// Sets the masks of letters that join, of which characters, clusters and general categories are read.
 fn setup_joining_masks(shaper: Shaper, plan: &Plan, buffer: &mut hb_buffer_t) {
-    let contexts = buffer.context.map(|side| side.map(parts::character_or_replacement));
-    let [before, after] = buffer.context_len;
-    on_text(buffer, 0..buffer.len, |text| {
-        text.set_pre_context(&contexts[0][..before]);
-        text.set_post_context(&contexts[1][..after]);
-        shaper.setup_masks(plan, &FeaturesOnly(|_: Tag| false), &Ucd, text);
-        Ok(())
-    });
+    let [before, after] = buffer.context;
+    let [before_len, after_len] = buffer.context_len;
+    let Ok(text) = load(buffer, 0..buffer.len, letter_of) else {
+        buffer.successful = false;
+        return;
+    };
+    text.set_pre_context(&parts::context(&before[..before_len]));
+    text.set_post_context(&parts::context(&after[..after_len]));
+    shaper.setup_masks(plan, &FeaturesOnly(|_: Tag| false), &Ucd, text);
+    let mut masks = 0;
+    for (info, glyph) in buffer.info.iter_mut().zip(buffer.work.text().glyphs()) {
+        info.mask = glyph.mask;
+        masks |= glyph.mask;
+        info.set_ot_shaper_var_u8_category(glyph.category);
+        info.set_ot_shaper_var_u8_auxiliary(glyph.auxiliary);
+    }
+    parts::note_masks(masks, buffer);
+}
+
+fn letter_of(info: &Info) -> Glyph {
+    Glyph {
+        glyph_id: info.glyph_id,
+        cluster: info.cluster,
+        mask: info.mask,
+        general_category: CATEGORIES[usize::from(info.unicode_props() & 31)],
+        ..Glyph::DEFAULT
+    }
 }
 
 /// Merges reach over neighbours of the same cluster and no further, so the call reads these besides.
@@ -360,11 +395,12 @@ fn postprocess_glyphs<const S: usize>(plan: &hb_ot_shape_plan_t, font: FontRef, 
         text.set_positions(positions.into());
         SHAPERS[S].postprocess_glyphs(plan_of(plan), &parts::font(font), text)
     });
-    for (to, from) in buffer.pos.iter_mut().zip(buffer.work.text.positions()) {
+    let text = buffer.work.text();
+    for (to, from) in buffer.pos.iter_mut().zip(text.positions()) {
         let &Position { x_advance, y_advance, x_offset, y_offset } = from;
         *to = GlyphPosition { x_advance, y_advance, x_offset, y_offset, ..*to };
     }
-    buffer.work.text.take_positions();
+    text.take_positions();
 }
 
 // ---- Pauses ----
@@ -400,8 +436,8 @@ fn pause<const P: usize>(plan: &hb_ot_shape_plan_t, font: FontRef, buffer: &mut 
         return false;
     }
     find_syllables(pause, buffer);
-    let loaded = if buffer.work.is_newer { Ok(()) } else { load(buffer, 0..buffer.len) };
-    let done = loaded.and_then(|()| run(pause, plan, font, &mut buffer.work.text));
+    let loaded = if buffer.work.is_newer { Ok(buffer.work.text()) } else { load(buffer, 0..buffer.len, glyph_of) };
+    let done = loaded.and_then(|text| run(pause, plan, font, text));
     buffer.work.is_newer |= done.is_ok();
     buffer.successful &= done.is_ok();
     let wants_circles = done.unwrap_or(false);
@@ -447,14 +483,14 @@ fn find_universal_syllables(buffer: &mut hb_buffer_t) {
 }
 
 /// Whether a pause may change the text, by its contract.
-fn may_change(pause: Pause, plan: &Plan, buffer: &hb_buffer_t) -> bool {
+fn may_change(pause: Pause, plan: &Plan, buffer: &mut hb_buffer_t) -> bool {
     let reads_substitutions = matches!(pause, Pause::RecordRphf | Pause::RecordPref | Pause::ClearSubstitutionFlags);
     pause_may_change(pause, plan) && (!reads_substitutions || any_is_substituted(buffer))
 }
 
-fn any_is_substituted(buffer: &hb_buffer_t) -> bool {
+fn any_is_substituted(buffer: &mut hb_buffer_t) -> bool {
     if buffer.work.is_newer {
-        buffer.work.text.glyphs().iter().any(|glyph| glyph.marks.is_substituted())
+        buffer.work.text().glyphs().iter().any(|glyph| glyph.marks.is_substituted())
     } else {
         buffer.info[..buffer.len].iter().any(parts::is_substituted)
     }

@@ -1,5 +1,7 @@
 //! What rustybuzz has otherwise than HarfRust: its types, its font, its tables, its cluster levels.
 
+use core::ops::Deref;
+
 use sengadlit::font::{Glyphs, GlyphsOnly};
 use sengadlit::{BufferClusterLevel, GeneralCategory, GlyphId, JoiningType, Pause, Shaper, Tables, Tag};
 
@@ -9,6 +11,7 @@ use crate::hb::ot_layout::*;
 use crate::hb::ot_layout_gsubgpos::{WouldApply, WouldApplyContext};
 use crate::hb::unicode::{CharExt, GeneralCategoryExt};
 use crate::hb::{hb_tag_t, Script};
+use crate::BufferFlags;
 
 pub use crate::hb::buffer::hb_glyph_info_t as Info;
 
@@ -103,8 +106,8 @@ pub fn character(c: Codepoint) -> Option<char> {
     Some(c)
 }
 
-pub fn character_or_replacement(c: Codepoint) -> char {
-    c
+pub fn context(characters: &[char]) -> impl Deref<Target = [char]> + '_ {
+    characters
 }
 
 // ---- Glyphs ----
@@ -144,6 +147,18 @@ pub fn tag_of(tag: hb_tag_t) -> Tag {
 
 pub const fn hb_tag(tag: Tag) -> hb_tag_t {
     hb_tag_t::from_bytes(&tag.0)
+}
+
+/// One bit stands for the flags of concatenation and of tatweel.
+pub fn flag_bits(flags: BufferFlags) -> u32 {
+    flags.bits() | (flags & BufferFlags::PRODUCE_UNSAFE_TO_CONCAT).bits() << 1
+}
+
+/// A mask with glyph flags is noted.
+pub fn note_masks(masks: u32, buffer: &mut hb_buffer_t) {
+    if masks & glyph_flag::DEFINED != 0 {
+        buffer.scratch_flags |= HB_BUFFER_SCRATCH_FLAG_HAS_GLYPH_FLAGS;
+    }
 }
 
 /// No marks are placed by their classes but those that the hooks name.
