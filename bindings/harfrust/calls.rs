@@ -1,12 +1,21 @@
 //! How harfrust is called.
 
 /// The cluster levels.
-pub const LEVELS: [&str; 4] = ["MonotoneGraphemes", "MonotoneCharacters", "Characters", "Graphemes"];
+pub const LEVELS: [&str; 4] =
+    ["MonotoneGraphemes", "MonotoneCharacters", "Characters", "Graphemes"];
 
 /// The reasons of bindings/harfrust/reasons.
 pub const REASONS: &[&str] = &[
-    "merge-flags", "least-cluster", "long-stretch", "category-range", "medial", "copied-marks", "graphemes", "continuation",
-    "yiddish-yod-yod", "dotted-circles",
+    "merge-flags",
+    "least-cluster",
+    "long-stretch",
+    "category-range",
+    "medial",
+    "copied-marks",
+    "graphemes",
+    "continuation",
+    "yiddish-yod-yod",
+    "dotted-circles",
 ];
 
 macro_rules! calls {
@@ -14,7 +23,8 @@ macro_rules! calls {
         pub mod $module {
             use crate::{caught, parts, serialized, Glyph, Setting, Shaped, FEATURES};
             use $harfrust::{
-                BufferClusterLevel, BufferFlags, Direction, Feature, FontRef, GlyphBuffer, GlyphFlags, Script, SerializeFlags, ShapeOptions, ShapePlan, ShaperData, Tag,
+                BufferClusterLevel, BufferFlags, Direction, Feature, FontRef, GlyphBuffer,
+                GlyphFlags, Script, SerializeFlags, ShapeOptions, ShapePlan, ShaperData, Tag,
                 UnicodeBuffer,
             };
 
@@ -27,7 +37,12 @@ macro_rules! calls {
 
             fn features(setting: &Setting) -> Vec<Feature> {
                 let wanted = if setting.features { &FEATURES[..] } else { &[] };
-                wanted.iter().map(|&(tag, value, first, last)| Feature::new(Tag::new(tag), value, first..=last)).collect()
+                wanted
+                    .iter()
+                    .map(|&(tag, value, first, last)| {
+                        Feature::new(Tag::new(tag), value, first..=last)
+                    })
+                    .collect()
             }
 
             fn fill(buffer: &mut UnicodeBuffer, text: &str, setting: &Setting) {
@@ -44,13 +59,14 @@ macro_rules! calls {
 
             fn glyphs(buffer: &GlyphBuffer) -> Vec<Glyph> {
                 let positions = buffer.glyph_positions();
-                let glyphs = buffer.glyph_infos().iter().zip(positions).map(|(glyph, position)| Glyph {
-                    number: glyph.glyph_id,
-                    cluster: glyph.cluster,
-                    flags: glyph.flags().to_bits() & GlyphFlags::ALL.to_bits(),
-                    advance: (position.x_advance, position.y_advance),
-                    offset: (position.x_offset, position.y_offset),
-                });
+                let glyphs =
+                    buffer.glyph_infos().iter().zip(positions).map(|(glyph, position)| Glyph {
+                        number: glyph.glyph_id,
+                        cluster: glyph.cluster,
+                        flags: glyph.flags().to_bits() & GlyphFlags::ALL.to_bits(),
+                        advance: (position.x_advance, position.y_advance),
+                        offset: (position.x_offset, position.y_offset),
+                    });
                 glyphs.collect()
             }
 
@@ -66,10 +82,18 @@ macro_rules! calls {
                     fill(&mut buffer, text, setting);
                     let (direction, script) = (buffer.direction(), buffer.script());
                     if !plans.iter().any(|plan| plan.0 == direction && plan.1 == script) {
-                        plans.push((direction, script, ShapePlan::new(&shaper, direction, Some(script), None, &features)));
+                        plans.push((
+                            direction,
+                            script,
+                            ShapePlan::new(&shaper, direction, Some(script), None, &features),
+                        ));
                     }
-                    let plan = plans.iter().find(|plan| plan.0 == direction && plan.1 == script).map(|plan| &plan.2);
-                    let options = ShapeOptions::new().plan(plan).features(&features).scale(setting.scale);
+                    let plan = plans
+                        .iter()
+                        .find(|plan| plan.0 == direction && plan.1 == script)
+                        .map(|plan| &plan.2);
+                    let options =
+                        ShapeOptions::new().plan(plan).features(&features).scale(setting.scale);
                     caught(|| glyphs(&shaper.shape(buffer, options)))
                 };
                 texts.iter().map(shape).collect()
@@ -84,10 +108,13 @@ macro_rules! calls {
                 let mut buffer = UnicodeBuffer::new();
                 fill(&mut buffer, text, setting);
                 let options = ShapeOptions::new().features(&features).scale(setting.scale);
-                serialized(|| shaper.shape(buffer, options).serialize(&shaper, SerializeFlags::GLYPH_FLAGS))
+                serialized(|| {
+                    shaper.shape(buffer, options).serialize(&shaper, SerializeFlags::GLYPH_FLAGS)
+                })
             }
 
-            /// Shapes each text so many times into one buffer, and gives the sum of the glyphs' numbers.
+            /// Shapes each text so many times into one buffer, and gives the sum of the glyphs'
+            /// numbers.
             pub fn shape_times(font: &[u8], texts: &[&str], times: usize) -> u64 {
                 let font = FontRef::new(font).expect("a font");
                 let data = ShaperData::new(&font);
@@ -102,11 +129,22 @@ macro_rules! calls {
                     buffer.guess_segment_properties();
                     let (direction, script) = (buffer.direction(), buffer.script());
                     if !plans.iter().any(|plan| plan.0 == direction && plan.1 == script) {
-                        plans.push((direction, script, ShapePlan::new(&shaper, direction, Some(script), None, &[])));
+                        plans.push((
+                            direction,
+                            script,
+                            ShapePlan::new(&shaper, direction, Some(script), None, &[]),
+                        ));
                     }
-                    let plan = plans.iter().find(|plan| plan.0 == direction && plan.1 == script).map(|plan| &plan.2);
+                    let plan = plans
+                        .iter()
+                        .find(|plan| plan.0 == direction && plan.1 == script)
+                        .map(|plan| &plan.2);
                     let glyphs = shaper.shape(buffer, ShapeOptions::new().plan(plan));
-                    sum += glyphs.glyph_infos().iter().map(|glyph| u64::from(glyph.glyph_id)).sum::<u64>();
+                    sum += glyphs
+                        .glyph_infos()
+                        .iter()
+                        .map(|glyph| u64::from(glyph.glyph_id))
+                        .sum::<u64>();
                     buffer = glyphs.clear();
                 }
                 sum

@@ -1,7 +1,8 @@
-//! What harfrust 0.12.0 does otherwise than the proved hooks, through its own interface: what it gives as it is, and what it
-//! gives with the hooks. Where the comment doesn't say otherwise, HarfBuzz 6.0.0 gives what the hooks do. Clusters are bytes.
+//! What harfrust 0.12.0 does otherwise than the proved hooks, through its own interface: what it
+//! gives as it is, and what it gives with the hooks. Where the comment doesn't say otherwise,
+//! HarfBuzz 6.0.0 gives what the hooks do. Clusters are bytes.
 
-use programs::fonts::{font, with_tracking, without};
+use programs::fonts::{font, pref_without_ra, with, with_tracking, without};
 use programs::{proved, stock, text_of, Setting, Shaped};
 
 const NOTO: &str = "truetype/noto";
@@ -33,13 +34,20 @@ fn noto(name: &str) -> Vec<u8> {
 
 // ---- Faults of the nine files ----
 
-/// Thai: three marks before SARA AM are copied over each other, so that MAI EK is lost and SARA I drawn twice. The order isn't
-/// how Thai is typed (a vowel above takes no SARA AM), so a text of daily use has it as a slip alone.
+/// Thai: three marks before SARA AM are copied over each other, so that MAI EK is lost and SARA I
+/// drawn twice. The order isn't how Thai is typed (a vowel above takes no SARA AM), so a text of
+/// daily use has it as a slip alone.
 #[test]
 fn thai_marks_are_copied_over_each_other() {
     let [stock, proved] = both(&noto("NotoSansThai"), "0E14 0E34 0E48 0E33", Setting::default());
-    assert_eq!(stock, "[uni0E14=0+616|uni0E4D=0+0|uni0E34=0@-29,236+0|uni0E34=0@-29,413+0|uni0E32=0+406]");
-    assert_eq!(proved, "[uni0E14=0+616|uni0E4D=0+0|uni0E34=0@-29,236+0|uni0E48.small=0@-29,177+0|uni0E32=0+406]");
+    assert_eq!(
+        stock,
+        "[uni0E14=0+616|uni0E4D=0+0|uni0E34=0@-29,236+0|uni0E34=0@-29,413+0|uni0E32=0+406]"
+    );
+    assert_eq!(
+        proved,
+        "[uni0E14=0+616|uni0E4D=0+0|uni0E34=0@-29,236+0|uni0E48.small=0@-29,177+0|uni0E32=0+406]"
+    );
 }
 
 /// Lao: the same.
@@ -50,17 +58,20 @@ fn lao_marks_are_copied_over_each_other() {
     assert_eq!(proved, "[koKai-lao=0+614|niggahita-lao=0@32,0+0|iVowel-lao=0@-92,278+0|maiEk-lao.small=0@-142,278+0|aaVowel-lao=0+324]");
 }
 
-/// Thai and Lao: that NIKHAHIT continues a grapheme is set in a copy of the glyph. It shows in a font with tracking, where it
-/// is tracked as a grapheme of its own (Noto Sans Lao with a table `trak` added): daily text, in such a font.
+/// Thai and Lao: that NIKHAHIT continues a grapheme is set in a copy of the glyph. It shows in a
+/// font with tracking, where it is tracked as a grapheme of its own (Noto Sans Lao with a table
+/// `trak` added): daily text, in such a font.
 #[test]
 fn sara_am_is_tracked_twice() {
-    let [stock, proved] = both(&with_tracking(&noto("NotoSansLao")), "0E81 0EB3", Setting::default());
+    let [stock, proved] =
+        both(&with_tracking(&noto("NotoSansLao")), "0E81 0EB3", Setting::default());
     assert_eq!(stock, "[koKai-lao=0+714|amVowel-lao=0+424]");
     assert_eq!(proved, "[koKai-lao=0+714|amVowel-lao=0+324]");
 }
 
-/// Hebrew, in a font that places no marks by GPOS: YOD with PATAH is drawn as the ligature of two YODs. Pointed text has YOD
-/// with PATAH daily; fonts without GPOS are old (DejaVu Sans without the table).
+/// Hebrew, in a font that places no marks by GPOS: YOD with PATAH is drawn as the ligature of two
+/// YODs. Pointed text has YOD with PATAH daily; fonts without GPOS are old (DejaVu Sans without the
+/// table).
 #[test]
 fn yod_with_patah_is_drawn_as_two_yods() {
     let font = without(&font("truetype/dejavu/DejaVuSans.ttf"), b"GPOS");
@@ -73,39 +84,65 @@ fn yod_with_patah_is_drawn_as_two_yods() {
 #[test]
 fn a_syllable_of_257_characters_is_shaped() {
     for number in [255, 256, 257, 400] {
-        let [stock, proved] = both(&noto("NotoSansDevanagari"), &format!("0915 0951*{number}"), Setting::default());
+        let [stock, proved] =
+            both(&noto("NotoSansDevanagari"), &format!("0915 0951*{number}"), Setting::default());
         assert!(stock == proved && !proved.starts_with("panic"), "{number}");
     }
 }
 
-/// Dotted circles: the fifteenth syllable behind a broken one gets none if it is broken too. HarfBuzz 6.0.0 gives what
-/// harfrust does. No text of daily use has broken syllables.
+/// Dotted circles: the fifteenth syllable behind a broken one gets none if it is broken too.
+/// HarfBuzz 6.0.0 gives what harfrust does. No text of daily use has broken syllables.
 #[test]
 fn a_broken_syllable_gets_no_circle() {
     let circles = |shaped: &str| shaped.matches("uni25CC").count();
-    let [stock, proved] = both(&noto("NotoSansDevanagari"), "093E 0020*14 093E", Setting::default());
+    let [stock, proved] =
+        both(&noto("NotoSansDevanagari"), "093E 0020*14 093E", Setting::default());
     assert_eq!((circles(&stock), circles(&proved)), (1, 2));
 }
 
-/// Arabic's stretched marks: sums wrap, and panic where overflow is checked; the hooks refuse, and nothing is stretched.
-/// HarfBuzz wraps. It takes a scale that no text has.
+/// Arabic's stretched marks: sums wrap, and panic where overflow is checked; the hooks refuse, and
+/// nothing is stretched. HarfBuzz wraps. It takes a scale that no text has.
 #[test]
 fn sums_of_a_stretch_wrap() {
     let setting = Setting { scale: Some(65_536_000), ..Setting::default() };
     let [stock, proved] = both_glyphs(&noto("NotoSansSyriac"), "070F 0710*60", setting);
-    let moved = |shaped: &Shaped| shaped.glyphs().iter().filter(|glyph| glyph.offset.0 != 0).count();
+    let moved =
+        |shaped: &Shaped| shaped.glyphs().iter().filter(|glyph| glyph.offset.0 != 0).count();
     assert!(matches!(stock, Shaped::Panic(_)) || moved(&stock) > 0);
     assert!(!proved.glyphs().is_empty() && moved(&proved) == 0);
 }
 
+/// Indic's final reordering: where the base is past the last glyph, the one behind the syllable is
+/// read, and what it is decides where a left matra goes. It takes a font that drops a glyph after
+/// the initial reordering: here RA, so that its virama is a `pref` that didn't form. What is read
+/// is the dropped RA, so that nothing panics; no font that is known does such a thing.
+#[test]
+fn the_glyph_behind_the_syllable_is_read() {
+    let plain = without(&noto("NotoSansMalayalam"), b"GSUB");
+    let glyph = |code_point: &str| {
+        u16::try_from(both_glyphs(&plain, code_point, Setting::default())[0].glyphs()[0].number)
+            .expect("a glyph")
+    };
+    let (ka, virama, ra, e) = (glyph("0D15"), glyph("0D4D"), glyph("0D30"), glyph("0D46"));
+    let font = with(&plain, b"GSUB", pref_without_ra(virama, ra, ka));
+    let numbers = |shaped: &Shaped| {
+        shaped.glyphs().iter().map(|glyph| glyph.number as u16).collect::<Vec<_>>()
+    };
+    let [stock, proved] = both_glyphs(&font, "0D15 0D4D 0D30 0D46", Setting::default());
+    assert_eq!(numbers(&stock), [e, ka, virama]);
+    assert_eq!(numbers(&proved), [ka, e, virama]);
+}
+
 // ---- Faults of other files ----
 
-/// The range of general categories has one bit more, of Control: what follows a TAB or a line feed isn't at the start of a
-/// word, so a left matra isn't drawn in its initial form. Daily text, if lines or columns are shaped in one piece.
+/// The range of general categories has one bit more, of Control: what follows a TAB or a line feed
+/// isn't at the start of a word, so a left matra isn't drawn in its initial form. Daily text, if
+/// lines or columns are shaped in one piece.
 #[test]
 fn behind_a_tab_a_bengali_word_loses_its_initial_form() {
     for control in ["0009", "000A"] {
-        let [stock, proved] = both(&noto("NotoSansBengali"), &format!("{control} 0995 09C7"), Setting::default());
+        let [stock, proved] =
+            both(&noto("NotoSansBengali"), &format!("{control} 0995 09C7"), Setting::default());
         assert_eq!(stock, "[.notdef=0+600|evowelsignbeng=1+346#1|kabeng=1+807#1]");
         assert_eq!(proved, "[.notdef=0+600|evowelsigninibeng=1+346|kabeng=1+807]");
     }
@@ -119,34 +156,44 @@ fn behind_a_dotted_circle_a_bengali_word_loses_its_initial_form() {
     assert_eq!(proved, "[ivowelsignbeng=0+266|uni25CC=0+510|evowelsigninibeng=3+346|labeng=3+731]");
 }
 
-/// At level Characters a merge flags its stretch, and of the least cluster only the ends of a stretch are looked at, so that
-/// the glyph of the least cluster is flagged: daily text, at a level that few callers ask for.
+/// At level Characters a merge flags its stretch, and of the least cluster only the ends of a
+/// stretch are looked at, so that the glyph of the least cluster is flagged: daily text, at a level
+/// that few callers ask for.
 #[test]
 fn the_least_cluster_is_flagged() {
-    let [stock, proved] = both(&noto("NotoSansDevanagari"), "0938 094D 0925 093F", level(CHARACTERS));
+    let [stock, proved] =
+        both(&noto("NotoSansDevanagari"), "0938 094D 0925 093F", level(CHARACTERS));
     assert_eq!(stock, "[ivowelsign00deva=9+259#1|sathadeva=0+1022#1]");
     assert_eq!(proved, "[ivowelsign00deva=9+259#1|sathadeva=0+1022]");
 }
 
-/// No flag is set on a stretch of more than 255 glyphs, so that places within one syllable are called safe to break.
+/// No flag is set on a stretch of more than 255 glyphs, so that places within one syllable are
+/// called safe to break.
 #[test]
 fn a_long_stretch_is_called_safe_to_break() {
-    let [stock, proved] = both_glyphs(&noto("NotoSansDevanagari"), "0915 094D 0915 093F 0951*300", level(CHARACTERS));
-    let flagged = |shaped: &Shaped| shaped.glyphs().iter().filter(|glyph| glyph.flags & 1 != 0).count();
+    let [stock, proved] =
+        both_glyphs(&noto("NotoSansDevanagari"), "0915 094D 0915 093F 0951*300", level(CHARACTERS));
+    let flagged =
+        |shaped: &Shaped| shaped.glyphs().iter().filter(|glyph| glyph.flags & 1 != 0).count();
     assert_eq!((flagged(&stock), flagged(&proved)), (257, 302));
 }
 
 // ---- What HarfBuzz has changed since rustybuzz 0.20.1, which the hooks follow ----
 
-/// Indic looks for its base among consonants with the medial ones, as 0.20.1 does; harfrust and HarfBuzz without them.
+/// Indic looks for its base among consonants with the medial ones, as 0.20.1 does; harfrust and
+/// HarfBuzz without them.
 #[test]
 fn the_base_is_looked_for_among_medials() {
     let [stock, proved] = both(&noto("NotoSansGurmukhi"), "0A15 0A75 0A48 0A3F", level(1));
-    assert_eq!(stock, "[imatraguru=0+259|kaguru=0+622|yakashguru=0@36,0+0|aimatraguru=6@-20,0+0#1]");
+    assert_eq!(
+        stock,
+        "[imatraguru=0+259|kaguru=0+622|yakashguru=0@36,0+0|aimatraguru=6@-20,0+0#1]"
+    );
     assert_eq!(proved, "[imatraguru=0+259|kaguru=0+622|yakashguru=0@36,0+0|aimatraguru=0@-20,0+0]");
 }
 
-/// The hooks have three cluster levels, and shape level Graphemes as MonotoneGraphemes: marks that Thai moves are merged.
+/// The hooks have three cluster levels, and shape level Graphemes as MonotoneGraphemes: marks that
+/// Thai moves are merged.
 #[test]
 fn thai_merges_at_level_graphemes() {
     let [stock, proved] = both(&noto("NotoSansThai"), "0E48 0E33", level(GRAPHEMES));
@@ -154,10 +201,12 @@ fn thai_merges_at_level_graphemes() {
     assert_eq!(proved, "[uni0E4D=0+0|uni0E48.small=0@-29,0+0|uni0E32=0+406]");
 }
 
-/// Hangul's tone marks are placed by the fallback in both, as harfrust's data says; 0.20.1's and HarfBuzz's say not to.
+/// Hangul's tone marks are placed by the fallback in both, as harfrust's data says; 0.20.1's and
+/// HarfBuzz's say not to.
 #[test]
 fn a_hangul_tone_without_advance() {
-    let [stock, proved] = both(&font("truetype/nanum/NanumGothic.ttf"), "0020 302E", Setting::default());
+    let [stock, proved] =
+        both(&font("truetype/nanum/NanumGothic.ttf"), "0020 302E", Setting::default());
     assert_eq!(stock, "[gid1=0+280|gid0=0@-610,0+0|gid8639=0@-609,0+0]");
     assert_eq!(proved, stock);
 }

@@ -26,6 +26,12 @@ stop() {
     exit 2
 }
 
+# What can't be fetched isn't tested, and the status tells so.
+skip() {
+    echo "skipped: $*"
+    exit 77
+}
+
 # step NAME COMMAND..: runs a command, counts it, and shows the end of what it printed if it failed.
 step() {
     name=$1
@@ -61,9 +67,9 @@ fetch_texts() {
 
 # copy FILE..  FOLDER: copies files that differ, so that cargo builds again what has changed alone.
 copy() {
-    for target in "$@"; do :; done
+    for last in "$@"; do :; done
     for file in "$@"; do
-        [ "$file" = "$target" ] || cmp -s "$file" "$target/${file##*/}" || cp "$file" "$target" || return
+        [ "$file" = "$last" ] || cmp -s "$file" "$last/${file##*/}" || cp "$file" "$last" || return
     done
 }
 
@@ -88,20 +94,20 @@ write_programs() {
     {
         printf '[package]\nname = "programs"\nversion = "0.0.0"\nedition = "2021"\nautobins = false\n\n'
         printf '[lib]\npath = "src/lib.rs"\n\n[features]\nshadow = ["proved/shadow"]\n\n[dependencies]\n'
-        for copy in stock proved reasons; do
-            printf '%s = { package = "%s", path = "../%s" }\n' "$copy" "$crate" "$copy"
+        for which in stock proved reasons; do
+            printf '%s = { package = "%s", path = "../%s" }\n' "$which" "$crate" "$which"
         done
-        for name in compare show shape_stock shape_proved; do
-            program "$name"
+        for binary in compare show shape_stock shape_proved; do
+            program "$binary"
         done
     } >"$made/programs/Cargo.toml"
 }
 
-# build TARGET OPTION..: builds the programs; `build` has the two crates in the same folder of targets.
+# build FOLDER OPTION..: builds the programs in a folder beside the crates that `build` made.
 build() {
-    target=$1
+    folder=$1
     shift
-    (cd "$made/programs" && cargo build --offline --release --target-dir "$made/both/$target" "$@")
+    (cd "$made/programs" && cargo build --offline --release --target-dir "$made/both/$folder" "$@")
 }
 
 [ -f "$made/stock/Cargo.toml" ] && [ -f "$made/proved/Cargo.toml" ] || stop "there is no $made: run bindings/$crate/build first"

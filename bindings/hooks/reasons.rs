@@ -1,5 +1,6 @@
-//! Which reasons are in force. Each edit of this copy makes the crate do what the proved hooks do where the two are known
-//! to differ, and has a name; it acts where its name is in force in the thread.
+//! Which reasons are in force. Each edit of this copy makes the crate do what the proved hooks do
+//! where the two are known to differ, and has a name; it acts where its name is in force in the
+//! thread.
 
 use std::cell::{Cell, RefCell};
 use std::vec::Vec;

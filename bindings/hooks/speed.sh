@@ -6,7 +6,7 @@
 
 command -v valgrind >/dev/null 2>&1 || stop 'there is no valgrind'
 {
-    need 'words and fonts are unpacked, and texts made' fetch_texts
+    fetch_texts >"$made/step.log" 2>&1 </dev/null || skip "words and fonts: $(tail -n 1 "$made/step.log")"
     need 'the copy with the reasons is edited' copy_reasons
     need 'the programs are written' write_programs
     need 'the programs are built, with the release profile' build target --bin shape_stock --bin shape_proved

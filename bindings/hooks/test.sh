@@ -1,19 +1,27 @@
 # shellcheck shell=sh disable=SC2154
 # What bindings/harfrust/test and bindings/rustybuzz/test do; they source this file, with $here, their folder, and $crate.
-# With `--every N` each Nth text alone is shaped. The last line is 'N passed, M failed'.
+# With `--every N` each Nth text alone is shaped; with `--quick` each 100th, by programs that are built sooner. The last line
+# is 'N passed, M failed', or 'skipped: WHY' with status 77.
 
 # shellcheck source=bindings/hooks/programs.sh
 . "$(dirname "$here")/hooks/programs.sh"
 
+every=1
+target=target
 case ${1-} in
-'') every=1 ;;
+'') ;;
 --every) every=${2-} ;;
-*) stop "test [--every N]" ;;
+--quick)
+    every=100
+    target=target/quick
+    export CARGO_PROFILE_RELEASE_OPT_LEVEL=1 CARGO_PROFILE_RELEASE_CODEGEN_UNITS=64
+    ;;
+*) stop 'test [--every N | --quick]' ;;
 esac
 
 # faults: the tests of the faults, by cargo.
 faults() {
-    cd "$made/programs" && cargo test --offline --release --target-dir "$made/both/target" --test faults
+    cd "$made/programs" && cargo test --offline --release --target-dir "$made/both/$target" --test faults
 }
 
 # tally COMMAND..: shows what a command prints, and adds its last line to the counts.
@@ -30,16 +38,16 @@ tally() {
     failed=$((failed + ${counts#* }))
 }
 
-need 'words and fonts are unpacked, and texts made' fetch_texts
+fetch_texts >"$made/step.log" 2>&1 </dev/null || skip "words and fonts: $(tail -n 1 "$made/step.log")"
 need 'the copy with the reasons is edited' copy_reasons
 need 'the programs are written' write_programs
-need 'the programs are built' build target
+need 'the programs are built' build "\$target"
 if step 'the faults, both sides of each' faults; then
     tests=$(sed -n 's/^test result: ok\. \([0-9]*\) passed; 0 failed.*/\1/p' "$made/step.log" | tail -n 1)
     passed=$((passed + ${tests:-1} - 1))
     sed -n 's/^test \(.*\) \.\.\. ok$/    \1/p' "$made/step.log"
 fi
 echo
-tally "$made/both/target/release/compare" "$texts" "$root" --every "$every"
+tally "$made/both/$target/release/compare" "$texts" "$root" --every "$every"
 echo "$passed passed, $failed failed"
 [ "$failed" -eq 0 ] && [ "$passed" -gt 0 ]

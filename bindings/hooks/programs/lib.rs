@@ -1,5 +1,6 @@
-//! Texts, settings and results that the programs share. `calls.rs` has how a crate is called: as it is (`stock`), with the
-//! proved hooks (`proved`), and as it is with each known difference edited away (`reasons`).
+//! Texts, settings and results that the programs share. `calls.rs` has how a crate is called: as it
+//! is (`stock`), with the proved hooks (`proved`), and as it is with each known difference edited
+//! away (`reasons`).
 
 use std::fmt;
 
@@ -31,7 +32,8 @@ pub struct Setting {
 }
 
 /// The features of [`Setting::features`]: tag, value, first and last cluster.
-pub const FEATURES: [(&[u8; 4], u32, usize, usize); 3] = [(b"liga", 1, 3, 9), (b"half", 0, 0, 5), (b"init", 1, 0, usize::MAX)];
+pub const FEATURES: [(&[u8; 4], u32, usize, usize); 3] =
+    [(b"liga", 1, 3, 9), (b"half", 0, 0, 5), (b"init", 1, 0, usize::MAX)];
 
 /// A glyph of a shaped text.
 #[derive(Clone, Copy, PartialEq, Eq)]
@@ -92,9 +94,11 @@ impl fmt::Display for Shaped {
 
 /// Shapes; the error is what a panic said.
 fn without_panic<T>(shape: impl FnOnce() -> T) -> Result<T, String> {
-    std::panic::catch_unwind(std::panic::AssertUnwindSafe(shape)).map_err(|told| match told.downcast::<String>() {
-        Ok(text) => *text,
-        Err(told) => told.downcast_ref::<&str>().map_or(String::new(), ToString::to_string),
+    std::panic::catch_unwind(std::panic::AssertUnwindSafe(shape)).map_err(|told| {
+        match told.downcast::<String>() {
+            Ok(text) => *text,
+            Err(told) => told.downcast_ref::<&str>().map_or(String::new(), ToString::to_string),
+        }
     })
 }
 
@@ -115,7 +119,8 @@ fn parts(text: &str, setting: &Setting) -> [String; 3] {
     [before, inside, after].map(|part| part.iter().collect())
 }
 
-/// The text of code points in hexadecimal, each with how often it comes where that isn't once: `0915 0951*256`.
+/// The text of code points in hexadecimal, each with how often it comes where that isn't once:
+/// `0915 0951*256`.
 ///
 /// # Panics
 ///

@@ -1,4 +1,5 @@
-//! shape_proved FONT TEXTS TIMES: shapes each line of a file so many times, and prints the sum of the glyphs' numbers.
+//! shape_proved FONT TEXTS TIMES: shapes each line of a file so many times, and prints the sum of
+//! the glyphs' numbers.
 
 use std::fs;
 
