@@ -32,7 +32,6 @@ pub fn reorder_marks(_plan: &hb_ot_shape_plan_t, buffer: &mut hb_buffer_t, start
 }
 
 /// The same in a slice whose clusters merge at this level.
-#[inline]
 pub fn reorder_marks_in(
     level: BufferClusterLevel,
     glyphs: &mut [hb_glyph_info_t],

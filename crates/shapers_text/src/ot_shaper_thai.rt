@@ -30,7 +30,6 @@ const THAI: Script = Script(*b"Thai");
 /// them.
 /// Refuses as a growth does, and takes no memory for a text without SARA AM. (OpenType's notes on
 /// Thai and Lao, and the note on Thai OpenType shaping.)
-#[inline]
 pub fn preprocess_text<F: hb_font_t>(
     plan: &hb_ot_shape_plan_t,
     face: &F,
@@ -60,7 +59,6 @@ pub fn preprocess_text<F: hb_font_t>(
 
 /// `preprocess_text`, which returns whether it rewrote the text: where there is no SARA AM and the
 /// plan asks for no private use forms, it returns false and has changed nothing.
-#[inline]
 pub fn preprocess_text_changes<F: hb_font_t>(
     plan: &hb_ot_shape_plan_t,
     face: &F,
@@ -85,7 +83,6 @@ pub fn preprocess_text_changes<F: hb_font_t>(
 }
 
 // Whether the plan wants private use forms.
-#[inline]
 fn wants_forms(plan: &hb_ot_shape_plan_t) -> bool
     ensures { result ≡ asks_for_forms plan.now }
 {
@@ -93,7 +90,6 @@ fn wants_forms(plan: &hb_ot_shape_plan_t) -> bool
 }
 
 // Whether the script is Thai.
-#[inline]
 fn is_thai(script: Option<Script>) -> bool
     ensures { result ≡ is_thai script }
 {

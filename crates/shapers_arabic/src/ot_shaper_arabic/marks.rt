@@ -64,7 +64,6 @@ impl GlyphWalk for MarkOrder {
 }
 
 /// The same in a slice whose clusters merge at this level.
-#[inline]
 pub fn reorder_marks_in(
     level: BufferClusterLevel,
     glyphs: &mut [hb_glyph_info_t],

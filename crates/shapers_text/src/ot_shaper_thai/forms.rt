@@ -140,7 +140,6 @@ fn types_of(u: u32) -> Types
 
 // What a mark does by the types of its base and itself, with so many marks above and below since
 // the base.
-#[inline]
 fn get_action(base: Consonant, mark: Mark, above: usize, below: usize) -> Action
     ensures { result ≡ action_of base mark above below }
 {
@@ -157,7 +156,6 @@ fn get_action(base: Consonant, mark: Mark, above: usize, below: usize) -> Action
 }
 
 // The forms for what a mark does.
-#[inline]
 fn get_mappings<'a>(action: Action) -> &'a [PuaMapping]
     ensures { result.now ≡ mappings_of action }
 {
@@ -171,7 +169,6 @@ fn get_mappings<'a>(action: Action) -> &'a [PuaMapping]
 }
 
 // The forms of a character.
-#[inline]
 fn find_mapping(mappings: &[PuaMapping], u: u32) -> Option<PuaMapping>
     ensures { result ≡ find (λ m. m.0 == u) mappings.now }
 {
@@ -179,7 +176,6 @@ fn find_mapping(mappings: &[PuaMapping], u: u32) -> Option<PuaMapping>
 }
 
 // The first form of a character that the font has, else the character itself.
-#[inline]
 fn pua_shape<F: hb_font_t>(u: u32, action: Action, face: &F) -> u32
     ensures { result ≡ shaped_by (has_nominal (F.font face.now)) u action }
 {
@@ -212,7 +208,6 @@ fn flag_marks(glyphs: &mut [hb_glyph_info_t], base: usize, end: usize)
 }
 
 // Gives the glyph at `place` its form.
-#[inline]
 fn set_form<F: hb_font_t>(face: &F, glyphs: &mut [hb_glyph_info_t], place: usize, action: Action)
     requires { place < length glyphs.old }
     ensures { glyphs.new ≡ form_set (has_nominal (F.font face.now)) place action glyphs.old }
@@ -239,7 +234,6 @@ impl Base {
     };
 
     // Does what the mark at place `i` does: to itself, or to its base.
-    #[inline]
     fn act<F: hb_font_t>(self, face: &F, glyphs: &mut [hb_glyph_info_t], i: usize, mark: Mark)
         requires place { self.place < length glyphs.old }
         requires in_range { i < length glyphs.old }
@@ -294,7 +288,6 @@ impl Base {
 }
 
 // Gives each mark, or its base, its form, and flags the marks of each base.
-#[inline]
 fn shape_marks<F: hb_font_t>(face: &F, glyphs: &mut [hb_glyph_info_t])
     ensures { glyphs.new ≡ pua_shaped (has_nominal (F.font face.now)) glyphs.old }
 {
@@ -330,7 +323,6 @@ impl<'a, F: hb_font_t> GlyphWalk for PuaShaping<'a, F> {
 }
 
 /// Gives the marks of a Thai text, and bases with descenders, their private use forms.
-#[inline]
 pub fn do_pua_shaping<F: hb_font_t>(face: &F, buffer: &mut hb_buffer_t)
     ensures { let has = has_nominal (F.font face.now) in
         buffer.new ≡ record buffer.old { glyphs = pua_shaped has buffer.old.glyphs } }

@@ -14,7 +14,6 @@ use shapers_base::buffer::{
 };
 
 // SARA AM, of Thai and of Lao.
-#[inline]
 fn is_sara_am(u: u32) -> bool
     ensures { result ≡ is_sara_am u }
 {
@@ -22,7 +21,6 @@ fn is_sara_am(u: u32) -> bool
 }
 
 // An above-base mark of Thai, or of Lao, which stands 0x80 higher.
-#[inline]
 fn is_above_base_mark(u: u32) -> bool
     ensures { result ≡ is_above_base u }
 {
@@ -30,7 +28,6 @@ fn is_above_base_mark(u: u32) -> bool
 }
 
 // The NIKHAHIT of a SARA AM: a mark that its cluster's first glyph carries on.
-#[inline]
 fn nikhahit_from_sara_am(am: hb_glyph_info_t) -> hb_glyph_info_t
     requires { is_sara_am am.glyph_id ≡ true }
     ensures { result ≡ nikhahit am }
@@ -46,7 +43,6 @@ fn nikhahit_from_sara_am(am: hb_glyph_info_t) -> hb_glyph_info_t
 }
 
 // The SARA AA of a SARA AM.
-#[inline]
 fn sara_aa_from_sara_am(am: hb_glyph_info_t) -> hb_glyph_info_t
     requires { is_sara_am am.glyph_id ≡ true }
     ensures { result ≡ sara_aa am }
@@ -58,7 +54,6 @@ fn sara_aa_from_sara_am(am: hb_glyph_info_t) -> hb_glyph_info_t
 }
 
 // How many SARA AM the text has.
-#[inline]
 fn count_sara_am(buffer: &hb_buffer_t) -> usize
     ensures { result ≡ count_by (λ g. is_sara_am g.glyph_id) buffer.now.glyphs }
 {
@@ -81,7 +76,6 @@ pub(super) fn has_sara_am(buffer: &hb_buffer_t) -> bool
 }
 
 // How many above-base marks stand right before `place`.
-#[inline]
 fn count_marks_before(glyphs: &[hb_glyph_info_t], place: usize) -> usize
     requires { place ≤ length glyphs.now }
     ensures count { result ≡ above_marks_before glyphs.now place }
@@ -96,7 +90,6 @@ fn count_marks_before(glyphs: &[hb_glyph_info_t], place: usize) -> usize
 
 // Merges what a SARA AM at `place` merges, its marks or, without any, the glyph before it, in the
 // glyphs with a run in its cluster. Returns the run that is to be written then.
-#[inline]
 fn merge_sara_am(
     level: BufferClusterLevel,
     glyphs: &mut [hb_glyph_info_t],
@@ -126,7 +119,6 @@ fn merge_sara_am(
 }
 
 // Merges what each SARA AM of the first `len` glyphs merges, from the left.
-#[inline]
 fn merge_all_sara_am(level: BufferClusterLevel, glyphs: &mut [hb_glyph_info_t], len: usize)
     requires { len ≤ length glyphs.old }
     ensures { glyphs.new ≡ merged_front level len glyphs.old }
@@ -149,7 +141,6 @@ struct Unwritten {
 
 impl Unwritten {
     // Writes what the last glyph becomes; if it is a SARA AM, with its marks.
-    #[inline]
     fn write_last(&mut self, glyphs: &mut [hb_glyph_info_t])
         requires some { 0 < self.old.end }
         requires unwritten { IsUnwritten glyphs.old self.old.end None self.old.place }
@@ -169,7 +160,6 @@ impl Unwritten {
     }
 
     // Writes the marks that end the text, and a NIKHAHIT before them.
-    #[inline]
     fn write_nikhahit(&mut self, glyphs: &mut [hb_glyph_info_t], nikhahit: hb_glyph_info_t)
         requires { IsUnwritten glyphs.old self.old.end (Some nikhahit) self.old.place }
         ensures written { let pending = Some nikhahit in
@@ -190,7 +180,6 @@ impl Unwritten {
 
 // Writes the first `len` glyphs with each SARA AM in two over a slice that has just the room for
 // it.
-#[inline]
 fn write_in_two(glyphs: &mut [hb_glyph_info_t], len: usize)
     requires in_range { len ≤ length glyphs.old }
     requires room { length glyphs.old ≡ length (glyphs_in_two (take len glyphs.old)) }
@@ -233,7 +222,6 @@ impl GlyphWalk for Rewriting {
 /// AA.
 /// A SARA AM merges with its marks or, at level MonotoneGraphemes, with the glyph before it.
 /// Refuses as a growth does. (OpenType's Thai and Lao notes; rustybuzz's comment on the rule.)
-#[inline]
 pub fn rewrite_sara_am(buffer: &mut hb_buffer_t) -> Result<(), ShaperError>
     requires { buffer.old.positions ≡ [] }
     ensures ok { let gs = buffer.old.glyphs in

@@ -58,7 +58,6 @@ pub fn reorder_marks(_plan: &Plan, buffer: &mut Buffer, start: usize, end: usize
 /// - `mark_step`: crates/shapers_text/specs/Hebrew.antt
 ///
 /// </details>
-#[inline]
 pub fn reorder_marks_in(
     level: BufferClusterLevel,
     glyphs: &mut [GlyphInfo],

@@ -52,7 +52,6 @@ const THAI: Script = Script(*b"Thai");
 /// - `ClustersInTwo`, `FlagsInTwo`, `KeptInTwo`: crates/shapers_text/specs/ThaiLaws.antt
 ///
 /// </details>
-#[inline]
 pub fn preprocess_text<F: Font>(
     plan: &Plan,
     face: &F,
@@ -89,7 +88,6 @@ pub fn preprocess_text<F: Font>(
 /// - `asks_for_forms`, `preprocessed_in_thai`: crates/shapers_text/specs/ThaiForms.antt
 ///
 /// </details>
-#[inline]
 pub fn preprocess_text_changes<F: Font>(
     plan: &Plan,
     face: &F,
@@ -103,13 +101,11 @@ pub fn preprocess_text_changes<F: Font>(
 }
 
 // Whether the plan wants private use forms.
-#[inline]
 fn wants_forms(plan: &Plan) -> bool {
     is_thai(plan.script) && !plan.ot_map.found_script(TableIndex::GSUB)
 }
 
 // Whether the script is Thai.
-#[inline]
 fn is_thai(script: Option<Script>) -> bool {
     match script {
         None => false,

@@ -75,7 +75,6 @@ impl GlyphWalk for MarkOrder {
 /// - `marks_merged`, `marks_reordered`: crates/shapers_arabic/specs/Marks.antt
 ///
 /// </details>
-#[inline]
 pub fn reorder_marks_in(
     level: BufferClusterLevel,
     glyphs: &mut [GlyphInfo],

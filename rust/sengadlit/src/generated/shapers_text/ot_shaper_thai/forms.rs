@@ -132,7 +132,6 @@ fn types_of(u: u32) -> Types {
 
 // What a mark does by the types of its base and itself, with so many marks above and below since
 // the base.
-#[inline]
 fn get_action(base: Consonant, mark: Mark, above: usize, below: usize) -> Action {
     match (base, mark) {
         (Consonant::RC, Mark::BV) if below == 0 => Action::RD,
@@ -147,7 +146,6 @@ fn get_action(base: Consonant, mark: Mark, above: usize, below: usize) -> Action
 }
 
 // The forms for what a mark does.
-#[inline]
 fn get_mappings<'a>(action: Action) -> &'a [PuaMapping] {
     match action {
         Action::NOP => &[],
@@ -159,13 +157,11 @@ fn get_mappings<'a>(action: Action) -> &'a [PuaMapping] {
 }
 
 // The forms of a character.
-#[inline]
 fn find_mapping(mappings: &[PuaMapping], u: u32) -> Option<PuaMapping> {
     mappings.iter().copied().find(|m| m.0 == u)
 }
 
 // The first form of a character that the font has, else the character itself.
-#[inline]
 fn pua_shape<F: Font>(u: u32, action: Action, face: &F) -> u32 {
     match find_mapping(get_mappings(action), u) {
         None => u,
@@ -192,7 +188,6 @@ fn flag_marks(glyphs: &mut [GlyphInfo], base: usize, end: usize) {
 }
 
 // Gives the glyph at `place` its form.
-#[inline]
 fn set_form<F: Font>(face: &F, glyphs: &mut [GlyphInfo], place: usize, action: Action) {
     glyphs[place].glyph_id = pua_shape(glyphs[place].glyph_id, action, face);
 }
@@ -216,7 +211,6 @@ impl Base {
     };
 
     // Does what the mark at place `i` does: to itself, or to its base.
-    #[inline]
     fn act<F: Font>(self, face: &F, glyphs: &mut [GlyphInfo], i: usize, mark: Mark) {
         let action = get_action(self.consonant, mark, self.above, self.below);
         match action {
@@ -258,7 +252,6 @@ impl Base {
 }
 
 // Gives each mark, or its base, its form, and flags the marks of each base.
-#[inline]
 fn shape_marks<F: Font>(face: &F, glyphs: &mut [GlyphInfo]) {
     let mut base = Base::NONE;
     for i in 0..glyphs.len() {
@@ -297,7 +290,6 @@ impl<'a, F: Font> GlyphWalk for PuaShaping<'a, F> {
 /// - `pua_shaped`: crates/shapers_text/specs/ThaiForms.antt
 ///
 /// </details>
-#[inline]
 pub fn do_pua_shaping<F: Font>(face: &F, buffer: &mut Buffer) {
     buffer.walk(&mut PuaShaping { face });
 }

@@ -8,19 +8,16 @@ use crate::generated::shapers_base::buffer::{
 };
 
 // SARA AM, of Thai and of Lao.
-#[inline]
 fn is_sara_am(u: u32) -> bool {
     matches!(u, 0x0E33 | 0x0EB3)
 }
 
 // An above-base mark of Thai, or of Lao, which stands 0x80 higher.
-#[inline]
 fn is_above_base_mark(u: u32) -> bool {
     matches!(u & !0x80, 0x0E31 | 0x0E34..=0x0E37 | 0x0E3B | 0x0E47..=0x0E4E)
 }
 
 // The NIKHAHIT of a SARA AM: a mark that its cluster's first glyph carries on.
-#[inline]
 fn nikhahit_from_sara_am(am: GlyphInfo) -> GlyphInfo {
     let mut marks = am.marks;
     marks.set_continuation(true);
@@ -33,7 +30,6 @@ fn nikhahit_from_sara_am(am: GlyphInfo) -> GlyphInfo {
 }
 
 // The SARA AA of a SARA AM.
-#[inline]
 fn sara_aa_from_sara_am(am: GlyphInfo) -> GlyphInfo {
     GlyphInfo {
         glyph_id: am.glyph_id - 1,
@@ -42,7 +38,6 @@ fn sara_aa_from_sara_am(am: GlyphInfo) -> GlyphInfo {
 }
 
 // How many SARA AM the text has.
-#[inline]
 fn count_sara_am(buffer: &Buffer) -> usize {
     buffer
         .glyphs()
@@ -61,7 +56,6 @@ pub(super) fn has_sara_am(buffer: &Buffer) -> bool {
 }
 
 // How many above-base marks stand right before `place`.
-#[inline]
 fn count_marks_before(glyphs: &[GlyphInfo], place: usize) -> usize {
     glyphs[..place]
         .iter()
@@ -72,7 +66,6 @@ fn count_marks_before(glyphs: &[GlyphInfo], place: usize) -> usize {
 
 // Merges what a SARA AM at `place` merges, its marks or, without any, the glyph before it, in the
 // glyphs with a run in its cluster. Returns the run that is to be written then.
-#[inline]
 fn merge_sara_am(
     level: BufferClusterLevel,
     glyphs: &mut [GlyphInfo],
@@ -94,7 +87,6 @@ fn merge_sara_am(
 }
 
 // Merges what each SARA AM of the first `len` glyphs merges, from the left.
-#[inline]
 fn merge_all_sara_am(level: BufferClusterLevel, glyphs: &mut [GlyphInfo], len: usize) {
     let mut run = ClusterRun::NONE;
     for i in 0..len {
@@ -113,7 +105,6 @@ struct Unwritten {
 
 impl Unwritten {
     // Writes what the last glyph becomes; if it is a SARA AM, with its marks.
-    #[inline]
     fn write_last(&mut self, glyphs: &mut [GlyphInfo]) {
         self.end -= 1;
         self.place -= 1;
@@ -127,7 +118,6 @@ impl Unwritten {
     }
 
     // Writes the marks that end the text, and a NIKHAHIT before them.
-    #[inline]
     fn write_nikhahit(&mut self, glyphs: &mut [GlyphInfo], nikhahit: GlyphInfo) {
         let above = count_marks_before(glyphs, self.end);
         for _ in 0..above {
@@ -142,7 +132,6 @@ impl Unwritten {
 
 // Writes the first `len` glyphs with each SARA AM in two over a slice that has just the room for
 // it.
-#[inline]
 fn write_in_two(glyphs: &mut [GlyphInfo], len: usize) {
     let mut unwritten = Unwritten {
         end: len,
@@ -196,7 +185,6 @@ impl GlyphWalk for Rewriting {
 /// - `glyphs_in_two`, `is_sara_am`, `sara_am_stretches`: crates/shapers_text/specs/Thai.antt
 ///
 /// </details>
-#[inline]
 pub fn rewrite_sara_am(buffer: &mut Buffer) -> Result<(), ShaperError> {
     let len = buffer.len();
     let count = count_sara_am(buffer);
