@@ -1,6 +1,6 @@
 //! Hebrew: the order of marks, and the letters that compose with points where the font places no
 //! marks.
-ghost use Rattle.std.specs.Prelude.{◌≡◌, ◌==◌, ◌&&◌, ◌≤◌, find, length, option_map, swap, ◌+◌, ◌^◌, ◌<◌, IfSome};
+ghost use Rattle.std.specs.Prelude.{◌≡◌, ◌==◌, ◌&&◌, ◌≤◌, find, length, option_map, is_some, false, swap, ◌+◌, ◌^◌, ◌<◌, IfSome};
 ghost use Rattle.shapers_buffer.specs.Clusters.{merge};
 ghost use Rattle.shapers_buffer.specs.Glyph.{order_view};
 ghost use Rattle.shapers_clusters.specs.Steps.{run_step};
@@ -31,20 +31,25 @@ pub fn reorder_marks(_plan: &hb_ot_shape_plan_t, buffer: &mut hb_buffer_t, start
     buffer.walk(&mut MarkOrder { level, start, end });
 }
 
-/// The same in a slice whose clusters merge at this level.
+/// The same in a slice whose clusters merge at this level. Returns whether marks changed places:
+/// where it returns false nothing changed.
 pub fn reorder_marks_in(
     level: BufferClusterLevel,
     glyphs: &mut [hb_glyph_info_t],
     start: usize,
     end: usize,
-)
+) -> bool
     requires in_order { start ≤ end }
     requires in_range { end ≤ length glyphs.old }
-    ensures { glyphs.new ≡ run_step level (mark_step start end glyphs.old) glyphs.old }
+    ensures step { glyphs.new ≡ run_step level (mark_step start end glyphs.old) glyphs.old }
+    ensures moved { result ≡ is_some (second_of_triple start end glyphs.old) }
+    ensures unchanged { result ≡ false → glyphs.new ≡ glyphs.old }
 {
-    if let Some(i) = find_triple(glyphs, start, end) {
-        merge_and_swap(level, glyphs, i);
-    }
+    let Some(i) = find_triple(glyphs, start, end) else {
+        return false;
+    };
+    merge_and_swap(level, glyphs, i);
+    true
 }
 
 // Where the marks stand, and whether clusters merge.

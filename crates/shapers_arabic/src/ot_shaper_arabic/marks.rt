@@ -1,7 +1,7 @@
 //! The order of Arabic marks: those that modify a letter come first. (Unicode Technical Report 53.)
-ghost use Rattle.std.specs.Prelude.{◌≡◌, ◌==◌, ◌+◌, ◌≤◌, length, map};
+ghost use Rattle.std.specs.Prelude.{◌≡◌, ◌==◌, ◌+◌, ◌≤◌, false, length, map};
 ghost use Rattle.std.specs.List.{list_any, prefix_len};
-ghost use Rattle.shapers_buffer.specs.Clusters.{merge_all};
+ghost use Rattle.shapers_buffer.specs.Clusters.{merge_all, stretch_of};
 ghost use Rattle.shapers_buffer.specs.Glyph.{order_view};
 ghost use Rattle.shapers_clusters.specs.Steps.{shifted};
 ghost use Rattle.shapers_arabic.specs.MarkParts.{is_modifier, lengths_of, end_of, passed_by, last_first};
@@ -63,20 +63,27 @@ impl GlyphWalk for MarkOrder {
     }
 }
 
-/// The same in a slice whose clusters merge at this level.
+/// The same in a slice whose clusters merge at this level. Returns whether one of the marks modifies
+/// a letter: where it returns false nothing changed.
 pub fn reorder_marks_in(
     level: BufferClusterLevel,
     glyphs: &mut [hb_glyph_info_t],
     start: usize,
     end: usize,
-)
+) -> bool
     requires in_order { start ≤ end }
     requires in_range { end ≤ length glyphs.old }
-    ensures { glyphs.new ≡ marks_reordered start end (marks_merged level start end glyphs.old) }
+    ensures marks { glyphs.new
+        ≡ marks_reordered start end (marks_merged level start end glyphs.old) }
+    ensures moved { let marks = stretch_of start end glyphs.old in
+        result ≡ list_any is_modifier marks }
+    ensures unchanged { result ≡ false → glyphs.new ≡ glyphs.old }
 {
-    if has_modifier(&glyphs[start..end]) {
-        move_modifiers(level, glyphs, start, end);
+    if !has_modifier(&glyphs[start..end]) {
+        return false;
     }
+    move_modifiers(level, glyphs, start, end);
+    true
 }
 
 // Whether one of these marks modifies a letter.

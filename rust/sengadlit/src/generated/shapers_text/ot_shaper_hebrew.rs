@@ -42,7 +42,8 @@ pub fn reorder_marks(_plan: &Plan, buffer: &mut Buffer, start: usize, end: usize
     buffer.walk(&mut MarkOrder { level, start, end });
 }
 
-/// The same in a slice whose clusters merge at this level.
+/// The same in a slice whose clusters merge at this level. Returns whether marks changed places:
+/// where it returns false nothing changed.
 ///
 /// <details><summary>Contract</summary>
 ///
@@ -51,11 +52,13 @@ pub fn reorder_marks(_plan: &Plan, buffer: &mut Buffer, start: usize, end: usize
 /// ```text
 /// requires in_order { start ≤ end }
 /// requires in_range { end ≤ length glyphs.old }
-/// ensures { glyphs.new ≡ run_step level (mark_step start end glyphs.old) glyphs.old }
+/// ensures step { glyphs.new ≡ run_step level (mark_step start end glyphs.old) glyphs.old }
+/// ensures moved { result ≡ is_some (second_of_triple start end glyphs.old) }
+/// ensures unchanged { result ≡ false → glyphs.new ≡ glyphs.old }
 /// ```
 ///
 /// - `run_step`: crates/shapers_clusters/specs/Steps.antt
-/// - `mark_step`: crates/shapers_text/specs/Hebrew.antt
+/// - `mark_step`, `second_of_triple`: crates/shapers_text/specs/Hebrew.antt
 ///
 /// </details>
 pub fn reorder_marks_in(
@@ -63,10 +66,12 @@ pub fn reorder_marks_in(
     glyphs: &mut [GlyphInfo],
     start: usize,
     end: usize,
-) {
-    if let Some(i) = find_triple(glyphs, start, end) {
-        merge_and_swap(level, glyphs, i);
-    }
+) -> bool {
+    let Some(i) = find_triple(glyphs, start, end) else {
+        return false;
+    };
+    merge_and_swap(level, glyphs, i);
+    true
 }
 
 // Where the marks stand, and whether clusters merge.

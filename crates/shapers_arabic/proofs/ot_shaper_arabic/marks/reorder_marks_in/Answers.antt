@@ -3,5 +3,5 @@ use Rattle.std.proofs.Common.{sym, ◌∙◌}
 use Rattle.shapers_arabic.proofs.MarkLists.{unmodified}
 use Rattle.shapers_arabic.proofs.ot_shaper_arabic.marks.reorder_marks_in.Goals as goal
 
-pub returns-else-has_modifier : goal.returns-else-has_modifier
-returns-else-has_modifier c = sym (unmodified c.args.level c.args.start c.args.end c.args.glyphs.now c.requires.in_order (sym c.has_modifier.ensures ∙ c.if-has_modifier.false))
+pub returns-then-not-has_modifier-clause-marks : goal.returns-then-not-has_modifier-clause-marks
+returns-then-not-has_modifier-clause-marks c = sym (unmodified c.args.level c.args.start c.args.end c.args.glyphs.now c.requires.in_order (sym c.has_modifier.ensures ∙ c.if-not-has_modifier.true))

@@ -60,7 +60,8 @@ impl GlyphWalk for MarkOrder {
     }
 }
 
-/// The same in a slice whose clusters merge at this level.
+/// The same in a slice whose clusters merge at this level. Returns whether one of the marks modifies
+/// a letter: where it returns false nothing changed.
 ///
 /// <details><summary>Contract</summary>
 ///
@@ -69,10 +70,16 @@ impl GlyphWalk for MarkOrder {
 /// ```text
 /// requires in_order { start ≤ end }
 /// requires in_range { end ≤ length glyphs.old }
-/// ensures { glyphs.new ≡ marks_reordered start end (marks_merged level start end glyphs.old) }
+/// ensures marks { glyphs.new
+///     ≡ marks_reordered start end (marks_merged level start end glyphs.old) }
+/// ensures moved { let marks = stretch_of start end glyphs.old in
+///     result ≡ list_any is_modifier marks }
+/// ensures unchanged { result ≡ false → glyphs.new ≡ glyphs.old }
 /// ```
 ///
+/// - `is_modifier`: crates/shapers_arabic/specs/MarkParts.antt
 /// - `marks_merged`, `marks_reordered`: crates/shapers_arabic/specs/Marks.antt
+/// - `stretch_of`: crates/shapers_buffer/specs/Clusters.antt
 ///
 /// </details>
 pub fn reorder_marks_in(
@@ -80,10 +87,12 @@ pub fn reorder_marks_in(
     glyphs: &mut [GlyphInfo],
     start: usize,
     end: usize,
-) {
-    if has_modifier(&glyphs[start..end]) {
-        move_modifiers(level, glyphs, start, end);
+) -> bool {
+    if !has_modifier(&glyphs[start..end]) {
+        return false;
     }
+    move_modifiers(level, glyphs, start, end);
+    true
 }
 
 // Whether one of these marks modifies a letter.
