@@ -11,6 +11,7 @@ pub mod FinalLawsAt
 pub mod FinalLinks
 mod FinalMatraRows
 pub mod FinalMoves
+mod FinalNoMask
 pub mod FinalOpened
 mod FinalOpeningRows
 pub mod FinalParting
