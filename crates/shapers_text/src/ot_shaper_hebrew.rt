@@ -88,6 +88,7 @@ fn merge_and_swap(level: BufferClusterLevel, glyphs: &mut [hb_glyph_info_t], i: 
 
 // The place of the second of the first three such neighbours.
 #[inline]
+#[allow(clippy::explicit_counter_loop)]
 fn find_triple(glyphs: &[hb_glyph_info_t], start: usize, end: usize) -> Option<usize>
     requires in_order { start ≤ end }
     requires in_range { end ≤ length glyphs.now }

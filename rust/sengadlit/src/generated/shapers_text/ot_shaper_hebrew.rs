@@ -97,6 +97,7 @@ fn merge_and_swap(level: BufferClusterLevel, glyphs: &mut [GlyphInfo], i: usize)
 
 // The place of the second of the first three such neighbours.
 #[inline]
+#[allow(clippy::explicit_counter_loop)]
 fn find_triple(glyphs: &[GlyphInfo], start: usize, end: usize) -> Option<usize> {
     let marks = &glyphs[start..end];
     let mut second = start + 1;
