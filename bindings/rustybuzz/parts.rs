@@ -151,7 +151,7 @@ pub const fn hb_tag(tag: Tag) -> hb_tag_t {
 
 /// One bit stands for the flags of concatenation and of tatweel.
 pub fn flag_bits(flags: BufferFlags) -> u32 {
-    flags.bits() | (flags & BufferFlags::PRODUCE_UNSAFE_TO_CONCAT).bits() << 1
+    (flags.bits() & 0x7F) | (flags & BufferFlags::PRODUCE_UNSAFE_TO_CONCAT).bits() << 1
 }
 
 /// A mask with glyph flags is noted.
