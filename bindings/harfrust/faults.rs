@@ -17,7 +17,6 @@ fn level(level: usize) -> Setting {
 
 /// The text as it is shaped by the crate as it is and by the proved one.
 fn both(font: &[u8], code_points: &str, setting: Setting) -> [String; 2] {
-    std::panic::set_hook(Box::new(|_| {}));
     let text = text_of(code_points);
     [stock::told(font, &text, &setting), proved::told(font, &text, &setting)]
 }
