@@ -7,9 +7,10 @@ use programs::{proved, stock, text_of, Setting, Shaped};
 
 const NOTO: &str = "truetype/noto";
 
-/// Levels by number.
+/// Levels by number, and flags by bits.
 const CHARACTERS: usize = 2;
 const GRAPHEMES: usize = 3;
+const DO_NOT_INSERT_DOTTED_CIRCLE: u32 = 0x10;
 
 fn level(level: usize) -> Setting {
     Setting { level, ..Setting::default() }
@@ -118,10 +119,8 @@ fn sums_of_a_stretch_wrap() {
 #[test]
 fn the_glyph_behind_the_syllable_is_read() {
     let plain = without(&noto("NotoSansMalayalam"), b"GSUB");
-    let glyph = |code_point: &str| {
-        u16::try_from(both_glyphs(&plain, code_point, Setting::default())[0].glyphs()[0].number)
-            .expect("a glyph")
-    };
+    let alone = Setting { flags: DO_NOT_INSERT_DOTTED_CIRCLE, ..Setting::default() };
+    let glyph = |code_point: &str| both_glyphs(&plain, code_point, alone)[0].glyphs()[0].number as u16;
     let (ka, virama, ra, e) = (glyph("0D15"), glyph("0D4D"), glyph("0D30"), glyph("0D46"));
     let font = with(&plain, b"GSUB", pref_without_ra(virama, ra, ka));
     let numbers = |shaped: &Shaped| {
