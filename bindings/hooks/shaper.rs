@@ -1,8 +1,8 @@
 //! The script shapers: each hook and pause is that of the crate `sengadlit`, on a text that glyphs are copied into and
 //! back. What one host has otherwise than another is in `parts`.
 //!
-//! A glyph of the host fits whole: `var` carries its glyph and ligature properties, a spare bit of the marks HIDDEN,
-//! the combining class the high byte of its Unicode properties. After a pause the text is the newer of the two until
+//! A glyph of the host fits whole: `var` carries its glyph and ligature properties, the combining class the high byte of
+//! its Unicode properties, and bits 3 to 5 of the marks IGNORABLE, HIDDEN and CONTINUATION. After a pause the text is the newer of the two until
 //! lookups are about to read the buffer (`settle`), so that a run of pauses copies once.
 
 use alloc::boxed::Box;
@@ -33,9 +33,18 @@ use super::ot_shape_plan::hb_ot_shape_plan_t;
 use super::ot_shaper::*;
 
 mod parts;
+#[cfg(feature = "shadow")]
+pub mod shadow;
+
+#[cfg(not(feature = "shadow"))]
+use self as hooks;
 #[cfg(not(feature = "shadow"))]
 pub use parts::names;
 use parts::{Codepoint, FontRef, Info, Ucd};
+#[cfg(feature = "shadow")]
+use shadow as hooks;
+#[cfg(feature = "shadow")]
+pub use shadow::kept;
 
 // ---- Plan ----
 
@@ -91,6 +100,12 @@ fn create_data<const S: usize>(plan: &hb_ot_shape_plan_t) -> Box<dyn Any + Send 
     Box::new(made.expect("stages are ranges, and masks touch no glyph flag"))
 }
 
+/// What a plan keeps of this type.
+#[cfg(not(feature = "shadow"))]
+pub fn kept<T: 'static>(data: &(dyn Any + Send + Sync)) -> Option<&T> {
+    data.downcast_ref()
+}
+
 fn plan_of(plan: &hb_ot_shape_plan_t) -> &Plan {
     plan.data::<Plan>()
 }
@@ -111,9 +126,7 @@ const CATEGORIES: [GeneralCategory; 32] = {
 #[inline(always)]
 fn glyph_of(info: &Info) -> Glyph {
     let props = info.unicode_props();
-    let substitution = (info.glyph_props() >> 4) as u8 & 7;
-    // IGNORABLE, CONTINUATION, HIDDEN
-    let flags = (props >> 2) as u8 & 8 | (props >> 3) as u8 & 16 | (props >> 1) as u8 & 32;
+    let marks = (info.glyph_props() >> 4) as u8 & 7 | (props >> 2) as u8 & 0x38;
     Glyph {
         glyph_id: info.glyph_id,
         cluster: info.cluster,
@@ -125,19 +138,18 @@ fn glyph_of(info: &Info) -> Glyph {
         general_category: CATEGORIES[usize::from(props & 31)],
         modified_combining_class: (props >> 8) as u8,
         lig_comp: parts::lig_comp(info),
-        marks: GlyphMarks(substitution | flags),
+        marks: GlyphMarks(marks),
     }
 }
 
 #[inline(always)]
 fn info_of(glyph: &Glyph) -> Info {
     let marks = u16::from(glyph.marks.0);
-    let flags = (marks & 8) << 2 | (marks & 16) << 3 | (marks & 32) << 1;
     let class = u16::from(glyph.modified_combining_class) << 8;
     let mut info = parts::info(glyph.glyph_id, glyph.mask, glyph.cluster, glyph.var);
     info.set_glyph_props(info.glyph_props() & !0x70 | (marks & 7) << 4);
     info.set_syllable(glyph.syllable);
-    info.set_unicode_props(glyph.general_category as u16 | flags | class);
+    info.set_unicode_props(glyph.general_category as u16 | (marks & 0x38) << 2 | class);
     info.set_ot_shaper_var_u8_category(glyph.category);
     info.set_ot_shaper_var_u8_auxiliary(glyph.auxiliary);
     info
@@ -255,8 +267,22 @@ fn preprocess_text<const S: usize>(plan: &hb_ot_shape_plan_t, font: FontRef, buf
     if matches!(shaper, Shaper::Indic | Shaper::Universal) {
         super::ot_shaper_vowel_constraints::preprocess_text_vowel_constraints(buffer);
     } else if may_rewrite(shaper, plan_of(plan), font, &buffer.info[..buffer.len]) {
-        on_text(buffer, 0..buffer.len, |text| shaper.preprocess_text(plan_of(plan), &parts::font(font), text));
+        on_text(buffer, 0..buffer.len, |text| {
+            exchange_flags(text);
+            shaper.preprocess_text(plan_of(plan), &parts::font(font), text)?;
+            exchange_flags(text);
+            Ok(())
+        });
     }
+}
+
+/// Lets HIDDEN and CONTINUATION change places: Thai marks continuations, and no other hook reads or sets these two.
+fn exchange_flags(text: &mut Buffer) {
+    text.with_glyphs_mut(|glyphs| {
+        for GlyphMarks(bits) in glyphs.iter_mut().map(|glyph| &mut glyph.marks) {
+            *bits = *bits & !0x30 | (*bits & 0x10) << 1 | (*bits & 0x20) >> 1;
+        }
+    });
 }
 
 /// Whether preprocessing may change a text. It leaves Thai without SARA AM where GSUB has the script, and Hangul of
@@ -407,21 +433,21 @@ fn postprocess_glyphs<const S: usize>(plan: &hb_ot_shape_plan_t, font: FontRef, 
 
 /// By the number of the pause.
 const PAUSES: [pause_func_t; 15] = [
-    pause::<0>,
-    pause::<1>,
-    pause::<2>,
-    pause::<3>,
-    pause::<4>,
-    pause::<5>,
-    pause::<6>,
-    pause::<7>,
-    pause::<8>,
-    pause::<9>,
-    pause::<10>,
-    pause::<11>,
-    pause::<12>,
-    pause::<13>,
-    pause::<14>,
+    hooks::pause::<0>,
+    hooks::pause::<1>,
+    hooks::pause::<2>,
+    hooks::pause::<3>,
+    hooks::pause::<4>,
+    hooks::pause::<5>,
+    hooks::pause::<6>,
+    hooks::pause::<7>,
+    hooks::pause::<8>,
+    hooks::pause::<9>,
+    hooks::pause::<10>,
+    hooks::pause::<11>,
+    hooks::pause::<12>,
+    hooks::pause::<13>,
+    hooks::pause::<14>,
 ];
 
 fn pause_function(pause: Pause) -> pause_func_t {
@@ -536,7 +562,7 @@ pub const UNIVERSAL_SHAPER: hb_ot_shaper_t = shaper::<8>();
 macro_rules! hook {
     ($hook:ident, $function:ident) => {
         if SHAPERS[S].has_hook(Hook::$hook) {
-            Some($function::<S>)
+            Some(hooks::$function::<S>)
         } else {
             None
         }
@@ -547,7 +573,7 @@ const fn shaper<const S: usize>() -> hb_ot_shaper_t {
     hb_ot_shaper_t {
         collect_features: hook!(CollectFeatures, collect_features),
         override_features: hook!(OverrideFeatures, override_features),
-        create_data: Some(create_data::<S>),
+        create_data: Some(hooks::create_data::<S>),
         preprocess_text: hook!(PreprocessText, preprocess_text),
         postprocess_glyphs: hook!(PostprocessGlyphs, postprocess_glyphs),
         normalization_preference: match SHAPERS[S].normalization_preference() {

@@ -143,7 +143,11 @@ impl<F: WideGlyphs> Font for Wide<F> {
     /// # Panics
     ///
     /// If there are more than 8 glyphs: the hooks ask for two or three.
+    #[inline]
     fn would_apply_any(&self, lookups: &[u16], glyphs: &[GlyphId], zero_context: bool) -> bool {
+        if lookups.is_empty() {
+            return false;
+        }
         let mut numbers = [0; QUESTION_LENGTH];
         let numbers = &mut numbers[..glyphs.len()];
         for (number, glyph) in numbers.iter_mut().zip(glyphs) {
