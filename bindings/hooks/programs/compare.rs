@@ -7,7 +7,8 @@
 //! A difference is explained where the crate as it is, with the known differences edited away,
 //! gives what the proved one gives; its reasons are the edits that this takes. A table goes to
 //! standard output, by script, and a list of reasons, each with its first text. The last line is 'N
-//! passed, M failed': M outputs differ without a reason.
+//! passed, M failed': M outputs differ without a reason. With the feature `shadow` the proved crate
+//! runs both versions of each hook on each call, and the fields that differ are told.
 
 use programs::{proved, put_in_force, reasons, stock, Setting, Shaped, LEVELS, REASONS};
 use std::collections::BTreeMap;
@@ -160,37 +161,37 @@ fn with_reasons(
     reasons::shape_texts(font, texts, setting)
 }
 
-/// The reasons of each difference: the edits without which the crate doesn't give what the proved
-/// one gives, or else those that each change what it gives. None is explained by no edits at all.
+/// The reasons of each difference: as few edits as give what the proved crate gives; the first names
+/// of [`REASONS`] are left out first. None where all together don't.
 fn explain(
     font: &[u8],
     texts: &[&str],
     setting: &Setting,
-    stock: &[Shaped],
     proved: &[Shaped],
 ) -> Vec<Vec<&'static str>> {
     let all = with_reasons(REASONS, font, texts, setting);
-    let mut needed: Vec<Vec<&str>> = vec![Vec::new(); texts.len()];
-    let mut alone: Vec<Vec<&str>> = vec![Vec::new(); texts.len()];
+    let mut sets: Vec<Vec<&'static str>> = Vec::new();
+    sets.extend((0..texts.len()).map(|place| match all[place] == proved[place] {
+        true => REASONS.to_vec(),
+        false => Vec::new(),
+    }));
     for name in REASONS {
-        let others: Vec<&str> = REASONS.iter().filter(|other| *other != name).copied().collect();
-        let without = with_reasons(&others, font, texts, setting);
-        let only = with_reasons(&[name], font, texts, setting);
-        for place in 0..texts.len() {
-            if without[place] != proved[place] {
-                needed[place].push(name);
-            }
-            if only[place] != stock[place] {
-                alone[place].push(name);
+        let mut groups: BTreeMap<Vec<&'static str>, Vec<usize>> = BTreeMap::new();
+        for (place, set) in sets.iter().enumerate().filter(|(_, set)| set.len() > 1) {
+            groups.entry(set.clone()).or_default().push(place);
+        }
+        for (set, places) in groups {
+            let fewer: Vec<&str> = set.into_iter().filter(|other| other != name).collect();
+            let some: Vec<&str> = places.iter().map(|&place| texts[place]).collect();
+            let shaped = with_reasons(&fewer, font, &some, setting);
+            for (place, shaped) in places.into_iter().zip(shaped) {
+                if shaped == proved[place] {
+                    sets[place].clone_from(&fewer);
+                }
             }
         }
     }
-    let explained = (0..texts.len()).map(|place| match all[place] == proved[place] {
-        true if needed[place].is_empty() => std::mem::take(&mut alone[place]),
-        true => std::mem::take(&mut needed[place]),
-        false => Vec::new(),
-    });
-    explained.collect()
+    sets
 }
 
 fn code_points(text: &str) -> String {
@@ -217,7 +218,7 @@ fn compare(
     let chosen: Vec<&str> = places.iter().map(|&place| texts[place]).collect();
     let [one, other] = [one, other]
         .map(|shaped| places.iter().map(|&place| shaped[place].clone()).collect::<Vec<_>>());
-    let explained = explain(font, &chosen, setting, &one, &other);
+    let explained = explain(font, &chosen, setting, &other);
     for (number, &place) in places.iter().enumerate() {
         let kind = kind(&one[number], &other[number]).unwrap_or_default();
         let real = place < script.real && !setting.contexts;
@@ -362,6 +363,16 @@ fn print_reasons(total: &Tally) {
     println!("- in all: {} shaped; {}", total.shaped, kinds.join("; "));
 }
 
+/// With both hooks on each call: the calls by shaper, hook and the fields that differ, and examples.
+#[cfg(feature = "shadow")]
+fn print_shadow() {
+    println!();
+    programs::shadow_report().iter().for_each(|line| println!("- {line}"));
+}
+
+#[cfg(not(feature = "shadow"))]
+fn print_shadow() {}
+
 fn options() -> Option<Options> {
     let mut arguments = std::env::args().skip(1);
     let (texts, root) = (arguments.next()?.into(), arguments.next()?.into());
@@ -392,6 +403,7 @@ fn main() {
         total.merge(tally);
     }
     print_reasons(&total);
+    print_shadow();
     for (script, tally) in scripts.iter().zip(&tallies) {
         tally.shown.iter().for_each(|told| println!("{}: {told}", script.name));
         tally

@@ -14,6 +14,8 @@ calls!(stock, stock);
 calls!(proved, proved);
 calls!(reasons, reasons);
 
+#[cfg(feature = "shadow")]
+pub use ::proved::shadow_report;
 pub use ::reasons::put_in_force;
 
 /// How a text is shaped.
