@@ -96,11 +96,9 @@ impl fmt::Display for Shaped {
 
 /// Shapes; the error is what a panic said.
 fn without_panic<T>(shape: impl FnOnce() -> T) -> Result<T, String> {
-    std::panic::catch_unwind(std::panic::AssertUnwindSafe(shape)).map_err(|told| {
-        match told.downcast::<String>() {
-            Ok(text) => *text,
-            Err(told) => told.downcast_ref::<&str>().map_or(String::new(), ToString::to_string),
-        }
+    std::panic::catch_unwind(std::panic::AssertUnwindSafe(shape)).map_err(|told| match told.downcast::<String>() {
+        Ok(text) => *text,
+        Err(told) => told.downcast_ref::<&str>().map_or(String::new(), ToString::to_string),
     })
 }
 
