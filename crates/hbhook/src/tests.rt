@@ -88,7 +88,7 @@ fn ends_on_broken_streams(rt: HostRuntime) -> Result<(), Fail> {
     Ok(())
 }
 
-// A run of the input that ends in a fault tells this too, where it is asked to explain.
+// A run of the input that ends in a fault says so; where it explains, also what was expected.
 fn expect_explained(
     rt: &impl Abort,
     alloc: Global,
@@ -105,7 +105,7 @@ fn expect_explained(
     Ok(())
 }
 
-// What is expected of a line that doesn't read is told, and which line was refused.
+// An explained run says what was expected of a rejected line, and which line was refused.
 #[test]
 fn explains_faults(rt: HostRuntime) -> Result<(), Fail> {
     let rows = [

@@ -1,4 +1,4 @@
-//! Boxes, a box a glyph: pieces of a row as drawings that the page lets wrap.
+//! Boxes, one per glyph: pieces of a row as drawings that the page lets wrap.
 use crate::label::{Place, Style};
 use crate::names::{BROKEN, kind_name};
 use crate::pieces::{Piece, pieces_of};
@@ -379,7 +379,7 @@ fn draw_details(
     Ok(())
 }
 
-// Underlines the boxes of each syllable, and tells its serial and its kind.
+// Underlines the boxes of each syllable, and writes its serial and its kind.
 fn draw_syllables(
     page: &mut String,
     row: &Row,

@@ -99,7 +99,7 @@ impl Drawing {
         draw_row(&mut self.page, &self.session, &origins)
     }
 
-    // Carries out the line of a hook, and draws what the hook answered and left.
+    // Carries out the line of a hook, and draws what the hook returned and left.
     fn draw_hook(&mut self, number: usize, line: &[u8]) -> Result<(), LineFault> {
         let traced = Traced::new(&mut self.session, line)?;
         self.session.carry_out(line)?;

@@ -1,5 +1,5 @@
 //! Draws what hooks do: carries out the lines of the program, and writes a page of HTML with a row
-//! of boxes, a box a glyph, for the text and after each hook.
+//! of boxes, one per glyph, for the text and after each hook.
 #![tactic(auto)]
 
 mod boxes;
@@ -26,8 +26,8 @@ use std::io::{Read, Write};
 
 /// Carries out the lines of the input and writes a page that shows the buffer before and after each
 /// hook. A refusal or a fault ends the run: the page then shows it below all that came before it,
-/// and the faults tell it. The answer is the status to end with: 0, 1 for a refusal, and 2 for a
-/// line that doesn't read, and without a message for a reader or a writer that fails.
+/// and the message goes to `faults`. Returns the status to end with: 0, 1 for a refusal, and 2 for
+/// a rejected line, and without a message for a reader or a writer that fails.
 pub fn draw_lines<I, O, F>(alloc: Global, input: I, output: O, faults: F) -> u8
 where
     I: Read + Drop,
@@ -58,7 +58,7 @@ where
     }
 }
 
-// Draws the lines in order, to the first fault, which is the answer.
+// Draws the lines in order, up to the first fault, which it returns.
 fn draw_each(drawing: &mut Drawing, lines: &[&[u8]]) -> Result<Option<Fault>, AllocError> {
     for (i, line) in lines.iter().enumerate() {
         if let Err(fault) = drawing.draw(i + 1, line) {

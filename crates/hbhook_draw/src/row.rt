@@ -1,4 +1,4 @@
-//! A row of boxes: the glyphs of a buffer, and what is told of them.
+//! A row of boxes: the glyphs of a buffer, and what is shown of them.
 use crate::label::Style;
 use crate::names::{auxiliary_name, category_name};
 use hbhook_lines::Feature;
@@ -17,7 +17,7 @@ pub(crate) struct Row<'a> {
     pub positions: &'a [GlyphPosition],
     /// The glyphs before the hook.
     pub before: &'a [hb_glyph_info_t],
-    /// For each glyph its place before the hook; none where nothing is to be told of it.
+    /// For each glyph its place before the hook; none where nothing is to be shown of it.
     pub origins: &'a [usize],
     pub shaper: Option<hb_ot_shaper_t>,
     pub features: &'a [Feature],
@@ -67,7 +67,7 @@ impl Row<'_> {
         self.glyphs.iter().any(|glyph| glyph.syllable != 0)
     }
 
-    /// What is told of a glyph: category, auxiliary byte and combining class where they aren't 0,
+    /// What is shown of a glyph: category, auxiliary byte and combining class where they aren't 0,
     /// and its masks.
     pub(crate) fn details(&self, glyph: &hb_glyph_info_t) -> Result<Vec<Detail>, AllocError> {
         let mut details = Vec::new(self.alloc);

@@ -27,8 +27,8 @@ fn expect_page(
     Ok(())
 }
 
-// A refusal and a line that doesn't read are drawn with the rows before them, and no text is
-// told as nothing; what HTML gives a meaning is escaped wherever the input put it.
+// A refusal and a rejected line are drawn with the rows before them, and an empty text is shown as
+// such; what HTML gives a meaning is escaped wherever the input put it.
 #[test]
 fn draws_each_end(rt: HostRuntime) -> Result<(), Fail> {
     let alloc = rt.alloc();

@@ -1,4 +1,4 @@
--- What the font of the lines answers.
+-- The font of the lines.
 use Rattle.std.specs.Prelude.{ℕ, ◌==◌, ◌&&◌, Bool, List}
 use Rattle.std.specs.List.{list_any}
 use Rattle.hbhook_lines.specs.declared.font.Applied.{Applied}

@@ -1,4 +1,4 @@
--- What the tables of the lines answer.
+-- The tables of the lines.
 use Rattle.std.specs.Prelude.{ℕ, ◌==◌, ◌&&◌, List, Option, option_map, unwrap_or, find}
 use Rattle.std.specs.Ordering.{nat_cmp}
 use Rattle.std.specs.BTreeMap.{get, BTreeMap}

@@ -25,7 +25,7 @@ const COMMANDS: &str = "font, applies, table, pair, mask, stage, set, text, cont
 // How many lookups there may be.
 const LOOKUPS: usize = 65536;
 
-/// The side of the text that a context stands on.
+/// The side of the text that a context is on.
 #[derive(Clone, Copy)]
 pub(crate) enum Side {
     Before,
@@ -39,7 +39,7 @@ pub enum LineKind {
     Text,
     /// Writes to the glyphs of the buffer or to their positions.
     Glyphs,
-    /// Asks a hook of the shaper.
+    /// Calls a hook of the shaper.
     Run,
     /// Sets what later lines read.
     Setting,

@@ -1,4 +1,4 @@
-//! What was expected of a line that doesn't read.
+//! What was expected of a rejected line.
 use thiserror::Error;
 
 /// A number that one byte holds.
@@ -43,13 +43,13 @@ pub enum Expected {
     Character,
     #[error("four ASCII characters, none of them a space")]
     FourCharacters,
-    /// What the call of the line asks.
+    /// A condition of the line's call.
     #[error("{0}")]
     Condition(&'static str),
 }
 
 impl Expected {
-    /// What was expected of a whole line that doesn't read: what holds of every line comes first.
+    /// What was expected of a rejected line as a whole: what holds of every line comes first.
     pub(crate) fn of_line(self, line: &str) -> Self {
         if line.starts_with('\u{FEFF}') {
             Expected::NoByteOrderMark

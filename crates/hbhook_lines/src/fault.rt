@@ -7,7 +7,7 @@ use thiserror::Error;
 /// Why a line can't be carried out.
 #[derive(Clone, Copy, Debug)]
 pub enum LineFault {
-    /// It doesn't read, or the conditions of its call fail: what was expected.
+    /// It isn't recognised, or the conditions of its call fail: what was expected.
     Unreadable(Expected),
     /// A shaper or a growth refused.
     Refused(ShaperError),
@@ -35,16 +35,16 @@ impl From<AllocError> for LineFault {
     }
 }
 
-/// What ends a run, as it is told on standard error.
+/// What ends a run, as it is reported on standard error.
 #[derive(Clone, Copy, Debug, Error)]
 pub enum Fault {
-    /// A line that doesn't read, by its number from 1, and what was expected of it.
+    /// A rejected line, by its number from 1, and what was expected of it.
     #[error("line {0}: unreadable")]
     Unreadable(usize, Expected),
     /// A refusal, and the number of the line that was refused, unless it was another growth.
     #[error("refused: {0}")]
     Refused(ShaperError, Option<usize>),
-    /// Input that can't be read, or output that can't be written: nothing is told.
+    /// Input that can't be read, or output that can't be written: nothing is reported.
     #[error("broken")]
     Broken,
 }

@@ -24,9 +24,8 @@ use std::alloc::{AllocError, Global};
 use std::io::{self, ErrorKind, Read, Write};
 
 /// Carries out the lines of the input and prints the buffer that they leave. A refusal or a fault
-/// ends the run with nothing but a message among the faults. The answer is the status to end with:
-/// 0, 1 for a refusal, and 2 for a line that doesn't read, and without a message for a reader or
-/// a writer that fails.
+/// ends the run with nothing but a message in `faults`. Returns the status to end with: 0, 1 for a
+/// refusal, and 2 for a rejected line, and without a message for a reader or a writer that fails.
 pub fn run_lines<I, O, F>(alloc: Global, input: I, output: O, faults: F) -> u8
 where
     I: Read + Drop,
@@ -40,8 +39,8 @@ where
     }
 }
 
-/// Does what `run_lines` does, and tells among the faults, behind the message, what was expected of
-/// the line that doesn't read, or which line was refused.
+/// Does what `run_lines` does, and after the message writes to `faults` what was expected of the
+/// rejected line, or which line was refused.
 pub fn explain_lines<I, O, F>(alloc: Global, input: I, output: O, faults: F) -> u8
 where
     I: Read + Drop,

@@ -40,7 +40,7 @@ fn print_glyph(text: &mut String, buffer: &hb_buffer_t, i: usize) -> Result<(), 
     Ok(())
 }
 
-/// Writes all of a text, or tells that the writer is broken.
+/// Writes all of a text, or reports that the writer is broken.
 pub fn write_text<W: Write + Drop>(mut output: W, text: &str) -> Result<(), Fault>
     ensures { IfErr result (λ fault. fault ≡ Broken) }
 {
@@ -50,8 +50,8 @@ pub fn write_text<W: Write + Drop>(mut output: W, text: &str) -> Result<(), Faul
     written.map_err(|_| Fault::Broken)
 }
 
-/// Tells of a fault as `report` does, and then on a line of its own what was expected of a line that
-/// doesn't read, or which line was refused.
+/// Reports a fault as `report` does, and then on a line of its own what was expected of a rejected
+/// line, or which line was refused.
 pub fn explain<W: Write + Drop>(mut faults: W, fault: Fault) -> u8
     ensures { result ≤ 2 }
 {
@@ -73,7 +73,7 @@ pub fn explain<W: Write + Drop>(mut faults: W, fault: Fault) -> u8
     }
 }
 
-/// Tells of a fault and answers the status to end with.
+/// Reports a fault and returns the status to end with.
 pub fn report<W: Write + Drop>(mut faults: W, fault: Fault) -> u8
     ensures { result ≤ 2 }
 {

@@ -67,7 +67,7 @@ impl Row {
         }
     }
 
-    // Whether the run prints, tells and answers what the row says.
+    // Whether the run prints, reports and returns what the row says.
     fn holds(&self, alloc: Global) -> bool {
         let mut written = Vec::new(alloc);
         let mut told = Vec::new(alloc);

@@ -1,4 +1,4 @@
-//! Does what `hbhook` does, and says more of a line that doesn't read and of a refusal.
+//! Does what `hbhook` does, and explains a rejected line and a refusal.
 #![tactic(auto)]
 
 use hbhook_lines::explain_lines;

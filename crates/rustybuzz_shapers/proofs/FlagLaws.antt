@@ -1,5 +1,5 @@
 -- Setting masks only adds glyph flags, whatever the shaper; so do all pauses that reorder nothing.
-use Rattle.std.proofs.Common.{◌≡◌, ◌==◌, ℕ, true, false, cond, List, [], ◌∷◌, ◌++◌, Option, None, Some, map, flat_map, take, drop, refl, sym, subst}
+use Rattle.std.proofs.Common.{◌≡◌, ℕ, true, false, cond, List, [], ◌∷◌, ◌++◌, Option, None, Some, map, take, drop, refl, sym, subst}
 use Rattle.std.specs.List.{prefix_len}
 use Rattle.std.proofs.lemmas.List.{take-append-drop}
 use Rattle.shapers_buffer.specs.Marks.{is_multiplied, is_substituted}
@@ -17,7 +17,7 @@ use Rattle.shapers_buffer.specs.Buffer.{Buffer}
 use Rattle.shapers_base.specs.declared.plan.arabic.arabic_shape_plan_t.{arabic_shape_plan_t}
 use Rattle.shapers_base.specs.declared.plan.hb_ot_shape_plan_t.{hb_ot_shape_plan_t}
 use Rattle.shapers_base.specs.Font.{CharacterTables}
-use Rattle.shapers_arabic.specs.PlanData.{masks_of}
+use Rattle.shapers_arabic.specs.PlanData.{breaks_of, masks_of}
 use Rattle.shapers_arabic.proofs.JoinedFlags.{joined_added}
 use Rattle.shapers_clusters.specs.FlagLaw.{FlagsAdded, OnlyFlagsAdded}
 use Rattle.shapers_clusters.proofs.FlagLaw.{added_same, all_added_on, changed_added}
@@ -42,10 +42,10 @@ universal_added (Some p) script tables old new is =
     let mid = with_categories tables old in
     all_added_on old.glyphs mid.glyphs new.glyphs
     (changed_added (categorized tables.universal) (λ g. added_same g (categorized tables.universal g) refl refl) old.glyphs)
-    (joined_added p.mask_array script tables.joining tables.general mid new is.0)
+    (joined_added p.break_flags p.mask_array script tables.joining tables.general mid new is.0)
 
 pub masks_added : (shaper : hb_ot_shaper_t) (plan : hb_ot_shape_plan_t) (tables : CharacterTables) (old new : Buffer) → MasksSet shaper plan tables old new → OnlyFlagsAdded old.glyphs new.glyphs
-masks_added Arabic plan tables old new is = joined_added (masks_of plan.plan_data) plan.script tables.joining tables.general old new is.0
+masks_added Arabic plan tables old new is = joined_added (breaks_of plan.plan_data) (masks_of plan.plan_data) plan.script tables.joining tables.general old new is.0
 masks_added Hangul plan tables old new is = each_changed (with_jamo_mask (masks_in plan.plan_data)) (jamo_mask_added (masks_in plan.plan_data)) old new is
 masks_added Hebrew plan tables old new is = unchanged_added old new is.1
 masks_added Indic plan tables old new is = each_changed (with_category_and_position tables) (λ g. added_same g (with_category_and_position tables g) refl refl) old new is

@@ -1,8 +1,10 @@
+mod Breaks
 mod CheckedRows
 mod Cuts
 mod FlagLaws
 mod Headline
 mod HookRows
+mod PauseLaws
 mod PauseRows
 mod RecordRows
 mod StandingRows

@@ -1,5 +1,5 @@
--- What hooks and pauses ask of their callers, condition by condition, and where calls that test
--- this stop.
+-- What hooks and pauses require of their callers, condition by condition, and where calls that
+-- test this stop.
 use Rattle.std.specs.Prelude.{ℕ, ◌≡◌, ◌≤◌, List, [], All, length, Result, Ok, Err}
 use Rattle.shapers_buffer.specs.Buffer.{Buffer}
 use Rattle.shapers_buffer.specs.declared.buffer.refusal.ShaperError.{ShaperError}
@@ -16,7 +16,7 @@ use Rattle.rustybuzz_shapers.specs.declared.shaper.checked.Condition.TheVariants
 use Rattle.rustybuzz_shapers.specs.declared.shaper.hb_ot_shaper_t.{hb_ot_shaper_t}
 use Rattle.rustybuzz_shapers.specs.declared.shaper.hb_ot_shaper_t.TheVariants.{Arabic}
 
--- what each condition is for preprocessing; of what isn't named nothing is asked
+-- what each condition is for preprocessing; what isn't named isn't required
 abbrev pub preprocess_asks : Buffer → Condition → Type 0
 preprocess_asks b Positions = b.positions ≡ []
 preprocess_asks b _ = Unit {0}

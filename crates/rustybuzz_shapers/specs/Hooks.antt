@@ -1,5 +1,5 @@
 -- What each hook does, of each shaper that has it. Of the others, which lack it by their
--- `standing`: nothing changes and the answer is None.
+-- `standing`: nothing changes and the result is None.
 use Rattle.std.specs.Prelude.{ℕ, ◌+◌, ◌≤◌, ◌%◌, List, [], ◌∷◌, map, true, false, ◌≡◌, length, Option, None, Some, Result, IsOk}
 use Rattle.std.specs.List.{All, AllByRecursion, list_any}
 use Rattle.shapers_buffer.specs.Buffer.{Buffer}
@@ -9,7 +9,7 @@ use Rattle.shapers_buffer.specs.Refusals.{Refuses, RefusesLength}
 use Rattle.shapers_arabic.specs.Marks as arabic
 use Rattle.shapers_arabic.specs.Marks.{marks_merged, marks_reordered}
 use Rattle.shapers_arabic.specs.JoinedText.{AreCharacters, CutsAsHalves, joined}
-use Rattle.shapers_arabic.specs.PlanData.{arabic_plan, IsArabic, masks_of}
+use Rattle.shapers_arabic.specs.PlanData.{arabic_plan, breaks_of, IsArabic, masks_of}
 use Rattle.shapers_buffer.specs.declared.buffer.glyph.hb_glyph_info_t.{hb_glyph_info_t}
 use Rattle.shapers_buffer.specs.declared.buffer.refusal.ShaperError.{ShaperError}
 use Rattle.shapers_base.specs.declared.plan.hb_ot_shape_plan_t.{hb_ot_shape_plan_t}
@@ -77,25 +77,25 @@ PlanFits Hangul plan = is_hangul_data plan.plan_data ≡ true
 PlanFits Universal plan = is_universal plan.plan_data ≡ true
 PlanFits _ plan = Unit {0}
 
--- what setting masks asks of the glyphs: for Arabic, and the universal shaper where letters join,
--- they are characters
+-- what setting masks requires of the glyphs: for Arabic, and the universal shaper where letters
+-- join, they are characters
 abbrev pub GlyphsFit : hb_ot_shaper_t → hb_ot_shape_plan_t → List hb_glyph_info_t → Type 0
 GlyphsFit Arabic plan gs = AreCharacters gs
 GlyphsFit Universal plan gs = CanJoin (arabic_of plan.plan_data) gs
 GlyphsFit _ plan gs = Unit {0}
 
--- what reordering marks asks of the stretch: for Arabic at most 32 places
+-- what reordering marks requires of the stretch: for Arabic at most 32 places
 abbrev pub MarksFit : hb_ot_shaper_t → ℕ → ℕ → Type 0
 MarksFit Arabic start end = end ≤ start + 32
 MarksFit _ start end = Unit {0}
 
--- what postprocessing asks of the plan and the glyphs: for Arabic its data, and glyph numbers of a
--- font
+-- what postprocessing requires of the plan and the glyphs: for Arabic its data, and glyph numbers
+-- of a font
 abbrev pub PostprocessFits : hb_ot_shaper_t → hb_ot_shape_plan_t → List hb_glyph_info_t → Type 0
 PostprocessFits Arabic plan gs = IsArabic plan.plan_data × All (λ g. g.glyph_id ≤ 65535) gs
 PostprocessFits _ plan gs = Unit {0}
 
--- what preprocessing answers
+-- what preprocessing returns
 abbrev pub preprocess_answer : hb_ot_shaper_t → Option Preprocess
 preprocess_answer Hangul = Some Done
 preprocess_answer Indic = Some CallerRunsVowelConstraints
@@ -184,7 +184,9 @@ Decomposed shaper plan tables ab answer = Lacking (standing shaper).decompose (a
 abbrev pub MasksSet :
     hb_ot_shaper_t → hb_ot_shape_plan_t → CharacterTables → Buffer → Buffer → Type 0
 MasksSet Arabic plan tables old new =
-    (new ≡ joined (masks_of plan.plan_data) plan.script tables.joining tables.general old)
+    let breaks = breaks_of plan.plan_data in
+    let masks = masks_of plan.plan_data in
+    (new ≡ joined breaks masks plan.script tables.joining tables.general old)
     × CutsAsHalves plan.script tables.joining tables.general old new
 MasksSet Hangul plan tables old new = new ≡ with_jamo_masks plan.plan_data old
 MasksSet Indic plan tables old new =

@@ -1,3 +1,4 @@
+pub mod Breaks
 pub mod Checked
 pub mod Cuts
 pub mod Headline

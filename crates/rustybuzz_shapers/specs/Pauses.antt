@@ -68,8 +68,8 @@ pauses_in (request.Pause (Some pause) ∷ rs) = pause ∷ pauses_in rs
 pauses_in (request.Pause None ∷ rs) = pauses_in rs
 pauses_in (request.Feature tag flags value ∷ rs) = pauses_in rs
 
--- the plan's data are of the kind that each pause reads that a shaper's lists ask for, for any
--- script, and a font with rclt or without
+-- the plan's data are of the kind that each pause in a shaper's lists reads, for any script, and a
+-- font with rclt or without
 abbrev pub PausesFit : hb_ot_shaper_t → hb_ot_shape_plan_t → Type 0
 PausesFit shaper plan = (script : Option Script) (has_rclt : Bool) →
     AllFit plan (pauses_in (unwrap_or (collected shaper script has_rclt) []))
@@ -144,7 +144,7 @@ reordering_of SyllabicClearVar plan font b = None
 reordering_of ClearSubstitutionFlags plan font b = None
 reordering_of ArabicFallbackShape plan font b = None
 
--- the dotted circles that it opens, if any: true is answered exactly where circles are wanted
+-- the dotted circles that it opens, if any: true is returned exactly where circles are wanted
 abbrev pub circles_of : Pause → hb_ot_shape_plan_t → Font → Buffer → Option DottedCircles
 circles_of pause plan font b = option_and_then (λ r. r.circles) (reordering_of pause plan font b)
 
@@ -153,7 +153,8 @@ circles_of pause plan font b = option_and_then (λ r. r.circles) (reordering_of 
 abbrev pub Reordered : Reordering → Buffer → Buffer → Type 0
 Reordered r old new = PauseReordered r.circles r.order r.steps old new
 
--- the buffer before and after the pause: broken kinds are Indic 4, Khmer 1, Myanmar 2
+-- the buffer before and after the pause: broken kinds are Indic 4, Khmer 1, Myanmar 2. Where it
+-- reorders, the placement list is empty, so that each place reads 0; else it is what it was
 abbrev pub Paused : Pause → hb_ot_shape_plan_t → Font → List Span → Buffer → Buffer → Type 0
 Paused SetupSyllablesIndic plan font spans old new = new ≡ spans_set_up spans 4 old
 Paused SetupSyllablesKhmer plan font spans old new = new ≡ spans_set_up spans 1 old
@@ -184,9 +185,9 @@ PauseStays pause plan =
     Paused pause plan font spans old new → new ≡ old
 
 -- What every reordering keeps. A text cut at any border of syllables gives the halves' results
--- joined, also where the bytes of the halves have other serials, and then but for these. No glyph is lost, no cluster rises, glyph flags stay unless it fell, and what shared a
--- cluster still does: the laws of steps, from after circles on. Every cluster is one that the text
--- had before its circles.
+-- joined; where the bytes of the halves have other serials, but for serials. No glyph is lost, no
+-- cluster rises, glyph flags stay unless it fell, and what shared a cluster still does: the laws of
+-- steps, from after circles on. Every cluster is one that the text had before its circles.
 pub record ReorderingKeeps (r : Reordering) (old new : Buffer) : Type 0 where
   pub cuts : PauseCutsAtBorders r.circles r.order r.steps old new
   pub renumbered : CutsAtBorders unnumbered (paused_order r.circles r.order)

@@ -1,4 +1,4 @@
--- The records of the shapers: their constants, and what they ask of the map.
+-- The records of the shapers: their constants, and what they request of the map.
 use Rattle.std.specs.Prelude.{Bool, true, false, List, Option, None, Some, codes}
 use Rattle.shapers_base.specs.Planner.{Planner, with_requests}
 use Rattle.shapers_buffer.specs.declared.buffer.tag.hb_tag_t.{hb_tag_t}
@@ -52,8 +52,7 @@ places_marks Arabic = true
 places_marks Hebrew = true
 places_marks _ = false
 
--- what the shaper asks of the map, if it asks anything: for a script, and a font with rclt or
--- without
+-- what the shaper requests of the map, if anything: for a script, and a font with rclt or without
 abbrev pub collected : hb_ot_shaper_t → Option Script → Bool → Option (List Request)
 collected Arabic s has_rclt = Some (arabic_list (is_arabic s) has_rclt)
 collected Hangul s has_rclt = Some hangul_list
@@ -63,7 +62,7 @@ collected Myanmar s has_rclt = Some myanmar_list
 collected Universal s has_rclt = Some universal_list
 collected _ s has_rclt = None
 
--- what it asks after the lists of all
+-- what it requests after the lists of all
 abbrev pub overridden : hb_ot_shaper_t → Option (List Request)
 overridden Hangul = Some hangul_overrides
 overridden Indic = Some indic_overrides

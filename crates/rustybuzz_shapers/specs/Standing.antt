@@ -1,4 +1,4 @@
--- Which shaper has which hook, said once.
+-- Which shaper has which hook.
 use Rattle.std.specs.Prelude.{Bool, true, false, ◌≡◌}
 use Rattle.rustybuzz_shapers.specs.declared.shaper.Hook.{Hook}
 use Rattle.rustybuzz_shapers.specs.declared.shaper.Hook.TheVariants.{CollectFeatures, OverrideFeatures, CreateData, PreprocessText, PostprocessGlyphs, Compose, Decompose, SetupMasks, ReorderMarks}

@@ -1,5 +1,5 @@
-//! The shapers behind one enum, a method a hook. Where a shaper lacks a hook, its method answers
-//! None and changes nothing.
+//! The shapers behind one enum, one method per hook. Where a shaper lacks a hook, its method
+//! returns None and changes nothing.
 ghost use Rattle.std.specs.Prelude.{◌≡◌, ◌≤◌, [], length, IfOk, IsOk, false, is_some, IsOkUnless, OnOk, OnErr};
 ghost use Rattle.std.specs.Option.{IfSome};
 ghost use Rattle.shapers_buffer.specs.declared.buffer.refusal.ShaperError.TheVariants.{Memory};
@@ -19,7 +19,9 @@ mod laws;
 mod pauses;
 
 pub use conditions::{has_positions, kinds_fit, lacks_positions, pause_fits};
-pub use laws::{cuts_at_borders_law, headline, stretches_cover_law, syllables_regrouped_law};
+pub use laws::{
+    breaks_law, cuts_at_borders_law, headline, stretches_cover_law, syllables_regrouped_law,
+};
 pub use pauses::{pause_may_change, run_pause};
 use shapers_arabic::ot_shaper_arabic;
 pub use shapers_base::plan::{NormalizationMode, Pause, PlanData, Preprocess, ZeroWidthMarks};
@@ -108,8 +110,8 @@ impl hb_ot_shaper_t {
     ghost use Rattle.std.specs.Prelude.{◌+◌};
     ghost use Rattle.rustybuzz_shapers.specs.Stretched.{glyphs_added};
 
-    /// Whether the shaper has a hook. Where it lacks one, the hook's method answers None and changes
-    /// nothing.
+    /// Whether the shaper has a hook. Where it lacks one, the hook's method returns None and
+    /// changes nothing.
     pub const fn has_hook(self, hook: Hook) -> bool
         ensures { result ≡ has_hook self hook }
     {
@@ -142,6 +144,7 @@ impl hb_ot_shaper_t {
     }
 
     /// How the text is normalized before the font's mapping.
+    #[inline]
     pub const fn normalization_preference(self) -> NormalizationMode
         ensures { result ≡ normalizes self }
     {
@@ -153,6 +156,7 @@ impl hb_ot_shaper_t {
     }
 
     /// The script that GPOS has to have chosen, so that the shaper trusts it to place marks.
+    #[inline]
     pub const fn gpos_tag(self) -> Option<hb_tag_t>
         ensures { result ≡ wants_gpos_script self }
     {
@@ -163,6 +167,7 @@ impl hb_ot_shaper_t {
     }
 
     /// When the advances of marks become zero.
+    #[inline]
     pub const fn zero_width_marks(self) -> ZeroWidthMarks
         ensures { result ≡ zeroes_marks self }
     {
@@ -174,13 +179,14 @@ impl hb_ot_shaper_t {
     }
 
     /// Whether marks are placed by their classes where the font doesn't place them.
+    #[inline]
     pub const fn fallback_position(self) -> bool
         ensures { result ≡ places_marks self }
     {
         matches!(self, Self::Arabic | Self::Hebrew)
     }
 
-    /// Asks for the features of the shaper's scripts: all of the list, or nothing where memory is
+    /// Requests the features of the shaper's scripts: all of the list, or nothing where memory is
     /// refused. Arabic's list depends on the planner's script and on the font.
     pub fn collect_features<F: hb_font_t>(
         self,
@@ -207,8 +213,8 @@ impl hb_ot_shaper_t {
         }
     }
 
-    /// Asks for what stands after the features of all shapers: all of it, or nothing where memory
-    /// is refused.
+    /// Requests what comes after the features of all shapers: all of it, or nothing where memory is
+    /// refused.
     pub fn override_features(
         self,
         planner: &mut hb_ot_shape_planner_t,
@@ -249,6 +255,7 @@ impl hb_ot_shaper_t {
     /// forms. Hangul composes jamo, or takes syllables apart, as the font has them, and puts tones
     /// before their syllables. Both refuse as a growth does. For Indic and the universal shaper the
     /// caller runs the vowel constraints.
+    #[inline]
     pub fn preprocess_text<F: hb_font_t>(
         self,
         plan: &hb_ot_shape_plan_t,
@@ -282,7 +289,8 @@ impl hb_ot_shaper_t {
     }
 
     /// Rewrites the glyphs after positioning: for Arabic, marks stretch over the words before them,
-    /// as wide as these or wider by less than a unit an added copy, where their tiles fit.
+    /// as wide as these or wider by less than one unit per added copy, where their tiles fit.
+    #[inline]
     pub fn postprocess_glyphs<F: hb_font_t>(
         self,
         plan: &hb_ot_shape_plan_t,
@@ -321,6 +329,7 @@ impl hb_ot_shaper_t {
     /// The character that two characters compose to for this shaper: for Hebrew also, where GPOS
     /// places no marks, the form of a letter and a point; for Indic, Khmer and the universal shaper
     /// none behind a mark, and for Indic also YA with its nukta.
+    #[inline]
     pub fn compose<T: Tables>(
         self,
         plan: &hb_ot_shape_plan_t,
@@ -342,6 +351,7 @@ impl hb_ot_shaper_t {
 
     /// The two characters that a character decomposes to for this shaper: for Indic not of letters
     /// that fonts know whole, for Khmer also of split vowels.
+    #[inline]
     pub fn decompose<T: Tables>(
         self,
         _plan: &hb_ot_shape_plan_t,
@@ -368,6 +378,7 @@ impl hb_ot_shaper_t {
     /// neighbours, and the form's mask; for Hangul those of marked jamo; for Indic, Khmer and
     /// Myanmar categories alone, for the universal shaper these and, where letters join, Arabic's
     /// forms. It can't refuse and takes no memory.
+    #[inline]
     pub fn setup_masks<F: hb_font_t, T: Tables>(
         self,
         plan: &hb_ot_shape_plan_t,
@@ -397,6 +408,7 @@ impl hb_ot_shaper_t {
     /// Reorders the marks from `start` to `end`: for Hebrew, at the first three neighbours of its
     /// classes, the last two merge and change places; for Arabic, over at most 32 places, marks
     /// that modify a letter come to the front. It can't refuse and takes no memory.
+    #[inline]
     pub fn reorder_marks(
         self,
         plan: &hb_ot_shape_plan_t,

@@ -100,7 +100,7 @@ cut-joined breaks masks script joining general old new is =
     subst (λ fs. HoldsCut script text fs) (sym (forms_left breaks masks script joining general old new is)) (holds-cut script text (text_long joining general old))
 
 -- a front that shows a type shows the nearest
-nearest-of_front : (ts us : List hb_arabic_joining_type_t) → is_some (nearest ts) ≡ true → nearest (ts ++ us) ≡ nearest ts
+pub nearest-of_front : (ts us : List hb_arabic_joining_type_t) → is_some (nearest ts) ≡ true → nearest (ts ++ us) ≡ nearest ts
 nearest-of_front [] us e = cc
 nearest-of_front (t ∷ ts) us e =
     elim (is_transparent t) as (λ b. is_some (cond b (nearest ts) (Some t)) ≡ true → cond b (nearest (ts ++ us)) (Some t) ≡ cond b (nearest ts) (Some t)) [

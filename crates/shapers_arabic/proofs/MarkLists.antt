@@ -1,14 +1,19 @@
 -- What the moves make of a list of marks, given by its five parts.
-use Rattle.std.proofs.Common.{◌≡◌, ℕ, ◌+◌, ◌-◌, List, [], ◌++◌, map, length, take, drop, refl, ap, sym, ◌∙◌, arith, append_assoc, length-append}
-use Rattle.std.specs.List.{range_with_len, prefix_len}
-use Rattle.std.proofs.lemmas.List.{length-map, take_at, drop_at, take-append-drop, append-nil}
+use Rattle.std.proofs.Common.{◌≡◌, ℕ, ◌+◌, ◌-◌, List, [], ◌++◌, map, length, take, drop, refl, ap, sym, ◌∙◌, arith, append_assoc, length-append, Bool, true, false, zero, suc, ◌∷◌, ◌≤◌}
+use Rattle.std.specs.List.{range_with_len, prefix_len, list_any}
+use Rattle.std.proofs.lemmas.List.{length-map, take_at, drop_at, take-append-drop, append-nil, drop-drop}
 use borrow.Rule.Slice.PartMut.{put_mid}
 use Rattle.shapers_buffer.specs.declared.buffer.glyph.hb_glyph_info_t.{hb_glyph_info_t}
 use Rattle.shapers_buffer.specs.declared.buffer.modified_combining_class.TheConstants.{CCC22, CCC26}
 use Rattle.shapers_buffer.specs.Places.{pick}
 use Rattle.shapers_clusters.proofs.Picks.{pick-append, pick-range}
-use Rattle.shapers_arabic.specs.MarkParts.{last_first}
-use Rattle.shapers_arabic.specs.Marks.{Marks, split_marks, front_of, behind, is_below, is_modifier_of, in_class, with_modifiers_first, places_moved}
+use Rattle.shapers_arabic.specs.MarkParts.{last_first, is_modifier}
+use Rattle.shapers_arabic.specs.Marks.{Marks, split_marks, front_of, behind, is_below, is_modifier_of, in_class, with_modifiers_first, places_moved, passed, marks_merged, marks_reordered}
+use Rattle.std.specs.Prelude.{◌||◌}
+use Rattle.std.proofs.lemmas.Bool.{false≢true}
+use Rattle.shapers_buffer.specs.declared.buffer.level.BufferClusterLevel.{BufferClusterLevel}
+use Rattle.shapers_buffer.specs.Clusters.{merge_all, stretch_of}
+use Rattle.shapers_clusters.specs.Steps.{shifted}
 
 -- the five parts in their old order, and in the new one with the classes as they were
 abbrev pub joined_parts : Marks → List hb_glyph_info_t
@@ -119,3 +124,74 @@ pick-moved s xs h =
     (pick-append r3 r4 xs
     ∙ ap (λ zs. zs ++ pick r4 xs) (pick-part (a + m) b (low ++ below) middle (above ++ rest) xs n2 refl h2)
     ∙ ap (λ zs. middle ++ zs) (pick-part (a + m + b + n) c (((low ++ below) ++ middle) ++ above) rest [] xs n4 refl h4))))
+
+-- MARKS OF WHICH NONE MODIFIES A LETTER: nothing merges, and all stay
+or-false : (a b : Bool) → (a || b) ≡ false → (a ≡ false) × (b ≡ false)
+or-false true b h = absurd (false≢true (sym h))
+or-false false b h = (refl, h)
+
+none-behind : (n : ℕ) (gs : List hb_glyph_info_t) → list_any is_modifier gs ≡ false → list_any is_modifier (drop n gs) ≡ false
+none-behind zero gs h = h
+none-behind (suc n) [] h = h
+none-behind (suc n) (g ∷ gs) h = none-behind n gs (or-false (is_modifier g) (list_any is_modifier gs) h).1
+
+front-none : (test : hb_glyph_info_t → Bool) (gs : List hb_glyph_info_t) → ((g : hb_glyph_info_t) → is_modifier g ≡ false → test g ≡ false) → list_any is_modifier gs ≡ false → prefix_len test gs ≡ 0
+front-none test [] fails h = refl
+front-none test (g ∷ gs) fails h = rw (fails g (or-false (is_modifier g) (list_any is_modifier gs) h).0) refl
+
+not_below : (g : hb_glyph_info_t) → is_modifier g ≡ false → is_modifier_of 220 g ≡ false
+not_below g h = (or-false (is_modifier_of 220 g) (is_modifier_of 230 g) h).0
+
+not_above : (g : hb_glyph_info_t) → is_modifier g ≡ false → is_modifier_of 230 g ≡ false
+not_above g h = (or-false (is_modifier_of 220 g) (is_modifier_of 230 g) h).1
+
+-- so the second and the fourth part are empty
+record NoModifiers (gs : List hb_glyph_info_t) : Type 0 where
+  below : prefix_len (is_modifier_of 220) (behind (is_below 220) gs) ≡ 0
+  above : prefix_len (is_modifier_of 230) (behind (is_below 230) (behind (is_modifier_of 220) (behind (is_below 220) gs))) ≡ 0
+
+no_modifiers : (gs : List hb_glyph_info_t) → list_any is_modifier gs ≡ false → NoModifiers gs
+no_modifiers gs h =
+    let second = behind (is_below 220) gs in
+    let third = behind (is_modifier_of 220) second in
+    let in_second = none-behind (prefix_len (is_below 220) gs) gs h in
+    let in_third = none-behind (prefix_len (is_modifier_of 220) second) second in_second in
+    let in_fourth = none-behind (prefix_len (is_below 230) third) third in_third in
+    record {
+      below = front-none (is_modifier_of 220) second not_below in_second;
+      above = front-none (is_modifier_of 230) (behind (is_below 230) third) not_above in_fourth;
+    }
+
+-- and the marks stay, given how long the parts are
+parts-still : (a m b n : ℕ) (gs : List hb_glyph_info_t) → m ≡ 0 → n ≡ 0 → map (in_class CCC22) (take m (drop a gs)) ++ (map (in_class CCC26) (take n (drop b (drop m (drop a gs)))) ++ (take a gs ++ (take b (drop m (drop a gs)) ++ drop n (drop b (drop m (drop a gs)))))) ≡ gs
+parts-still a m b n gs none_below none_above =
+    rw (none_below, none_above, take-append-drop b (drop a gs), take-append-drop a gs) refl
+
+marks-still : (gs : List hb_glyph_info_t) → NoModifiers gs → with_modifiers_first (split_marks gs) ≡ gs
+marks-still gs h = parts-still (prefix_len (is_below 220) gs) (prefix_len (is_modifier_of 220) (behind (is_below 220) gs)) (prefix_len (is_below 230) (behind (is_modifier_of 220) (behind (is_below 220) gs))) (prefix_len (is_modifier_of 230) (behind (is_below 230) (behind (is_modifier_of 220) (behind (is_below 220) gs)))) gs h.below h.above
+
+nothing-merged : (level : BufferClusterLevel) (s a m b n : ℕ) (gs : List hb_glyph_info_t) → m ≡ 0 → n ≡ 0 → merge_all level (shifted s (passed a m b n)) gs ≡ gs
+nothing-merged level s a m b n gs none_below none_above = rw (none_below, none_above) refl
+
+-- a stretch that stays leaves the whole
+stretch-still : (s e : ℕ) (gs : List hb_glyph_info_t) → s ≤ e → take s gs ++ (stretch_of s e gs ++ drop e gs) ≡ gs
+stretch-still s e gs in_order =
+    let back : s + (e - s) ≡ e = omega arith in
+    let rest : drop (e - s) (drop s gs) ≡ drop e gs = drop-drop (e - s) s gs ∙ ap (λ n. drop n gs) back in
+    ap (λ xs. take s gs ++ (stretch_of s e gs ++ xs)) (sym rest)
+    ∙ ap (λ xs. take s gs ++ xs) (take-append-drop (e - s) (drop s gs))
+    ∙ take-append-drop s gs
+
+pub unmodified : (level : BufferClusterLevel) (s e : ℕ) (gs : List hb_glyph_info_t) → s ≤ e → list_any is_modifier (stretch_of s e gs) ≡ false → marks_reordered s e (marks_merged level s e gs) ≡ gs
+unmodified level s e gs in_order h =
+    let marks = stretch_of s e gs in
+    let none = no_modifiers marks h in
+    let parts = split_marks marks in
+    let second = behind (is_below 220) marks in
+    let fourth = behind (is_below 230) (behind (is_modifier_of 220) second) in
+    let below : length parts.modifiers_below ≡ 0 = ap (λ n. length (take n second)) none.below in
+    let above : length parts.modifiers_above ≡ 0 = ap (λ n. length (take n fourth)) none.above in
+    let merged : marks_merged level s e gs ≡ gs = nothing-merged level s (length parts.low) (length parts.modifiers_below) (length parts.middle) (length parts.modifiers_above) gs below above in
+    ap (marks_reordered s e) merged
+    ∙ ap (λ xs. take s gs ++ (xs ++ drop e gs)) (marks-still marks none)
+    ∙ stretch-still s e gs in_order

@@ -25,7 +25,8 @@ sound_flags before types after =
 -- between them
 abbrev pub MayBreak : List hb_arabic_joining_type_t → List hb_arabic_joining_type_t →
     List hb_arabic_joining_type_t → List hb_arabic_joining_type_t → Type 0
-MayBreak before ts us after = forms before (ts ++ us) after ≡ forms before ts [] ++ forms [] us after
+MayBreak before ts us after =
+    forms before (ts ++ us) after ≡ forms before ts [] ++ forms [] us after
 
 -- what joining flags by itself are the places where the first half, cut off, loses a form
 abbrev pub AsCodeLaw : Type 0
@@ -67,9 +68,9 @@ BreaksWhereClear breaks masks script joining general old new =
     IsSpared breaks script (text_of joining general old) n →
     BreaksAt breaks masks script joining general old new n
 
--- and no flag of Sound is needless: where each glyph is a cluster of its own, clusters rise, nothing
--- was flagged before and no form's mask has a glyph flag bit, each place where the text may be
--- broken is clear (the script Mongolian apart)
+-- and no flag of Sound is needless: where each glyph is a cluster of its own, clusters rise,
+-- nothing was flagged before and no form's mask has a glyph flag bit, each place where the text may
+-- be broken is clear (the script Mongolian apart)
 abbrev pub NoneNeedless : BreakFlags → List ℕ → Option Script → (ℕ → hb_arabic_joining_type_t) →
     (ℕ → hb_unicode_general_category_t) → Buffer → Buffer → Type 0
 NoneNeedless breaks masks script joining general old new =

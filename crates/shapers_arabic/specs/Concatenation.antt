@@ -15,8 +15,8 @@ forbids_border p (SafeToInsertTatweel s e) = nat_lt s p && nat_lt p e
 abbrev pub IsOpen : List FlagCall → ℕ → Type 0
 IsOpen calls p = list_any (forbids_border p) calls ≡ false
 
--- Where two texts, ts us and cs ds, are open at their borders, ts ds has the forms of both. Where ds
--- has no letter, none may follow it.
+-- Where two texts, ts us and cs ds, are open at their borders, ts ds has the forms of both. Where
+-- ds has no letter, none may follow it.
 abbrev pub ConcatenationLaw : Type 0
 ConcatenationLaw = (before ts us after front cs ds behind : List hb_arabic_joining_type_t) →
     0 < length us → IsOpen (joining_flags before (ts ++ us) after) (length ts) →

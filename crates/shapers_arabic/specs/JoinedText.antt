@@ -22,12 +22,12 @@ abbrev pub is_mongolian : Option Script → Bool
 is_mongolian None = false
 is_mongolian (Some s) = pointwise nat_eq s.0 (codes "Mong")
 
--- the types of glyphs, where the stored category tells X
+-- the types of glyphs, where the stored category decides X
 abbrev pub stored_types : (ℕ → hb_arabic_joining_type_t) → List hb_glyph_info_t →
     List hb_arabic_joining_type_t
 stored_types joining gs = map (λ g. resolved (joining g.glyph_id) g.general_category) gs
 
--- the types of characters, where the table's own category tells X
+-- the types of characters, where the table's own category decides X
 abbrev pub context_types : (ℕ → hb_arabic_joining_type_t) → (ℕ → hb_unicode_general_category_t) →
     List ℕ → List hb_arabic_joining_type_t
 context_types joining general cs = map (λ c. resolved (joining c) (general c)) cs
@@ -82,7 +82,7 @@ flag_calls Sound script text =
     joining_flags text.before text.types text.after ++ added_calls script text
 
 -- the glyphs of a text after joining: each in its form, and the flags of joining, as far as the
--- buffer asks for them
+-- buffer wants them
 abbrev pub joined_glyphs : BreakFlags → List ℕ → BufferFlags → Option Script → Text →
     List hb_glyph_info_t → List hb_glyph_info_t
 joined_glyphs breaks masks flags script text gs =

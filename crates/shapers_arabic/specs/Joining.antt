@@ -1,4 +1,4 @@
--- The joining rule: the form of a letter is told by its own type and by the nearest types on both
+-- The joining rule: the form of a letter is decided by its own type and the nearest types on both
 -- sides that aren't transparent. (The Unicode Standard, "Cursive Joining"; for Alaph, Dalath and
 -- Rish the OpenType specification for Syriac.)
 use Rattle.std.specs.Prelude.{ℕ, ◌==◌, nat_le, Bool, true, false, ◌&&◌, ◌||◌, List, [], ◌∷◌, ◌++◌, Option, None, Some, if◌then◌else◌}
@@ -16,7 +16,7 @@ is_passed_over Me = true
 is_passed_over Cf = true
 is_passed_over _ = false
 
--- the joining type, where X is told by the general category: T or U
+-- the joining type, where the general category decides X: T or U
 abbrev pub resolved : hb_arabic_joining_type_t → hb_unicode_general_category_t →
     hb_arabic_joining_type_t
 resolved X category = if is_passed_over category then T else U

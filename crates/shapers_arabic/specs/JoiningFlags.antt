@@ -1,4 +1,4 @@
--- Which glyph flags joining sets, told by forms alone: where a letter changes the form of the one
+-- Which glyph flags joining sets, by forms alone: where a letter changes the form of the one
 -- before it, no break between the two, or that a tatweel may stand there; where one might, no
 -- concatenation. (HarfBuzz: unsafe to break, unsafe to concat, safe to insert a tatweel.)
 use Rattle.std.specs.Prelude.{ℕ, suc, ◌==◌, Bool, false, not, ◌||◌, List, [], ◌∷◌, ◌++◌, length, reverse, Option, None, Some, if◌then◌else◌}

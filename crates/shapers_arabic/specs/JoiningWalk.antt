@@ -199,7 +199,7 @@ with_copied previous [] = []
 with_copied previous (g ∷ gs) =
     record g { auxiliary = copied previous g } ∷ with_copied (Some (copied previous g)) gs
 
--- no break inside the stretches of these calls, whatever the buffer asks for
+-- no break inside the stretches of these calls, whatever the buffer wants
 abbrev pub Called : List FlagCall → List hb_glyph_info_t → List hb_glyph_info_t → Type 0
 Called calls gs hs = (concat tatweel : Bool) → hs ≡ flags_called concat tatweel calls gs
 
@@ -225,8 +225,8 @@ abbrev pub copied_form : Option ℕ → ℕ → ℕ → ℕ
 copied_form None c own = own
 copied_form (Some form) c own = if is_selector c then form else own
 
--- the calls that Sound adds along these characters and forms, of which the first is that of place i,
--- where a copied form isn't the character's own
+-- the calls that Sound adds along these characters and forms, of which the first is that of place
+-- i, where a copied form isn't the character's own
 abbrev pub copied_calls : Option ℕ → ℕ → List (ℕ × ℕ) → List FlagCall
 copied_calls previous i [] = []
 copied_calls previous i ((c, a) ∷ places) =

@@ -1,5 +1,6 @@
 pub mod Breaks
 pub mod Concatenation
+pub mod Edits
 pub mod JoinedText
 pub mod Joining
 pub mod JoiningFlags

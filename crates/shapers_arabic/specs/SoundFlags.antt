@@ -1,5 +1,5 @@
--- What Sound flags in addition to joining's own calls: each form that a letter takes from what stands
--- before it and that no call of joining tells of, and each form that a selector copies.
+-- What Sound flags in addition to joining's own calls: each form that a letter takes from what
+-- stands before it and that no call of joining tells of, and each form that a selector copies.
 use Rattle.std.specs.Prelude.{ℕ, suc, ◌-◌, ◌==◌, not, Bool, ◌&&◌, ◌||◌, List, [], ◌∷◌, ◌++◌, length, Option, None, Some, if◌then◌else◌}
 use Rattle.shapers_buffer.specs.GlyphFlags.{FlagCall, UnsafeToBreak}
 use Rattle.shapers_base.specs.declared.plan.joining.hb_arabic_joining_type_t.{hb_arabic_joining_type_t}

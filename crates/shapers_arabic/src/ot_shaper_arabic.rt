@@ -30,7 +30,9 @@ mod walk;
 
 pub use data::{create_data, data_create_arabic};
 use joining::nearest_in;
-pub use laws::{copied_contexts_law, joining_breaks_law, joining_concatenation_law};
+pub use laws::{
+    copied_contexts_law, joining_breaks_law, joining_concatenation_law, joining_edits_law,
+};
 pub use look_ups::LookUps;
 pub use marks::{reorder_marks, reorder_marks_in};
 pub use shapers_base::plan::{arabic_shape_plan_t, hb_arabic_joining_type_t};
@@ -55,7 +57,7 @@ const LAST_REQUESTS: [Request; 3] = [
     Request::Feature(hb_tag_t(*b"mset"), GLOBAL_ZWJ, 1),
 ];
 
-/// Asks for the features of Arabic, in the order of its OpenType specification; for the script
+/// Requests the features of Arabic, in the order of its OpenType specification; for the script
 /// Arabic itself with the pause of the fallback shaper.
 /// The only refusal is `Memory`, which leaves the planner as it was.
 pub fn collect_features<F: hb_font_t>(
@@ -75,6 +77,7 @@ pub fn collect_features<F: hb_font_t>(
 }
 
 // The list for the script Arabic or another one, for a font that has `rclt` or has it not.
+#[inline]
 fn arabic_requests(is_arabic: bool, has_rclt: bool) -> ArrayVec<Request, 26>
     ensures { result.items ≡ arabic_list is_arabic has_rclt }
 {
@@ -97,6 +100,7 @@ fn arabic_requests(is_arabic: bool, has_rclt: bool) -> ArrayVec<Request, 26>
 }
 
 // The joining forms, each followed by a pause; the forms of Syriac alone never have a fallback.
+#[inline]
 fn joining_requests(flags: u32) -> [Request; 14]
     ensures { result ≡ joining_list flags }
 {
@@ -118,9 +122,10 @@ fn joining_requests(flags: u32) -> [Request; 14]
     ]
 }
 
-/// Gives each glyph the form that its neighbours ask for, in its auxiliary byte, the form's mask
+/// Gives each glyph the form that its neighbours require, in its auxiliary byte, the form's mask
 /// and the glyph flags of joining, and counts the joining types that it looks up. It can't refuse
 /// and takes no memory.
+#[inline]
 pub fn setup_masks_counted<T: Tables, L: Ledger>(
     arabic_plan: &arabic_shape_plan_t,
     script: Option<Script>,
@@ -162,9 +167,10 @@ pub fn setup_masks_counted<T: Tables, L: Ledger>(
     buffer.walk(&mut walk);
 }
 
-/// Gives each glyph the form that its neighbours ask for, in its auxiliary byte, the form's mask
+/// Gives each glyph the form that its neighbours require, in its auxiliary byte, the form's mask
 /// and the glyph flags of joining; a text that is cut acts as the whole where the halves see their
 /// neighbours. It can't refuse and takes no memory.
+#[inline]
 pub fn setup_masks_inner<T: Tables>(
     arabic_plan: &arabic_shape_plan_t,
     script: Option<Script>,
@@ -191,6 +197,7 @@ pub fn setup_masks_inner<T: Tables>(
 }
 
 // The same with a count of its own.
+#[inline]
 fn setup_masks_with<T: Tables, L: Ledger>(
     arabic_plan: &arabic_shape_plan_t,
     script: Option<Script>,
@@ -223,6 +230,7 @@ fn setup_masks_with<T: Tables, L: Ledger>(
 
 /// Gives each glyph its form, the form's mask and the glyph flags of joining, with the script and
 /// the data of the plan. It can't refuse and takes no memory.
+#[inline]
 pub fn setup_masks<T: Tables>(plan: &hb_ot_shape_plan_t, tables: &T, buffer: &mut hb_buffer_t)
     requires data { IsArabic plan.now.plan_data }
     requires characters { AreCharacters buffer.old.glyphs }

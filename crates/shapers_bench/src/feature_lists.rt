@@ -237,7 +237,7 @@ fn are_rows(alloc: Global, requests: &[Request], rows: &[&str]) -> Result<bool, 
     Ok(requests.len() == rows.len())
 }
 
-// Whether the shaper asks exactly these for this script, of a font with `rclt` or without.
+// Whether the shaper requests exactly these for this script, of a font with `rclt` or without.
 fn asks(
     alloc: Global,
     shaper: hb_ot_shaper_t,
@@ -254,7 +254,7 @@ fn asks(
     Ok(are_rows(alloc, planner.requests(), rows)?)
 }
 
-// Whether the shaper asks exactly these after the lists of all.
+// Whether the shaper requests exactly these after the lists of all.
 fn overrides(alloc: Global, shaper: hb_ot_shaper_t, rows: &[&str]) -> Result<bool, ShaperError> {
     let mut planner = hb_ot_shape_planner_t::new(alloc, None);
     shaper.override_features(&mut planner)?;

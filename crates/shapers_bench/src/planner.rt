@@ -4,7 +4,7 @@ use rustybuzz_shapers::map::F_NONE;
 use rustybuzz_shapers::plan::{Pause, Request, hb_arabic_joining_type_t, hb_ot_shape_planner_t};
 use std::test::Fail;
 
-// Asks by each call in turn, so many times.
+// Makes each kind of request in turn, this many times.
 fn ask(planner: &mut hb_ot_shape_planner_t, times: u32) -> Result<(), ShaperError> {
     let tag = hb_tag_t(*b"rphf");
     for value in 0..times {

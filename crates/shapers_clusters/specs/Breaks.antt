@@ -16,8 +16,8 @@ forbids p (SafeToInsertTatweel s e) = nat_lt s p && nat_lt p e
 abbrev pub IsFree : List FlagCall → ℕ → Type 0
 IsFree calls p = list_any (forbids p) calls ≡ false
 
--- whether the glyph is flagged: unsafe to break, bit 1, or what stands in its place where the
--- buffer asks for tatweels, bit 4
+-- whether the glyph is flagged: unsafe to break, bit 1, or what replaces it where the buffer wants
+-- tatweels, bit 4
 abbrev pub is_unsafe : hb_glyph_info_t → Bool
 is_unsafe g = bit_at 0 g.mask == 1 || bit_at 2 g.mask == 1
 
@@ -30,7 +30,7 @@ pub record IsClear (gs : List hb_glyph_info_t) (p : ℕ) : Type 0 where
   pub differ : slice_index (clusters gs) (p - 1) ≢ slice_index (clusters gs) p
   pub unflagged : list_any (λ g. g.cluster == greater gs p && is_unsafe g) gs ≡ false
 
--- at a clear place no call forbids a break, whatever the clusters and whatever the buffer asks for
+-- at a clear place no call forbids a break, whatever the clusters and whatever the buffer wants
 abbrev pub ClearLaw : Type 0
 ClearLaw = (concat tatweel : Bool) (calls : List FlagCall) (gs : List hb_glyph_info_t) (p : ℕ) →
     AllByRecursion InOrder calls → 0 < p → p < length gs →

@@ -6,7 +6,7 @@ use Rattle.shapers_buffer.specs.Places.{pick}
 use Rattle.shapers_clusters.specs.Cuts.{InOneCluster}
 use Rattle.shapers_clusters.specs.Steps.{Step, all_merged, joined_steps}
 
--- labels, one a place, where places of equal cluster have equal labels
+-- labels, one per place, where places of equal cluster have equal labels
 pub record IsLabelled (cs ls : List ℕ) : Type 0 where
   pub as_many : length ls ≡ length cs
   pub agree : (p q : ℕ) →

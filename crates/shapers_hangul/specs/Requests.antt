@@ -1,10 +1,10 @@
--- What Hangul asks of the map.
+-- What Hangul requests of the map.
 use Rattle.std.specs.Prelude.{List, [], ◌∷◌, map}
 use Rattle.shapers_base.specs.declared.map.TheConstants.{F_NONE}
 use Rattle.shapers_base.specs.declared.plan.planner.Request.{Request}
 use Rattle.shapers_base.specs.Planner.{added, disabled}
 
--- Hangul, and what it asks after the lists of all
+-- Hangul, and what it requests after the lists of all
 abbrev pub hangul_list : List Request
 hangul_list = map (added F_NONE) ("ljmo" ∷ "vjmo" ∷ "tjmo" ∷ [])
 

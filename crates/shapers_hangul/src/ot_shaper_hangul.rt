@@ -1,5 +1,5 @@
 //! The shaper of Hangul.
-ghost use Rattle.std.specs.Prelude.{◌≡◌, ◌%◌, OnOk, OnErr, IsOk, IsOkUnless, true, length, map, []};
+ghost use Rattle.std.specs.Prelude.{◌≡◌, ◌%◌, Ok, OnOk, OnErr, IsOk, IsOkUnless, false, true, length, map, []};
 ghost use Rattle.shapers_buffer.specs.declared.buffer.refusal.ShaperError.TheVariants.{Memory};
 ghost use Rattle.shapers_base.specs.Planner.{with_requests};
 ghost use Rattle.std.specs.List.{All};
@@ -12,7 +12,7 @@ ghost use Rattle.shapers_hangul.specs.Masks.{jamo_masks, is_hangul_data, masks_i
 ghost use Rattle.shapers_hangul.specs.Requests.{hangul_list, hangul_overrides};
 
 pub use laws::{rewriting_law, spelling_law};
-use rewriting::rewrite;
+use rewriting::{rewrite, rewrite_changes};
 use shapers_base::buffer::{GlyphChange, change_each_in, hb_buffer_t, hb_glyph_info_t, hb_tag_t};
 use shapers_base::font::hb_font_t;
 use shapers_base::map::{F_GLOBAL, F_NONE};
@@ -35,7 +35,7 @@ const REQUESTS: [Request; 3] = [
 // Some fonts put all jamo forms into `calt` as well, so it stays off.
 const OVERRIDES: [Request; 1] = [Request::Feature(hb_tag_t(*b"calt"), F_GLOBAL, 0)];
 
-/// Asks for the forms of jamo.
+/// Requests the forms of jamo.
 /// The only refusal is `Memory`, which leaves the planner as it was.
 pub fn collect_features(planner: &mut hb_ot_shape_planner_t) -> Result<(), ShaperError>
     ensures ok { OnOk result (planner.new ≡ with_requests hangul_list planner.old) }
@@ -62,6 +62,7 @@ pub fn override_features(planner: &mut hb_ot_shape_planner_t) -> Result<(), Shap
 /// break would tear apart is flagged. Refuses as a growth to the length of the result does, and
 /// never where every character stays as it is. (The Unicode Standard, "Conjoining Jamo
 /// Behavior"; OpenType's notes on Hangul.)
+#[inline]
 pub fn preprocess_text<F: hb_font_t>(
     _plan: &hb_ot_shape_plan_t,
     face: &F,
@@ -79,6 +80,25 @@ pub fn preprocess_text<F: hb_font_t>(
     ensures kept { AllKept (F.font face.now) buffer.old → IsOk result }
 {
     rewrite(face, buffer)
+}
+
+/// `preprocess_text`, which returns whether it rewrote the text: where every character stays as it
+/// is, it returns false and has changed nothing.
+#[inline]
+pub fn preprocess_text_changes<F: hb_font_t>(
+    _plan: &hb_ot_shape_plan_t,
+    face: &F,
+    buffer: &mut hb_buffer_t,
+) -> Result<bool, ShaperError>
+    requires { buffer.old.positions ≡ [] }
+    ensures ok { OnOk result (buffer.new ≡ rewritten (F.font face.now) buffer.old) }
+    ensures kept { AllKept (F.font face.now) buffer.old → result ≡ Ok false }
+    ensures unchanged { result ≡ Ok false → buffer.new ≡ buffer.old }
+    ensures length { let text = (rewritten (F.font face.now) buffer.old).glyphs in
+        RefusesLength buffer.old.max_len (length text) result }
+    ensures err { OnErr result (buffer.new ≡ buffer.old) }
+{
+    rewrite_changes(face, buffer)
 }
 
 /// Keeps the masks of the features of jamo in the plan. None of them touches a glyph flag bit.
@@ -130,6 +150,7 @@ pub fn setup_masks_in(hangul_plan: &hangul_shape_plan_t, glyphs: &mut [hb_glyph_
 
 /// Gives each glyph, besides its own mask, the one of the feature in its auxiliary byte: none for
 /// 0, then those of leading, vowel and trailing jamo. It takes no memory.
+#[inline]
 pub fn setup_masks(plan: &hb_ot_shape_plan_t, buffer: &mut hb_buffer_t)
     requires { is_hangul_data plan.now.plan_data ≡ true }
     ensures masks { buffer.new ≡ with_jamo_masks plan.now.plan_data buffer.old }

@@ -5,9 +5,10 @@ use Rattle.std.specs.Option.{option_map_or}
 use Rattle.shapers_buffer.specs.declared.buffer.glyph.hb_glyph_info_t.{hb_glyph_info_t}
 use Rattle.shapers_buffer.specs.Marks.{is_ligated}
 use Rattle.shapers_base.specs.declared.font.GlyphId.{GlyphId}
-use Rattle.shapers_base.specs.declared.plan.ot_category_t.TheConstants.{OT_M, OT_MPst, OT_ZWJ, OT_ZWNJ}
+use Rattle.shapers_base.specs.declared.plan.ot_category_t.TheConstants.{OT_C, OT_M, OT_MPst, OT_ZWJ, OT_ZWNJ}
+use Rattle.shapers_base.specs.declared.plan.ot_position_t.TheConstants.{POS_BASE_C}
 
--- glyphs by their numbers, as fonts are asked about them: those of fonts have 16 bits
+-- glyphs by their numbers, as fonts take them: those of fonts have 16 bits
 abbrev pub number : hb_glyph_info_t → GlyphId
 number g = record { 0 = g.glyph_id % 65536 }
 
@@ -49,3 +50,10 @@ least_place property s e = find property (places s e)
 
 abbrev pub greatest_place : (ℕ → Bool) → ℕ → ℕ → Option ℕ
 greatest_place property s e = find property (reverse (places s e))
+
+-- whether a syllable is one consonant at the base, which no lookup put in for several
+abbrev pub is_plain_consonant : List hb_glyph_info_t → Bool
+is_plain_consonant [] = false
+is_plain_consonant (g ∷ []) =
+    has_category OT_C g && has_position POS_BASE_C g && not (is_ligated g.marks)
+is_plain_consonant (g ∷ (h ∷ gs)) = false

@@ -27,8 +27,8 @@ use Rattle.shapers_base.specs.Map.{Map, mask_of}
 use Rattle.shapers_base.specs.Questions.{question_for}
 use Rattle.shapers_indic.specs.Requests.{basic_features, other_features}
 
--- what a script asks for: whether fonts may follow an older specification, its virama, where a reph
--- goes and how it is written, and where below-base forms apply
+-- the properties of a script: whether fonts may follow an older specification, its virama, where a
+-- reph goes and how it is written, and where below-base forms apply
 abbrev pub row : String → Bool → ℕ → RephPosition → RephMode → BlwfMode → IndicConfig
 row tag old virama position mode blwf = record {
   script = Some (record { 0 = codes tag });
@@ -54,7 +54,7 @@ scripts =
     ∷ row "Sinh" false 0x0DCA AfterPost Explicit PreAndPost
     ∷ []
 
--- what any other script asks for
+-- those of any other script
 abbrev pub other_script : IndicConfig
 other_script = record {
   script = None;

@@ -1,4 +1,4 @@
--- What Indic asks of the map.
+-- What Indic requests of the map.
 use Prim.Native.String.{String}
 use Rattle.std.specs.Prelude.{List, [], ◌∷◌, ◌++◌, bit_or}
 use Rattle.shapers_base.specs.declared.map.TheConstants.{F_MANUAL_JOINERS, F_PER_SYLLABLE}

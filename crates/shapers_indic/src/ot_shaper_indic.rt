@@ -69,7 +69,7 @@ const OVERRIDES: [Request; 2] = [
     Request::Pause(Some(Pause::SyllabicClearVar)),
 ];
 
-/// Asks for the features of Indic, in the order of its OpenType specification.
+/// Requests the features of Indic, in the order of its OpenType specification.
 /// The only refusal is `Memory`, which leaves the planner as it was.
 pub fn collect_features(planner: &mut hb_ot_shape_planner_t) -> Result<(), ShaperError>
     ensures ok { OnOk result (planner.new ≡ with_requests indic_list planner.old) }
@@ -79,7 +79,7 @@ pub fn collect_features(planner: &mut hb_ot_shape_planner_t) -> Result<(), Shape
     planner.add_requests(&REQUESTS)
 }
 
-/// Turns off ligatures, and asks that syllables be cleared.
+/// Turns off ligatures, and requests that syllables be cleared.
 /// The only refusal is `Memory`, which leaves the planner as it was.
 pub fn override_features(planner: &mut hb_ot_shape_planner_t) -> Result<(), ShaperError>
     ensures ok { OnOk result (planner.new ≡ with_requests indic_overrides planner.old) }
@@ -116,6 +116,7 @@ pub fn decompose<T: Tables>(tables: &T, ab: char) -> Option<(char, char)>
 
 /// Gives each glyph its category and its position in the syllable by the table; the masks wait for
 /// the reordering. It takes no memory.
+#[inline]
 pub fn setup_masks<T: Tables>(tables: &T, buffer: &mut hb_buffer_t)
     ensures { let changed = map (with_category_and_position (T.tables tables.now))
         buffer.old.glyphs in

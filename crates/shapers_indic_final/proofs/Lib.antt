@@ -11,12 +11,14 @@ pub mod FinalLawsAt
 pub mod FinalLinks
 mod FinalMatraRows
 pub mod FinalMoves
+mod FinalNoMask
 pub mod FinalOpened
 mod FinalOpeningRows
 pub mod FinalParting
 pub mod FinalPlaces
 pub mod FinalPlacing
 pub mod FinalPlain
+mod FinalPlainConsonant
 mod FinalPrefRows
 pub mod FinalReads
 mod FinalReorderingRows

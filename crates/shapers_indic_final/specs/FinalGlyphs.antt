@@ -1,4 +1,4 @@
--- What the final reordering asks of a glyph, and the two moves of a list.
+-- What the final reordering reads of a glyph, and the two moves of a list.
 use Rattle.std.specs.Prelude.{ℕ, ◌==◌, Bool, ◌&&◌, false, not, List, [], ◌∷◌, bit_and, reverse, Option, None, Some, if◌then◌else◌}
 use Rattle.shapers_buffer.specs.declared.buffer.glyph.hb_glyph_info_t.{hb_glyph_info_t}
 use Rattle.shapers_buffer.specs.Marks.{LIGATED, MULTIPLIED, is_ligated, is_multiplied, without_mark}

@@ -21,7 +21,7 @@ abbrev pub is_free_halant : hb_glyph_info_t → Bool
 is_free_halant g = is_halant g && not (is_left g)
 
 -- whether the glyph at place i ends the search for a halant: a vowel sign or halant, but no free
--- halant that a ZWJ follows, which asks for a half form
+-- halant that a ZWJ follows, which requests a half form
 abbrev pub ends_search : List hb_glyph_info_t → ℕ → Bool
 ends_search gs i = passes is_matra_or_halant gs i
     && not (passes is_free_halant gs i && passes (has_category OT_ZWJ) gs (i + 1))

@@ -1,6 +1,6 @@
 -- Positions by the font: what shows of them, of a syllable and of a text.
-use Rattle.std.proofs.Common.{◌≡◌, Bool, true, false, if◌then◌else◌, inl, inr, find, List, [], ◌∷◌, length, map, refl, sym, ap, ◌∙◌, Option, Some, None}
-use Rattle.std.proofs.lemmas.Bool.{cases_Bool}
+use Rattle.std.proofs.Common.{◌≡◌, ◌==◌, ◌||◌, ℕ, arith, not, Bool, true, false, if◌then◌else◌, inl, inr, find, List, [], ◌∷◌, length, map, refl, sym, ap, ◌∙◌, Option, Some, None}
+use Rattle.std.proofs.lemmas.Bool.{cases_Bool, eqb-true, ne_eqb, or_parts}
 use Rattle.std.proofs.lemmas.List.{length-map}
 use Rattle.shapers_buffer.specs.declared.buffer.glyph.hb_glyph_info_t.{hb_glyph_info_t}
 use Rattle.shapers_buffer.specs.Glyph.{order_view, plain, at_position}
@@ -8,10 +8,12 @@ use Rattle.shapers_base.specs.declared.font.GlyphId.{GlyphId}
 use Rattle.shapers_base.specs.declared.plan.indic.indic_shape_plan_t.{indic_shape_plan_t}
 use Rattle.shapers_base.specs.declared.plan.ot_position_t.TheConstants.{POS_BASE_C}
 use Rattle.shapers_base.specs.Font.{Font}
-use Rattle.shapers_base.specs.Map.{Map}
+use Rattle.shapers_base.specs.declared.plan.indic.IndicWouldSubstituteFeature.{IndicWouldSubstituteFeature}
+use Rattle.shapers_base.specs.Map.{Map, lookups_in, would_one}
 use Rattle.shapers_indic.specs.Glyphs.{has_position, number}
 use Rattle.shapers_indic.specs.Plan.{virama_glyph}
-use Rattle.shapers_indic_initial.specs.InitialFont.{all_by_virama, by_virama, consonant_position}
+use Rattle.shapers_indic_initial.specs.InitialFont.{all_by_virama, by_virama, consonant_position, joins_virama}
+use Rattle.shapers_indic_initial.specs.KnownWalk.{has_forms, has_lookups}
 use Rattle.shapers_buffer.specs.declared.buffer.tag.Script.{Script}
 use Rattle.shapers_clusters.specs.Flags.{seen}
 use Rattle.shapers_clusters.proofs.Picks.{pick-all}
@@ -22,6 +24,12 @@ use Rattle.shapers_indic_initial.proofs.InitialLaws.{initial_laws}
 use Rattle.shapers_syllabic.specs.Reordering.{carried}
 use Rattle.shapers_syllabic.specs.ReorderingLaws.{ReorderLaws}
 use Rattle.shapers_syllabic.proofs.LawsThen.{laws_then}
+
+length_none : (xs : List ℕ) → not (length xs == 0) ≡ false → xs ≡ []
+length_none [] h = refl
+length_none (x ∷ xs) h =
+    let some : (length (x ∷ xs) == 0) ≡ false = ne_eqb (length (x ∷ xs)) 0 (λ e. absurd (omega arith)) in
+    absurd (let no : true ≡ false = sym (ap not some) ∙ h in cc)
 
 -- no consonant of position BASE_C, no change
 none_here : (font : Font) (m : Map) (p : indic_shape_plan_t) (v : GlyphId) (g : hb_glyph_info_t) → has_position POS_BASE_C g ≡ false → by_virama font m p v g ≡ g
@@ -36,6 +44,35 @@ none_at_base font m p v (g ∷ gs) none =
           ap (λ x. x ∷ map (by_virama font m p v) gs) (none_here font m p v g other)
           ∙ ap (λ xs. g ∷ xs) (none_at_base font m p v gs (sym (ap (λ (b : Bool). if b then Some g else find (has_position POS_BASE_C) gs) other) ∙ none))
     ]
+
+-- where no feature has lookups, each consonant keeps its position
+no_question : (font : Font) (m : Map) (q : IndicWouldSubstituteFeature) (v c : GlyphId) → has_lookups m q ≡ false → joins_virama font m q v c ≡ false
+no_question font m q v c none =
+    let empty : lookups_in q.lookups m ≡ [] = length_none (lookups_in q.lookups m) none in
+    ap (λ ls. would_one font.applies ls (v ∷ (c ∷ [])) q.zero_context || would_one font.applies ls (c ∷ (v ∷ [])) q.zero_context) empty
+
+stays_at_base : (font : Font) (m : Map) (p : indic_shape_plan_t) (v : GlyphId) (g : hb_glyph_info_t) → has_forms m p ≡ false → by_virama font m p v g ≡ g
+stays_at_base font m p v g none =
+    let fourth = or_parts (has_lookups m p.blwf || has_lookups m p.vatu || has_lookups m p.pstf) (has_lookups m p.pref) none in
+    let third = or_parts (has_lookups m p.blwf || has_lookups m p.vatu) (has_lookups m p.pstf) fourth.0 in
+    let second = or_parts (has_lookups m p.blwf) (has_lookups m p.vatu) third.0 in
+    let c = number g in
+    let blwf = no_question font m p.blwf v c second.0 in
+    let vatu = no_question font m p.vatu v c second.1 in
+    let pstf = no_question font m p.pstf v c third.1 in
+    let pref = no_question font m p.pref v c fourth.1 in
+    elim (cases_Bool (has_position POS_BASE_C g)) [
+      | inl here ↦
+          let is : g.auxiliary ≡ 4 = eqb-true g.auxiliary 4 here in
+          rw (here, blwf, vatu, pstf, pref) (ap (λ k. let x : hb_glyph_info_t = record g { auxiliary = k } in x) (sym is))
+      | inr other ↦ none_here font m p v g other
+    ]
+
+pub without_forms : (font : Font) (m : Map) (p : indic_shape_plan_t) (v : GlyphId) (gs : List hb_glyph_info_t) → has_forms m p ≡ false → map (by_virama font m p v) gs ≡ gs
+without_forms font m p v [] none = refl
+without_forms font m p v (g ∷ gs) none =
+    ap (λ x. x ∷ map (by_virama font m p v) gs) (stays_at_base font m p v g none)
+    ∙ ap (λ xs. g ∷ xs) (without_forms font m p v gs none)
 
 -- a glyph, in the order view, and what is carried along
 by_virama-plain : (font : Font) (m : Map) (p : indic_shape_plan_t) (v : GlyphId) (g : hb_glyph_info_t) → plain (by_virama font m p v g) ≡ by_virama font m p v (plain g)

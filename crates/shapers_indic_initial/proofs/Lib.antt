@@ -35,6 +35,7 @@ mod OrderedBase
 pub mod OrderedPlaces
 pub mod OrderedSyllable
 pub mod PlaceSearch
+mod PlainConsonant
 mod Positions
 pub mod StillOrder
 pub mod TextClusters

@@ -81,7 +81,7 @@ is_base_candidate = is_one_of (OT_C ∷ OT_CS ∷ OT_Ra ∷ OT_V ∷ OT_PLACEHOL
 abbrev pub may_be_base : List hb_glyph_info_t → ℕ → Bool
 may_be_base gs i = passes is_base_candidate gs i
 
--- whether it stops the search: a ZWJ behind an H asks for a half form of what stands before it
+-- whether it stops the search: a ZWJ behind an H requests a half form of what stands before it
 abbrev pub stops_search : List hb_glyph_info_t → ℕ → Bool
 stops_search gs i =
     nat_lt 0 i && passes (has_category OT_ZWJ) gs i && passes (has_category OT_H) gs (i - 1)

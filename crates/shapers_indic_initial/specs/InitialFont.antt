@@ -38,7 +38,7 @@ by_virama font m p v g =
     if has_position POS_BASE_C g then at_position (consonant_position font m p v (number g)) g
     else g
 
--- the text with the positions by the font, which asks by the virama's glyph
+-- the text with the positions by the font, queried with the virama's glyph
 abbrev pub all_by_virama : Font → Map → indic_shape_plan_t → Option GlyphId → List hb_glyph_info_t →
     List hb_glyph_info_t
 all_by_virama font m p None gs = gs

@@ -53,7 +53,7 @@ abbrev pub InitialTextMerges : Type 0
 InitialTextMerges = (font : Font) (m : Map) (p : indic_shape_plan_t) (old new : Buffer) →
     InitiallyReordered font m p old new → InitiallyMerged font m p old new
 
--- What a syllable becomes, with positions by the font, hangs on the kind in its bytes and not on
+-- What a syllable becomes, with positions by the font, depends on the kind in its bytes and not on
 -- their serials, so that the pause can be cut between any two spans.
 abbrev pub OrderByFontReadsNoSerials : Type 0
 OrderByFontReadsNoSerials =

@@ -7,7 +7,7 @@ use Rattle.shapers_base.specs.Font.{Font}
 use Rattle.shapers_base.specs.Map.{Map}
 use Rattle.shapers_base.specs.Questions.{would_by}
 
--- what the script asks for, whether the older specification holds, the masks by feature, and of
+-- the script's properties, whether the older specification holds, the masks by feature, and of
 -- which glyphs the font forms a reph or a consonant that is reordered before the base
 pub record Rules : Type 0 where
   pub config : IndicConfig

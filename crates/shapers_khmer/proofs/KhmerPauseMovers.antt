@@ -1,5 +1,5 @@
 -- The pause by what each syllable becomes, and a regular one by its movers.
-use Rattle.std.proofs.Common.{◌≡◌, true, false, inl, inr, ◌++◌, ◌∷◌, ◌∙◌, List, [], length, map, refl, sym, ap, if◌then◌else◌}
+use Rattle.std.proofs.Common.{◌≡◌, inl, inr, ◌++◌, ◌∷◌, ◌∙◌, List, [], length, map, refl, ap}
 use Rattle.std.specs.Prelude.{Option}
 use Rattle.std.specs.List.{flat_map}
 use Rattle.std.proofs.lemmas.Bool.{cases_Bool}
@@ -13,7 +13,7 @@ use Rattle.shapers_syllabic.specs.Reordering.{PauseReordered, carried}
 use Rattle.shapers_syllabic.specs.declared.ot_shaper_syllabic.circles.DottedCircles.{DottedCircles}
 use Rattle.shapers_khmer.specs.declared.ot_shaper_khmer.reordering.KhmerOrder.{KhmerOrder}
 use Rattle.shapers_khmer.specs.Khmer.{categories_of, is_reordered, khmer_order, khmer_places, khmer_steps}
-use Rattle.shapers_khmer.specs.KhmerMovers.{is_regular, merges_by_movers, order_by_movers, ordered_by_movers, steps_by_movers}
+use Rattle.shapers_khmer.specs.KhmerMovers.{is_regular, merges_by_movers, ordered_by_movers, steps_by_movers}
 use Rattle.shapers_khmer.proofs.KhmerByMovers.{khmer_by_movers}
 use Rattle.shapers_khmer.proofs.KhmerMovers.{khmer_order_by_movers}
 use Rattle.shapers_khmer.proofs.KhmerMoverMerges.{khmer_merges_by_movers}

@@ -13,7 +13,7 @@ KhmerReorderLaws = (r : KhmerOrder) → ReorderLaws (khmer_order r) khmer_steps
 abbrev pub KhmerMovesMerged : Type 0
 KhmerMovesMerged = MoveMerged khmer_steps
 
--- what a syllable becomes, and by which step, doesn't hang on the serial of its byte
+-- what a syllable becomes, and by which step, doesn't depend on the serial of its byte
 abbrev pub KhmerReadsNoSerials : Type 0
 KhmerReadsNoSerials = (r : KhmerOrder) → ReadsNoSerials (khmer_order r) khmer_steps
 

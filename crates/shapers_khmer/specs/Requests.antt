@@ -1,4 +1,4 @@
--- What Khmer asks of the map.
+-- What Khmer requests of the map.
 use Rattle.std.specs.Prelude.{List, [], ◌∷◌, ◌++◌, map, bit_or}
 use Rattle.shapers_base.specs.declared.map.TheConstants.{F_GLOBAL, F_NONE, F_MANUAL_JOINERS, F_PER_SYLLABLE}
 use Rattle.shapers_base.specs.declared.plan.pause.Pause.TheVariants.{SetupSyllablesKhmer, ReorderKhmer, SyllabicClearVar}
@@ -15,6 +15,6 @@ khmer_list =
     ++ pause_for SyllabicClearVar
     ∷ map (added (bit_or F_GLOBAL F_MANUAL_JOINERS)) ("pres" ∷ "abvs" ∷ "blws" ∷ "psts" ∷ [])
 
--- what Khmer asks after the lists of all
+-- what Khmer requests after the lists of all
 abbrev pub khmer_overrides : List Request
 khmer_overrides = enabled F_NONE "clig" ∷ disabled "liga" ∷ []

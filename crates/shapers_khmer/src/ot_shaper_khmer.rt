@@ -53,7 +53,7 @@ const OVERRIDES: [Request; 2] = [
     Request::Feature(hb_tag_t(*b"liga"), F_GLOBAL, 0),
 ];
 
-/// Asks for the features of Khmer, in the order of its OpenType specification.
+/// Requests the features of Khmer, in the order of its OpenType specification.
 /// The only refusal is `Memory`, which leaves the planner as it was.
 pub fn collect_features(planner: &mut hb_ot_shape_planner_t) -> Result<(), ShaperError>
     ensures ok { OnOk result (planner.new ≡ with_requests khmer_list planner.old) }
@@ -63,7 +63,7 @@ pub fn collect_features(planner: &mut hb_ot_shape_planner_t) -> Result<(), Shape
     planner.add_requests(&REQUESTS)
 }
 
-/// Asks for contextual ligatures, and turns off the others.
+/// Requests contextual ligatures, and turns off the others.
 /// The only refusal is `Memory`, which leaves the planner as it was.
 pub fn override_features(planner: &mut hb_ot_shape_planner_t) -> Result<(), ShaperError>
     ensures ok { OnOk result (planner.new ≡ with_requests khmer_overrides planner.old) }
@@ -118,6 +118,7 @@ pub fn decompose<T: Tables>(tables: &T, ab: char) -> Option<(char, char)>
 
 /// Gives each glyph its category by the table; the masks wait for the reordering. It takes no
 /// memory.
+#[inline]
 pub fn setup_masks<T: Tables>(tables: &T, buffer: &mut hb_buffer_t)
     ensures { buffer.new ≡
         record buffer.old { glyphs = map (with_category (T.tables tables.now)) buffer.old.glyphs } }

@@ -127,7 +127,7 @@ impl BufferCall {
         Ok(glyphs)
     }
 
-    // Whether the call asks for positions.
+    // Whether the call requires positions.
     fn wants_positions(self) -> bool {
         matches!(self, BufferCall::Stretch(_) | BufferCall::GrowWithPositions)
     }
@@ -247,7 +247,7 @@ fn have_equal_places(a: &hb_buffer_t, b: &hb_buffer_t) -> bool {
 }
 
 /// Makes a call in a buffer of so many glyphs, and again where it meets the refusal: then it must
-/// have left the buffer as it was. Answers how many glyphs there are then, and their sum.
+/// have left the buffer as it was. Returns how many glyphs there are then, and their sum.
 pub fn call_in_buffer(
     alloc: Global,
     call: BufferCall,

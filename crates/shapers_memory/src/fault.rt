@@ -11,7 +11,7 @@ pub enum Fault {
     /// It refused, where memory was there.
     #[error("refused: {0}")]
     Refused(ShaperError),
-    /// What it asks of its caller isn't so.
+    /// A condition of the call isn't met.
     #[error("its conditions don't hold")]
     Unfit,
     /// It refused, and changed what it was given.
@@ -48,7 +48,7 @@ impl Refusals {
         self.is_allowed
     }
 
-    /// Whether an answer is the refusal that may come. From then on none may.
+    /// Whether a result is the refusal that may come. From then on none may.
     pub fn meets<T>(&mut self, answer: &Result<T, Fault>) -> bool {
         let is_met = self.is_allowed && matches!(answer, Err(Fault::Refused(ShaperError::Memory)));
         self.is_allowed &= !is_met;

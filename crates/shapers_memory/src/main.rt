@@ -1,8 +1,8 @@
 //! Makes each call that may want memory, in a short and in a long buffer or planner that it grows,
-//! and prints a line each: what was called, among how many glyphs or requests, and how many it
+//! and prints one line each: what was called, among how many glyphs or requests, and how many it
 //! left.
 //!
-//! With plenty of memory no call may answer `Memory`. Where standard input is `1`, one request for
+//! With plenty of memory no call may return `Memory`. Where standard input is `1`, one request for
 //! memory may be refused in the run: then what was refused is as it was before, and called again
 //! it succeeds, so that the run prints the same whichever request it was. Each line then ends with
 //! a sum over all that was left.
@@ -30,7 +30,7 @@ fn allowed(rt: &HostRuntime) -> io::Result<Refusals> {
     Ok(Refusals::new(byte == *b"1"))
 }
 
-/// What a run tells of its calls.
+/// What a run prints of its calls.
 #[derive(Drop)]
 struct Report<'a> {
     rt: &'a HostRuntime,
@@ -39,7 +39,7 @@ struct Report<'a> {
 }
 
 impl Report<'_> {
-    // Tells what a call left, or why it failed, and whether it met the refusal.
+    // Prints what a call left, or why it failed, and whether it met the refusal.
     fn tell(
         &mut self,
         name: &str,

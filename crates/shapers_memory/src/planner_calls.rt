@@ -116,7 +116,7 @@ fn are_equal(a: &hb_ot_shape_planner_t, b: &hb_ot_shape_planner_t) -> bool {
 }
 
 /// Makes a call in a planner of so many requests, and again where it meets the refusal: then it
-/// must have left the planner as it was. Answers how many requests there are then, and their sum.
+/// must have left the planner as it was. Returns how many requests there are then, and their sum.
 pub fn call_in_planner(
     alloc: Global,
     call: PlannerCall,

@@ -1,4 +1,4 @@
--- What Myanmar asks of the map.
+-- What Myanmar requests of the map.
 use Rattle.std.specs.Prelude.{List, [], ◌∷◌, ◌++◌, map, bit_or}
 use Rattle.shapers_base.specs.declared.map.TheConstants.{F_MANUAL_ZWJ, F_PER_SYLLABLE}
 use Rattle.shapers_base.specs.declared.plan.pause.Pause.TheVariants.{SetupSyllablesMyanmar, ReorderMyanmar, SyllabicClearVar}

@@ -57,7 +57,7 @@ const REQUESTS: [Request; 17] = [
     Request::Feature(hb_tag_t(*b"psts"), F_GLOBAL | F_MANUAL_ZWJ, 1),
 ];
 
-/// Asks for the features of Myanmar, in the order of its OpenType specification.
+/// Requests the features of Myanmar, in the order of its OpenType specification.
 /// The only refusal is `Memory`, which leaves the planner as it was.
 pub fn collect_features(planner: &mut hb_ot_shape_planner_t) -> Result<(), ShaperError>
     ensures ok { OnOk result (planner.new ≡ with_requests myanmar_list planner.old) }
@@ -68,6 +68,7 @@ pub fn collect_features(planner: &mut hb_ot_shape_planner_t) -> Result<(), Shape
 }
 
 /// Gives each glyph the category that the tables have for its character. It takes no memory.
+#[inline]
 pub fn setup_masks<T: Tables>(tables: &T, buffer: &mut hb_buffer_t)
     ensures { buffer.new ≡
         record buffer.old { glyphs = map (with_category (T.tables tables.now)) buffer.old.glyphs } }
@@ -84,9 +85,10 @@ const CIRCLES: ScriptCircles = ScriptCircles {
 };
 
 /// Gives broken syllables their dotted circles, and then brings each syllable into the order in
-/// which it is drawn. (OpenType, Myanmar script development.) Answers whether circles were wanted.
-/// Every cluster afterwards is one that the text had. Refuses with `UnknownSyllable` where a kind is unknown, with `TooLong`, and with `Memory`, but
-/// that not where no circle opens.
+/// which it is drawn. (OpenType, Myanmar script development.) Returns whether circles were wanted.
+/// Every cluster afterwards is one that the text had. Refuses with `UnknownSyllable` where a kind
+/// is unknown, with `TooLong`, and with `Memory`, but not where no circle opens.
+#[inline]
 pub fn reorder_myanmar<F: hb_font_t>(
     face: &F,
     buffer: &mut hb_buffer_t,

@@ -60,8 +60,8 @@ pub record IsLay (lay : Lay) : Type 0 where
   pub high : lay.overlap ≤ℤ pos (2 ^ 66)
   pub start : IsNumber lay.start
 
--- a walk over copies that stops where an offset doesn't fit, and else answers where the pen is
--- behind them
+-- a walk over copies that stops where an offset doesn't fit, and else gives where the pen is behind
+-- them
 abbrev pub WalksPen : Bool → ℤ → List ℤ → Option ℤ → Type 0
 WalksPen right_to_left pen moves None = offsets_fit right_to_left pen moves ≡ false
 WalksPen right_to_left pen moves (Some behind) =

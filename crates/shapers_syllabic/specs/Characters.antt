@@ -1,4 +1,4 @@
--- What several shapers ask the tables about a character.
+-- What several shapers look up about a character.
 use Rattle.std.specs.Prelude.{ℕ, Option, None, if◌then◌else◌}
 use Rattle.shapers_buffer.specs.declared.buffer.glyph.hb_glyph_info_t.{hb_glyph_info_t}
 use Rattle.shapers_buffer.specs.Category.{is_mark}

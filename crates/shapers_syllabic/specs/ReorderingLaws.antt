@@ -18,7 +18,7 @@ use Rattle.shapers_syllabic.specs.Borders.{MeetAtBorder, SameButSerials, spans_s
 use Rattle.shapers_syllabic.specs.Circles.{circled}
 use Rattle.shapers_syllabic.specs.Reordering.{PauseReordered, SyllablesReordered, carried, text_order, text_steps}
 
--- What an instance of `Reorder` owes of what its syllables become and of the steps that lead there:
+-- What an instance of `Reorder` has to prove of its syllables and of the steps that lead there:
 -- the steps fit the syllable and take each of its places once, and to the view of what is carried
 -- along the syllable becomes what stood at their old places.
 pub record ReorderLaws (meaning : List hb_glyph_info_t →

@@ -1,8 +1,8 @@
 -- Steps of the search for the first three marks.
-use Rattle.std.proofs.Common.{◌≡◌, ℕ, suc, ◌+◌, ◌-◌, ◌<◌, ◌≤◌, Bool, true, false, List, [], ◌∷◌, length, get_or, take, drop, set, refl, ap, subst, sym, ◌∙◌, arith, Some, None, Option}
-use Rattle.std.specs.Prelude.{option_map, swap, IfSome, if◌then◌else◌}
+use Rattle.std.proofs.Common.{◌≡◌, ℕ, suc, ◌+◌, ◌-◌, ◌<◌, ◌≤◌, Bool, true, false, List, [], ◌∷◌, length, get_or, take, drop, set, refl, ap, subst, sym, ◌∙◌, arith, Some, None, Option, Bor}
+use Rattle.std.specs.Prelude.{option_map, swap, IfSome, MatchOption, if◌then◌else◌}
 use Rattle.std.proofs.lemmas.Bool.{false≢true}
-use Rattle.std.proofs.lemmas.List.{drop_more, get_or_read, take-map, drop-map}
+use Rattle.std.proofs.lemmas.List.{get_or_read, take-map, drop-map}
 use Rattle.std.proofs.lemmas.List.Edits.{swap_is}
 use Rattle.shapers_buffer.specs.Glyph.{default_glyph, plain, order_view}
 use Rattle.std.proofs.lemmas.Grind.{common_steps}
@@ -18,53 +18,57 @@ use Rattle.shapers_clusters.proofs.Proved.{reordered_whole}
 use Rattle.shapers_clusters.proofs.Swaps.{still_moves_merged, swap_moves_merged, run-still_step, order_view-swap_step}
 use Rattle.shapers_text.specs.Hebrew.{mark_step, step_at, marks_swapped, opens_triple, triple_place, second_of_triple}
 
--- a stretch that isn't empty opens with the glyph at its start
-stretch_more : (gs : List hb_glyph_info_t) (i end : ℕ) (d : hb_glyph_info_t) → i < end → end ≤ length gs → stretch_of i end gs ≡ get_or gs i d ∷ stretch_of (i + 1) end gs
-stretch_more gs i end d h within =
-    let size : end - i ≡ suc (end - (i + 1)) = omega arith in
-    rw (size, drop_more gs i d (omega arith)) refl
-
--- after one glyph, two more of a stretch of three places or more
-stretch_two : (gs : List hb_glyph_info_t) (i end : ℕ) (d : hb_glyph_info_t) → i + 2 < end → end ≤ length gs → stretch_of (i + 1) end gs ≡ get_or gs (i + 1) d ∷ (get_or gs (i + 2) d ∷ stretch_of (i + 3) end gs)
-stretch_two gs i end d h within =
-    let two : i + 1 + 1 ≡ i + 2 = omega arith in
-    let three : i + 2 + 1 ≡ i + 3 = omega arith in
-    stretch_more gs (i + 1) end d (omega arith) within ∙ ap (λ n. get_or gs (i + 1) d ∷ stretch_of n end gs) two
-    ∙ ap (λ xs. get_or gs (i + 1) d ∷ xs) (stretch_more gs (i + 2) end d (omega arith) within ∙ ap (λ n. get_or gs (i + 2) d ∷ stretch_of n end gs) three)
-
--- three glyphs open it
-stretch_three : (gs : List hb_glyph_info_t) (i end : ℕ) (d : hb_glyph_info_t) → i + 2 < end → end ≤ length gs → stretch_of i end gs ≡ get_or gs i d ∷ (get_or gs (i + 1) d ∷ (get_or gs (i + 2) d ∷ stretch_of (i + 3) end gs))
-stretch_three gs i end d h within = stretch_more gs i end d (omega arith) within ∙ ap (λ xs. get_or gs i d ∷ xs) (stretch_two gs i end d h within)
-
 triple_place_hit : (g : hb_glyph_info_t) (gs : List hb_glyph_info_t) → opens_triple (g ∷ gs) ≡ true → triple_place (g ∷ gs) ≡ Some 0
 triple_place_hit g gs h = rw h refl
 
 triple_place_miss : (g : hb_glyph_info_t) (gs : List hb_glyph_info_t) → opens_triple (g ∷ gs) ≡ false → triple_place (g ∷ gs) ≡ option_map suc (triple_place gs)
 triple_place_miss g gs h = rw h refl
 
-moved : (i : ℕ) (o : Option ℕ) → option_map (λ k. i + k + 1) (option_map suc o) ≡ option_map (λ k. i + 1 + k + 1) o
-moved i None = refl
-moved i (Some k) = let e : i + suc k + 1 ≡ i + 1 + k + 1 = omega arith in ap Some e
+-- the first three glyphs tell whether a list opens with the three
+opens-front : (gs : List hb_glyph_info_t) → opens_triple (take 3 gs) ≡ opens_triple gs
+opens-front [] = refl
+opens-front (a ∷ []) = refl
+opens-front (a ∷ (b ∷ [])) = refl
+opens-front (a ∷ (b ∷ (c ∷ gs))) = refl
 
--- whether the three glyphs from place i on are the three
-abbrev pub opens_at : List hb_glyph_info_t → hb_glyph_info_t → ℕ → Bool
-opens_at gs d i = opens_triple (get_or gs i d ∷ (get_or gs (i + 1) d ∷ (get_or gs (i + 2) d ∷ [])))
+moved : (second : ℕ) (o : Option ℕ) → option_map (λ k. second + k) (option_map suc o) ≡ option_map (λ k. second + 1 + k) o
+moved second None = refl
+moved second (Some k) = let e : second + suc k ≡ second + 1 + k = omega arith in ap Some e
 
--- the text from place i on, whose first three glyphs are given
-opened_at : (gs : List hb_glyph_info_t) (i end : ℕ) (d : hb_glyph_info_t) → i + 2 < end → end ≤ length gs → triple_place (stretch_of i end gs) ≡ triple_place (get_or gs i d ∷ (get_or gs (i + 1) d ∷ (get_or gs (i + 2) d ∷ stretch_of (i + 3) end gs)))
-opened_at gs i end d h within = ap triple_place (stretch_three gs i end d h within)
+counted : (start : ℕ) (o : Option ℕ) → option_map (λ k. start + 1 + k) o ≡ option_map (λ k. start + k + 1) o
+counted start None = refl
+counted start (Some k) = let e : start + 1 + k ≡ start + k + 1 = omega arith in ap Some e
 
-pub triple_hit : (gs : List hb_glyph_info_t) (i end : ℕ) (d : hb_glyph_info_t) → i + 2 < end → end ≤ length gs → opens_at gs d i ≡ true → second_of_triple i end gs ≡ Some (i + 1)
-triple_hit gs i end d h within opens =
-    let e : i + 0 + 1 ≡ i + 1 = omega arith in
-    let rest = get_or gs (i + 1) d ∷ (get_or gs (i + 2) d ∷ stretch_of (i + 3) end gs) in
-    ap (option_map (λ k. i + k + 1)) (opened_at gs i end d h within ∙ triple_place_hit (get_or gs i d) rest opens) ∙ ap Some e
+-- a turn over what is left: its first three glyphs are read, and one is passed
+pub record Turn (gs triple rest : List hb_glyph_info_t) : Type 0 where
+  pub some : 3 ≤ length gs
+  pub front : triple ≡ take 3 gs
+  pub left : rest ≡ drop 1 gs
 
-pub triple_miss : (gs : List hb_glyph_info_t) (i end : ℕ) (d : hb_glyph_info_t) → i + 2 < end → end ≤ length gs → opens_at gs d i ≡ false → second_of_triple i end gs ≡ second_of_triple (i + 1) end gs
-triple_miss gs i end d h within fails =
-    let rest = get_or gs (i + 1) d ∷ (get_or gs (i + 2) d ∷ stretch_of (i + 3) end gs) in
-    let after : rest ≡ stretch_of (i + 1) end gs = sym (stretch_two gs i end d h within) in
-    ap (option_map (λ k. i + k + 1)) (opened_at gs i end d h within ∙ triple_place_miss (get_or gs i d) rest fails ∙ ap (λ xs. option_map suc (triple_place xs)) after) ∙ moved i (triple_place (stretch_of (i + 1) end gs))
+pub turn : (o : Option (Bor (List hb_glyph_info_t))) (x : Bor (List hb_glyph_info_t)) (none : Type 0) (size : ℕ) (gs rest : List hb_glyph_info_t) → o ≡ Some x → size ≡ 3 → MatchOption o none (λ y. (size ≤ length gs) × (y.now ≡ take size gs) × (rest ≡ drop 1 gs) × (length y.now ≡ size)) → Turn gs x.now rest
+turn o x none size gs rest is three h =
+    let taken = subst (λ r. MatchOption r none (λ y. (size ≤ length gs) × (y.now ≡ take size gs) × (rest ≡ drop 1 gs) × (length y.now ≡ size))) is h in
+    record { some = subst (λ n. n ≤ length gs) three taken.0; front = taken.1 ∙ ap (λ n. take n gs) three; left = taken.2 }
+
+-- and after the last turn fewer than three are left
+pub short : (same : Type 0) (o : Option (Bor (List hb_glyph_info_t))) (some : Bor (List hb_glyph_info_t) → Type 0) (size : ℕ) (gs : List hb_glyph_info_t) → o ≡ None → size ≡ 3 → MatchOption o ((length gs < size) × same) some → length gs < 3
+short same o some size gs is three h =
+    let left = subst (λ r. MatchOption r ((length gs < size) × same) some) is h in
+    subst (λ n. length gs < n) three left.0
+
+-- one turn of the search: what is left opens with the three, or one glyph less is left
+pub triple_hit : (gs w : List hb_glyph_info_t) (second : ℕ) → w ≡ take 3 gs → opens_triple w ≡ true → option_map (λ k. second + k) (triple_place gs) ≡ Some second
+triple_hit [] w second is opens = absurd (false≢true (sym (ap opens_triple is) ∙ opens))
+triple_hit (g ∷ gs) w second is opens =
+    let here : opens_triple (g ∷ gs) ≡ true = sym (opens-front (g ∷ gs)) ∙ sym (ap opens_triple is) ∙ opens in
+    let e : second + 0 ≡ second = omega arith in
+    ap (option_map (λ k. second + k)) (triple_place_hit g gs here) ∙ ap Some e
+
+pub triple_miss : (gs w rest : List hb_glyph_info_t) (second : ℕ) → 3 ≤ length gs → w ≡ take 3 gs → rest ≡ drop 1 gs → opens_triple w ≡ false → option_map (λ k. second + 1 + k) (triple_place rest) ≡ option_map (λ k. second + k) (triple_place gs)
+triple_miss [] w rest second some is left fails = absurd (omega arith)
+triple_miss (g ∷ gs) w rest second some is left fails =
+    let not_here : opens_triple (g ∷ gs) ≡ false = sym (opens-front (g ∷ gs)) ∙ sym (ap opens_triple is) ∙ fails in
+    sym (ap (option_map (λ k. second + k)) (triple_place_miss g gs not_here) ∙ moved second (triple_place gs) ∙ ap (λ xs. option_map (λ k. second + 1 + k) (triple_place xs)) (sym left))
 
 few : (gs : List hb_glyph_info_t) → length gs < 3 → triple_place gs ≡ None
 few [] h = refl
@@ -72,11 +76,13 @@ few (a ∷ []) h = refl
 few (a ∷ (b ∷ [])) h = refl
 few (a ∷ (b ∷ (c ∷ gs))) h = absurd (omega arith)
 
--- fewer than three places are left
-pub triple_none : (gs : List hb_glyph_info_t) (i end : ℕ) → end ≤ i + 2 → second_of_triple i end gs ≡ None
-triple_none gs i end h =
-    let short : length (stretch_of i end gs) < 3 = grind (arith, common_steps) in
-    ap (option_map (λ k. i + k + 1)) (few (stretch_of i end gs) short)
+-- fewer than three are left
+pub triple_none : (gs : List hb_glyph_info_t) (second : ℕ) → length gs < 3 → option_map (λ k. second + k) (triple_place gs) ≡ None
+triple_none gs second h = ap (option_map (λ k. second + k)) (few gs h)
+
+-- the search begins with all marks
+pub triple_start : (start end : ℕ) (gs marks : List hb_glyph_info_t) → marks ≡ stretch_of start end gs → option_map (λ k. start + 1 + k) (triple_place marks) ≡ second_of_triple start end gs
+triple_start start end gs marks is = ap (λ xs. option_map (λ k. start + 1 + k) (triple_place xs)) is ∙ counted start (triple_place (stretch_of start end gs))
 
 -- the first three stand within the text
 three_long : (gs : List hb_glyph_info_t) → opens_triple gs ≡ true → 2 < length gs
@@ -109,16 +115,6 @@ second_within gs start end order within =
     let xs = stretch_of start end gs in
     let fits : start + length xs ≤ length gs = grind (arith, common_steps) in
     moved_within start (length xs) (length gs) (triple_place xs) fits (triple_within xs)
-
--- three glyphs as they were read
-pub opens_read : (gs : List hb_glyph_info_t) (i : ℕ) (x y z : hb_glyph_info_t) → i + 2 < length gs → x ≡ get_or gs i x → y ≡ get_or gs (i + 1) y → z ≡ get_or gs (i + 2) z → opens_at gs default_glyph i ≡ opens_triple (x ∷ (y ∷ (z ∷ [])))
-opens_read gs i x y z h hx hy hz =
-    let ex = get_or_read gs i x (omega arith) hx default_glyph in
-    let ey = get_or_read gs (i + 1) y (omega arith) hy default_glyph in
-    let ez = get_or_read gs (i + 2) z (omega arith) hz default_glyph in
-    ap (λ a. opens_triple (a ∷ (get_or gs (i + 1) default_glyph ∷ (get_or gs (i + 2) default_glyph ∷ [])))) (sym ex)
-    ∙ ap (λ b. opens_triple (x ∷ (b ∷ (get_or gs (i + 2) default_glyph ∷ [])))) (sym ey)
-    ∙ ap (λ c. opens_triple (x ∷ (y ∷ (c ∷ [])))) (sym ez)
 
 -- two neighbours written over each other
 pub swapped : (gs : List hb_glyph_info_t) (i : ℕ) (x y : hb_glyph_info_t) → i + 1 < length gs → x ≡ get_or gs i x → y ≡ get_or gs (i + 1) y → set (set gs i y) (i + 1) x ≡ swap gs i (i + 1)

@@ -21,6 +21,7 @@ use Rattle.shapers_clusters.proofs.Appended.{merge_all-appended}
 use Rattle.shapers_text.specs.Thai.{is_sara_am, is_above_base, glyph_rule, glyphs_in_two, stretch_of_sara_am, stretches_at, stretches_of_each, sara_am_stretches, joins_before}
 use Rattle.shapers_text.specs.ThaiWalk.{above_marks_before, merged_front, HasRoom}
 use Rattle.shapers_text.proofs.ThaiInTwo.{in_two_plain, lengths, above_marks_before-characters}
+use Rattle.shapers_text.specs.ThaiForms.{preprocessed_text}
 
 -- merging leaves the characters
 pub characters-merge_all : (level : BufferClusterLevel) (sts : List (ℕ × ℕ)) (gs : List hb_glyph_info_t) → characters (merge_all level sts gs) ≡ characters gs
@@ -128,6 +129,10 @@ pub unchanged : (level : BufferClusterLevel) (gs : List hb_glyph_info_t) → cou
 unchanged level gs count =
     let none = none_from_count (λ g. is_sara_am g.glyph_id) gs count in
     sym (ap (λ sts. glyphs_in_two (merge_all level sts gs)) (stretches_none_after level [] (characters gs) (list_any-map is_sara_am (λ g. g.glyph_id) gs ∙ none)) ∙ in_two_plain glyph_rule gs none)
+
+-- and without private use forms the whole rewriting leaves it
+pub unchanged_plain : (forms : Bool) (has : ℕ → Bool) (level : BufferClusterLevel) (gs : List hb_glyph_info_t) → forms ≡ false → count_by (λ g. is_sara_am g.glyph_id) gs ≡ 0 → gs ≡ preprocessed_text forms has level gs
+unchanged_plain forms has level gs off none = rw off (unchanged level gs none)
 
 pub length-glyphs_in_two : (gs : List hb_glyph_info_t) → length (glyphs_in_two gs) ≡ length gs + count_by (λ g. is_sara_am g.glyph_id) gs
 length-glyphs_in_two gs = (lengths glyph_rule gs).whole

@@ -115,7 +115,7 @@ stretches_of_each level each =
 abbrev pub sara_am_stretches : BufferClusterLevel → List ℕ → List (ℕ × ℕ)
 sara_am_stretches level us = stretches_of_each level (each_after [] us)
 
--- whether the plan asks for private use forms: the script is Thai, and GSUB doesn't have it
+-- whether the plan wants private use forms: the script is Thai, and GSUB doesn't have it
 abbrev pub is_thai : Option Script → Bool
 is_thai None = false
 is_thai (Some s) = pointwise nat_eq s.0 (codes "Thai")

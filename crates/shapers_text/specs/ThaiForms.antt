@@ -205,8 +205,8 @@ preprocessed_text forms has level gs =
     let text = glyphs_in_two (merge_all level (sara_am_stretches level (characters gs)) gs) in
     if forms then pua_shaped has text else text
 
--- whether a plan asks for the forms: its script is Thai, and GSUB doesn't have it (the Thai note:
--- for fonts without OpenType rules)
+-- whether a plan wants the forms: its script is Thai, and GSUB doesn't have it (the Thai note: for
+-- fonts without OpenType rules)
 abbrev pub asks_for_forms : hb_ot_shape_plan_t → Bool
 asks_for_forms plan = wants_forms plan.script plan.ot_map.found
 

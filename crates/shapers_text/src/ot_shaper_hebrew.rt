@@ -1,6 +1,6 @@
 //! Hebrew: the order of marks, and the letters that compose with points where the font places no
 //! marks.
-ghost use Rattle.std.specs.Prelude.{◌≡◌, ◌==◌, ◌&&◌, ◌≤◌, ◌∷◌, [], find, length, option_map, swap, ◌+◌, ◌^◌, ◌<◌, IfSome};
+ghost use Rattle.std.specs.Prelude.{◌≡◌, ◌==◌, ◌&&◌, ◌≤◌, find, length, option_map, is_some, false, swap, ◌+◌, ◌^◌, ◌<◌, IfSome};
 ghost use Rattle.shapers_buffer.specs.Clusters.{merge};
 ghost use Rattle.shapers_buffer.specs.Glyph.{order_view};
 ghost use Rattle.shapers_clusters.specs.Steps.{run_step};
@@ -31,21 +31,25 @@ pub fn reorder_marks(_plan: &hb_ot_shape_plan_t, buffer: &mut hb_buffer_t, start
     buffer.walk(&mut MarkOrder { level, start, end });
 }
 
-/// The same in a slice whose clusters merge at this level.
-#[inline]
+/// The same in a slice whose clusters merge at this level. Returns whether marks changed places:
+/// where it returns false nothing changed.
 pub fn reorder_marks_in(
     level: BufferClusterLevel,
     glyphs: &mut [hb_glyph_info_t],
     start: usize,
     end: usize,
-)
+) -> bool
     requires in_order { start ≤ end }
     requires in_range { end ≤ length glyphs.old }
-    ensures { glyphs.new ≡ run_step level (mark_step start end glyphs.old) glyphs.old }
+    ensures step { glyphs.new ≡ run_step level (mark_step start end glyphs.old) glyphs.old }
+    ensures moved { result ≡ is_some (second_of_triple start end glyphs.old) }
+    ensures unchanged { result ≡ false → glyphs.new ≡ glyphs.old }
 {
-    if let Some(i) = find_triple(glyphs, start, end) {
-        merge_and_swap(level, glyphs, i);
-    }
+    let Some(i) = find_triple(glyphs, start, end) else {
+        return false;
+    };
+    merge_and_swap(level, glyphs, i);
+    true
 }
 
 // Where the marks stand, and whether clusters merge.
@@ -65,12 +69,14 @@ impl GlyphWalk for MarkOrder {
 
     ghost walks = { λ v w gs hs. hs ≡ run_step v.level (mark_step v.start v.end gs) gs };
 
+    #[inline]
     fn walk(&mut self, glyphs: &mut [hb_glyph_info_t]) {
         reorder_marks_in(self.level, glyphs, self.start, self.end);
     }
 }
 
 // Merges the glyphs at `i` and behind it, and swaps them.
+#[inline(never)]
 fn merge_and_swap(level: BufferClusterLevel, glyphs: &mut [hb_glyph_info_t], i: usize)
     requires in_range { i + 1 < length glyphs.old }
     requires fits { i + 2 < 2 ^ 64 }
@@ -81,24 +87,33 @@ fn merge_and_swap(level: BufferClusterLevel, glyphs: &mut [hb_glyph_info_t], i: 
 }
 
 // The place of the second of the first three such neighbours.
+#[inline]
+#[allow(clippy::explicit_counter_loop)]
 fn find_triple(glyphs: &[hb_glyph_info_t], start: usize, end: usize) -> Option<usize>
     requires in_order { start ≤ end }
     requires in_range { end ≤ length glyphs.now }
     ensures first { result ≡ second_of_triple start end glyphs.now }
     ensures within { IfSome result (λ i. i + 1 < end) }
 {
-    for i in start..end.saturating_sub(2) {
-        if is_triple(glyphs[i], glyphs[i + 1], glyphs[i + 2]) {
-            return Some(i + 1);
+    let marks = &glyphs[start..end];
+    let mut second = start + 1;
+    for triple in marks.windows(3) {
+        if opens_triple(triple) {
+            return Some(second);
         }
+        second += 1;
     }
     None
 }
 
-// Whether three neighbours are marks whose last two change places.
-fn is_triple(a: hb_glyph_info_t, b: hb_glyph_info_t, c: hb_glyph_info_t) -> bool
-    ensures { result ≡ opens_triple (a ∷ (b ∷ (c ∷ []))) }
+// Whether the first three are marks of which the last two change places.
+#[inline]
+fn opens_triple(marks: &[hb_glyph_info_t]) -> bool
+    ensures { result ≡ opens_triple marks.now }
 {
+    let [a, b, c, ..] = marks else {
+        return false;
+    };
     matches!(a.modified_combining_class, CCC17 | CCC18)
         && matches!(b.modified_combining_class, CCC10 | CCC14)
         && matches!(c.modified_combining_class, CCC22 | BELOW)
@@ -151,6 +166,7 @@ fn form_of(a: char, b: char) -> Option<char>
 }
 
 // Whether a letter and dagesh stand in the row of letters with dagesh.
+#[inline]
 fn is_in_dagesh_row(a: char, b: char) -> bool
     ensures { result ≡ is_in_dagesh_row a b }
 {
@@ -158,6 +174,7 @@ fn is_in_dagesh_row(a: char, b: char) -> bool
 }
 
 // Whether a letter has no form with dagesh.
+#[inline]
 fn lacks_dagesh(a: char) -> bool
     ensures { result ≡ lacks_dagesh a }
 {
@@ -168,6 +185,7 @@ fn lacks_dagesh(a: char) -> bool
 }
 
 // The form in the list of pairs.
+#[inline]
 fn listed_form(a: char, b: char) -> Option<char>
     ensures { result ≡ option_map (λ p. p.2) (find (λ p. (p.0 == a) && (p.1 == b)) pairs) }
 {

@@ -1,6 +1,6 @@
 //! Thai and Lao: SARA AM in two, and for fonts whose GSUB table doesn't know Thai its private use
 //! forms.
-ghost use Rattle.std.specs.Prelude.{◌≡◌, [], length, false, IsOk, OnOk, OnErr};
+ghost use Rattle.std.specs.Prelude.{◌≡◌, ◌||◌, [], length, false, IfOk, IsOk, Ok, OnOk, OnErr};
 ghost use Rattle.std.specs.List.{list_any};
 ghost use Rattle.shapers_buffer.specs.Glyph.{clusters, characters};
 ghost use Rattle.shapers_buffer.specs.Refusals.{RefusesLength};
@@ -19,7 +19,7 @@ mod sara_am;
 
 use forms::do_pua_shaping;
 pub use laws::{forms_law, in_two_law};
-use sara_am::rewrite_sara_am;
+use sara_am::{has_sara_am, rewrite_sara_am};
 
 // The script Thai.
 const THAI: Script = Script(*b"Thai");
@@ -57,7 +57,32 @@ pub fn preprocess_text<F: hb_font_t>(
     Ok(())
 }
 
-// Whether the plan asks for private use forms.
+/// `preprocess_text`, which returns whether it rewrote the text: where there is no SARA AM and the
+/// plan asks for no private use forms, it returns false and has changed nothing.
+pub fn preprocess_text_changes<F: hb_font_t>(
+    plan: &hb_ot_shape_plan_t,
+    face: &F,
+    buffer: &mut hb_buffer_t,
+) -> Result<bool, ShaperError>
+    requires { buffer.old.positions ≡ [] }
+    ensures ok { let new = preprocessed_in_thai plan.now (F.font face.now) buffer.old in
+        OnOk result (buffer.new ≡ new) }
+    ensures changes { let some = list_any (λ g. is_sara_am g.glyph_id) buffer.old.glyphs in
+        IfOk result (λ changes. changes ≡ (some || asks_for_forms plan.now)) }
+    ensures unchanged { result ≡ Ok false → buffer.new ≡ buffer.old }
+    ensures length { let wanted = length (glyphs_in_two buffer.old.glyphs) in
+        RefusesLength buffer.old.max_len wanted result }
+    ensures err { OnErr result (buffer.new ≡ buffer.old) }
+{
+    prove!(buffer.len() <= buffer.max_len());
+    if !has_sara_am(buffer) && !wants_forms(plan) {
+        return Ok(false);
+    }
+    preprocess_text(plan, face, buffer)?;
+    Ok(true)
+}
+
+// Whether the plan wants private use forms.
 fn wants_forms(plan: &hb_ot_shape_plan_t) -> bool
     ensures { result ≡ asks_for_forms plan.now }
 {

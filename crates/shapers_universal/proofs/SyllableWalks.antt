@@ -1,26 +1,67 @@
 -- Steps of the walks over syllables.
-use Rattle.std.proofs.Common.{◌≡◌, ℕ, ◌+◌, ◌-◌, ◌<◌, ◌≤◌, Bool, true, List, [], ◌∷◌, ◌++◌, length, take, drop, get_or, set, refl, ap, sym, ◌∙◌, arith, length-drop, append_assoc}
-use Rattle.std.proofs.lemmas.List.{drop_more, drop-set, take-set, take-append-drop}
+use Rattle.std.proofs.Common.{one-add, ◌≡◌, ℕ, ◌+◌, ◌-◌, ◌<◌, ◌≤◌, Bool, true, List, [], ◌∷◌, ◌++◌, length, take, drop, refl, ap, sym, ◌∙◌, arith, length-drop, append_assoc, false, ◌≢◌, None, Some, Option}
+use Rattle.std.proofs.lemmas.List.{take-append-drop}
 use Rattle.shapers_buffer.specs.declared.buffer.glyph.hb_glyph_info_t.{hb_glyph_info_t}
 use Rattle.shapers_buffer.specs.Clusters.{stretch_of, with_stretch}
-use Rattle.shapers_buffer.specs.Marks.{is_substituted}
-use Rattle.shapers_buffer.specs.Syllables.{first_syllable_len, syllables}
+use Rattle.shapers_buffer.specs.Syllables.{first_syllable_len, syllables, has_byte}
 use Rattle.shapers_buffer.proofs.SyllableLaws.{syllables_are_runs}
 use Rattle.shapers_syllabic.proofs.SyllableWalks.{changed_stretch, syllables_from}
 use Rattle.shapers_universal.specs.declared.ot_shaper_use.forms.FormMasks.{FormMasks}
-use Rattle.shapers_universal.specs.UniversalSyllables.{first_joins, first_recorded, formed, in_category, in_forms, joins_runs}
+use Rattle.shapers_universal.specs.UniversalSyllables.{first_joins, first_recorded, formed, in_forms, joins_runs, has_bits, rphf_recorded}
+use Rattle.std.specs.Prelude.{◌==◌, if◌then◌else◌}
+use Rattle.std.specs.List.{flat_map, prefix_len}
+use Rattle.std.proofs.lemmas.Bool.{eqb-true, eq-eqb, eqb-false, false≢true}
+use Rattle.shapers_universal.specs.UniversalWalk.{left_to_change}
+use Rattle.std.specs.Option.{option_eq}
+use Rattle.std.proofs.Math.Dec.{eqb}
+use Rattle.shapers_universal.specs.declared.ot_shaper_use.category.TheConstants.{R}
 
--- the first glyph that a lookup put in, recorded at its place
-recorded_first : (category : ℕ) (g : hb_glyph_info_t) (gs : List hb_glyph_info_t) → is_substituted g.marks ≡ true → in_category category g ∷ gs ≡ first_recorded category (g ∷ gs)
-recorded_first category g gs h = rw h refl
+-- a syllable that goes on, and the ones behind it, are the syllables of the rest
+resumed-by : (f : List hb_glyph_info_t → List hb_glyph_info_t) → f [] ≡ [] → (byte : ℕ) (h : hb_glyph_info_t) (hs : List hb_glyph_info_t) (same : Bool) → (h.syllable == byte) ≡ same → let n = prefix_len (has_byte byte) (h ∷ hs) in f (take n (h ∷ hs)) ++ flat_map f (syllables (drop n (h ∷ hs))) ≡ flat_map f (syllables (h ∷ hs))
+resumed-by f none byte h hs true test =
+    let is : byte ≡ h.syllable = sym (eqb-true h.syllable byte test) in
+    let by_byte : ℕ → List hb_glyph_info_t = λ b. let n = prefix_len (has_byte b) hs in f (h ∷ take n hs) ++ flat_map f (syllables (drop n hs)) in
+    rw (test, one-add (prefix_len (has_byte byte) hs)) (ap by_byte is ∙ sym (ap (flat_map f) (syllables_are_runs h hs)))
+resumed-by f none byte h hs false test = rw (test, none) refl
 
-pub recorded_at : (category : ℕ) (d : hb_glyph_info_t) (gs : List hb_glyph_info_t) (i : ℕ) → i < length gs → is_substituted (get_or gs i d).marks ≡ true → set gs i (in_category category (get_or gs i d)) ≡ take i gs ++ first_recorded category (drop i gs)
-recorded_at category d gs i inside h =
-    let g = get_or gs i d in
-    let new = set gs i (in_category category g) in
-    sym (take-append-drop i new)
-    ∙ ap (λ xs. xs ++ drop i new) (take-set gs i (in_category category g))
-    ∙ ap (λ xs. take i gs ++ xs) (drop-set gs i (in_category category g) inside ∙ recorded_first category g (drop (i + 1) gs) h ∙ ap (first_recorded category) (sym (drop_more gs i d inside)))
+resumed : (f : List hb_glyph_info_t → List hb_glyph_info_t) → f [] ≡ [] → (byte : ℕ) (gs : List hb_glyph_info_t) → let n = prefix_len (has_byte byte) gs in f (take n gs) ++ flat_map f (syllables (drop n gs)) ≡ flat_map f (syllables gs)
+resumed f none byte [] = rw none refl
+resumed f none byte (h ∷ hs) = resumed-by f none byte h hs (h.syllable == byte) refl
+
+-- what the record of a glyph says: how it changes, and whether the changes go on
+abbrev Continues : (List hb_glyph_info_t → List hb_glyph_info_t) → hb_glyph_info_t → hb_glyph_info_t → Bool → Type 0
+Continues f g new goes_on = (rest : List hb_glyph_info_t) → f (g ∷ rest) ≡ new ∷ (if goes_on then f rest else rest)
+
+pub changed_first : (f : List hb_glyph_info_t → List hb_glyph_info_t) → f [] ≡ [] → (g new : hb_glyph_info_t) (goes_on : Bool) (gs : List hb_glyph_info_t) → Continues f g new goes_on → new ∷ left_to_change f (if goes_on then None else Some g.syllable) gs ≡ flat_map f (syllables (g ∷ gs))
+changed_first f none g new true gs continues =
+    let n = prefix_len (has_byte g.syllable) gs in
+    sym (ap (flat_map f) (syllables_are_runs g gs) ∙ ap (λ xs. xs ++ flat_map f (syllables (drop n gs))) (continues (take n gs)) ∙ ap (λ xs. new ∷ xs) (resumed f none g.syllable gs))
+changed_first f none g new false gs continues =
+    let n = prefix_len (has_byte g.syllable) gs in
+    sym (ap (flat_map f) (syllables_are_runs g gs) ∙ ap (λ xs. xs ++ flat_map f (syllables (drop n gs))) (continues (take n gs)))
+
+-- a glyph of a syllable whose changes have ended stays
+pub passed_next : (f : List hb_glyph_info_t → List hb_glyph_info_t) (passed : Option ℕ) (g : hb_glyph_info_t) (gs : List hb_glyph_info_t) → option_eq eqb passed (Some g.syllable) ≡ true → left_to_change f passed (g ∷ gs) ≡ g ∷ left_to_change f passed gs
+passed_next f None g gs same = absurd (false≢true same)
+passed_next f (Some byte) g gs same = rw (eq-eqb g.syllable byte (sym (eqb-true byte g.syllable same)), one-add (prefix_len (has_byte byte) gs)) refl
+
+another : (f : List hb_glyph_info_t → List hb_glyph_info_t) (byte : ℕ) (g : hb_glyph_info_t) (gs : List hb_glyph_info_t) (same : Bool) → (g.syllable == byte) ≡ same → byte ≢ g.syllable → left_to_change f (Some byte) (g ∷ gs) ≡ flat_map f (syllables (g ∷ gs))
+another f byte g gs true test other = absurd (other (sym (eqb-true g.syllable byte test)))
+another f byte g gs false test other = rw test refl
+
+-- one of another syllable is its first
+pub next_is_first : (f : List hb_glyph_info_t → List hb_glyph_info_t) (passed : Option ℕ) (g : hb_glyph_info_t) (gs : List hb_glyph_info_t) → option_eq eqb passed (Some g.syllable) ≡ false → left_to_change f passed (g ∷ gs) ≡ flat_map f (syllables (g ∷ gs))
+next_is_first f None g gs other = refl
+next_is_first f (Some byte) g gs other = another f byte g gs (g.syllable == byte) refl (eqb-false byte g.syllable other)
+
+-- a glyph with the mask of rphf: its record, and that of the rest if it goes on
+pub rphf_next : (mask : ℕ) (g new : hb_glyph_info_t) (goes_on : Bool) (rest : List hb_glyph_info_t) → has_bits mask g ≡ true → Continues (first_recorded R) g new goes_on → rphf_recorded mask (g ∷ rest) ≡ new ∷ (if goes_on then rphf_recorded mask rest else rest)
+rphf_next mask g new true rest bits continues =
+    let n = prefix_len (has_bits mask) rest in
+    rw (bits, one-add n) (ap (λ xs. xs ++ drop n rest) (continues (take n rest)))
+rphf_next mask g new false rest bits continues =
+    let n = prefix_len (has_bits mask) rest in
+    rw (bits, one-add n) (ap (λ xs. xs ++ drop n rest) (continues (take n rest)) ∙ ap (λ xs. new ∷ xs) (take-append-drop n rest))
 
 -- whether the first syllable joins is told by the first glyph
 first_joins-text : (gs : List hb_glyph_info_t) → first_joins (syllables gs) ≡ joins_runs gs

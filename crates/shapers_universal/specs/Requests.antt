@@ -1,4 +1,4 @@
--- What the universal shaper asks of the map.
+-- What the universal shaper requests of the map.
 use Rattle.std.specs.Prelude.{List, [], ◌∷◌, ◌++◌, map, bit_or}
 use Rattle.shapers_base.specs.declared.map.TheConstants.{F_NONE, F_MANUAL_ZWJ, F_PER_SYLLABLE}
 use Rattle.shapers_base.specs.declared.plan.pause.Pause.TheVariants.{SetupSyllablesUse, ReorderUse, RecordRphf, RecordPref, SyllabicClearVar, ClearSubstitutionFlags}

@@ -1,5 +1,5 @@
 -- The set-up of syllables in the universal shaper, cut between two spans. The form of a syllable
--- hangs on its neighbours, so masks of forms are apart.
+-- depends on its neighbours, so masks of forms are left out.
 use Rattle.std.specs.Prelude.{◌-◌, ◌≡◌, bit_and, true, ◌||◌, List, ◌++◌, length, map, Option, None, Some}
 use Rattle.shapers_buffer.specs.declared.buffer.glyph.hb_glyph_info_t.{hb_glyph_info_t}
 use Rattle.shapers_buffer.specs.declared.buffer.syllables.Span.{Span}

@@ -24,7 +24,8 @@ UniversalReorderLaws = ReorderLaws universal_order universal_steps
 abbrev pub UniversalMovesMerged : Type 0
 UniversalMovesMerged = MoveMerged universal_steps
 
--- what a syllable becomes, and by which steps, hangs neither on the serial of its byte nor on masks
+-- what a syllable becomes, and by which steps, depends neither on the serial of its byte nor on
+-- masks
 abbrev pub UniversalReadsNoSerials : Type 0
 UniversalReadsNoSerials = ReadsNoSerials universal_order universal_steps
 

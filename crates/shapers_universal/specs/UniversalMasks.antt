@@ -5,6 +5,7 @@ use Rattle.shapers_buffer.specs.declared.buffer.tag.Script.{Script}
 use Rattle.shapers_base.specs.Font.{CharacterTables}
 use Rattle.shapers_base.specs.declared.plan.arabic.arabic_shape_plan_t.{arabic_shape_plan_t}
 use Rattle.shapers_buffer.specs.Buffer.{Buffer}
+use Rattle.shapers_arabic.specs.Breaks.{BreaksWhereClear, NoneNeedless}
 use Rattle.shapers_arabic.specs.JoinedText.{AreCharacters, CutsAsHalves, joined}
 
 -- the glyph with the category that the tables give its character
@@ -26,5 +27,18 @@ abbrev pub MasksAreSet :
     Option arabic_shape_plan_t → Option Script → CharacterTables → Buffer → Buffer → Type 0
 MasksAreSet None script tables old new = new ≡ with_categories tables old
 MasksAreSet (Some p) script tables old new =
-    (new ≡ joined p.mask_array script tables.joining tables.general (with_categories tables old))
+    let before = with_categories tables old in
+    (new ≡ joined p.break_flags p.mask_array script tables.joining tables.general before)
     × CutsAsHalves script tables.joining tables.general old new
+
+-- where there is a plan of Arabic, the buffer with the categories may be broken at each clear
+-- place, and no flag of Sound is needless
+abbrev pub BreaksAsJoining :
+    Option arabic_shape_plan_t → Option Script → CharacterTables → Buffer → Buffer → Type 0
+BreaksAsJoining None script tables old new = Unit {0}
+BreaksAsJoining (Some p) script tables old new =
+    let breaks = p.break_flags in
+    let masks = p.mask_array in
+    let before = with_categories tables old in
+    BreaksWhereClear breaks masks script tables.joining tables.general before new
+    × NoneNeedless breaks masks script tables.joining tables.general before new

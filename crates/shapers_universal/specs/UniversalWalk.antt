@@ -1,12 +1,13 @@
 -- Words of the walk over the places of a syllable.
-use Rattle.std.specs.Prelude.{ℕ, suc, ◌≡◌, ◌-◌, ◌==◌, Bool, false, not, List, [], ◌∷◌, ◌++◌, filter, reverse, Option, None, Some, if◌then◌else◌}
-use Rattle.std.specs.List.{flat_map, range_with_len, slice_get}
+use Rattle.std.specs.Prelude.{ℕ, suc, ◌≡◌, ◌-◌, ◌==◌, Bool, false, not, List, [], ◌∷◌, ◌++◌, filter, reverse, Option, None, Some, if◌then◌else◌, take, drop}
+use Rattle.std.specs.List.{flat_map, range_with_len, slice_get, prefix_len}
 use Rattle.std.specs.Option.{option_map_or}
 use Rattle.shapers_buffer.specs.declared.buffer.glyph.hb_glyph_info_t.{hb_glyph_info_t}
 use Rattle.shapers_buffer.specs.Clusters.{stretch_of}
 use Rattle.shapers_buffer.specs.Lists.{cut_after, first_last}
 use Rattle.shapers_universal.specs.Universal.{first_behind, goes_front, goes_front_at, is_halant, reversed_first}
 use Rattle.shapers_universal.specs.declared.ot_shaper_use.category.TheConstants.{R}
+use Rattle.shapers_buffer.specs.Syllables.{has_byte, syllables}
 
 -- whether a reph stands in front
 abbrev pub has_reph : List hb_glyph_info_t → Bool
@@ -63,3 +64,11 @@ MergesFirst s e gs (Some p) =
 -- the places from s to e with the last in front
 abbrev pub last_first : ℕ → ℕ → List ℕ
 last_first s e = (e - 1) ∷ range_with_len s (e - 1 - s)
+
+-- what a change of fronts of syllables makes of the glyphs that are left, where the changes of a
+-- syllable of this byte have ended
+abbrev pub left_to_change : (List hb_glyph_info_t → List hb_glyph_info_t) → Option ℕ →
+    List hb_glyph_info_t → List hb_glyph_info_t
+left_to_change f None gs = flat_map f (syllables gs)
+left_to_change f (Some byte) gs =
+    let n = prefix_len (has_byte byte) gs in take n gs ++ flat_map f (syllables (drop n gs))

@@ -67,7 +67,7 @@ const REQUESTS: [Request; 30] = [
     Request::Feature(hb_tag_t(*b"psts"), F_GLOBAL | F_MANUAL_ZWJ, 1),
 ];
 
-/// Asks for the features of the universal shaper, in the order of its OpenType specification.
+/// Requests the features of the universal shaper, in the order of its OpenType specification.
 /// The only refusal is `Memory`, which leaves the planner as it was.
 pub fn collect_features(planner: &mut hb_ot_shape_planner_t) -> Result<(), ShaperError>
     ensures ok { OnOk result (planner.new ≡ with_requests universal_list planner.old) }

@@ -78,7 +78,7 @@ fn erase_attribute(file: &mut File, i: usize) -> Result<(), String> {
 }
 
 // Cuts `Drop` and `Error` out of derives, and `Drop` out of bounds: where it is all that a `where`
-// clause asks of a type with that type.
+// clause requires of a type with that type.
 fn erase_trait(file: &mut File, i: usize) {
     let open = file.nearest(i, &["("]).filter(|open| file.partner(*open) > i);
     let list = open.map_or("", |open| file.before(open));

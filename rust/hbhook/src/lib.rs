@@ -1,10 +1,9 @@
 //! A small laboratory for the hooks of the script shapers.
 //!
 //! A script of lines says what a font has and what Unicode's tables say, chooses a shaper, puts a
-//! text into a buffer and runs hooks over it; docs/HBHOOK.md of the repository says how the lines
-//! read. [`run_lines`] prints the glyphs that are left, [`explain_lines`] tells besides what was
-//! expected of a line that doesn't read, and [`draw_lines`] writes a page of HTML that shows what
-//! each hook did.
+//! text into a buffer and runs hooks over it; docs/HBHOOK.md of the repository explains the lines.
+//! [`run_lines`] prints the glyphs that are left, [`explain_lines`] also what was expected of a
+//! rejected line, and [`draw_lines`] writes a page of HTML that shows what each hook did.
 //!
 //! ```
 //! use sengadlit::alloc::Global;

@@ -13,13 +13,13 @@ use std::process::ExitCode;
 
 const USAGE: &str = "\
 usage: hbhook [FILE]         runs the lines of the file, and prints the glyphs that they leave
-       hbhook --why [FILE]   runs them, and tells what was expected of a line that doesn't read, and
-                             which line was refused
+       hbhook --why [FILE]   runs them, and says what was expected of a rejected line, or which line
+                             was refused
        hbhook --draw [FILE]  runs them, and writes a page of HTML that shows what each hook did
        hbhook --help         prints this
 
-For FILE - or nothing: the lines of standard input. Status: 0; 1 after a refusal; 2 where a line, the
-input or an argument doesn't read, or the output can't be written.
+For FILE - or nothing: the lines of standard input. Status: 0; 1 after a refusal; 2 where a line or
+an argument is rejected, the input can't be read, or the output can't be written.
 ";
 
 // The exit status for bad arguments and for a file that can't be read.

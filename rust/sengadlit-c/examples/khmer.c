@@ -14,7 +14,7 @@ static uint16_t indic_categories(void *user_data, uint32_t unicode)
     return (uint16_t)(category | 14 << 8);
 }
 
-/* A font is asked for the dotted circle of a broken syllable; this one has none. */
+/* A broken syllable needs the font's dotted circle; this font has none. */
 static sengadlit_bool_t nominal_glyph(void *user_data, uint32_t unicode, uint32_t *glyph)
 {
     (void)user_data, (void)unicode, (void)glyph;

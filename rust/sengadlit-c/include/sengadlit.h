@@ -1,26 +1,25 @@
-/* sengadlit.h - script shapers: the hooks that stand between Unicode text and a font's lookups.
+/* sengadlit.h - script shapers: the hooks between Unicode text and a font's lookups.
 
    For Arabic and the scripts that join like it, Hangul, Hebrew, the Indic scripts, Khmer, Myanmar, Thai and Lao, and the
    scripts of the Universal Shaping Engine. They are HarfBuzz's hooks under HarfBuzz's names, with its numbers for
    scripts, directions, cluster levels, flags and categories. Lookups, the machines that find syllables, normalization
-   and positioning are the caller's, and so are the font and the Unicode tables, which are asked through callbacks.
+   and positioning are the caller's, and so are the font and the Unicode tables, which the library calls back.
 
    Objects. A plan is made once for a shaper, a script and a font, and doesn't change afterwards: threads may share it. A
    buffer is used by one thread at a time, again and again; its glyphs are read and written in place.
 
    Pointers. What is passed in stays the caller's and is read during the call alone, but for the user data of a plan.
-   No pointer may be null unless its description says so. A null one where none may be is an argument that is refused
-   like any other.
+   No pointer may be null unless its description says so. A null pointer elsewhere is rejected like any other argument.
 
    Errors. A call tests its arguments before it writes anything. Where it doesn't return SENGADLIT_DONE, and where a
    function that returns a pointer returns null, nothing has changed but what sengadlit_error_t reports; the one
    exception is SENGADLIT_INTERNAL. Memory comes from malloc.
 
-   Callbacks run on the thread of the call, before it returns. They answer the same question in the same way throughout a
-   call; if one doesn't, the result is unspecified or SENGADLIT_INTERNAL, and memory stays sound all the same. A callback
-   has to return: no C++ exception and no longjmp may leave it. It must not pass the buffer of the call to any function of
-   this library, nor touch its glyphs or positions, nor drop the last reference to the plan of the call. It may use other
-   buffers and plans. */
+   Callbacks run on the thread of the call, before it returns. They return the same result for the same arguments
+   throughout a call; if one doesn't, the result is unspecified or SENGADLIT_INTERNAL, and memory stays sound all the same.
+   A callback has to return: no C++ exception and no longjmp may leave it. It must not pass the buffer of the call to any
+   function of this library, nor touch its glyphs or positions, nor drop the last reference to the plan of the call. It may
+   use other buffers and plans. */
 #ifndef SENGADLIT_H
 #define SENGADLIT_H
 
@@ -66,41 +65,41 @@ typedef void (*sengadlit_destroy_func_t)(void *user_data);
 typedef enum sengadlit_status_t {
     SENGADLIT_DONE = 0,
     SENGADLIT_ABSENT = 1,            /* The shaper has no such hook: do what is done for scripts without a shaper. */
-    SENGADLIT_ARGUMENT = 2,          /* An argument isn't what the call asks for; sengadlit_error_t says which. */
+    SENGADLIT_ARGUMENT = 2,          /* The call doesn't accept an argument; sengadlit_error_t says which. */
     SENGADLIT_MEMORY = 3,            /* Memory was refused. */
     SENGADLIT_TOO_LONG = 4,          /* The text is, or would become, longer than its max_length. */
     SENGADLIT_UNKNOWN_SYLLABLE = 5,  /* A syllable's kind is none of the shaper's; `index` is its first glyph. */
     SENGADLIT_SPANS_DONT_COVER = 6,  /* A span is empty, or the lengths don't add up to the text's. */
     SENGADLIT_STRETCH_OVERFLOW = 7,  /* A sum of advances doesn't fit 32 bits. */
     SENGADLIT_NOT_FOUND = 8,         /* The characters don't compose, or the character doesn't decompose. */
-    SENGADLIT_INTERNAL = 9,          /* A fault of the library, or of a callback that changed its answer: the buffer of
+    SENGADLIT_INTERNAL = 9,          /* A fault of the library, or of a callback whose result changed: the buffer of
                                         the call is empty, with its properties, and may be used again. A message went to
                                         stderr. */
     SENGADLIT_STATUS_MAX_VALUE = 0x7FFFFFFF
 } sengadlit_status_t;
 
-/* Which argument was refused. */
+/* Which argument was rejected. */
 typedef enum sengadlit_argument_t {
     SENGADLIT_ARGUMENT_NONE = 0,     /* None: the status isn't SENGADLIT_ARGUMENT. */
     SENGADLIT_ARGUMENT_SHAPER = 1,   /* No shaper by this number. */
     SENGADLIT_ARGUMENT_PLAN = 2,     /* Null. A null buffer has no place for an error: the status says all. */
-    SENGADLIT_ARGUMENT_FONT = 3,     /* Null, or a function that the call asks is. */
-    SENGADLIT_ARGUMENT_TABLES = 4,   /* Null, or a function that the call asks is. */
+    SENGADLIT_ARGUMENT_FONT = 3,     /* Null, or a function that the call uses is. */
+    SENGADLIT_ARGUMENT_TABLES = 4,   /* Null, or a function that the call uses is. */
     SENGADLIT_ARGUMENT_MAP = 5,      /* Null, or one of its functions is. */
     SENGADLIT_ARGUMENT_RESULT = 6,   /* A pointer to write a result to is null. */
     SENGADLIT_ARGUMENT_PAUSE = 7,    /* No pause by this number, or one that the plan's shaper doesn't have. */
     SENGADLIT_ARGUMENT_RANGE = 8,    /* Places that aren't in order, beyond the text, or too many. */
     SENGADLIT_ARGUMENT_SPANS = 9,    /* Null, or the kind of span `index` is above 15. */
-    SENGADLIT_ARGUMENT_CODEPOINT = 10, /* That of glyph `index` is none that the hook takes; or an argument is none. */
+    SENGADLIT_ARGUMENT_CODEPOINT = 10, /* The hook doesn't accept that of glyph `index`, or an argument. */
     SENGADLIT_ARGUMENT_GENERAL_CATEGORY = 11, /* That of glyph `index` is above 29. */
-    SENGADLIT_ARGUMENT_POSITIONS = 12, /* There are positions where the hook wants none, or none where it wants them. */
+    SENGADLIT_ARGUMENT_POSITIONS = 12, /* There are positions where the hook takes none, or none where it needs them. */
     SENGADLIT_ARGUMENT_DIRECTION = 13,
     SENGADLIT_ARGUMENT_CLUSTER_LEVEL = 14,
     SENGADLIT_ARGUMENT_PROPERTIES = 15, /* Null. */
-    SENGADLIT_ARGUMENT_CONTEXT = 16, /* Null, or character `index` is none of Unicode's scalar values. */
+    SENGADLIT_ARGUMENT_CONTEXT = 16, /* Null, or character `index` isn't a Unicode scalar value. */
     SENGADLIT_ARGUMENT_INPUT = 17,   /* Null. */
     SENGADLIT_ARGUMENT_FEATURES = 18, /* Null, or the mask of feature `index` has one of the low three bits. */
-    SENGADLIT_ARGUMENT_STAGES = 19,  /* Null, or stage `index` is no range of the lookups. */
+    SENGADLIT_ARGUMENT_STAGES = 19,  /* Null, or stage `index` isn't a range of the lookups. */
     SENGADLIT_ARGUMENT_LOOKUPS = 20, /* Null. */
     SENGADLIT_ARGUMENT_MAX_VALUE = 0x7FFFFFFF
 } sengadlit_argument_t;
@@ -111,7 +110,7 @@ typedef struct sengadlit_error_t {
     unsigned int index;              /* A place from 0 where `status` or `argument` names one, else 0. */
 } sengadlit_error_t;
 
-/* The name of a status or an argument as it stands above, "SENGADLIT_DONE"; "unknown" for another number. The text is the
+/* The name of a status or an argument as written above, "SENGADLIT_DONE"; "unknown" for another number. The text is the
    library's and stays. */
 const char *sengadlit_status_name(sengadlit_status_t status);
 const char *sengadlit_argument_name(sengadlit_argument_t argument);
@@ -174,14 +173,14 @@ sengadlit_status_t sengadlit_shaper_get_constants(sengadlit_shaper_t shaper, sen
 
 /* ---- Callbacks ---- */
 
-/* The font. A function may be null if no call asks it: each call below says which ones it asks. */
+/* The font. A function that no call uses may be null: each call below says which ones it calls. */
 typedef struct sengadlit_font_funcs_t {
     /* Writes the nominal glyph of a character, as the font's cmap has it, and returns whether there is one. A glyph above
        65535 counts as none. */
     sengadlit_bool_t (*nominal_glyph)(void *user_data, uint32_t unicode, uint32_t *glyph);
     /* The horizontal advance of a glyph, in font units; positive where the text runs right to left, too. */
     int32_t (*glyph_h_advance)(void *user_data, uint32_t glyph);
-    /* Whether one of these lookups of GSUB would substitute exactly these glyphs; with `zero_context` only if it asks for
+    /* Whether one of these lookups of GSUB would substitute exactly these glyphs; with `zero_context` only if it needs
        no context around them. As hb_ot_layout_lookup_would_substitute, of each lookup. There is at least one lookup, and
        there are one to three glyphs. */
     sengadlit_bool_t (*would_substitute)(void *user_data, const uint16_t *lookups, unsigned int lookups_length,
@@ -202,7 +201,7 @@ enum {
     SENGADLIT_JOINING_TYPE_X = 8             /* T for categories Mn, Me and Cf, else U. */
 };
 
-/* The Unicode Character Database and the shapers' tables. A function may be null if no call asks it. */
+/* The Unicode Character Database and the shapers' tables. A function that no call uses may be null. */
 typedef struct sengadlit_tables_funcs_t {
     /* SENGADLIT_JOINING_..; any other number counts as U. */
     uint8_t (*joining_type)(void *user_data, uint32_t unicode);
@@ -214,7 +213,7 @@ typedef struct sengadlit_tables_funcs_t {
     /* For the universal shaper: as hb_use_get_category. The hooks take any number. */
     uint8_t (*use_category)(void *user_data, uint32_t unicode);
     /* Canonical composition and decomposition into two, as hb_unicode_compose and hb_unicode_decompose. What isn't a
-       Unicode scalar value counts as no answer. */
+       Unicode scalar value counts as none. */
     sengadlit_bool_t (*compose)(void *user_data, uint32_t a, uint32_t b, uint32_t *ab);
     sengadlit_bool_t (*decompose)(void *user_data, uint32_t ab, uint32_t *a, uint32_t *b);
 } sengadlit_tables_funcs_t;
@@ -248,7 +247,7 @@ enum {
     SENGADLIT_FEATURE_PER_SYLLABLE = 0x40
 };
 
-/* Where a shaper says what it wants of the map, in order, as hb_ot_map_builder_t. Neither may be null. */
+/* Where a shaper puts its requests to the map, in order, as hb_ot_map_builder_t. Neither may be null. */
 typedef struct sengadlit_map_funcs_t {
     void (*add_feature)(void *user_data, sengadlit_tag_t tag, uint32_t flags, uint32_t value); /* Value 0: off. */
     void (*add_gsub_pause)(void *user_data, sengadlit_pause_t pause);
@@ -272,13 +271,13 @@ typedef struct sengadlit_map_t {
 
 /* ---- Plans ---- */
 
-/* Adds the features and pauses that the shaper wants before those of every script. `font` may be null except for
-   SENGADLIT_SHAPER_ARABIC, which asks has_feature. `error` may be null; it is written unless DONE or ABSENT is returned.
-   The map is told only when the whole list is there, so that no callback of it runs where MEMORY is returned.
+/* Adds the features and pauses that the shaper requests before those of every script. `font` may be null except for
+   SENGADLIT_SHAPER_ARABIC, which calls has_feature. `error` may be null; it is written unless DONE or ABSENT is returned.
+   The map is called only when the whole list is there, so that no callback of it runs where MEMORY is returned.
    ARGUMENT: SHAPER, FONT, MAP. */
 sengadlit_status_t sengadlit_collect_features(sengadlit_shaper_t shaper, sengadlit_tag_t script, const sengadlit_font_t *font,
                                               const sengadlit_map_t *map, sengadlit_error_t *error);
-/* The same for those that it wants after those of every script. ARGUMENT: SHAPER, MAP. */
+/* The same for those that it requests after those of every script. ARGUMENT: SHAPER, MAP. */
 sengadlit_status_t sengadlit_override_features(sengadlit_shaper_t shaper, sengadlit_tag_t script, const sengadlit_map_t *map,
                                                sengadlit_error_t *error);
 
@@ -295,7 +294,7 @@ typedef struct sengadlit_stage_t {
     uint32_t end;
 } sengadlit_stage_t;
 
-/* What the font's GSUB and the wanted features made. Set what you don't set by name to 0, by an initializer. */
+/* What was made of the font's GSUB and the requested features. Set the other fields to 0, by an initializer. */
 typedef struct sengadlit_plan_input_t {
     sengadlit_tag_t script;          /* Of the text; 0 if it isn't known. */
     sengadlit_tag_t chosen_script;   /* The script tag that GSUB was found to offer, as hb_ot_map_t::chosen_script; or 0. */
@@ -304,11 +303,11 @@ typedef struct sengadlit_plan_input_t {
     sengadlit_bool_t centres_stretch; /* Whether the tiles of stretched marks are centred; else as rustybuzz lays them. */
     sengadlit_bool_t sound_breaks;   /* Whether joining flags each place where a broken text would be shaped otherwise. */
     uint32_t global_mask;            /* As hb_ot_map_t::global_mask. */
-    const sengadlit_feature_t *features; /* Of a tag that stands there twice the first counts. Null if the length is 0; */
+    const sengadlit_feature_t *features; /* Of two with one tag the first counts. Null if the length is 0; */
     unsigned int features_length;
-    const sengadlit_stage_t *stages; /* so with these two. Only Indic asks for lookups: others need no stages. */
+    const sengadlit_stage_t *stages; /* so with these two. Only Indic uses lookups: others need no stages. */
     unsigned int stages_length;
-    const uint16_t *lookups;         /* Numbers that would_substitute is given: the library doesn't read them itself. */
+    const uint16_t *lookups;         /* Numbers that are passed to would_substitute; the library makes no other use of them. */
     unsigned int lookups_length;
     void *user_data;                 /* Kept by the plan; may be null. */
     sengadlit_destroy_func_t destroy; /* Called once with `user_data`: when the last reference to the plan is dropped,
@@ -329,7 +328,7 @@ void sengadlit_plan_destroy(sengadlit_plan_t *plan);
 /* The user data that the plan keeps; null for a null plan. */
 void *sengadlit_plan_get_user_data(const sengadlit_plan_t *plan);
 
-/* What the shaper keeps in the plan: for callers that leave calls out which would change nothing. */
+/* What the shaper keeps in the plan: for callers that skip calls which would change nothing. */
 typedef struct sengadlit_plan_data_t {
     sengadlit_shaper_t shaper;
     sengadlit_bool_t joins;          /* Whether letters join: Arabic, and scripts of the universal shaper that do. */
@@ -398,9 +397,9 @@ enum {
     SENGADLIT_UNICODE_GENERAL_CATEGORY_SPACE_SEPARATOR = 29      /* Zs */
 };
 
-/* A glyph, or before the font's mapping a character: 24 bytes. What is written here is what a hook reads. What a
-   hook isn't said to read it carries along with the glyph, so that the field may hold anything of the caller's. In a dotted
-   circle that a pause adds, `var` is 0; two glyphs that are made of one both have what it had. */
+/* A glyph, or before the font's mapping a character: 24 bytes. Each hook below says which fields it reads; the others it
+   carries along with the glyph, so that they may hold anything of the caller's. In a dotted circle that a pause adds, `var`
+   is 0; two glyphs that are made of one both have what it had. */
 typedef struct sengadlit_glyph_info_t {
     uint32_t codepoint;              /* A character before the font's mapping, a glyph number after it. */
     uint32_t cluster;                /* The place in the text that it leads back to. */
@@ -473,7 +472,7 @@ void sengadlit_buffer_destroy(sengadlit_buffer_t *buffer);
 sengadlit_glyph_info_t *sengadlit_buffer_set_length(sengadlit_buffer_t *buffer, unsigned int length);
 /* The glyphs, for which the same holds, and through `length`, which may be null, how many there are. */
 sengadlit_glyph_info_t *sengadlit_buffer_get_glyph_infos(sengadlit_buffer_t *buffer, unsigned int *length);
-/* The positions, one a glyph, which the first call makes, all zero. They stay until sengadlit_buffer_set_length; while
+/* The positions, one per glyph, which the first call makes, all zero. They stay until sengadlit_buffer_set_length; while
    they are there, sengadlit_postprocess_glyphs alone takes the buffer. */
 sengadlit_glyph_position_t *sengadlit_buffer_get_glyph_positions(sengadlit_buffer_t *buffer, unsigned int *length);
 
@@ -501,24 +500,24 @@ void sengadlit_buffer_get_error(const sengadlit_buffer_t *buffer, sengadlit_erro
 
 /* ---- Hooks, in the order of a pipeline ---- */
 
-/* All of them: ARGUMENT for PLAN, POSITIONS and GENERAL_CATEGORY besides what stands at each, and for a null buffer. An
-   argument is refused before ABSENT is returned. TOO_LONG: the text is longer than max_length already. MEMORY only where
-   it is said. Where glyphs merge or move, or text may not be broken any more, `cluster` and the glyph flags of `mask` are
-   read and written besides what stands at each. */
+/* All of them: ARGUMENT for PLAN, POSITIONS and GENERAL_CATEGORY besides what each lists, and for a null buffer. An
+   argument is rejected before ABSENT is returned. TOO_LONG: the text is longer than max_length already. MEMORY only where
+   listed. Where glyphs merge or move, or text may not be broken any more, `cluster` and the glyph flags of `mask` are
+   read and written besides what each lists. */
 
-/* Thai: SARA AM is taken apart; and for a plan without found_script the forms of the Private Use Area, which ask
-   nominal_glyph. Hangul: jamo are composed and syllables decomposed as the font has them, and tones reordered, which asks
+/* Thai: SARA AM is taken apart; and for a plan without found_script the forms of the Private Use Area, which call
+   nominal_glyph. Hangul: jamo are composed and syllables decomposed as the font has them, and tones reordered, which calls
    nominal_glyph and glyph_h_advance. Indic and universal: nothing changes, and `vowel_constraints`, which may be null, is
-   set to 1, which asks the caller to run the vowel constraints; it is set to 0 otherwise, unless the call fails.
+   set to 1: the caller has to run the vowel constraints. It is set to 0 otherwise, unless the call fails.
    Reads codepoint; writes codepoint, Thai general_category and SENGADLIT_GLYPH_MARK_CONTINUATION, Hangul auxiliary; adds,
-   removes and moves glyphs. `font` may be null where it isn't asked. ARGUMENT: FONT. TOO_LONG, MEMORY. */
+   removes and moves glyphs. `font` may be null where it isn't called. ARGUMENT: FONT. TOO_LONG, MEMORY. */
 sengadlit_status_t sengadlit_preprocess_text(const sengadlit_plan_t *plan, const sengadlit_font_t *font,
                                              sengadlit_buffer_t *buffer, sengadlit_bool_t *vowel_constraints);
 
 /* Whether the shaper composes two characters, or decomposes one: DONE, and what they make is written; NOT_FOUND; or ABSENT,
-   where Unicode's own composition holds. Asks compose (and for Indic, Khmer and universal general_category), or decompose.
+   where Unicode's own composition holds. Calls compose (and for Indic, Khmer and universal general_category), or decompose.
    `error` may be null; it is written where anything else is returned. ARGUMENT: PLAN, TABLES, RESULT, or CODEPOINT, which
-   is no scalar value. */
+   isn't a scalar value. */
 sengadlit_status_t sengadlit_decompose(const sengadlit_plan_t *plan, const sengadlit_tables_t *tables, uint32_t ab,
                                        uint32_t *a, uint32_t *b, sengadlit_error_t *error);
 sengadlit_status_t sengadlit_compose(const sengadlit_plan_t *plan, const sengadlit_tables_t *tables, uint32_t a, uint32_t b,
@@ -530,11 +529,11 @@ sengadlit_status_t sengadlit_compose(const sengadlit_plan_t *plan, const sengadl
 sengadlit_status_t sengadlit_reorder_marks(const sengadlit_plan_t *plan, sengadlit_buffer_t *buffer, unsigned int start,
                                            unsigned int end);
 
-/* Indic, Khmer, Myanmar: reads codepoint; writes category, and Indic and Myanmar auxiliary; asks indic_categories.
-   Universal: reads codepoint; writes category; asks use_category. Arabic, and universal where letters join: reads codepoint,
-   general_category, the properties and the context; writes auxiliary and mask; asks joining_type and general_category, the
-   latter of the context. Hangul: reads auxiliary; writes mask. `tables` may be null where they aren't asked.
-   ARGUMENT: TABLES; CODEPOINT: where letters join, no scalar value. */
+/* Indic, Khmer, Myanmar: reads codepoint; writes category, and Indic and Myanmar auxiliary; calls indic_categories.
+   Universal: reads codepoint; writes category; calls use_category. Arabic, and universal where letters join: reads codepoint,
+   general_category, the properties and the context; writes auxiliary and mask; calls joining_type and general_category, the
+   latter for the context. Hangul: reads auxiliary; writes mask. `tables` may be null where they aren't called.
+   ARGUMENT: TABLES; CODEPOINT: where letters join, not a scalar value. */
 sengadlit_status_t sengadlit_setup_masks(const sengadlit_plan_t *plan, const sengadlit_tables_t *tables,
                                          sengadlit_buffer_t *buffer);
 
@@ -583,14 +582,14 @@ typedef struct sengadlit_span_t {
    broken ones, the state HAS_BROKEN_SYLLABLE. Universal also reads category and writes mask. SPANS_DONT_COVER.
    INITIAL_REORDERING, REORDER_..: moves glyphs, and adds dotted circles where the state has HAS_BROKEN_SYLLABLE and the
    properties allow it. Reads syllable, category, and INITIAL_REORDERING codepoint, auxiliary, marks, REORDER_USE marks,
-   lig_comp; writes mask, and INITIAL_REORDERING and REORDER_MYANMAR auxiliary. Asks nominal_glyph, and INITIAL_REORDERING
+   lig_comp; writes mask, and INITIAL_REORDERING and REORDER_MYANMAR auxiliary. Calls nominal_glyph, and INITIAL_REORDERING
    would_substitute too. MEMORY and TOO_LONG, of circles; UNKNOWN_SYLLABLE, but for REORDER_USE.
    FINAL_REORDERING: moves glyphs; reads codepoint, syllable, category, auxiliary, general_category, marks; writes mask,
-   category, auxiliary, marks. Asks nominal_glyph.
+   category, auxiliary, marks. Calls nominal_glyph.
    RECORD_STCH: reads marks, lig_comp; writes auxiliary, the state HAS_STCH. RECORD_RPHF, RECORD_PREF: read syllable, marks,
    and RECORD_RPHF mask; write category. SYLLABIC_CLEAR_VAR: writes 0 into syllable. CLEAR_SUBSTITUTION_FLAGS: clears
    SENGADLIT_GLYPH_MARK_SUBSTITUTED. ARABIC_FALLBACK_SHAPE: nothing.
-   `font` may be null where it isn't asked, `spans` for all but the set-ups of a text that isn't empty. `circles`, which may
+   `font` may be null where it isn't called, `spans` for all but the set-ups of a text that isn't empty. `circles`, which may
    be null, is set to whether dotted circles were wanted and the font has one, unless the call fails.
    ARGUMENT: PAUSE, FONT, SPANS; CODEPOINT (INITIAL_REORDERING): above 65535. */
 sengadlit_status_t sengadlit_run_pause(const sengadlit_plan_t *plan, sengadlit_pause_t pause, const sengadlit_font_t *font,
@@ -599,7 +598,7 @@ sengadlit_status_t sengadlit_run_pause(const sengadlit_plan_t *plan, sengadlit_p
 
 /* After positioning: where the state has HAS_STCH, stretches marks over the words beside them (Arabic). Reads auxiliary,
    codepoint, general_category, marks, all of the positions; adds glyphs with their positions, writes x_advance, x_offset,
-   cluster and mask. Asks glyph_h_advance. ARGUMENT: FONT; CODEPOINT: above 65535; POSITIONS: there are none for a text
+   cluster and mask. Calls glyph_h_advance. ARGUMENT: FONT; CODEPOINT: above 65535; POSITIONS: there are none for a text
    that isn't empty. STRETCH_OVERFLOW, TOO_LONG, MEMORY. */
 sengadlit_status_t sengadlit_postprocess_glyphs(const sengadlit_plan_t *plan, const sengadlit_font_t *font,
                                                 sengadlit_buffer_t *buffer);

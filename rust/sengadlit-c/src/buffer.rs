@@ -12,7 +12,7 @@ use sengadlit::buffer::{
 /// `sengadlit_buffer_t`.
 pub struct Buffer {
     pub text: Text,
-    // One a glyph, or none.
+    // One per glyph, or none.
     positions: List<GlyphPosition>,
     /// Why the last call that failed did.
     pub error: Error,
@@ -43,7 +43,7 @@ impl Buffer {
         Ok(())
     }
 
-    /// The positions, one a glyph, all zero if there were none.
+    /// The positions, one per glyph, all zero if there were none.
     pub fn positions(&mut self) -> Result<&mut [GlyphPosition], AllocError> {
         if self.positions.is_empty() {
             self.positions

@@ -1,4 +1,4 @@
-//! The hooks: what each asks of its arguments, tested before the first write, and the call.
+//! The hooks: what each requires of its arguments, tested before the first write, and the call.
 use crate::border::callbacks::{
     Asked, FONT_ADVANCE, FONT_NOMINAL, FONT_WOULD, Font, TABLES_COMPOSE, TABLES_DECOMPOSE,
     TABLES_GENERAL, TABLES_INDIC, TABLES_JOINING, TABLES_USE, Tables,
@@ -152,7 +152,7 @@ pub fn run_pause(
     })
 }
 
-// What a pause asks of the font.
+// Which functions of the font a pause uses.
 fn asks_of(pause: Pause) -> u8 {
     match pause {
         Pause::InitialReordering => FONT_NOMINAL | FONT_WOULD,

@@ -94,7 +94,7 @@ mod tests {
     use core::fmt::Write;
     use sengadlit::buffer::{GlyphPosition, Span};
 
-    /// The size of each struct and the offset of each field, a line each, as `tests/layout.c` prints them.
+    /// The size of each struct and the offset of each field, one line each, as `tests/layout.c` prints them.
     fn layouts() -> String {
         let mut lines = String::new();
         macro_rules! layout {

@@ -80,7 +80,7 @@ impl Error {
         }
     }
 
-    /// An argument isn't what the call asks for.
+    /// The call doesn't accept an argument.
     #[cold]
     pub fn argument(argument: Argument) -> Self {
         Error {

@@ -1,5 +1,5 @@
-/* What callbacks are asked, and what becomes of answers that are none, that change, or that come after calls on other
-   buffers. The last line is 'N passed, M failed'. */
+/* Which callbacks are called, and what becomes of results that are invalid, that change, or that come after calls on
+   other buffers. The last line is 'N passed, M failed'. */
 #include "world.h"
 
 #include <stdio.h>
@@ -43,7 +43,7 @@ static sengadlit_bool_t answer_glyph(void *user_data, uint32_t unicode, uint32_t
     return truth;
 }
 
-/* A broken syllable of Khmer, for which the font answers this. */
+/* A broken syllable of Khmer, for which the font returns this. */
 static void expect_circle(const char *what, uint32_t glyph, sengadlit_bool_t answer, sengadlit_bool_t wanted)
 {
     static const sengadlit_span_t broken[] = {{1, 1}};
@@ -201,7 +201,7 @@ static void categories_that_are_none(void)
     }
 }
 
-/* ---- Answers that change ---- */
+/* ---- Results that change ---- */
 
 static uint32_t random_state;
 

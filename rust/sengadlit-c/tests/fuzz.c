@@ -31,7 +31,7 @@ static uint32_t next_word(void)
     return word << 8 | next();
 }
 
-/* ---- Callbacks: the answer depends on the question, or besides on how many were asked ---- */
+/* ---- Callbacks: the result depends on the arguments, or also on how many calls there were ---- */
 
 static uint32_t salt, asked;
 static int changes;

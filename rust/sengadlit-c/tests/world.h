@@ -1,4 +1,4 @@
-/* What the tests call with: a plan, a buffer, a font and tables that answer all that is asked. */
+/* What the tests call with: a plan, a buffer, a font and tables with all functions. */
 #ifndef WORLD_H
 #define WORLD_H
 
@@ -6,7 +6,7 @@
 
 enum { ROOM = 64 };
 
-/* What the callbacks answer, and how often each is asked. */
+/* What the callbacks return, and how often each is called. */
 struct answers {
     uint32_t glyph_of_circle;        /* 0: the font has none. Every other character has its own number as a glyph. */
     int32_t advance;

@@ -10,7 +10,7 @@ use core::fmt;
 use core::ops::Range;
 
 impl FeatureMap {
-    /// A feature with the bits of a glyph's mask that ask for it, and the stage of its lookups.
+    /// A feature with the bits of a glyph's mask that turn it on, and the stage of its lookups.
     #[inline]
     pub const fn new(tag: Tag, mask: u32, stage: usize) -> Self {
         FeatureMap { tag, mask, stage }
@@ -100,7 +100,7 @@ impl<'a> PlanBuilder<'a> {
         }
     }
 
-    /// Whether GSUB has the script that was asked for.
+    /// Whether GSUB has the script that was requested.
     #[inline]
     pub fn found_script(self, found_script: bool) -> Self {
         PlanBuilder {

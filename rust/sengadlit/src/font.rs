@@ -1,7 +1,7 @@
-//! What the shapers ask of a font and of Unicode's tables.
+//! What the shapers read of a font and of Unicode's tables.
 //!
-//! [`Font`] is a whole font. One that answers less is made a [`Font`] by an adapter, which panics at
-//! a question that it has no answer to, so that none is answered by a guess:
+//! [`Font`] is a whole font. One that has less is made a [`Font`] by an adapter, which panics in a
+//! method that it has no result for, so that none is a guess:
 //!
 //! | of | by | for |
 //! |---|---|---|

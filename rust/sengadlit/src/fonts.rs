@@ -1,5 +1,5 @@
-//! Fonts made of less than a whole one: of what plan time asks, of what shaping asks, or of glyphs for
-//! characters.
+//! Fonts made of less than a whole one: of what plan time needs, of what shaping needs, or of glyphs
+//! for characters.
 
 use crate::buffer::Tag;
 use crate::font::{Font, GlyphId};
@@ -8,7 +8,7 @@ mod wide;
 
 pub use wide::{GlyphTooLarge, Wide, WideGlyphs};
 
-/// What plan time asks of a font, and nothing else.
+/// What plan time needs of a font, and nothing else.
 ///
 /// A function of a tag is one.
 pub trait Features {
@@ -24,8 +24,8 @@ impl<F: Fn(Tag) -> bool> Features for F {
 
 /// A [`Font`] for plan time alone: for [`Shaper::collect_features`](crate::Shaper::collect_features).
 ///
-/// It answers whether the font has a feature. Every other question panics, since it has no answer;
-/// plan time asks none.
+/// It returns whether the font has a feature. Every other method panics, since it has no result;
+/// plan time calls none.
 ///
 /// ```
 /// use sengadlit::font::FeaturesOnly;
@@ -61,7 +61,7 @@ impl<F: Features> Font for FeaturesOnly<F> {
     }
 }
 
-/// What shaping asks of a font: everything but its features. See [`Font`] for each question.
+/// What shaping needs of a font: everything but its features. See [`Font`] for each method.
 pub trait Glyphs {
     /// The font's own glyph for a character, before any lookup.
     fn get_nominal_glyph(&self, c: u32) -> Option<GlyphId>;
@@ -69,8 +69,8 @@ pub trait Glyphs {
     /// How far a glyph moves the pen, in font units.
     fn glyph_h_advance(&self, glyph: GlyphId) -> i32;
 
-    /// Whether the lookup would apply to exactly these glyphs; with `zero_context`, only if it asks
-    /// for no context around them.
+    /// Whether the lookup would apply to exactly these glyphs; with `zero_context`, only if it
+    /// needs no context around them.
     fn would_apply(&self, lookup: u16, glyphs: &[GlyphId], zero_context: bool) -> bool;
 
     /// Whether the font has a nominal glyph for a character.
@@ -88,7 +88,7 @@ pub trait Glyphs {
 /// A [`Font`] for shaping alone: for every hook and pause but
 /// [`Shaper::collect_features`](crate::Shaper::collect_features).
 ///
-/// Whether the font has a feature it can't answer, and panics; shaping doesn't ask.
+/// It can't tell whether the font has a feature, and panics; shaping doesn't call that.
 #[derive(Clone, Copy, Debug, Default)]
 pub struct GlyphsOnly<F>(pub F);
 
@@ -141,9 +141,9 @@ impl<F: Glyphs + ?Sized> Glyphs for &F {
 }
 
 /// A [`Font`] that maps characters to glyphs, by a function: all that the shapers of Thai and Lao,
-/// Khmer and Myanmar and the universal one ask.
+/// Khmer and Myanmar and the universal one need.
 ///
-/// Every other question panics, since it has no answer: advances (of Hangul and of marks that
+/// Every other method panics, since it has no result: advances (of Hangul and of marks that
 /// stretch), lookups (of the Indic scripts) and features (of Arabic's plan time).
 #[derive(Clone, Copy, Debug, Default)]
 pub struct NominalOnly<F>(pub F);

@@ -1,17 +1,17 @@
 //! Script shapers of text layout: Arabic, Hangul, Hebrew, the Indic scripts, Khmer, Myanmar, Thai and
 //! Lao, and the universal shaper.
 //!
-//! They are the hooks of rustybuzz's shapers, which stand between Unicode text and a font's lookups
-//! and rewrite a buffer of glyphs. What is around them is the caller's: lookups, normalization, the
+//! They are the hooks of rustybuzz's shapers, which rewrite a buffer of glyphs between Unicode text
+//! and a font's lookups. What is around them is the caller's: lookups, normalization, the
 //! machines that find syllables, and Unicode's tables. The crate has no dependencies and no `unsafe`,
 //! and needs `alloc` alone.
 //!
 //! It is generated from proved sources, by deleting their contracts, and tested against the proved
-//! program; the contract of each function stands in its documentation.
+//! program; the contract of each function is in its documentation.
 //!
 //! # Quick start
 //!
-//! Thai puts SARA AM in two, and the tone that stood before it behind NIKHAHIT:
+//! Thai takes SARA AM apart, and puts the tone before it behind NIKHAHIT:
 //!
 //! ```
 //! use sengadlit::font::NominalOnly;
@@ -72,22 +72,23 @@
 //! # Ok::<(), Box<dyn std::error::Error>>(())
 //! ```
 //!
-//! # What a caller owes
+//! # The caller's part
 //!
 //! - **Conditions.** Some calls have conditions, `requires` in the contract. Where one isn't met the
 //!   result is unspecified and the call may panic; memory stays safe.
 //!
-//!   | call | asks |
+//!   | call | requires |
 //!   |---|---|
 //!   | [`preprocess_text`], [`setup_masks`], [`reorder_marks`], [`run_pause`] | the buffer has no positions |
 //!   | [`setup_masks`] | for Arabic, Hangul and universal: the plan has the shaper's data; for Arabic, and for universal where letters join: glyphs are characters |
 //!   | [`reorder_marks`] | `start <= end`, and `end` is within the buffer; for Arabic, at most 32 places |
 //!   | [`run_pause`] | kinds of spans are at most 15; the plan has the data that the pause reads |
-//!   | [`postprocess_glyphs`] | a position a glyph; for Arabic, its data in the plan, and glyph numbers of at most 65535 |
+//!   | [`postprocess_glyphs`] | one position per glyph; for Arabic, its data in the plan, and glyph numbers of at most 65535 |
 //!
-//!   [`Shaper::with_data`] and [`Plan::builder`] make plans that fit. Whoever can't know calls the
-//!   checked methods, which test the conditions before they change anything: see [`shaper::checked`].
-//! - **Answers.** A [`Font`] and [`Tables`] give the same answer to the same question.
+//!   [`Shaper::with_data`] and [`Plan::builder`] make plans that fit. A caller who can't know
+//!   uses the checked methods, which test the conditions before they change anything: see
+//!   [`shaper::checked`].
+//! - **Fonts and tables.** A [`Font`] and [`Tables`] return the same result for the same arguments.
 //! - **Refusals.** A call that returns a [`ShaperError`] has changed nothing.
 //!
 //! # What is stable
@@ -95,7 +96,7 @@
 //! The names in the public modules, their signatures and meaning; the numbers of enums and flags;
 //! the layout of [`GlyphInfo`], [`GlyphPosition`] and [`Span`] (`repr(C)`, as their documentation
 //! states it). Before 1.0 a new minor version may change them, and CHANGELOG.md says how. Not stable:
-//! the wording of contracts, what `Debug` prints, the order in which a font is asked, and the fields
+//! the wording of contracts, what `Debug` prints, the order in which a font is called, and the fields
 //! of [`Plan`], which is built by [`Plan::builder`] or [`Plan::new`] so that a new one breaks nobody.
 //!
 //! # Features

@@ -1,4 +1,4 @@
-//! The planner and the plan: what a shaper asks of a font, and what it keeps for one script and
+//! The planner and the plan: what a shaper requests of a font, and what it keeps for one script and
 //! font.
 
 pub use crate::builder::{PlanBuilder, PlanError};

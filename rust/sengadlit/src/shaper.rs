@@ -1,4 +1,4 @@
-//! The shapers, a method a hook, and what runs between two stages of lookups.
+//! The shapers, one method per hook, and what runs between two stages of lookups.
 
 pub use crate::generated::rustybuzz_shapers::shaper::{
     ARABIC_SHAPER, HANGUL_SHAPER, HEBREW_SHAPER, Hook, INDIC_SHAPER, KHMER_SHAPER, MYANMAR_SHAPER,

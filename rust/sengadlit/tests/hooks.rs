@@ -9,8 +9,9 @@ use common::plans::{SHAPERS, plan_of};
 use sengadlit::alloc::Global;
 use sengadlit::buffer::{Buffer, Script, ShaperError, Tag};
 use sengadlit::font::FeaturesOnly;
-use sengadlit::plan::{PlanData, Planner};
+use sengadlit::plan::{Pause, PlanData, Planner};
 use sengadlit::shaper::{Hook, Shaper};
+use sengadlit::{ot_shaper_hangul, ot_shaper_thai};
 use std::cell::RefCell;
 
 /// Makes a call of a shaper on a text.
@@ -39,6 +40,35 @@ fn an_empty_text_stays_empty() {
                 "{call:?} of {shaper:?}"
             );
             assert_eq!(Contents::of(&text), before, "{call:?} of {shaper:?}");
+        }
+    }
+}
+
+/// Whether a pause moves glyphs.
+fn reorders(pause: Pause) -> bool {
+    matches!(
+        pause,
+        Pause::InitialReordering
+            | Pause::ReorderKhmer
+            | Pause::ReorderMyanmar
+            | Pause::ReorderUse
+            | Pause::FinalReordering
+    )
+}
+
+#[test]
+fn a_reordering_leaves_no_place_listed() {
+    for shaper in SHAPERS {
+        for call in Call::all(0) {
+            let Call::Pause(pause) = call else { continue };
+            let mut text = text_of(&[0x1000; 3], 3);
+            text.set_place(1, 2);
+            let places = match make(call, shaper, &mut text) {
+                Ok(Returned::Changed(_)) if reorders(pause) => [0, 0, 0],
+                _ => [0, 2, 0],
+            };
+            let left: Vec<_> = (0..3).map(|i| text.place(i)).collect();
+            assert_eq!(left, places, "{pause:?} of {shaper:?}");
         }
     }
 }
@@ -154,6 +184,40 @@ fn shapers_keep_data() {
         };
         assert!(is_kept, "{shaper:?}");
         assert_eq!(shaper.has_hook(Hook::CreateData), kept != PlanData::None);
+    }
+}
+
+#[test]
+fn thai_tells_whether_it_rewrote_the_text() {
+    let without_forms = plan_of(Shaper::Thai, b"Laoo");
+    let with_forms = plan_of(Shaper::Thai, b"Thai");
+    let cases = [
+        (&without_forms, &[0xE1B, 0xE49][..], false),
+        (&without_forms, &[0xE1B, 0xE33], true),
+        (&with_forms, &[0xE1B, 0xE49], true),
+    ];
+    for (plan, characters, changes) in cases {
+        let mut text = text_of(characters, 10);
+        let before = Contents::of(&text);
+        let result = ot_shaper_thai::preprocess_text_changes(plan, &PlainFont(0), &mut text);
+        assert_eq!(result, Ok(changes));
+        assert!(changes || Contents::of(&text) == before);
+    }
+}
+
+#[test]
+fn hangul_tells_whether_it_rewrote_the_text() {
+    let plan = plan_of(Shaper::Hangul, b"Hang");
+    let cases = [
+        (&[0x1100, 0x41][..], false),
+        (&[0x41, 0x1100, 0x1161], true),
+    ];
+    for (characters, changes) in cases {
+        let mut text = text_of(characters, 10);
+        let before = Contents::of(&text);
+        let result = ot_shaper_hangul::preprocess_text_changes(&plan, &PlainFont(0), &mut text);
+        assert_eq!(result, Ok(changes));
+        assert_eq!(Contents::of(&text) == before, !changes);
     }
 }
 

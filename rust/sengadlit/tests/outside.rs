@@ -1,5 +1,5 @@
-//! Calls whose conditions don't hold, and fonts and tables that answer a question now so and now
-//! otherwise: each returns, refuses or panics, and none hangs.
+//! Calls whose conditions don't hold, and fonts and tables whose results change: each call returns,
+//! refuses or panics, and none runs forever.
 
 mod common;
 
@@ -32,7 +32,7 @@ fn play<L: Lots>(misuse: &Misuse, font: &LotFont<L>, tables: &LotTables<L>, coun
     assert!(caught(|| Contents::of(&buffer)).is_ok());
 }
 
-/// Makes the calls whose conditions hold, or those whose conditions fail, with these answers.
+/// Makes the calls whose conditions hold, or those whose conditions fail, with these results.
 fn play_all<L: Lots>(kind: Glyphs, is_fit: bool, lots: impl Fn(u64) -> L) -> Counts {
     let mut counts = Counts::default();
     for seed in 0..CALLS {

@@ -10,7 +10,7 @@ mod session;
 mod settings;
 mod tables;
 
-pub use session::run_script;
+pub use session::{broken_script, run_script};
 
 /// How a run ends: the status, what is printed, and the message.
 #[derive(Clone, Debug, PartialEq, Eq)]

@@ -4,7 +4,7 @@ use crate::expected::{COUNT, Expected};
 use crate::fault::LineFault;
 use rustybuzz_shapers::plan::Pause;
 
-// What may stand behind `run`.
+// What may follow `run`.
 const CALLS: &str = "run preprocess, run masks, run postprocess, run marks S E, run compose A B, \
     run decompose A, run pause NAME";
 
@@ -14,7 +14,7 @@ const PAUSES: &str = "setup_syllables_indic, setup_syllables_khmer, setup_syllab
     reorder_use, record_rphf, record_pref, record_stch, arabic_fallback_shape, \
     syllabic_clear_var, clear_substitution_flags";
 
-/// A hook or a pause, and what it is asked.
+/// A hook or a pause, and its arguments.
 #[derive(Clone, Copy)]
 pub(crate) enum HookCall {
     Preprocess,

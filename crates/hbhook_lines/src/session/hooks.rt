@@ -1,4 +1,4 @@
-//! The lines `run NAME ..`: the conditions of a call are asked before the call is made.
+//! The lines `run NAME ..`: the conditions of a call are tested before the call is made.
 ghost use Rattle.std.specs.Prelude.{◌≡◌, ◌≤◌, ◌↔◌, [], is_ok, All, IsTrue, OnOk};
 ghost use Rattle.rustybuzz_shapers.specs.Hooks.{PlanFits};
 
@@ -10,7 +10,7 @@ use rustybuzz_shapers::buffer::{Span, hb_glyph_info_t};
 use rustybuzz_shapers::plan::hb_ot_shape_plan_t;
 use rustybuzz_shapers::shaper::{Pause, Preprocess, hb_ot_shaper_t, pause_fits, run_pause};
 
-// What calls ask.
+// The conditions of calls.
 const SHAPER: Expected = Expected::Condition("a line `set shaper` before it");
 
 const NO_POSITIONS: Expected = Expected::Condition(
@@ -38,8 +38,8 @@ const KINDS: Expected = Expected::Condition("spans whose kinds are at most 15");
 const DATA: Expected = Expected::Condition("a shaper that keeps what the pause reads");
 
 impl Session {
-    /// Asks a hook of the shaper. Without a shaper, and where the call's conditions fail, the line
-    /// doesn't read.
+    /// Calls a hook of the shaper. Without a shaper, and where the call's conditions fail, the line
+    /// is rejected.
     pub(super) fn run(&mut self, call: HookCall) -> Result<(), LineFault> {
         let shaper = self.settings.shaper.ok_or(LineFault::Unreadable(SHAPER))?;
         let plan = shaper.with_data(self.settings.plan()?);
@@ -181,7 +181,7 @@ impl Session {
     }
 }
 
-// A condition, without which the line doesn't read.
+// A condition, without which the line is rejected.
 fn check(holds: bool, condition: Expected) -> Result<(), LineFault>
     ensures { is_ok result ≡ holds }
 {

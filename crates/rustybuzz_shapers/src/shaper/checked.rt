@@ -11,10 +11,10 @@ use shapers_base::buffer::{ShaperError, Span, hb_buffer_t};
 use shapers_base::font::{Tables, hb_font_t};
 use shapers_base::plan::{Pause, Preprocess, hb_ot_shape_plan_t};
 
-/// What a hook or pause asks of its caller.
+/// A condition that a hook or pause requires of its caller.
 #[derive(Clone, Copy, Debug, PartialEq, Eq)]
 pub enum Condition {
-    /// Before positioning there are no positions; for `postprocess_glyphs` there is one a glyph.
+    /// Before positioning there are no positions; for `postprocess_glyphs` there is one per glyph.
     Positions,
     /// The range of marks rises and lies within the buffer.
     Range,
@@ -44,6 +44,7 @@ impl From<Condition> for CallError {
 
     ghost from_gives = { λ condition e. e ≡ call.Condition condition };
 
+    #[inline]
     fn from(condition: Condition) -> Self {
         CallError::Condition(condition)
     }
@@ -55,6 +56,7 @@ impl From<ShaperError> for CallError {
 
     ghost from_gives = { λ refusal e. e ≡ call.Refused refusal };
 
+    #[inline]
     fn from(refusal: ShaperError) -> Self {
         CallError::Refused(refusal)
     }
@@ -63,11 +65,13 @@ impl From<ShaperError> for CallError {
 impl hb_ot_shaper_t {
     ghost use Rattle.std.specs.Prelude.{◌+◌, IsOk, length};
     ghost use Rattle.rustybuzz_shapers.specs.Checked.{marks_ask, masks_ask, postprocess_asks, preprocess_asks};
-    ghost use Rattle.rustybuzz_shapers.specs.Hooks.{MarksKeep, MarksReordered, MasksSet, Postprocessed, Preprocessed, PreprocessKeeps, RefusesPostprocess, RefusesPreprocess, preprocess_answer};
+    ghost use Rattle.shapers_clusters.specs.FlagLaw.{OnlyFlagsAdded};
+    ghost use Rattle.rustybuzz_shapers.specs.Hooks.{MarksKeep, MarksReordered, MasksSet, PostprocessKeeps, Postprocessed, Preprocessed, PreprocessKeeps, RefusesPostprocess, RefusesPreprocess, preprocess_answer};
     ghost use Rattle.rustybuzz_shapers.specs.Standing.{standing};
     ghost use Rattle.rustybuzz_shapers.specs.Stretched.{glyphs_added};
 
     /// Tests the condition of `preprocess_text`, in constant time, and calls it.
+    #[inline]
     pub fn checked_preprocess_text<F: hb_font_t>(
         self,
         plan: &hb_ot_shape_plan_t,
@@ -89,6 +93,7 @@ impl hb_ot_shaper_t {
 
     /// Tests the conditions of `setup_masks` and calls it. The test takes one pass over the glyphs
     /// for Arabic, and for the universal shaper where letters join; else constant time.
+    #[inline]
     pub fn checked_setup_masks<F: hb_font_t, T: Tables>(
         self,
         plan: &hb_ot_shape_plan_t,
@@ -101,6 +106,7 @@ impl hb_ot_shaper_t {
             IfOk result (λ answer. is_some answer ≡ there) }
         ensures masks { let tables = T.tables tables.now in
             OnOk result (MasksSet self plan.now tables buffer.old buffer.new) }
+        ensures flags { OnOk result (OnlyFlagsAdded buffer.old.glyphs buffer.new.glyphs) }
         ensures refusal { AsRefused IsOk result }
         ensures err { OnErr result (buffer.new ≡ buffer.old) }
     {
@@ -109,6 +115,7 @@ impl hb_ot_shaper_t {
     }
 
     /// Tests the conditions of `reorder_marks`, in constant time, and calls it.
+    #[inline]
     pub fn checked_reorder_marks(
         self,
         plan: &hb_ot_shape_plan_t,
@@ -130,6 +137,7 @@ impl hb_ot_shaper_t {
 
     /// Tests the conditions of `postprocess_glyphs` and calls it. The test takes one pass over the
     /// glyphs for Arabic, else constant time.
+    #[inline]
     pub fn checked_postprocess_glyphs<F: hb_font_t>(
         self,
         plan: &hb_ot_shape_plan_t,
@@ -141,6 +149,8 @@ impl hb_ot_shaper_t {
             IfOk result (λ answer. is_some answer ≡ there) }
         ensures ok { let font = F.font face.now in
             OnOk result (Postprocessed self plan.now font buffer.old buffer.new) }
+        ensures laws { let font = F.font face.now in
+            OnOk result (PostprocessKeeps self plan.now font buffer.old buffer.new) }
         ensures longer { let added = glyphs_added self (F.font face.now) buffer.old in
             OnOk result (length buffer.new.glyphs ≡ length buffer.old.glyphs + added) }
         ensures refusal { let font = F.font face.now in
@@ -152,6 +162,7 @@ impl hb_ot_shaper_t {
     }
 
     // The first condition of `setup_masks` that isn't met.
+    #[inline]
     fn check_masks(self, plan: &hb_ot_shape_plan_t, buffer: &hb_buffer_t) -> Result<(), Condition>
         ensures { FirstUnmet (masks_ask self plan.now buffer.now) result }
     {
@@ -161,6 +172,7 @@ impl hb_ot_shaper_t {
     }
 
     // The first condition of `reorder_marks` that isn't met.
+    #[inline]
     fn check_marks(self, buffer: &hb_buffer_t, start: usize, end: usize) -> Result<(), Condition>
         ensures { FirstUnmet (marks_ask self start end buffer.now) result }
     {
@@ -170,6 +182,7 @@ impl hb_ot_shaper_t {
     }
 
     // The first condition of `postprocess_glyphs` that isn't met.
+    #[inline]
     fn check_postprocess(
         self,
         plan: &hb_ot_shape_plan_t,
@@ -196,6 +209,7 @@ impl hb_ot_shaper_t {
 }
 
 /// Tests the conditions of `run_pause`, in one pass over the spans, and calls it.
+#[inline]
 pub fn checked_run_pause<F: hb_font_t>(
     pause: Pause,
     plan: &hb_ot_shape_plan_t,
@@ -219,6 +233,7 @@ pub fn checked_run_pause<F: hb_font_t>(
 }
 
 // The first condition of `run_pause` that isn't met.
+#[inline]
 fn check_pause(
     pause: Pause,
     plan: &hb_ot_shape_plan_t,
@@ -233,6 +248,7 @@ fn check_pause(
 }
 
 // The condition, unless it is met.
+#[inline]
 fn check(is_met: bool, condition: Condition) -> Result<(), Condition>
     ensures { result ≡ (if is_met then Ok (record {}) else Err condition) }
 {

@@ -1,4 +1,4 @@
-//! What the hooks ask of their callers: the plan's data, and tests of the rest.
+//! What the hooks require of their callers: the plan's data, and tests of the rest.
 ghost use Rattle.std.specs.Prelude.{◌≡◌, ◌≤◌, ◌↔◌, [], All, IsTrue, is_some, length, true};
 ghost use Rattle.rustybuzz_shapers.specs.Pauses.{PauseFits};
 ghost use Rattle.shapers_arabic.specs.JoinedText.{AreCharacters};
@@ -20,7 +20,7 @@ impl hb_ot_shaper_t {
     ghost use Rattle.rustybuzz_shapers.specs.Standing.{standing};
 
     /// The plan with the data that the shaper keeps, if it keeps any. So it fits the shaper's hooks
-    /// and each pause that its lists ask for. No mask in these data touches a glyph flag bit.
+    /// and each pause in its lists. No mask in these data touches a glyph flag bit.
     pub fn with_data(self, mut plan: hb_ot_shape_plan_t) -> hb_ot_shape_plan_t
         ensures data { result ≡ with_created (data_created self plan) plan }
         ensures fits { PlanFits self result }
@@ -39,6 +39,7 @@ impl hb_ot_shaper_t {
     }
 
     /// Whether the plan's data are of the kind that `setup_masks` reads. It takes constant time.
+    #[inline]
     pub fn plan_fits(self, plan: &hb_ot_shape_plan_t) -> bool
         ensures { IsTrue result ↔ PlanFits self plan.now }
     {
@@ -55,7 +56,8 @@ impl hb_ot_shaper_t {
         }
     }
 
-    /// Whether `reorder_marks` takes so many marks: for Arabic at most 32.
+    /// Whether `reorder_marks` takes this many marks: for Arabic at most 32.
+    #[inline]
     pub fn marks_fit(self, start: usize, end: usize) -> bool
         requires { start ≤ end }
         ensures { IsTrue result ↔ MarksFit self start end }
@@ -73,8 +75,9 @@ impl hb_ot_shaper_t {
         }
     }
 
-    /// Whether the glyphs are such as `setup_masks` asks for: for Arabic, and for the universal
+    /// Whether the glyphs are such as `setup_masks` requires: for Arabic, and for the universal
     /// shaper where letters join, characters.
+    #[inline]
     pub fn glyphs_fit(self, plan: &hb_ot_shape_plan_t, buffer: &hb_buffer_t) -> bool
         ensures { IsTrue result ↔ GlyphsFit self plan.now buffer.now.glyphs }
     {
@@ -93,6 +96,7 @@ impl hb_ot_shaper_t {
 
     /// Whether `postprocess_glyphs` takes the plan and the buffer's glyphs: for Arabic, a plan with
     /// its data and glyph numbers of a font.
+    #[inline]
     pub fn postprocess_fits(self, plan: &hb_ot_shape_plan_t, buffer: &hb_buffer_t) -> bool
         ensures { IsTrue result ↔ PostprocessFits self plan.now buffer.now.glyphs }
     {
@@ -135,23 +139,26 @@ pub fn pause_fits(pause: Pause, plan: &hb_ot_shape_plan_t) -> bool
     }
 }
 
-/// Whether each span's kind is at most 15, as the pauses ask. It takes one pass over the spans.
+/// Whether each span's kind is at most 15, as the pauses require. It takes one pass over the spans.
+#[inline]
 pub fn kinds_fit(spans: &[Span]) -> bool
     ensures { IsTrue result ↔ All (λ span. span.kind ≤ 15) spans.now }
 {
     spans.iter().all(|span| span.kind <= 15)
 }
 
-/// Whether the buffer has no positions, as the pauses and all hooks but `postprocess_glyphs` ask.
-/// It takes constant time.
+/// Whether the buffer has no positions, as the pauses and all hooks but `postprocess_glyphs`
+/// require. It takes constant time.
+#[inline]
 pub fn lacks_positions(buffer: &hb_buffer_t) -> bool
     ensures { IsTrue result ↔ (buffer.now.positions ≡ []) }
 {
     buffer.positions_len() == 0
 }
 
-/// Whether the buffer has a position for each glyph, as `postprocess_glyphs` asks. It takes
+/// Whether the buffer has a position for each glyph, as `postprocess_glyphs` requires. It takes
 /// constant time.
+#[inline]
 pub fn has_positions(buffer: &hb_buffer_t) -> bool
     ensures { IsTrue result ↔ (length buffer.now.positions ≡ length buffer.now.glyphs) }
 {
@@ -159,6 +166,7 @@ pub fn has_positions(buffer: &hb_buffer_t) -> bool
 }
 
 // Whether the universal shaper has a plan of Arabic.
+#[inline]
 fn joins_letters(plan_data: &PlanData) -> bool
     ensures { result ≡ is_some (arabic_of plan_data.now) }
 {
@@ -169,6 +177,7 @@ fn joins_letters(plan_data: &PlanData) -> bool
 }
 
 // Whether these glyphs are characters.
+#[inline]
 fn are_characters(glyphs: &[hb_glyph_info_t]) -> bool
     ensures { IsTrue result ↔ AreCharacters glyphs.now }
 {
@@ -178,6 +187,7 @@ fn are_characters(glyphs: &[hb_glyph_info_t]) -> bool
 }
 
 /// Whether these are the data of Arabic.
+#[inline]
 pub(super) fn is_arabic(plan_data: &PlanData) -> bool
     ensures { IsTrue result ↔ IsArabic plan_data.now }
 {
@@ -185,6 +195,7 @@ pub(super) fn is_arabic(plan_data: &PlanData) -> bool
 }
 
 /// Whether these glyphs are numbered as a font's are.
+#[inline]
 pub(super) fn are_glyph_numbers(glyphs: &[hb_glyph_info_t]) -> bool
     ensures { IsTrue result ↔ All (λ g. g.glyph_id ≤ 65535) glyphs.now }
 {

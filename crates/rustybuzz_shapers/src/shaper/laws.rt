@@ -1,9 +1,16 @@
-//! The headline, its law of widths, and the cut between spans.
+//! The headline, its law of widths, the cut between spans, and the law of breaks.
+ghost use Rattle.rustybuzz_shapers.specs.Breaks.{TextsBreakAsFlagged};
+ghost use Rattle.shapers_arabic.specs.Breaks.{AsCodeLaw, ExactLaw};
+ghost use Rattle.shapers_arabic.specs.Concatenation.{ConcatenationLaw};
+ghost use Rattle.shapers_arabic.specs.Edits.{EditsStayNear};
 ghost use Rattle.rustybuzz_shapers.specs.Cuts.{IndicIsCut, IndicIsCutAfterBoth, KhmerIsCut, MyanmarIsCut, UniversalIsCut};
 ghost use Rattle.rustybuzz_shapers.specs.Headline.{ActionsByRule};
 ghost use Rattle.rustybuzz_shapers.specs.Regrouped.{SyllablesRegrouped};
 ghost use Rattle.rustybuzz_shapers.specs.Stretched.{StretchesCover};
 
+use shapers_arabic::ot_shaper_arabic::{
+    joining_breaks_law, joining_concatenation_law, joining_edits_law,
+};
 use shapers_indic_final::ot_shaper_indic_final::laws::final_cuts_between_spans;
 use shapers_indic_initial::ot_shaper_indic_initial::laws::{
     initial_cuts_between_spans, initial_reorder_laws, order_by_font_reads_no_serials,
@@ -15,14 +22,34 @@ use shapers_universal::ot_shaper_use::universal_cuts_between_spans;
 /// The headline, of each call that didn't refuse, from what its contract says. Each Arabic action is
 /// the written rule of three joining types, so cut halves whose contexts show the neighbours act as
 /// the whole, one opening run of selectors apart. Every pause that reorders regroups each syllable
-/// by itself. A fitting stretched mark is its word's width, or wider by less than one unit an added
-/// copy.
+/// by itself. A stretched mark that fits is as wide as its word, or wider by less than one unit
+/// per added copy.
+#[inline]
 pub fn headline()
     ensures actions { ActionsByRule }
     ensures syllables { SyllablesRegrouped }
     ensures widths { StretchesCover }
 {
     stretches_cover_law();
+}
+
+/// Where a text whose letters join may be broken: with the choice Sound at each place whose greater
+/// cluster has no glyph that is unsafe to break, and where clusters are single and rise at no other;
+/// as the code has it, where what Sound adds doesn't reach over it too. On lists of joining types:
+/// what joining flags by itself are the places where the first half loses a form, and what Sound
+/// flags those where either does. Texts without a flag at their borders may be put together, and
+/// edits stay near.
+#[inline]
+pub fn breaks_law()
+    ensures texts { TextsBreakAsFlagged }
+    ensures as_code { AsCodeLaw }
+    ensures exact { ExactLaw }
+    ensures concatenation { ConcatenationLaw }
+    ensures edits { EditsStayNear }
+{
+    joining_breaks_law();
+    joining_concatenation_law();
+    joining_edits_law();
 }
 
 /// What postprocessing makes of an Arabic text is its parts, one after another, each with its run
@@ -36,6 +63,7 @@ pub fn stretches_cover_law()
 /// For each shaper of syllables a set-up and the reorderings that run directly after it, cut between
 /// any two spans, give what they give on the halves, one after the other; clusters too where the
 /// halves share none. The halves' bytes may have other serials.
+#[inline]
 pub fn cuts_at_borders_law()
     ensures khmer { KhmerIsCut }
     ensures myanmar { MyanmarIsCut }

@@ -16,7 +16,7 @@ use shapers_syllabic::ot_shaper_syllabic::{
 };
 use shapers_universal::ot_shaper_use;
 
-/// Does what a shaper does between two stages of substitution, and answers whether dotted circles
+/// Does what a shaper does between two stages of substitution, and returns whether dotted circles
 /// were wanted. Spans are read by the pauses that set syllables alone: those refuse with
 /// `SpansDontCover` where a span is empty or they don't add up. Reorderings refuse unknown kinds of
 /// syllables, but for the universal shaper's, and then as circles do. A refused pause leaves the

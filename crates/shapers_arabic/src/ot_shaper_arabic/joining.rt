@@ -1,4 +1,4 @@
-//! Joining: each letter takes the form that its neighbours ask for. (The Unicode Standard, "Cursive
+//! Joining: each letter takes the form that its neighbours require. (The Unicode Standard, "Cursive
 //! Joining"; for Alaph, Dalath and Rish the OpenType specification for Syriac.)
 ghost use Rattle.std.specs.Prelude.{◌≡◌, ◌+◌, ◌<◌, ◌≤◌, length, map, Some, slice_set};
 ghost use Rattle.std.specs.Char.{IsScalar};
@@ -90,6 +90,7 @@ static STATE_TABLE: [[Transition; 6]; 7] = [
 ];
 
 // The column of a letter.
+#[inline]
 fn column(joining_type: hb_arabic_joining_type_t) -> usize
     ensures { result ≡ column_of joining_type }
 {
@@ -126,6 +127,7 @@ fn state_at_start(before: Option<hb_arabic_joining_type_t>) -> usize
 }
 
 // Whether the next letter can change the form of the last one, by the state that it left.
+#[inline]
 fn can_change(state: usize) -> bool
     ensures { result ≡ waits state }
 {
@@ -133,6 +135,7 @@ fn can_change(state: usize) -> bool
 }
 
 // Whether a letter joins the one before it, or could.
+#[inline]
 fn joins_back(joining_type: hb_arabic_joining_type_t) -> bool
     ensures { result ≡ joins_back (Some joining_type) }
 {
@@ -146,6 +149,7 @@ fn joins_back(joining_type: hb_arabic_joining_type_t) -> bool
 }
 
 // Whether a category lets a character of type X be passed over.
+#[inline]
 fn is_passed_over(category: hb_unicode_general_category_t) -> bool
     ensures { result ≡ is_passed_over category }
 {
@@ -157,7 +161,7 @@ fn is_passed_over(category: hb_unicode_general_category_t) -> bool
     )
 }
 
-// The joining type, where X is told by the category.
+// The joining type, where the category decides X.
 #[inline]
 fn resolve(
     joining_type: hb_arabic_joining_type_t,
@@ -172,7 +176,7 @@ fn resolve(
     }
 }
 
-// The joining type of a character as the tables have it; no other function asks them for it.
+// The joining type of a character as the tables have it; no other function looks it up.
 #[inline]
 fn look_up<T: Tables, L: Ledger>(
     tables: &T,
@@ -187,6 +191,7 @@ fn look_up<T: Tables, L: Ledger>(
 }
 
 // The type of a glyph, by its stored category.
+#[inline]
 fn stored_type<T: Tables, L: Ledger>(
     glyph: &hb_glyph_info_t,
     tables: &T,
@@ -202,6 +207,7 @@ fn stored_type<T: Tables, L: Ledger>(
 }
 
 // The nearest type of a context that isn't transparent, by the table's own categories.
+#[inline]
 pub(super) fn nearest_in<T: Tables, L: Ledger>(
     context: &[char],
     tables: &T,
@@ -229,6 +235,7 @@ struct Letters {
 }
 
 // Gives the glyph at place `i` a form.
+#[inline]
 fn set_form(glyphs: &mut [hb_glyph_info_t], i: usize, form: u8)
     requires { i < length glyphs.old }
     ensures others { map unformed glyphs.new ≡ map unformed glyphs.old }
@@ -237,8 +244,9 @@ fn set_form(glyphs: &mut [hb_glyph_info_t], i: usize, form: u8)
     glyphs[i].auxiliary = form;
 }
 
-// Gives the letter at `last` the form that the next one asks for, which stands before `end`; both
-// and what stands between are flagged, also where the form could have depended on the next letter.
+// Gives the letter at `last` the form that the next one requires, which is right before `end`; both
+// and what is between are flagged, also where the form could have depended on the next letter.
+#[inline]
 fn give_form(
     flags: BufferFlags,
     glyphs: &mut [hb_glyph_info_t],
@@ -260,8 +268,9 @@ fn give_form(
     }
 }
 
-// Gives the last letter, if there was one, the form that the next one asks for, which stands before
-// `end`. A first letter that could join is flagged with all before it.
+// Gives the last letter, if there was one, the form that the next one requires, which is right
+// before `end`. A first letter that could join is flagged with all before it.
+#[inline]
 fn give_last(
     flags: BufferFlags,
     glyphs: &mut [hb_glyph_info_t],
@@ -287,6 +296,7 @@ fn give_last(
 }
 
 // Joins the letter at place `i` to the one before it.
+#[inline]
 fn join_letter(
     flags: BufferFlags,
     glyphs: &mut [hb_glyph_info_t],
@@ -340,6 +350,7 @@ fn join_place(
 }
 
 // Gives each glyph its form as long as nothing follows the text.
+#[inline]
 fn join_letters<T: Tables, L: Ledger>(
     flags: BufferFlags,
     glyphs: &mut [hb_glyph_info_t],

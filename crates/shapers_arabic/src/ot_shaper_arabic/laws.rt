@@ -1,6 +1,7 @@
 //! The laws of joining in halves of a text.
 ghost use Rattle.shapers_arabic.specs.Breaks.{AsCodeLaw, ExactLaw};
 ghost use Rattle.shapers_arabic.specs.Concatenation.{ConcatenationLaw};
+ghost use Rattle.shapers_arabic.specs.Edits.{EditsStayNear};
 ghost use Rattle.shapers_arabic.specs.JoinedText.{CopiedContextsCut, CopiedContextsShow};
 
 /// A law of joining: contexts that are copied from the text show the neighbours, where one of their
@@ -22,4 +23,10 @@ pub fn joining_breaks_law()
 /// Texts that are open at their borders may be put together: they keep their forms.
 pub fn joining_concatenation_law()
     ensures { ConcatenationLaw }
+{}
+
+/// Edits stay near: where one place of a text changes, only its own form changes and those of the
+/// nearest letters on both sides (selectors apart).
+pub fn joining_edits_law()
+    ensures { EditsStayNear }
 {}

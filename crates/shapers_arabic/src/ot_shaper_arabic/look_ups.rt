@@ -23,6 +23,7 @@ impl<L: Ledger> Model for LookUps<L> {
 
 impl<L: Ledger> LookUps<L> {
     /// None so far, in the ledger that the blank is for.
+    #[inline]
     pub fn new(blank: Blank) -> Self
         requires name { blank.name ≡ L.name }
         requires parts { blank.parts ≡ L.parts }
@@ -34,6 +35,7 @@ impl<L: Ledger> LookUps<L> {
     }
 
     // One more.
+    #[inline]
     pub(super) fn add_one(&mut self)
         ensures { self.new ≡ self.old + 1 }
     {

@@ -1,10 +1,10 @@
 //! The order of Arabic marks: those that modify a letter come first. (Unicode Technical Report 53.)
-ghost use Rattle.std.specs.Prelude.{◌≡◌, ◌==◌, ◌+◌, ◌≤◌, length, map};
+ghost use Rattle.std.specs.Prelude.{◌≡◌, ◌==◌, ◌+◌, ◌≤◌, false, length, map};
 ghost use Rattle.std.specs.List.{list_any, prefix_len};
-ghost use Rattle.shapers_buffer.specs.Clusters.{merge_all};
+ghost use Rattle.shapers_buffer.specs.Clusters.{merge_all, stretch_of};
 ghost use Rattle.shapers_buffer.specs.Glyph.{order_view};
 ghost use Rattle.shapers_clusters.specs.Steps.{shifted};
-ghost use Rattle.shapers_arabic.specs.MarkParts.{lengths_of, end_of, passed_by, last_first};
+ghost use Rattle.shapers_arabic.specs.MarkParts.{is_modifier, lengths_of, end_of, passed_by, last_first};
 ghost use Rattle.shapers_arabic.specs.Marks.{MarksReordered, in_class, is_below, is_modifier_of, marks_merged, marks_reordered, merged_for, modifiers, split_marks, with_modifiers_first};
 
 use shapers_base::buffer::modified_combining_class::{BELOW, CCC22, CCC26};
@@ -63,9 +63,40 @@ impl GlyphWalk for MarkOrder {
     }
 }
 
-/// The same in a slice whose clusters merge at this level.
-#[inline]
+/// The same in a slice whose clusters merge at this level. Returns whether one of the marks modifies
+/// a letter: where it returns false nothing changed.
 pub fn reorder_marks_in(
+    level: BufferClusterLevel,
+    glyphs: &mut [hb_glyph_info_t],
+    start: usize,
+    end: usize,
+) -> bool
+    requires in_order { start ≤ end }
+    requires in_range { end ≤ length glyphs.old }
+    ensures marks { glyphs.new
+        ≡ marks_reordered start end (marks_merged level start end glyphs.old) }
+    ensures moved { let marks = stretch_of start end glyphs.old in
+        result ≡ list_any is_modifier marks }
+    ensures unchanged { result ≡ false → glyphs.new ≡ glyphs.old }
+{
+    if !has_modifier(&glyphs[start..end]) {
+        return false;
+    }
+    move_modifiers(level, glyphs, start, end);
+    true
+}
+
+// Whether one of these marks modifies a letter.
+#[inline]
+fn has_modifier(marks: &[hb_glyph_info_t]) -> bool
+    ensures { result ≡ list_any is_modifier marks.now }
+{
+    marks.iter().any(|mark| is_modifier_of(BELOW, mark) || is_modifier_of(ABOVE, mark))
+}
+
+// Merges what the modifiers pass with them, and brings them to the front.
+#[inline(never)]
+fn move_modifiers(
     level: BufferClusterLevel,
     glyphs: &mut [hb_glyph_info_t],
     start: usize,
@@ -90,6 +121,7 @@ struct Parts {
 }
 
 // The lengths of the parts of these marks.
+#[inline]
 fn parts_of(marks: &[hb_glyph_info_t]) -> Parts
     ensures lengths { result ≡ lengths_of (split_marks marks.now) }
     ensures within { end_of result ≤ length marks.now }
@@ -109,6 +141,7 @@ fn parts_of(marks: &[hb_glyph_info_t]) -> Parts
 }
 
 // How many marks in front are of classes below this one.
+#[inline]
 fn count_below(class: u8, marks: &[hb_glyph_info_t]) -> usize
     ensures counted { result ≡ prefix_len (is_below class) marks.now }
     ensures within { result ≤ length marks.now }
@@ -120,6 +153,7 @@ fn count_below(class: u8, marks: &[hb_glyph_info_t]) -> usize
 }
 
 // How many marks in front are of this class and modify a letter.
+#[inline]
 fn count_modifiers(class: u8, marks: &[hb_glyph_info_t]) -> usize
     ensures counted { result ≡ prefix_len (is_modifier_of class) marks.now }
     ensures within { result ≤ length marks.now }
@@ -131,6 +165,7 @@ fn count_modifiers(class: u8, marks: &[hb_glyph_info_t]) -> usize
 }
 
 // Whether a mark is of this class and modifies a letter.
+#[inline]
 fn is_modifier_of(class: u8, mark: &hb_glyph_info_t) -> bool
     ensures { result ≡ is_modifier_of class mark.now }
 {
@@ -138,6 +173,7 @@ fn is_modifier_of(class: u8, mark: &hb_glyph_info_t) -> bool
 }
 
 // Whether this mark modifies a letter.
+#[inline]
 fn modifies(character: u32) -> bool
     ensures { result ≡ list_any (λ c. c == character) modifiers }
 {
@@ -145,6 +181,7 @@ fn modifies(character: u32) -> bool
 }
 
 // Merges what the modifiers pass with them.
+#[inline]
 fn merge_passed(
     level: BufferClusterLevel,
     glyphs: &mut [hb_glyph_info_t],
@@ -162,6 +199,7 @@ fn merge_passed(
 }
 
 // Merges the glyphs from `s` to `e`, unless no marks move.
+#[inline]
 fn merge_for(
     level: BufferClusterLevel,
     glyphs: &mut [hb_glyph_info_t],
@@ -180,6 +218,7 @@ fn merge_for(
 }
 
 // Brings the modifiers to the front, those below first.
+#[inline]
 fn bring_forward(marks: &mut [hb_glyph_info_t], parts: Parts)
     requires { parts ≡ lengths_of (split_marks marks.old) }
     ensures { marks.new ≡ with_modifiers_first (split_marks marks.old) }
@@ -192,6 +231,7 @@ fn bring_forward(marks: &mut [hb_glyph_info_t], parts: Parts)
 }
 
 // Brings the last `count` marks before the others, and gives them a class.
+#[inline]
 fn bring_last(marks: &mut [hb_glyph_info_t], count: usize, class: u8)
     requires { count ≤ length marks.old }
     ensures { marks.new ≡ last_first count class marks.old }
@@ -204,6 +244,7 @@ fn bring_last(marks: &mut [hb_glyph_info_t], count: usize, class: u8)
 }
 
 // Gives all these marks a class.
+#[inline]
 fn set_class(marks: &mut [hb_glyph_info_t], class: u8)
     ensures { marks.new ≡ map (in_class class) marks.old }
 {

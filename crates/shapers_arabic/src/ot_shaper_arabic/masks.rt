@@ -7,6 +7,7 @@ ghost use Rattle.shapers_arabic.specs.JoiningWalk.{HaveMasks, copied, with_copie
 use shapers_base::buffer::{Script, hb_glyph_info_t};
 
 // Whether the script is Mongolian.
+#[inline]
 pub(super) fn is_mongolian(script: Option<Script>) -> bool
     ensures { result ≡ is_mongolian script }
 {
@@ -14,6 +15,7 @@ pub(super) fn is_mongolian(script: Option<Script>) -> bool
 }
 
 // Whether a character is a free variation selector of Mongolian.
+#[inline]
 fn is_selector(c: u32) -> bool
     ensures { result ≡ is_selector c }
 {
@@ -21,6 +23,7 @@ fn is_selector(c: u32) -> bool
 }
 
 // The form of a glyph behind one of the form `previous`.
+#[inline]
 pub(super) fn form_behind(previous: Option<u8>, glyph: &hb_glyph_info_t) -> u8
     ensures { result ≡ copied previous glyph.now }
 {
@@ -31,6 +34,7 @@ pub(super) fn form_behind(previous: Option<u8>, glyph: &hb_glyph_info_t) -> u8
 }
 
 // Gives each selector the form of the glyph before it.
+#[inline]
 pub(super) fn copy_to_selectors(glyphs: &mut [hb_glyph_info_t])
     ensures { glyphs.new ≡ with_copied None glyphs.old }
 {
@@ -43,6 +47,7 @@ pub(super) fn copy_to_selectors(glyphs: &mut [hb_glyph_info_t])
 }
 
 // Gives each glyph the mask of its form.
+#[inline]
 pub(super) fn add_masks(masks: &[u32; 8], glyphs: &mut [hb_glyph_info_t])
     requires { HaveMasks glyphs.old }
     ensures { glyphs.new ≡ map (with_mask masks.now) glyphs.old }

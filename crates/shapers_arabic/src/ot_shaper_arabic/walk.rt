@@ -38,6 +38,7 @@ impl<'a, T: Tables, L: Ledger> GlyphWalk for JoiningWalk<'a, T, L> {
         × (w.count.now ≡ v.count.now + length gs)
         × (w.count.ghost_name ≡ v.count.ghost_name) };
 
+    #[inline]
     fn walk(&mut self, glyphs: &mut [hb_glyph_info_t]) {
         join(
             self.flags,
@@ -53,6 +54,7 @@ impl<'a, T: Tables, L: Ledger> GlyphWalk for JoiningWalk<'a, T, L> {
 }
 
 // Gives the selectors their forms, with the script Mongolian alone, and all glyphs their masks.
+#[inline]
 fn finish_forms(script: Option<Script>, masks: &[u32; 8], glyphs: &mut [hb_glyph_info_t])
     requires { HaveMasks glyphs.old }
     ensures { let copied = with_copied None glyphs.old in

@@ -4,6 +4,6 @@ pub enum BreakFlags {
     /// Those that the code of HarfBuzz flags.
     #[default]
     AsCode,
-    /// Those too where the pieces of a broken text would be shaped otherwise than the whole.
+    /// In joining, those too where a piece of the broken text would lose a form.
     Sound,
 }

@@ -1,4 +1,4 @@
-//! Every reordering pause over random buffers, and when pauses answer that circles were wanted.
+//! Every reordering pause over random buffers, and when pauses return that circles were wanted.
 use super::drawn::{Numbers, glyphs, plan, text};
 use super::font::OneGlyph;
 use rustybuzz_shapers::buffer::{BufferFlags, Script, ShaperError, hb_glyph_info_t};
@@ -117,7 +117,7 @@ const CIRCLE_PAUSES: [(Pause, hb_ot_shaper_t, u8); 4] = [
 ];
 
 // Whether the buffer is marked to have a broken syllable, what the font lacks (2 is the rest of the
-// circle), what the caller asks for, whether the syllable is broken, and the answer: circles are
+// circle), the caller's flags, whether the syllable is broken, and the result: circles are
 // wanted where the mark is set, the font has the circle and the caller doesn't forbid it.
 const WANTED: [(bool, u32, u32, bool, bool); 6] = [
     (true, 7, 0, true, true),

@@ -81,6 +81,7 @@ fn character_at(glyphs: &[hb_glyph_info_t], i: usize) -> u32
 }
 
 // Whether the font has the character with advance 0.
+#[inline]
 fn is_zero_width_char<F: hb_font_t>(face: &F, u: u32) -> bool
     ensures { result ≡ is_narrow (F.font face.now) u }
 {
@@ -91,6 +92,7 @@ fn is_zero_width_char<F: hb_font_t>(face: &F, u: u32) -> bool
 }
 
 // A tone without a syllable before it.
+#[inline]
 fn lone_tone<F: hb_font_t>(face: &F, circles: bool, u: u32) -> Unit
     ensures { result ≡ lone_tone (F.font face.now) circles u }
 {
@@ -104,6 +106,7 @@ fn lone_tone<F: hb_font_t>(face: &F, circles: bool, u: u32) -> Unit
 }
 
 // L V.
+#[inline]
 fn jamo_two<F: hb_font_t>(face: &F, l: u32, v: u32) -> Unit
     ensures { result ≡ jamo_two (F.font face.now) l v }
 {
@@ -117,6 +120,7 @@ fn jamo_two<F: hb_font_t>(face: &F, l: u32, v: u32) -> Unit
 }
 
 // L V T.
+#[inline]
 fn jamo_three<F: hb_font_t>(face: &F, l: u32, v: u32, t: u32) -> Unit
     ensures { result ≡ jamo_three (F.font face.now) l v t }
 {
@@ -130,6 +134,7 @@ fn jamo_three<F: hb_font_t>(face: &F, l: u32, v: u32, t: u32) -> Unit
 }
 
 // Whether the font has the jamo of a syllable character.
+#[inline]
 fn has_jamo_of<F: hb_font_t>(face: &F, s: u32) -> bool
     requires { is_s s ≡ true }
     ensures { result ≡ has_jamo_of (F.font face.now) s }
@@ -177,6 +182,7 @@ fn syllable_unit<F: hb_font_t>(face: &F, s: u32, v: u32) -> Unit
 }
 
 // L V, and L V T.
+#[inline]
 fn jamo_unit<F: hb_font_t>(face: &F, l: u32, v: u32, t: u32) -> Unit
     ensures { result ≡ jamo_unit (F.font face.now) l v t }
 {
@@ -187,6 +193,7 @@ fn jamo_unit<F: hb_font_t>(face: &F, l: u32, v: u32, t: u32) -> Unit
 }
 
 // The unit of a character that no jamo follows.
+#[inline]
 fn lone_unit<F: hb_font_t>(face: &F, circles: bool, u: u32) -> Unit
     ensures { result ≡ lone_unit (F.font face.now) circles u }
 {
@@ -206,6 +213,7 @@ fn lone_unit<F: hb_font_t>(face: &F, circles: bool, u: u32) -> Unit
 }
 
 // The unit that the character `u` and the next two open.
+#[inline]
 fn first_unit<F: hb_font_t>(face: &F, circles: bool, u: u32, v: u32, t: u32) -> Unit
     ensures { result ≡ first_unit (F.font face.now) circles u v t }
 {
@@ -222,6 +230,7 @@ fn first_unit<F: hb_font_t>(face: &F, circles: bool, u: u32, v: u32, t: u32) -> 
 }
 
 // The tone `w` after a unit.
+#[inline]
 fn joined_tone<F: hb_font_t>(face: &F, unit: Unit, w: u32) -> JoinedTone
     ensures { result ≡ joined_tone (F.font face.now) unit w }
 {
@@ -235,6 +244,7 @@ fn joined_tone<F: hb_font_t>(face: &F, unit: Unit, w: u32) -> JoinedTone
 }
 
 // Whether the font can't join LV and the T `v` behind it, nor, where T doesn't combine, part LV.
+#[inline]
 fn is_split<F: hb_font_t>(face: &F, s: u32, v: u32) -> bool
     ensures { result ≡ is_split (F.font face.now) s v }
 {
@@ -248,6 +258,7 @@ fn is_split<F: hb_font_t>(face: &F, s: u32, v: u32) -> bool
 }
 
 // How many characters from `u` on are unsafe to break inside, `v` being the second.
+#[inline]
 fn unsafe_len<F: hb_font_t>(face: &F, unit: Unit, tone: JoinedTone, u: u32, v: u32) -> usize
     ensures { result ≡ unsafe_len (F.font face.now) unit tone u v }
 {
@@ -263,7 +274,7 @@ fn unsafe_len<F: hb_font_t>(face: &F, unit: Unit, tone: JoinedTone, u: u32, v: u
     0
 }
 
-// The item that opens the text. A character that jamo or a tone doesn't follow is told by itself.
+// The item that opens the text. A character that jamo or a tone doesn't follow decides by itself.
 fn read_item<F: hb_font_t>(face: &F, circles: bool, glyphs: &[hb_glyph_info_t]) -> Item
     requires { 0 < length glyphs.now }
     ensures { result ≡ first_item (F.font face.now) circles (characters glyphs.now) }
@@ -295,7 +306,7 @@ fn read_item<F: hb_font_t>(face: &F, circles: bool, glyphs: &[hb_glyph_info_t]) 
     }
 }
 
-// Whether the character that opens the text stays as it is, as far as it and the next one tell.
+// Whether the character that opens the text stays as it is, as far as it and the next one decide.
 #[inline]
 pub(super) fn stays_alone<F: hb_font_t>(face: &F, glyphs: &[hb_glyph_info_t]) -> bool
     ensures { (circles : Bool) → let us = characters glyphs.now in
@@ -336,6 +347,7 @@ impl JoinedTone {
 
 impl Unit {
     // How many characters it takes.
+    #[inline]
     fn taken(self) -> usize
         ensures { result ≡ taken self }
     {
@@ -352,6 +364,7 @@ impl Unit {
     }
 
     // How many glyphs it becomes.
+    #[inline]
     fn output_len(self) -> usize
         ensures { result ≡ output_len self }
     {
@@ -387,6 +400,7 @@ impl Unit {
 }
 
 // The glyph as another character.
+#[inline]
 fn as_character(glyph: hb_glyph_info_t, u: u32) -> hb_glyph_info_t
     ensures { result ≡ glyph_copies.as_character u glyph }
 {
@@ -397,6 +411,7 @@ fn as_character(glyph: hb_glyph_info_t, u: u32) -> hb_glyph_info_t
 }
 
 // The glyph marked as jamo.
+#[inline]
 fn as_jamo(glyph: hb_glyph_info_t, feature: u8) -> hb_glyph_info_t
     ensures { result ≡ glyph_copies.as_jamo feature glyph }
 {
@@ -407,6 +422,7 @@ fn as_jamo(glyph: hb_glyph_info_t, feature: u8) -> hb_glyph_info_t
 }
 
 // A copy of the glyph as another character, marked as jamo.
+#[inline]
 fn jamo_from(glyph: hb_glyph_info_t, u: u32, feature: u8) -> hb_glyph_info_t
     ensures { result ≡ glyph_copies.as_jamo feature (glyph_copies.as_character u glyph) }
 {
@@ -414,6 +430,7 @@ fn jamo_from(glyph: hb_glyph_info_t, u: u32, feature: u8) -> hb_glyph_info_t
 }
 
 // Adds a glyph.
+#[inline]
 fn put(list: &mut Vec<hb_glyph_info_t>, glyph: hb_glyph_info_t) -> Result<(), ShaperError>
     ensures ok { OnOk result (list.new.items ≡ list.old.items ++ glyph ∷ []) }
     ensures refusal { IsOkUnless result Memory }
@@ -421,7 +438,8 @@ fn put(list: &mut Vec<hb_glyph_info_t>, glyph: hb_glyph_info_t) -> Result<(), Sh
     list.push(glyph).map_err(|_| ShaperError::Memory)
 }
 
-// Adds the tone at place `i`, where it stands on this side.
+// Adds the tone at place `i`, where it goes on this side.
+#[inline]
 fn put_tone(
     is_here: bool,
     glyphs: &[hb_glyph_info_t],
@@ -494,6 +512,7 @@ impl Unit {
     }
 
     // Whether all that it takes merges at this level.
+    #[inline]
     fn is_merged(self, level: BufferClusterLevel) -> bool
         ensures { result ≡ is_merged level self }
     {
@@ -533,6 +552,7 @@ impl Item {
     }
 
     // Flags what would be torn apart by a break in the item at `place`, and merges what it merges.
+    #[inline]
     pub(super) fn join(
         self,
         level: BufferClusterLevel,

@@ -1,5 +1,5 @@
 //! The text rewritten, item after item.
-ghost use Rattle.std.specs.Prelude.{◌≡◌, ◌+◌, ◌-◌, ◌<◌, ◌≤◌, ◌++◌, ◌∷◌, [], true, false, drop, length, take, OnOk, OnErr, IfOk, IfErr, IsOk, IsOkUnless};
+ghost use Rattle.std.specs.Prelude.{◌≡◌, ◌+◌, ◌-◌, ◌<◌, ◌≤◌, ◌++◌, ◌∷◌, [], true, false, drop, length, take, Ok, OnOk, OnErr, IfOk, IfErr, IsOk, IsOkUnless};
 ghost use Rattle.shapers_buffer.specs.Glyph.{characters};
 ghost use Rattle.shapers_hangul.specs.HangulLaws.{AllKept};
 ghost use Rattle.shapers_hangul.specs.RewritingWalk.{changes, InTurn, change_output, changed_from};
@@ -16,6 +16,7 @@ use shapers_base::font::hb_font_t;
 use std::alloc::Global;
 
 // The item at a place of the text.
+#[inline]
 fn item_at<F: hb_font_t>(face: &F, circles: bool, glyphs: &[hb_glyph_info_t], place: usize) -> Item
     requires { place < length glyphs.now }
     ensures item { let us = characters (drop place glyphs.now) in
@@ -36,6 +37,7 @@ fn rest_from(glyphs: &[hb_glyph_info_t], place: usize) -> &[hb_glyph_info_t]
 }
 
 // Whether the item at a place of the text is one character that stays as it is.
+#[inline]
 fn stays_at<F: hb_font_t>(face: &F, circles: bool, glyphs: &[hb_glyph_info_t], place: usize) -> bool
     requires { place < length glyphs.now }
     ensures { let us = characters (drop place glyphs.now) in
@@ -46,6 +48,7 @@ fn stays_at<F: hb_font_t>(face: &F, circles: bool, glyphs: &[hb_glyph_info_t], p
 }
 
 // How far the text stays as it is: the place of the first item that changes it, or its end.
+#[inline]
 fn kept_len<F: hb_font_t>(face: &F, circles: bool, glyphs: &[hb_glyph_info_t]) -> usize
     ensures kept { KeptBefore (F.font face.now) circles glyphs.now result }
     ensures stops { let us = characters (drop result glyphs.now) in
@@ -61,6 +64,9 @@ fn kept_len<F: hb_font_t>(face: &F, circles: bool, glyphs: &[hb_glyph_info_t]) -
     place
 }
 
+// For so many items room is made at once.
+const FEW: usize = 24;
+
 // The items that change a text from a place on, each with the place of its first character, as long
 // as memory was found.
 #[derive(Drop)]
@@ -70,14 +76,14 @@ struct Cut {
 }
 
 impl Cut {
-    // None so far.
-    fn new(alloc: Global) -> Self
+    // None so far, with room for the items of so many characters, as far as they are few.
+    #[inline]
+    fn new(alloc: Global, len: usize) -> Self
         ensures none { result.items.items ≡ [] }
     {
-        Cut {
-            items: Vec::new(alloc),
-            is_whole: true,
-        }
+        let mut items = Vec::new(alloc);
+        let is_whole = items.reserve_exact(len.min(FEW)).is_ok();
+        Cut { items, is_whole }
     }
 
     // One more, unless it stays as it is.
@@ -95,6 +101,7 @@ impl Cut {
 
 // The length of the result, where the text stays up to the place `kept`, and the items that change
 // it from there on. Refuses where the result would be longer than `limit`, and for nothing else.
+#[inline]
 fn measure<F: hb_font_t>(
     face: &F,
     circles: bool,
@@ -127,6 +134,7 @@ fn measure<F: hb_font_t>(
 }
 
 // Flags and merges what the items flag and merge, one after another.
+#[inline]
 fn join_items(cut: &[(usize, Item)], level: BufferClusterLevel, glyphs: &mut [hb_glyph_info_t])
     requires { Fit (length glyphs.old) cut.now }
     ensures { glyphs.new ≡ all_joined level cut.now glyphs.old }
@@ -137,6 +145,7 @@ fn join_items(cut: &[(usize, Item)], level: BufferClusterLevel, glyphs: &mut [hb
 }
 
 // Adds the text from one place to another.
+#[inline]
 fn write_stretch(
     glyphs: &[hb_glyph_info_t],
     place: usize,
@@ -157,6 +166,7 @@ fn write_stretch(
 }
 
 // Adds the text from a place on up to an item, and what the item becomes.
+#[inline]
 fn write_change(
     entry: &(usize, Item),
     glyphs: &[hb_glyph_info_t],
@@ -174,6 +184,7 @@ fn write_change(
 }
 
 // Adds the text from a place on, in which these items become what they become.
+#[inline]
 fn write_changes(
     cut: &[(usize, Item)],
     glyphs: &[hb_glyph_info_t],
@@ -196,6 +207,7 @@ fn write_changes(
 
 // The text rewritten, to a length that is known: what its items flag and merge, on the old places,
 // and then what they become, behind what stays.
+#[inline]
 fn rewritten(
     cut: &[(usize, Item)],
     level: BufferClusterLevel,
@@ -220,6 +232,7 @@ fn rewritten(
 }
 
 // Whether the caller lets circles be inserted.
+#[inline]
 fn wants_circles(buffer: &hb_buffer_t) -> bool
     ensures { result ≡ wants_circles buffer.now }
 {
@@ -228,7 +241,31 @@ fn wants_circles(buffer: &hb_buffer_t) -> bool
         .contains(BufferFlags::DO_NOT_INSERT_DOTTED_CIRCLE)
 }
 
+/// Rewrites the text, unless every character stays as it is, and returns whether it did.
+#[inline]
+pub(super) fn rewrite_changes<F: hb_font_t>(
+    face: &F,
+    buffer: &mut hb_buffer_t,
+) -> Result<bool, ShaperError>
+    requires { buffer.old.positions ≡ [] }
+    ensures ok { OnOk result (buffer.new ≡ rewritten (F.font face.now) buffer.old) }
+    ensures kept { AllKept (F.font face.now) buffer.old → result ≡ Ok false }
+    ensures unchanged { result ≡ Ok false → buffer.new ≡ buffer.old }
+    ensures length { let text = (rewritten (F.font face.now) buffer.old).glyphs in
+        RefusesLength buffer.old.max_len (length text) result }
+    ensures err { OnErr result (buffer.new ≡ buffer.old) }
+{
+    let circles = wants_circles(buffer);
+    let glyphs = buffer.glyphs();
+    if kept_len(face, circles, glyphs) == buffer.len() {
+        return Ok(false);
+    }
+    rewrite(face, buffer)?;
+    Ok(true)
+}
+
 // Rewrites the text.
+#[inline]
 pub(super) fn rewrite<F: hb_font_t>(face: &F, buffer: &mut hb_buffer_t) -> Result<(), ShaperError>
     requires { buffer.old.positions ≡ [] }
     ensures ok { OnOk result (buffer.new ≡ rewritten (F.font face.now) buffer.old) }
@@ -244,7 +281,7 @@ pub(super) fn rewrite<F: hb_font_t>(face: &F, buffer: &mut hb_buffer_t) -> Resul
     if kept == buffer.len() {
         return Ok(());
     }
-    let mut cut = Cut::new(alloc);
+    let mut cut = Cut::new(alloc, glyphs.len() - kept);
     let len = measure(face, circles, glyphs, kept, buffer.max_len(), &mut cut)?;
     if !cut.is_whole {
         return Err(ShaperError::Memory);

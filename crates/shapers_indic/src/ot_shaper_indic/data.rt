@@ -112,7 +112,7 @@ static INDIC_CONFIGS: [IndicConfig; 10] = [
     },
 ];
 
-// What a script asks for.
+// The properties of a script.
 #[inline]
 fn config_of(script: Option<Script>) -> IndicConfig
     ensures { result ≡ config_of script }

@@ -1,12 +1,13 @@
-//! What both reorderings ask of a glyph.
+//! What both reorderings read of a glyph.
 ghost use Rattle.std.specs.Prelude.{◌≡◌};
-ghost use Rattle.shapers_indic.specs.Glyphs.{is_joiner, is_matra, number};
+ghost use Rattle.shapers_indic.specs.Glyphs.{is_joiner, is_matra, is_plain_consonant, number};
 
 use shapers_base::buffer::hb_glyph_info_t;
 use shapers_base::font::GlyphId;
-use shapers_base::plan::ot_category_t::{OT_M, OT_MPst, OT_ZWJ, OT_ZWNJ};
+use shapers_base::plan::ot_category_t::{OT_C, OT_M, OT_MPst, OT_ZWJ, OT_ZWNJ};
+use shapers_base::plan::ot_position_t::POS_BASE_C;
 
-/// A glyph as fonts are asked about it.
+/// The glyph's number, as fonts take it.
 #[inline]
 pub fn number(glyph: &hb_glyph_info_t) -> GlyphId
     ensures { result ≡ number glyph.now }
@@ -28,4 +29,18 @@ pub fn is_matra(glyph: &hb_glyph_info_t) -> bool
     ensures { result ≡ is_matra glyph.now }
 {
     matches!(glyph.category, OT_M | OT_MPst)
+}
+
+/// Whether a syllable is one consonant at the base, which no lookup put in for several. No
+/// reordering changes anything in such a syllable.
+#[inline]
+pub fn is_plain_consonant(syllable: &[hb_glyph_info_t]) -> bool
+    ensures { result ≡ is_plain_consonant syllable.now }
+{
+    match syllable {
+        [glyph] => {
+            glyph.category == OT_C && glyph.auxiliary == POS_BASE_C && !glyph.marks.is_ligated()
+        }
+        _ => false,
+    }
 }

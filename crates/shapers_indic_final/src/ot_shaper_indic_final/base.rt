@@ -1,6 +1,6 @@
 //! The base of a syllable after substitutions. (OpenType, development of Indic scripts: "Final
 //! reordering".)
-ghost use Rattle.std.specs.Prelude.{if◌then◌else◌, ◌-◌, ◌≡◌, ◌<◌, ◌≤◌, ◌+◌, ◌∷◌, [], length, map, unwrap_or};
+ghost use Rattle.std.specs.Prelude.{if◌then◌else◌, ◌-◌, ◌≡◌, ◌<◌, ◌≤◌, ◌+◌, ◌∷◌, [], is_some, length, map, unwrap_or};
 ghost use Rattle.std.specs.List.{prefix_len};
 ghost use Rattle.std.specs.Option.{IfSome};
 ghost use Rattle.shapers_buffer.specs.Glyph.{at_position};
@@ -96,12 +96,11 @@ fn find_base(rules: &Rules, script: Option<Script>, glyphs: &mut [hb_glyph_info_
     ensures within { result.base ≤ length glyphs.old }
 {
     let first = first_base(glyphs);
-    let unformed = unformed_pref(rules.pref, first, glyphs);
     let by_pref = set_pref_base(rules.pref, first, glyphs);
-    let by_links = set_links(script, by_pref, glyphs);
+    let by_links = set_links(script, by_pref.unwrap_or(first), glyphs);
     Based {
         base: settled_base(stepped_back(by_links, glyphs), glyphs),
-        tries_pref: rules.pref != 0 && unformed.is_none(),
+        tries_pref: rules.pref != 0 && by_pref.is_none(),
     }
 }
 
@@ -151,23 +150,20 @@ fn is_unformed(glyph: &hb_glyph_info_t) -> bool
     !(glyph.marks.is_substituted() && is_formed(glyph))
 }
 
-// The base by `pref`, which gets the base's position.
+// The base by `pref`, which gets the base's position, if there is an unformed glyph.
 #[inline]
-fn set_pref_base(pref: u32, base: usize, glyphs: &mut [hb_glyph_info_t]) -> usize
+fn set_pref_base(pref: u32, base: usize, glyphs: &mut [hb_glyph_info_t]) -> Option<usize>
     requires in_range { base ≤ length glyphs.old }
     ensures glyphs { glyphs.new ≡ with_pref_base pref base glyphs.old }
-    ensures base { result ≡ base_by_pref pref base glyphs.old }
+    ensures base { unwrap_or result base ≡ base_by_pref pref base glyphs.old }
+    ensures some { is_some result ≡ is_some (unformed_pref pref base glyphs.old) }
     ensures same_length { length glyphs.new ≡ length glyphs.old }
-    ensures within { result ≤ length glyphs.old }
+    ensures within { unwrap_or result base ≤ length glyphs.old }
 {
-    match unformed_pref(pref, base, glyphs) {
-        Some(i) => {
-            let by_pref = behind_halants(glyphs, i);
-            set_base_at(by_pref, glyphs);
-            by_pref
-        }
-        None => base,
-    }
+    let i = unformed_pref(pref, base, glyphs)?;
+    let by_pref = behind_halants(glyphs, i);
+    set_base_at(by_pref, glyphs);
+    Some(by_pref)
 }
 
 // The first glyph from a place on that is no halant, else the end.
@@ -346,7 +342,7 @@ fn set_along_links(base: usize, glyphs: &mut [hb_glyph_info_t]) -> usize
 }
 
 // Gives the last glyph of a link, of place `i`, the base's position, if its below-base form was not
-// made. Answers the base then, which was `last` before.
+// made. Returns the base then, which was `last` before.
 #[inline]
 fn set_link(glyph: &mut hb_glyph_info_t, i: usize, last: usize) -> usize
     ensures glyph { glyph.new ≡ as_linked glyph.old }

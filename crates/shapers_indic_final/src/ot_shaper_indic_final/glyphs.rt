@@ -1,4 +1,4 @@
-//! What the final reordering asks of a glyph.
+//! What the final reordering reads of a glyph.
 ghost use Rattle.std.specs.Prelude.{◌≡◌};
 ghost use Rattle.shapers_indic_final.specs.FinalGlyphs.{has_mask, is_formed, is_halant, is_matra_or_halant};
 

@@ -8,8 +8,8 @@ pub fn final_reorder_laws()
     ensures { FinalReorderLaws }
 {}
 
-/// What a syllable becomes hangs on the kind in its bytes and not on their serials, so that pauses can
-/// be cut between any two spans; so does what a text becomes.
+/// What a syllable becomes depends on the kind in its bytes and not on their serials, so that
+/// pauses can be cut between any two spans; so does what a text becomes.
 pub fn final_reads_no_serials()
     ensures syllable { FinalReadsNoSerials }
     ensures text { FinalTextReadsNoSerials }

@@ -15,8 +15,10 @@ use shapers_indic::ot_shaper_indic::indic_in;
 
 /// Reorders each syllable again, now that the basic features formed its glyphs: its base, its left
 /// matras, its reph and a glyph that `pref` formed; and gives a left matra at the start of a word
-/// `init`. Every cluster afterwards is one that the text had. It refuses nothing and takes no memory.
+/// `init`. Every cluster afterwards is one that the text had, and the placement list is empty. It
+/// refuses nothing and takes no memory.
 /// (OpenType, development of Indic scripts: "Final reordering".)
+#[inline]
 pub fn final_reordering<F: hb_font_t>(plan: &hb_ot_shape_plan_t, face: &F, buffer: &mut hb_buffer_t)
     requires kept { is_indic_data plan.now.plan_data ≡ true }
     ensures reordered { let rules = rules_of (F.font face.now) (indic_in plan.now) in

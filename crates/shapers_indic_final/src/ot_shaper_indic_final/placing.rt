@@ -14,7 +14,7 @@ use super::reph::{base_after_reph, opens_with_reph, reph_target};
 use shapers_base::buffer::{Script, hb_buffer_t};
 use shapers_base::plan::RephPosition;
 
-// Puts the reph of the syllable from `s` to `e` in its place, and answers where the base stands then.
+// Puts the reph of the syllable from `s` to `e` in its place, and returns where the base is then.
 #[inline]
 pub(super) fn place_reph(
     position: RephPosition,

@@ -12,7 +12,7 @@ use super::rules::has_no_half_forms;
 use shapers_base::buffer::{Script, hb_glyph_info_t};
 use shapers_indic::ot_shaper_indic::glyphs::is_joiner;
 
-// The first glyph after the base with the mask of `pref`.
+// The first glyph after the base with the mask of `pref`, which some plans don't give.
 #[allow(clippy::manual_find, clippy::needless_range_loop)]
 #[inline]
 pub(super) fn pref_place(pref: u32, base: usize, glyphs: &[hb_glyph_info_t]) -> Option<usize>
@@ -21,6 +21,9 @@ pub(super) fn pref_place(pref: u32, base: usize, glyphs: &[hb_glyph_info_t]) -> 
     ensures behind { IfSome result (λ i. base < i) }
     ensures within { IfSome result (λ i. i < length glyphs.now) }
 {
+    if pref == 0 {
+        return None;
+    }
     for i in base + 1..glyphs.len() {
         if has_mask(pref, &glyphs[i]) {
             return Some(i);

@@ -10,6 +10,7 @@ use super::placing::{place_matras, place_pref, place_reph};
 use super::rules::Rules;
 use super::viramas::recover_viramas;
 use shapers_base::buffer::{Script, hb_buffer_t};
+use shapers_indic::ot_shaper_indic::glyphs::is_plain_consonant;
 
 // Reorders each syllable of the text and opens it, from left to right.
 #[inline]
@@ -46,6 +47,9 @@ fn reorder_syllable(
         (final_order rules.now script) (final_steps rules.now script) s e buffer.old buffer.new }
     ensures same_length { length buffer.new.glyphs ≡ length buffer.old.glyphs }
 {
+    if is_plain_consonant(&buffer.glyphs()[s..e]) {
+        return;
+    }
     recover_viramas(rules.virama, buffer, s, e);
     let based = settle_base(rules, script, buffer, s, e);
     place_matras(script, based.base, buffer, s, e);

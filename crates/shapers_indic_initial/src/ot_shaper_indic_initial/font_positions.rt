@@ -3,7 +3,7 @@ ghost use Rattle.std.specs.Prelude.{◌≡◌, find, map};
 ghost use Rattle.shapers_indic.specs.Glyphs.{has_position};
 ghost use Rattle.shapers_base.specs.declared.plan.ot_position_t.TheConstants.{POS_BASE_C};
 ghost use Rattle.shapers_indic_initial.specs.InitialFont.{all_by_virama, by_virama, consonant_position, joins_virama};
-ghost use Rattle.shapers_indic_initial.specs.KnownWalk.{AllKnown, IsKnown};
+ghost use Rattle.shapers_indic_initial.specs.KnownWalk.{AllKnown, IsKnown, has_forms};
 
 use shapers_base::buffer::{GlyphWalk, hb_buffer_t, hb_glyph_info_t};
 use shapers_base::font::{GlyphId, hb_font_t};
@@ -29,6 +29,9 @@ pub(super) fn update_consonant_positions<F: hb_font_t>(
     match virama {
         None => {}
         Some(virama) => {
+            if !has_forms(plan, map) {
+                return;
+            }
             let mut by_virama = ByVirama {
                 plan,
                 map,
@@ -40,10 +43,22 @@ pub(super) fn update_consonant_positions<F: hb_font_t>(
     }
 }
 
+// Whether a feature that gives consonants forms with the virama has lookups. Where none has, the
+// font isn't asked about any consonant.
+#[inline]
+fn has_forms(plan: &indic_shape_plan_t, map: &hb_ot_map_t) -> bool
+    ensures { result ≡ has_forms map.now plan.now }
+{
+    !plan.blwf.lookups(map).is_empty()
+        || !plan.vatu.lookups(map).is_empty()
+        || !plan.pstf.lookups(map).is_empty()
+        || !plan.pref.lookups(map).is_empty()
+}
+
 // How many consonants are known at once.
 const KNOWN: usize = 32;
 
-// A consonant and its position by the font. It is known so that the font isn't asked again.
+// A consonant and its position by the font, kept so that the font isn't queried again.
 #[derive(Clone, Copy)]
 struct Known {
     consonant: GlyphId,
@@ -90,7 +105,7 @@ impl<'a, F: hb_font_t> ByVirama<'a, F> {
         }
     }
 
-    // The position of a consonant, for which the font is asked only where it isn't known.
+    // The position of a consonant, for which the font is queried only where it isn't known.
     #[inline]
     fn position_of(&self, known: &mut [Known; KNOWN], consonant: GlyphId) -> Position
         requires { let font = F.font self.now.face.now in

@@ -36,7 +36,7 @@ pub fn initial_text_merges()
     ensures { InitialTextMerges }
 {}
 
-/// What a syllable becomes hangs on the kind in its bytes and not on their serials, so that the
+/// What a syllable becomes depends on the kind in its bytes and not on their serials, so that the
 /// pause can be cut between any two spans.
 pub fn order_by_font_reads_no_serials()
     ensures { OrderByFontReadsNoSerials }

@@ -23,9 +23,10 @@ use shapers_syllabic::ot_shaper_syllabic::{insert_dotted_circles, reorder_syllab
 /// Gives consonants positions by the font and broken syllables their dotted circles, and then
 /// reorders each syllable: its base, what goes with which glyph, the order by positions, the masks
 /// of the basic features. At the levels that merge, places from the base on that a glyph moved over
-/// share one cluster, and where a syllable's clusters are its own no more is merged. Answers whether
-/// circles were wanted. Every cluster afterwards is one that the text had. Refuses with `UnknownSyllable`, before anything changes; with `TooLong`; and with
-/// `Memory`, but not where no circle opens. (OpenType, development of Indic scripts.)
+/// share one cluster, and where a syllable's clusters are its own no more is merged. Returns
+/// whether circles were wanted. Every cluster afterwards is one that the text had. Refuses with
+/// `UnknownSyllable`, before anything changes; with `TooLong`; and with `Memory`, but not where no
+/// circle opens. (OpenType, development of Indic scripts.)
 pub fn initial_reordering<F: hb_font_t>(
     plan: &hb_ot_shape_plan_t,
     face: &F,

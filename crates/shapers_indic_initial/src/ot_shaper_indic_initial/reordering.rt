@@ -12,6 +12,7 @@ use shapers_base::buffer::{GlyphWalk, Script, ShaperError, hb_buffer_t, hb_glyph
 use shapers_base::font::hb_font_t;
 use shapers_base::map::hb_ot_map_t;
 use shapers_base::plan::indic_shape_plan_t;
+use shapers_indic::ot_shaper_indic::glyphs::is_plain_consonant;
 use shapers_syllabic::ot_shaper_syllabic::Reorder;
 use shapers_syllabic::ot_shaper_syllabic::indic_syllable::{
     BROKEN_CLUSTER, CONSONANT_SYLLABLE, STANDALONE_CLUSTER, VOWEL_SYLLABLE,
@@ -42,6 +43,9 @@ impl<'a, F: hb_font_t> Reorder for InitialOrder<'a, F> {
         start: usize,
         end: usize,
     ) -> Result<(), ShaperError> {
+        if is_plain_consonant(&buffer.glyphs()[start..end]) {
+            return Ok(());
+        }
         let (plan, map, face) = (self.plan, self.map, self.face);
         if is_reordered(&buffer.glyphs()[start..end]) {
             set_positions(plan, map, face, buffer, start, end);

@@ -31,10 +31,11 @@ const CIRCLES: ScriptCircles = ScriptCircles {
 
 /// Gives broken syllables their dotted circles, and then brings Coeng Ro and the vowels that stand
 /// before their base to the front of each syllable, with the masks of the plan; in a regular
-/// syllable these are its movers, the last one first. Answers whether circles were wanted. Every
+/// syllable these are its movers, the last one first. Returns whether circles were wanted. Every
 /// cluster afterwards is one that the text had. Refuses with `UnknownSyllable`, before anything
 /// changes; with `TooLong`; and with `Memory`, but not where no circle opens. (OpenType,
 /// "Developing OpenType Fonts for Khmer".)
+#[inline]
 pub fn reorder_khmer<F: hb_font_t>(
     plan: &hb_ot_shape_plan_t,
     face: &F,

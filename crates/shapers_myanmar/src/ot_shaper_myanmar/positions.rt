@@ -23,6 +23,7 @@ pub(super) fn set_positions(syllable: &mut [hb_glyph_info_t])
 }
 
 // How many glyphs the reph of a syllable has: Ra, As, H, or none.
+#[inline]
 fn reph_len(syllable: &[hb_glyph_info_t]) -> usize
     ensures len { result ≡ reph_len syllable.now }
     ensures within { result ≤ length syllable.now }
@@ -31,6 +32,7 @@ fn reph_len(syllable: &[hb_glyph_info_t]) -> usize
 }
 
 // Whether a syllable opens with a reph.
+#[inline]
 fn has_reph(syllable: &[hb_glyph_info_t]) -> bool
     ensures { result ≡ has_reph syllable.now }
 {
@@ -41,6 +43,7 @@ fn has_reph(syllable: &[hb_glyph_info_t]) -> bool
 }
 
 // Gives all these glyphs one position.
+#[inline]
 fn set_position(glyphs: &mut [hb_glyph_info_t], position: u8)
     ensures { glyphs.new ≡ map (at_position position) glyphs.old }
 {
@@ -50,6 +53,7 @@ fn set_position(glyphs: &mut [hb_glyph_info_t], position: u8)
 }
 
 // The positions behind the reph: what stands before the base, the base, and what follows it.
+#[inline]
 fn set_behind_reph(glyphs: &mut [hb_glyph_info_t])
     ensures { glyphs.new ≡ behind_reph glyphs.old }
 {
@@ -59,6 +63,7 @@ fn set_behind_reph(glyphs: &mut [hb_glyph_info_t])
 }
 
 // How many glyphs stand before the base: the first consonant, or the first glyph.
+#[inline]
 fn before_base(glyphs: &[hb_glyph_info_t]) -> usize
     ensures len { result ≡ before_base glyphs.now }
     ensures within { result ≤ length glyphs.now }
@@ -67,6 +72,7 @@ fn before_base(glyphs: &[hb_glyph_info_t]) -> usize
 }
 
 // The place of the first consonant.
+#[inline]
 fn first_consonant(glyphs: &[hb_glyph_info_t]) -> Option<usize>
     ensures { result ≡ position is_consonant glyphs.now }
 {
@@ -74,6 +80,7 @@ fn first_consonant(glyphs: &[hb_glyph_info_t]) -> Option<usize>
 }
 
 // Whether a glyph may be the base.
+#[inline]
 fn may_be_base(glyph: &hb_glyph_info_t) -> bool
     ensures { result ≡ is_consonant glyph.now }
 {
@@ -81,6 +88,7 @@ fn may_be_base(glyph: &hb_glyph_info_t) -> bool
 }
 
 // The positions of the base and of what follows it.
+#[inline]
 fn set_from_base(glyphs: &mut [hb_glyph_info_t])
     ensures { glyphs.new ≡ from_base glyphs.old }
 {
@@ -91,6 +99,7 @@ fn set_from_base(glyphs: &mut [hb_glyph_info_t])
 }
 
 // The positions behind the base, each by the part in which the glyph stands.
+#[inline]
 fn set_later(glyphs: &mut [hb_glyph_info_t])
     ensures { glyphs.new ≡ with_own_positions POS_BASE_C (in_parts glyphs.old) }
 {
@@ -106,6 +115,7 @@ fn set_later(glyphs: &mut [hb_glyph_info_t])
 // The part of a glyph behind the base, by its position, behind a glyph of part `before`. The first
 // vowel below opens the run of vowels below and anusvaras, which what stands elsewhere by itself
 // doesn't end.
+#[inline]
 fn part_of(glyph: &hb_glyph_info_t, before: u8) -> u8
     ensures { result ≡ part_of before glyph.now }
 {
@@ -120,6 +130,7 @@ fn part_of(glyph: &hb_glyph_info_t, before: u8) -> u8
 // The position of a glyph behind the base: the medial Ra and the vowels before the base stand in
 // front of it, a selector with the glyph before it, an anusvara before the vowels below, and others
 // in their part.
+#[inline]
 fn own_position(glyph: &hb_glyph_info_t, part: u8, before: u8) -> u8
     ensures { result ≡ own_position before (in_part part glyph.now) }
 {

@@ -14,6 +14,7 @@ use shapers_base::plan::StretchStart;
 
 /// How many cells a text has more when it is stretched, unless one of its numbers doesn't fit 32
 /// bits.
+#[inline]
 pub(super) fn count_added<F: hb_font_t>(
     face: &F,
     choice: StretchStart,
@@ -51,6 +52,7 @@ struct Counted {
 }
 
 // Counts the last part of a text, unless one of its numbers doesn't fit 32 bits.
+#[inline]
 fn count_last<F: hb_font_t>(
     face: &F,
     choice: StretchStart,
@@ -79,6 +81,7 @@ fn count_last<F: hb_font_t>(
 }
 
 // How many copies a run adds, unless one of its numbers doesn't fit 32 bits.
+#[inline]
 fn count_run<F: hb_font_t>(
     face: &F,
     choice: StretchStart,
@@ -101,6 +104,7 @@ fn count_run<F: hb_font_t>(
 }
 
 // Whether the offsets of all copies of a run fit 32 bits.
+#[inline]
 fn offsets_fit<F: hb_font_t>(
     face: &F,
     right_to_left: bool,
@@ -125,6 +129,7 @@ fn offsets_fit<F: hb_font_t>(
 }
 
 // Where the pen is behind the copies of a tile, unless an offset of theirs doesn't fit 32 bits.
+#[inline]
 fn behind_tile<F: hb_font_t>(
     face: &F,
     right_to_left: bool,
@@ -174,6 +179,7 @@ fn behind_copy(right_to_left: bool, pen: i128, step: i128) -> Option<i128>
 
 // The same behind so many copies that each move the pen so far: they stand at equal distances, so
 // that the first and the last tell.
+#[inline]
 fn behind_copies(right_to_left: bool, pen: i128, step: i128, count: usize) -> Option<i128>
     requires pen { IsNumber pen }
     requires low { negsuc (2 ^ 67) ≤ℤ step }
@@ -193,6 +199,7 @@ fn behind_copies(right_to_left: bool, pen: i128, step: i128, count: usize) -> Op
 }
 
 // Whether the offsets of the first and the last of copies at equal distances fit 32 bits.
+#[inline]
 fn ends_fit(right_to_left: bool, pen: i128, behind: i128, step: i128) -> bool
     requires pen { IsNumber pen }
     requires low { negsuc (2 ^ 67) ≤ℤ step }
@@ -207,6 +214,7 @@ fn ends_fit(right_to_left: bool, pen: i128, behind: i128, step: i128) -> bool
 }
 
 // The offset of the first of such copies.
+#[inline]
 fn first_offset(right_to_left: bool, pen: i128, step: i128) -> i128
     requires pen { IsNumber pen }
     requires low { negsuc (2 ^ 67) ≤ℤ step }
@@ -217,6 +225,7 @@ fn first_offset(right_to_left: bool, pen: i128, step: i128) -> i128
 }
 
 // The offset of the last of them.
+#[inline]
 fn last_offset(right_to_left: bool, behind: i128, step: i128) -> i128
     requires low { negsuc (2 ^ 67) ≤ℤ step }
     requires high { step ≤ℤ pos (2 ^ 67) }
@@ -228,6 +237,7 @@ fn last_offset(right_to_left: bool, behind: i128, step: i128) -> i128
 }
 
 // How far so many copies move the pen.
+#[inline]
 fn product(count: usize, step: i128) -> i128
     requires low { negsuc (2 ^ 67) ≤ℤ step }
     requires high { step ≤ℤ pos (2 ^ 67) }

@@ -56,6 +56,7 @@ impl<'a, F: hb_font_t> PositionedWalk for TileLaying<'a, F> {
 }
 
 /// Stretches the text of the first `len` cells over the whole slices.
+#[inline]
 pub(super) fn lay_all<F: hb_font_t>(
     face: &F,
     choice: StretchStart,
@@ -88,6 +89,7 @@ struct Unlaid {
 }
 
 // Lays the last part of the unlaid text: its run first, then what stands before it moves up.
+#[inline]
 fn lay_last<F: hb_font_t>(
     face: &F,
     choice: StretchStart,
@@ -219,6 +221,7 @@ struct Tile {
 }
 
 // Lays these tiles, the last one first.
+#[inline]
 fn lay_tiles<F: hb_font_t>(
     face: &F,
     right_to_left: bool,
@@ -256,6 +259,7 @@ fn lay_tiles<F: hb_font_t>(
 }
 
 // Lays a tile, and where it repeats the added copies of it.
+#[inline]
 fn lay_tile<F: hb_font_t>(
     face: &F,
     right_to_left: bool,
@@ -290,6 +294,7 @@ fn lay_tile<F: hb_font_t>(
 }
 
 // Lays so many copies of a tile that each move the pen so far.
+#[inline]
 fn lay_copies(
     right_to_left: bool,
     step: i128,
@@ -321,6 +326,7 @@ fn lay_copies(
 }
 
 // Lays one copy of a tile.
+#[inline]
 fn lay_copy(
     right_to_left: bool,
     step: i128,
@@ -356,6 +362,7 @@ fn lay_copy(
 }
 
 // Where a copy stands.
+#[inline]
 fn offset_of(right_to_left: bool, at: i128, step: i128) -> i32
     requires step_low { negsuc (2 ^ 67) ≤ℤ step }
     requires step_high { step ≤ℤ pos (2 ^ 67) }

@@ -43,6 +43,7 @@ pub(super) fn fits_i32(x: i128) -> bool
 }
 
 /// What tiles and the word before them measure.
+#[inline]
 pub(super) fn measure<F: hb_font_t>(
     face: &F,
     word: &[GlyphPosition],
@@ -82,6 +83,7 @@ pub(super) fn advance_of<F: hb_font_t>(face: &F, glyph: &hb_glyph_info_t) -> i32
 }
 
 // The advance of a word.
+#[inline]
 fn total_advance(word: &[GlyphPosition]) -> i128
     ensures { result ≡ total (map (λ p. p.x_advance) word.now) }
 {
@@ -93,6 +95,7 @@ fn total_advance(word: &[GlyphPosition]) -> i128
 }
 
 /// How a run is laid, unless one of its numbers doesn't fit 32 bits.
+#[inline]
 pub(super) fn lay_of(choice: StretchStart, right_to_left: bool, run: Run) -> Option<Lay>
     ensures { result ≡ lay_if_fits choice right_to_left run }
 {
@@ -113,6 +116,7 @@ pub(super) fn lay_of(choice: StretchStart, right_to_left: bool, run: Run) -> Opt
 }
 
 // Whether what a run measures fits 32 bits, and what its fixed tiles leave of the word.
+#[inline]
 fn run_fits(run: Run) -> bool
     ensures value { result ≡ list_all fits_i32 (run.word ∷ run.fixed ∷ run.repeating
         ∷ left run ∷ []) }
@@ -126,6 +130,7 @@ fn run_fits(run: Run) -> bool
 
 // How many times more the repeating tiles of a run fit into what is left.
 #[tactic(auto, using(crate::proofs::Numbers::fit_yes, crate::proofs::Numbers::fit_room, crate::proofs::Numbers::fit_width))]
+#[inline]
 fn fitting(run: Run) -> usize
     requires { RunFits run }
     ensures value { result ≡ fitting run }
@@ -141,6 +146,7 @@ fn fitting(run: Run) -> usize
 
 // The same where they do fit.
 #[tactic(auto, using(crate::proofs::Numbers::quotient_abs))]
+#[inline]
 fn times_more(run: Run, left: i128) -> usize
     requires fits { FitsSigned w32 left }
     requires some { pos 0 <ℤ run.repeating }
@@ -159,6 +165,7 @@ struct Rounds {
 }
 
 // How many times more they are laid, and whether that is so much that the copies overlap.
+#[inline]
 fn rounds_of(run: Run) -> Rounds
     requires { RunFits run }
     ensures added { result.added ≡ added run }
@@ -181,6 +188,7 @@ fn rounds_of(run: Run) -> Rounds
 }
 
 // How far the repeating tiles reach, laid once and these times more.
+#[inline]
 fn reach(run: Run, added: usize) -> i128
     requires fits { RunFits run }
     requires bound { added ≤ 2 ^ 31 }
@@ -191,6 +199,7 @@ fn reach(run: Run, added: usize) -> i128
 }
 
 // How far they then reach too far.
+#[inline]
 fn excess(run: Run, added: usize) -> i128
     requires fits { RunFits run }
     requires bound { added ≤ 2 ^ 31 }
@@ -201,6 +210,7 @@ fn excess(run: Run, added: usize) -> i128
 }
 
 // How many copies that makes.
+#[inline]
 fn copies(run: Run, added: usize) -> i128
     requires { added ≤ 2 ^ 31 }
     ensures { result ≡ pos (added * run.repeaters) }
@@ -209,6 +219,7 @@ fn copies(run: Run, added: usize) -> i128
 }
 
 // Whether these numbers fit 32 bits.
+#[inline]
 fn added_fits(run: Run, added: usize) -> bool
     requires fits { RunFits run }
     requires bound { added ≤ 2 ^ 31 }
@@ -220,6 +231,7 @@ fn added_fits(run: Run, added: usize) -> bool
 }
 
 // By how much each added copy overlaps the one before it.
+#[inline]
 fn overlap(run: Run, rounds: Rounds) -> i128
     requires fits { RunFits run }
     requires bound { rounds.added ≤ 2 ^ 31 }
@@ -238,6 +250,7 @@ fn overlap(run: Run, rounds: Rounds) -> i128
 }
 
 // Where the first tile begins, unless a number of the choice doesn't fit 32 bits.
+#[inline]
 fn start(
     choice: StretchStart,
     right_to_left: bool,
@@ -262,6 +275,7 @@ fn start(
 }
 
 // The first choice of a start.
+#[inline]
 fn start_as_code(run: Run, shares: bool) -> i128
     requires fits { RunFits run }
     requires squeezes { shares ≡ squeezes run }
@@ -271,6 +285,7 @@ fn start_as_code(run: Run, shares: bool) -> i128
 }
 
 // What the fixed tiles leave of the word.
+#[inline]
 fn left_of(run: Run) -> i128
     requires fits { RunFits run }
     ensures { result ≡ left run }
@@ -280,6 +295,7 @@ fn left_of(run: Run) -> i128
 
 // The second choice: what is laid is centred on the word, unless its width, or the word less that
 // width, doesn't fit 32 bits.
+#[inline]
 fn centred_start(right_to_left: bool, run: Run, times: usize, shared: i128) -> Option<i128>
     requires fits { RunFits run }
     requires added { times ≡ added run }
@@ -302,6 +318,7 @@ fn centred_start(right_to_left: bool, run: Run, times: usize, shared: i128) -> O
 }
 
 // How much wider the word is than what is laid.
+#[inline]
 fn gap(run: Run, width: i128) -> i128
     requires word { RunFits run }
     requires width { FitsSigned w32 width }
@@ -311,6 +328,7 @@ fn gap(run: Run, width: i128) -> i128
 }
 
 // Half of a number.
+#[inline]
 fn half(x: i128) -> i128
     requires { FitsSigned w32 x }
     ensures value { result ≡ int_div x (pos 2) }
@@ -320,6 +338,7 @@ fn half(x: i128) -> i128
 }
 
 // A number counted in the direction in which tiles follow one another.
+#[inline]
 fn along(right_to_left: bool, x: i128) -> i128
     requires { FitsSigned w32 x }
     ensures { result ≡ (if right_to_left then neg_ℤ x else x) }
@@ -328,6 +347,7 @@ fn along(right_to_left: bool, x: i128) -> i128
 }
 
 // The width that is laid.
+#[inline]
 fn width_of_laid(run: Run, times: usize, shared: i128) -> i128
     requires fits { RunFits run }
     requires added { times ≡ added run }
@@ -344,6 +364,7 @@ fn width_of_laid(run: Run, times: usize, shared: i128) -> i128
 }
 
 // What so many copies overlap together.
+#[inline]
 fn shared_by(copies: i128, shared: i128) -> i128
     requires low { pos 0 ≤ℤ copies }
     requires high { copies <ℤ pos (2 ^ 31) }
@@ -357,6 +378,7 @@ fn shared_by(copies: i128, shared: i128) -> i128
 }
 
 // The quotient of two numbers that fit 64 bits, rounded toward zero.
+#[inline]
 fn quotient(a: i128, b: i128) -> i128
     requires above { pos 0 <ℤ b }
     requires a { FitsSigned w64 a }

@@ -29,6 +29,7 @@ pub(super) fn last_part(glyphs: &[hb_glyph_info_t]) -> LastPart
 }
 
 // How many tiles stand at the end.
+#[inline]
 fn count_last_tiles(glyphs: &[hb_glyph_info_t]) -> usize
     ensures counted { result ≡ suffix_len is_tile glyphs.now }
     ensures within { result ≤ length glyphs.now }
@@ -41,6 +42,7 @@ fn count_last_tiles(glyphs: &[hb_glyph_info_t]) -> usize
 }
 
 // How many glyphs at the end can belong to the word before a run.
+#[inline]
 fn count_last_in_word(glyphs: &[hb_glyph_info_t]) -> usize
     ensures counted { result ≡ suffix_len in_word glyphs.now }
     ensures within { result ≤ length glyphs.now }
@@ -53,6 +55,7 @@ fn count_last_in_word(glyphs: &[hb_glyph_info_t]) -> usize
 }
 
 // How many glyphs at the end are no tiles.
+#[inline]
 fn count_last_others(glyphs: &[hb_glyph_info_t]) -> usize
     ensures counted { result ≡ suffix_len (λ g. not (is_tile g)) glyphs.now }
     ensures within { result ≤ length glyphs.now }
@@ -81,6 +84,7 @@ pub(super) fn repeats(glyph: &hb_glyph_info_t) -> bool
 }
 
 // Whether a glyph can belong to the word before a run.
+#[inline]
 fn in_word(glyph: &hb_glyph_info_t) -> bool
     ensures { result ≡ in_word glyph.now }
 {
@@ -89,6 +93,7 @@ fn in_word(glyph: &hb_glyph_info_t) -> bool
 }
 
 // Whether a character of this category can belong to the word before a run.
+#[inline]
 fn is_word_category(category: hb_unicode_general_category_t) -> bool
     ensures { result ≡ is_word_category category }
 {

@@ -20,6 +20,7 @@ use shapers_base::plan::{PlanData, StretchStart, hb_ot_shape_plan_t};
 /// `StretchOverflow` where a number of a run doesn't fit 32 bits, and then as a growth to the
 /// length of the result does: longer by the copies that are added. What is laid is as wide as
 /// `widths_law` says. (OpenType `stch`.)
+#[inline]
 pub fn postprocess_glyphs<F: hb_font_t>(
     plan: &hb_ot_shape_plan_t,
     face: &F,
@@ -49,6 +50,7 @@ pub fn postprocess_glyphs<F: hb_font_t>(
 }
 
 // The same, where stretches begin so.
+#[inline]
 fn stretch_marks<F: hb_font_t>(
     face: &F,
     choice: StretchStart,
@@ -74,6 +76,7 @@ fn stretch_marks<F: hb_font_t>(
 }
 
 // Stretches a text that is in working order backwards.
+#[inline]
 fn stretch_backwards<F: hb_font_t>(
     face: &F,
     choice: StretchStart,
@@ -132,6 +135,7 @@ fn stretch_text<F: hb_font_t>(
 }
 
 // Makes room for so many glyphs more.
+#[inline]
 fn make_room(buffer: &mut hb_buffer_t, added: u128) -> Result<(), ShaperError>
     ensures ok { OnOk result (buffer.new ≡ grown added buffer.old) }
     ensures length { RefusesLength buffer.old.max_len (length buffer.old.glyphs + added) result }

@@ -12,6 +12,7 @@ use shapers_base::plan::{PlanData, hb_ot_shape_plan_t};
 /// Where the font stretches marks, gives each multiplied glyph the action of its tile, which
 /// repeats if the glyph's component is odd, and marks the buffer if there is one. It can't refuse
 /// and takes no memory. (OpenType `stch`.)
+#[inline]
 pub fn record_stch(plan: &hb_ot_shape_plan_t, buffer: &mut hb_buffer_t)
     requires { IsArabic plan.now.plan_data }
     ensures { buffer.new ≡ tiles_recorded plan.now.plan_data buffer.old }
@@ -27,6 +28,7 @@ pub fn record_stch(plan: &hb_ot_shape_plan_t, buffer: &mut hb_buffer_t)
 }
 
 // The same where the font stretches marks.
+#[inline]
 fn record_tiles(buffer: &mut hb_buffer_t)
     ensures { buffer.new ≡ with_tiles buffer.old }
 {
@@ -78,6 +80,7 @@ pub fn record_stch_in(glyphs: &mut [hb_glyph_info_t]) -> bool
 }
 
 // The tile that a multiplied glyph of this component is.
+#[inline]
 fn tile_action(component: u8) -> u8
     ensures { result ≡ tile_action component }
 {

@@ -1,4 +1,4 @@
-//! What several shapers ask the tables about a character.
+//! What several shapers look up about a character.
 ghost use Rattle.std.specs.Prelude.{◌≡◌, map};
 ghost use Rattle.shapers_syllabic.specs.Characters.{composed_behind, with_category, with_category_and_position};
 

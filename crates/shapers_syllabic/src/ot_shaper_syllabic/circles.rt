@@ -1,4 +1,4 @@
-//! Dotted circles: what a broken syllable stands on.
+//! Dotted circles: the base of a broken syllable.
 ghost use Rattle.std.specs.Prelude.{◌≡◌, ◌==◌, ◌<◌, ◌≤◌, ◌+◌, ◌-◌, [], ◌++◌, IfOk, IsOk, MatchOption, OnErr, OnOk, is_some, length, take, drop};
 ghost use Rattle.std.specs.List.{prefix_len, suffix_len};
 ghost use Rattle.shapers_buffer.specs.Clusters.{stretch_of};
@@ -37,7 +37,7 @@ struct Places {
 }
 
 /// Gives each broken syllable a dotted circle, behind its leading glyphs of the repha category
-/// where one is given, else in front. Answers false, with nothing changed, where no syllable is
+/// where one is given, else in front. Returns false, with nothing changed, where no syllable is
 /// broken, the caller forbids circles or the font has none. Without its circles the text is what it
 /// was. Refuses with `TooLong` where the text
 /// would be longer than `max_len`, and with `Memory`; where no circle opens it takes none.
@@ -73,7 +73,7 @@ pub fn insert_dotted_circles<F: hb_font_t>(
         repha_category dottedcircle_position buffer.old in
         circled circles buffer.old.glyphs ≡ buffer.old.glyphs → IsOk result }
 {
-    // so that an answer with nothing changed keeps the promise on lengths, too
+    // so that a return with nothing changed keeps the promise on lengths, too
     prove!(buffer.len() <= buffer.max_len());
     let circles = circles_for(
         face,
@@ -130,6 +130,7 @@ fn circles_for<F: hb_font_t>(
 
 impl DottedCircles {
     // Puts the circles into the text.
+    #[inline]
     fn insert(&self, buffer: &mut hb_buffer_t) -> Result<(), ShaperError>
         requires { buffer.old.positions ≡ [] }
         ensures ok { OnOk result (buffer.new ≡
@@ -153,6 +154,7 @@ impl DottedCircles {
     }
 
     // How many circles the text gets.
+    #[inline]
     fn count(&self, text: &[hb_glyph_info_t]) -> usize
         ensures { result ≡ count_of_kind self.now.broken_kind text.now }
     {
@@ -167,6 +169,7 @@ impl DottedCircles {
 
     // Opens each broken syllable of the text, of `len` glyphs, behind which stands room for as many
     // circles. The text is written from behind, so that nothing is written over before it is read.
+    #[inline]
     fn open_all(&self, glyphs: &mut [hb_glyph_info_t], len: usize)
         requires within { len ≤ length glyphs.old }
         requires room { let count = count_of_kind self.now.broken_kind (take len glyphs.old) in
@@ -182,7 +185,8 @@ impl DottedCircles {
     }
 
     // Opens the last broken syllable of the first `read` glyphs, which move up, from it on, by as
-    // many places as they have broken syllables. Answers where it starts.
+    // many places as they have broken syllables. Returns where it starts.
+    #[inline]
     fn open_last(&self, glyphs: &mut [hb_glyph_info_t], read: usize, left: usize) -> usize
         requires some { 0 < left }
         requires in_range { read + left ≤ length glyphs.old }
@@ -196,6 +200,7 @@ impl DottedCircles {
     }
 
     // Where the last broken syllable of a text stands.
+    #[inline]
     fn last_broken(&self, text: &[hb_glyph_info_t]) -> Places
         requires { 0 < count_of_kind self.now.broken_kind text.now }
         ensures { IsLastBroken self.now text.now result.start result.end }
@@ -207,6 +212,7 @@ impl DottedCircles {
     }
 
     // Moves a syllable up by `left` places, and puts its circle into it, which takes one of them.
+    #[inline]
     fn open(&self, glyphs: &mut [hb_glyph_info_t], broken: Places, left: usize)
         requires some { 0 < left }
         requires in_order { broken.start < broken.end }
@@ -226,6 +232,7 @@ impl DottedCircles {
     }
 
     // Where the first broken syllable of a text stands.
+    #[inline]
     fn first_broken(&self, text: &[hb_glyph_info_t]) -> Option<Places>
         ensures { let no_one = count_of_kind self.now.broken_kind text.now ≡ 0 in
             MatchOption result no_one (λ p. IsFirstBroken self.now text.now p.start p.end) }
@@ -239,6 +246,7 @@ impl DottedCircles {
     }
 
     // How many glyphs of a syllable stand in front of its circle.
+    #[inline]
     fn rephas_len(&self, syllable: &[hb_glyph_info_t]) -> usize
         ensures len { result ≡ rephas_len self.now.repha syllable.now }
         ensures within { result ≤ length syllable.now }
@@ -273,6 +281,7 @@ impl GlyphWalk for CircleWalk {
 }
 
 // Copies the glyphs from `from` to `to` to as many places `by` further up.
+#[inline]
 fn move_up(glyphs: &mut [hb_glyph_info_t], from: usize, to: usize, by: usize)
     requires in_order { from ≤ to }
     requires in_range { to + by ≤ length glyphs.old }
@@ -285,6 +294,7 @@ fn move_up(glyphs: &mut [hb_glyph_info_t], from: usize, to: usize, by: usize)
 }
 
 // How many glyphs at the end are in a syllable of another kind.
+#[inline]
 fn unbroken_end(glyphs: &[hb_glyph_info_t], kind: u8) -> usize
     ensures len { result ≡ suffix_len (is_of_other_kind kind) glyphs.now }
     ensures within { result ≤ length glyphs.now }
@@ -298,6 +308,7 @@ fn unbroken_end(glyphs: &[hb_glyph_info_t], kind: u8) -> usize
 }
 
 // How many glyphs at the end have this byte of a syllable.
+#[inline]
 fn syllable_end(glyphs: &[hb_glyph_info_t], byte: u8) -> usize
     ensures len { result ≡ suffix_len (has_byte byte) glyphs.now }
     ensures within { result ≤ length glyphs.now }
@@ -310,6 +321,7 @@ fn syllable_end(glyphs: &[hb_glyph_info_t], byte: u8) -> usize
 }
 
 // How many glyphs at the front have this category.
+#[inline]
 fn category_len(glyphs: &[hb_glyph_info_t], category: u8) -> usize
     ensures len { result ≡ prefix_len (λ glyph. glyph.category == category) glyphs.now }
     ensures within { result ≤ length glyphs.now }
@@ -321,6 +333,7 @@ fn category_len(glyphs: &[hb_glyph_info_t], category: u8) -> usize
 }
 
 // How many glyphs at the front are in a syllable of another kind.
+#[inline]
 fn unbroken_len(glyphs: &[hb_glyph_info_t], kind: u8) -> usize
     ensures len { result ≡ prefix_len (is_of_other_kind kind) glyphs.now }
     ensures within { result ≤ length glyphs.now }
@@ -334,6 +347,7 @@ fn unbroken_len(glyphs: &[hb_glyph_info_t], kind: u8) -> usize
 }
 
 // The circle of a syllable, which takes cluster, mask and syllable byte from the first glyph.
+#[inline]
 fn circle_in(syllable: &[hb_glyph_info_t], circle: hb_glyph_info_t) -> hb_glyph_info_t
     requires { 0 < length syllable.now }
     ensures { result ≡ circle_in syllable.now circle }

@@ -25,10 +25,11 @@ pub struct ScriptCircles {
     pub position: Option<u8>,
 }
 
-/// Gives broken syllables their dotted circles and then reorders each syllable. Answers whether
+/// Gives broken syllables their dotted circles and then reorders each syllable. Returns whether
 /// circles were wanted. Refuses with `UnknownSyllable` where a kind is above the last known one, if
 /// there is one; with `TooLong`; and with `Memory`, but not where no circle opens. The order itself
 /// never refuses. Every cluster afterwards is one that the text had before its circles.
+#[inline]
 pub fn reorder_pause<F: hb_font_t, R: Reorder>(
     face: &F,
     order: &R,
@@ -77,6 +78,7 @@ pub fn reorder_pause<F: hb_font_t, R: Reorder>(
 }
 
 // The first place of the first syllable of unknown kind, where there is a last known one.
+#[inline]
 fn first_unknown(buffer: &hb_buffer_t, last_kind: Option<u8>) -> Option<usize>
     ensures { result ≡ first_unknown last_kind buffer.now.glyphs }
 {

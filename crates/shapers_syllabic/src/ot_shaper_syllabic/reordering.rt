@@ -28,9 +28,10 @@ pub trait Reorder {
         ensures ok { IsOk result };
 }
 
-/// Reorders each syllable of the text, from left to right. It asks for the laws of the order: its
+/// Reorders each syllable of the text, from left to right. It requires the laws of the order: its
 /// steps fit a syllable, lose nothing and lead to what the syllable becomes. The placement list is
 /// empty afterwards, so that no place depends on how syllables were moved. It never refuses.
+#[inline]
 pub fn reorder_syllables<R: Reorder>(order: &R, buffer: &mut hb_buffer_t) -> Result<(), ShaperError>
     requires without_positions { buffer.old.positions ≡ [] }
     requires laws { ReorderLaws

@@ -19,6 +19,7 @@ use shapers_base::buffer::{
 /// flags the inside of each syllable as unsafe to break. Refuses with `SpansDontCover` where a span
 /// is empty or the lengths don't add up to the buffer's. It takes no memory and leaves the clusters
 /// as they are.
+#[inline]
 pub fn set_up_syllables(
     spans: &[Span],
     broken_kind: u8,
@@ -69,6 +70,7 @@ pub fn flag_syllables_in(glyphs: &mut [hb_glyph_info_t])
 }
 
 // Whether some syllable is of this kind.
+#[inline]
 fn has_syllable_of_kind(glyphs: &[hb_glyph_info_t], kind: u8) -> bool
     ensures { result ≡ list_any (λ g. kind_of g.syllable == kind) glyphs.now }
 {
@@ -87,6 +89,7 @@ impl GlyphWalk for FlagSyllables {
 
     ghost walks = { λ _ _ old new. new ≡ unsafe_syllables old };
 
+    #[inline]
     fn walk(&mut self, glyphs: &mut [hb_glyph_info_t]) {
         flag_syllables_in(glyphs);
     }
@@ -113,6 +116,7 @@ impl<'a> GlyphWalk for SetUp<'a> {
 }
 
 // Gives each place the byte of the span that covers it, and flags the inside of each span.
+#[inline]
 fn set_up_spans(glyphs: &mut [hb_glyph_info_t], spans: &[Span])
     requires covered { IsTrue (spans_cover (length glyphs.old) spans.now) }
     requires kinds { All (λ span. span.kind ≤ 15) spans.now }
@@ -128,6 +132,7 @@ fn set_up_spans(glyphs: &mut [hb_glyph_info_t], spans: &[Span])
 }
 
 // Makes one syllable of the glyphs from `s` to `e`.
+#[inline]
 fn set_up_span_in(glyphs: &mut [hb_glyph_info_t], s: usize, e: usize, byte: u8)
     requires in_order { s ≤ e }
     requires in_range { e ≤ length glyphs.old }
@@ -137,6 +142,7 @@ fn set_up_span_in(glyphs: &mut [hb_glyph_info_t], s: usize, e: usize, byte: u8)
 }
 
 // Makes one syllable of these glyphs: gives them this byte, and flags its inside.
+#[inline]
 fn set_up_span(glyphs: &mut [hb_glyph_info_t], byte: u8)
     ensures { glyphs.new ≡ in_unsafe_syllable byte glyphs.old }
 {
@@ -148,6 +154,7 @@ fn set_up_span(glyphs: &mut [hb_glyph_info_t], byte: u8)
 }
 
 // Gives these glyphs this byte, and flags those outside the least cluster.
+#[inline]
 fn set_up_each(glyphs: &mut [hb_glyph_info_t], byte: u8, least: u32)
     ensures { glyphs.new ≡ map (λ g. with_bits_off 3 least (in_syllable byte g)) glyphs.old }
 {

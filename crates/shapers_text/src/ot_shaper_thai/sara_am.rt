@@ -64,6 +64,17 @@ fn count_sara_am(buffer: &hb_buffer_t) -> usize
         .count()
 }
 
+/// Whether the text has a SARA AM.
+#[inline]
+pub(super) fn has_sara_am(buffer: &hb_buffer_t) -> bool
+    ensures { result ≡ list_any (λ g. is_sara_am g.glyph_id) buffer.now.glyphs }
+{
+    buffer
+        .glyphs()
+        .iter()
+        .any(|glyph| is_sara_am(glyph.glyph_id))
+}
+
 // How many above-base marks stand right before `place`.
 fn count_marks_before(glyphs: &[hb_glyph_info_t], place: usize) -> usize
     requires { place ≤ length glyphs.now }
@@ -78,7 +89,7 @@ fn count_marks_before(glyphs: &[hb_glyph_info_t], place: usize) -> usize
 }
 
 // Merges what a SARA AM at `place` merges, its marks or, without any, the glyph before it, in the
-// glyphs with a run in its cluster. Answers the run that is to be written then.
+// glyphs with a run in its cluster. Returns the run that is to be written then.
 fn merge_sara_am(
     level: BufferClusterLevel,
     glyphs: &mut [hb_glyph_info_t],

@@ -1,7 +1,7 @@
 //! The masks of joining and the categories of the universal shaper.
 ghost use Rattle.std.specs.Prelude.{◌≡◌, map, true};
 ghost use Rattle.shapers_universal.specs.PlanData.{arabic_of, is_universal};
-ghost use Rattle.shapers_universal.specs.UniversalMasks.{CanJoin, MasksAreSet, categorized, with_categories};
+ghost use Rattle.shapers_universal.specs.UniversalMasks.{BreaksAsJoining, CanJoin, MasksAreSet, categorized, with_categories};
 
 use shapers_arabic::ot_shaper_arabic::setup_masks_inner;
 use shapers_base::buffer::{GlyphChange, change_each_in, hb_buffer_t, hb_glyph_info_t};
@@ -11,11 +11,14 @@ use shapers_base::plan::{PlanData, hb_ot_shape_plan_t};
 /// Gives each letter its form, the form's mask and the glyph flags of joining, where the plan has a
 /// plan of Arabic, and each glyph the category of its character in the universal shaper. It can't
 /// refuse and takes no memory.
+#[inline]
 pub fn setup_masks<T: Tables>(plan: &hb_ot_shape_plan_t, tables: &T, buffer: &mut hb_buffer_t)
     requires data { is_universal plan.now.plan_data ≡ true }
     requires characters { CanJoin (arabic_of plan.now.plan_data) buffer.old.glyphs }
-    ensures { let arabic = arabic_of plan.now.plan_data in
+    ensures masks { let arabic = arabic_of plan.now.plan_data in
         MasksAreSet arabic plan.now.script (T.tables tables.now) buffer.old buffer.new }
+    ensures breaks { let arabic = arabic_of plan.now.plan_data in
+        BreaksAsJoining arabic plan.now.script (T.tables tables.now) buffer.old buffer.new }
 {
     match &plan.plan_data {
         PlanData::Universal(universal_plan) => {

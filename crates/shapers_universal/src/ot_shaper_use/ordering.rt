@@ -256,7 +256,7 @@ fn list_piece(buffer: &mut hb_buffer_t, s: usize, behind: usize, e: usize)
 }
 
 // Lists what goes to the front of those from `behind` to `e`, last first, from place `s` on.
-// Answers the place behind them.
+// Returns the place behind them.
 #[inline]
 fn list_fronts(buffer: &mut hb_buffer_t, s: usize, behind: usize, e: usize) -> usize
     requires in_order { s ≤ behind }
@@ -279,7 +279,7 @@ fn list_fronts(buffer: &mut hb_buffer_t, s: usize, behind: usize, e: usize) -> u
     at
 }
 
-// Lists the places from `s` to `behind` from place `at` on, the first of them last. Answers the
+// Lists the places from `s` to `behind` from place `at` on, the first of them last. Returns the
 // place behind them.
 #[inline]
 fn list_reph(buffer: &mut hb_buffer_t, s: usize, behind: usize, at: usize) -> usize

@@ -1,18 +1,20 @@
 //! What lookups did, kept as categories for the reordering.
-ghost use Rattle.std.specs.Prelude.{◌≡◌, ◌≤◌, length, true};
-ghost use Rattle.std.specs.List.{flat_map, prefix_len};
+ghost use Rattle.std.specs.Prelude.{◌≡◌, ◌∷◌, List, if◌then◌else◌, true};
+ghost use Rattle.std.specs.List.{flat_map};
 ghost use Rattle.shapers_buffer.specs.Syllables.{syllables};
+ghost use Rattle.shapers_buffer.specs.declared.buffer.glyph.hb_glyph_info_t.{hb_glyph_info_t};
 ghost use Rattle.shapers_universal.specs.declared.ot_shaper_use.category.TheConstants.{VPre};
 ghost use Rattle.shapers_universal.specs.PlanData.{is_universal, rphf_of};
-ghost use Rattle.shapers_universal.specs.UniversalSyllables.{first_recorded, has_bits, rphf_recorded, with_pref_recorded, with_rphf_recorded};
+ghost use Rattle.shapers_universal.specs.UniversalSyllables.{first_recorded, rphf_recorded, with_pref_recorded, with_rphf_recorded};
 
 use super::category;
-use super::syllable_walk::{EachSyllable, SyllableChange, change_syllables};
+use super::syllable_walk::{EachFront, FrontChange, change_fronts};
 use shapers_base::buffer::{hb_buffer_t, hb_glyph_info_t};
 use shapers_base::plan::{PlanData, hb_ot_shape_plan_t};
 
 /// Among the leading glyphs of each syllable that have the mask of `rphf`, the first that a lookup
 /// put in becomes a reph. It takes no memory.
+#[inline]
 pub fn record_rphf(plan: &hb_ot_shape_plan_t, buffer: &mut hb_buffer_t)
     requires { is_universal plan.now.plan_data ≡ true }
     ensures { buffer.new ≡ with_rphf_recorded (rphf_of plan.now.plan_data) buffer.old }
@@ -22,7 +24,7 @@ pub fn record_rphf(plan: &hb_ot_shape_plan_t, buffer: &mut hb_buffer_t)
             let record = RecordRphf {
                 mask: universal_plan.rphf_mask,
             };
-            buffer.walk(&mut EachSyllable { change: &record });
+            buffer.walk(&mut EachFront { change: &record });
         }
         _ => unreachable!(),
     }
@@ -30,10 +32,11 @@ pub fn record_rphf(plan: &hb_ot_shape_plan_t, buffer: &mut hb_buffer_t)
 
 /// In each syllable the first glyph that a lookup put in becomes one that stands before the base.
 /// It takes no memory.
+#[inline]
 pub fn record_pref(buffer: &mut hb_buffer_t)
     ensures { buffer.new ≡ with_pref_recorded buffer.old }
 {
-    buffer.walk(&mut EachSyllable {
+    buffer.walk(&mut EachFront {
         change: &RecordPref,
     });
 }
@@ -43,7 +46,7 @@ pub fn record_pref(buffer: &mut hb_buffer_t)
 pub fn record_rphf_in(mask: u32, glyphs: &mut [hb_glyph_info_t])
     ensures { glyphs.new ≡ flat_map (rphf_recorded mask) (syllables glyphs.old) }
 {
-    change_syllables(&RecordRphf { mask }, glyphs);
+    change_fronts(&RecordRphf { mask }, glyphs);
 }
 
 /// In each syllable of a slice the first glyph that a lookup put in becomes one that stands before
@@ -52,7 +55,7 @@ pub fn record_rphf_in(mask: u32, glyphs: &mut [hb_glyph_info_t])
 pub fn record_pref_in(glyphs: &mut [hb_glyph_info_t])
     ensures { glyphs.new ≡ flat_map (first_recorded VPre) (syllables glyphs.old) }
 {
-    change_syllables(&RecordPref, glyphs);
+    change_fronts(&RecordPref, glyphs);
 }
 
 // The record of `rphf`.
@@ -61,15 +64,14 @@ struct RecordRphf {
     mask: u32,
 }
 
-impl SyllableChange for RecordRphf {
+impl FrontChange for RecordRphf {
     ghost use Rattle.shapers_universal.specs.UniversalSyllables.{rphf_recorded};
 
     ghost changed = { λ change glyphs. rphf_recorded change.mask glyphs };
 
     #[inline]
-    fn change(&self, syllable: &mut [hb_glyph_info_t]) {
-        let leading = leading_len(syllable, self.mask);
-        record_first(&mut syllable[..leading], category::R);
+    fn change(&self, glyph: &mut hb_glyph_info_t) -> bool {
+        glyph.mask & self.mask != 0 && record_glyph(glyph, category::R)
     }
 }
 
@@ -77,39 +79,27 @@ impl SyllableChange for RecordRphf {
 #[derive(Clone, Copy)]
 struct RecordPref;
 
-impl SyllableChange for RecordPref {
+impl FrontChange for RecordPref {
     ghost use Rattle.shapers_universal.specs.UniversalSyllables.{first_recorded};
     ghost use Rattle.shapers_universal.specs.declared.ot_shaper_use.category.TheConstants.{VPre};
 
     ghost changed = { λ _ glyphs. first_recorded VPre glyphs };
 
     #[inline]
-    fn change(&self, syllable: &mut [hb_glyph_info_t]) {
-        record_first(syllable, category::VPre);
+    fn change(&self, glyph: &mut hb_glyph_info_t) -> bool {
+        record_glyph(glyph, category::VPre)
     }
 }
 
-// How many glyphs in front have bits of this mask.
+// Gives the glyph another category if a lookup put it in, and returns whether none did.
 #[inline]
-fn leading_len(glyphs: &[hb_glyph_info_t], mask: u32) -> usize
-    ensures len { result ≡ prefix_len (has_bits mask) glyphs.now }
-    ensures within { result ≤ length glyphs.now }
+fn record_glyph(glyph: &mut hb_glyph_info_t, category: u8) -> bool
+    ensures { (rest : List hb_glyph_info_t) → first_recorded category (glyph.old ∷ rest)
+        ≡ glyph.new ∷ (if result then first_recorded category rest else rest) }
 {
-    glyphs
-        .iter()
-        .take_while(|glyph| glyph.mask & mask != 0)
-        .count()
-}
-
-// Gives the first of these glyphs that a lookup put in another category.
-#[inline]
-fn record_first(glyphs: &mut [hb_glyph_info_t], category: u8)
-    ensures { glyphs.new ≡ first_recorded category glyphs.old }
-{
-    for glyph in glyphs.iter_mut() {
-        if glyph.marks.is_substituted() {
-            glyph.category = category;
-            break;
-        }
+    if !glyph.marks.is_substituted() {
+        return true;
     }
+    glyph.category = category;
+    false
 }

@@ -58,7 +58,7 @@ pub struct Map<'a> {
     pub user_data: UserData,
 }
 
-// What a call asks, as bits.
+// Which callbacks a call uses, as bits.
 pub const FONT_NOMINAL: u8 = 1;
 pub const FONT_ADVANCE: u8 = 2;
 pub const FONT_WOULD: u8 = 4;
@@ -70,7 +70,7 @@ pub const TABLES_USE: u8 = 8;
 pub const TABLES_COMPOSE: u8 = 16;
 pub const TABLES_DECOMPOSE: u8 = 32;
 
-/// Functions that have what a call asks, with what they are given.
+/// Functions, among them all that a call uses, with their user data.
 pub struct Asked<'a, F> {
     funcs: &'a F,
     user_data: UserData,
@@ -119,7 +119,7 @@ impl TablesFuncs {
 }
 
 impl<'a> Asked<'a, FontFuncs> {
-    /// The font, if it answers all that is asked; where nothing is, it may be null.
+    /// The font, if it has all that is used; where nothing is, it may be null.
     #[inline]
     pub fn font(font: Option<&Font<'a>>, asks: u8) -> Result<Self, Error> {
         let funcs = font.and_then(|font| font.funcs).unwrap_or(&FontFuncs::NONE);
@@ -134,7 +134,7 @@ impl<'a> Asked<'a, FontFuncs> {
 }
 
 impl<'a> Asked<'a, TablesFuncs> {
-    /// The tables, if they answer all that is asked; where nothing is, they may be null.
+    /// The tables, if they have all that is used; where nothing is, they may be null.
     #[inline]
     pub fn tables(tables: Option<&Tables<'a>>, asks: u8) -> Result<Self, Error> {
         let funcs = tables
@@ -153,7 +153,7 @@ impl<'a> Asked<'a, TablesFuncs> {
 /// How many glyphs a question about lookups is about at most.
 const QUESTIONED: usize = 3;
 
-// In each call below a function that is missing isn't asked (`Asked::font`, `Asked::tables`).
+// No call below uses a function that is missing (`Asked::font`, `Asked::tables`).
 impl AnswersFont for Asked<'_, FontFuncs> {
     #[inline]
     fn get_nominal_glyph(&self, c: u32) -> Option<GlyphId> {

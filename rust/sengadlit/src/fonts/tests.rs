@@ -61,7 +61,7 @@ fn broken_syllable<F: Font>(font: &F) -> Result<Vec<u32>, ShaperError> {
     Ok(buffer.into_iter().map(|glyph| glyph.glyph_id).collect())
 }
 
-/// How many pauses Arabic asks for, with a font of this feature alone.
+/// How many pauses Arabic requests, with a font of this feature alone.
 fn pauses_of(feature: Tag) -> usize {
     let mut planner = Planner::new(Global, Some(Script(*b"Arab")));
     let font = FeaturesOnly(|tag| tag == feature);

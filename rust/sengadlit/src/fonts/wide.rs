@@ -1,4 +1,4 @@
-//! A font whose glyph numbers have 32 bits, and which answers with `&mut self`.
+//! A font whose glyph numbers have 32 bits, and whose methods take `&mut self`.
 
 use super::no_answer;
 use crate::buffer::Tag;
@@ -7,8 +7,8 @@ use core::cell::{Cell, RefCell};
 use core::error::Error;
 use core::fmt;
 
-/// What shaping asks of a font whose glyph numbers have 32 bits. It may change as it answers, to
-/// keep a cache; the same question has the same answer all the same.
+/// What shaping needs of a font whose glyph numbers have 32 bits. It may change itself, to keep a
+/// cache; the same arguments give the same result all the same.
 pub trait WideGlyphs {
     /// The font's own glyph for a character, before any lookup.
     fn get_nominal_glyph(&mut self, c: u32) -> Option<u32>;
@@ -16,8 +16,8 @@ pub trait WideGlyphs {
     /// How far a glyph moves the pen, in font units.
     fn glyph_h_advance(&mut self, glyph: u32) -> i32;
 
-    /// Whether the lookup would apply to exactly these glyphs; with `zero_context`, only if it asks
-    /// for no context around them.
+    /// Whether the lookup would apply to exactly these glyphs; with `zero_context`, only if it
+    /// needs no context around them.
     fn would_apply(&mut self, lookup: u16, glyphs: &[u32], zero_context: bool) -> bool;
 
     /// Whether the font has a nominal glyph for a character.
@@ -54,8 +54,8 @@ impl<F: WideGlyphs + ?Sized> WideGlyphs for &mut F {
     }
 }
 
-/// A hook asked for the glyph of a character, and the font's number for it, this one, doesn't fit
-/// 16 bits.
+/// A hook needed the glyph of a character, and the font's number for it, this one, doesn't fit 16
+/// bits.
 #[derive(Clone, Copy, Debug, PartialEq, Eq)]
 pub struct GlyphTooLarge(pub u32);
 
@@ -69,17 +69,17 @@ impl Error for GlyphTooLarge {}
 
 /// A [`Font`] for shaping alone, of [`WideGlyphs`].
 ///
-/// - *Whether there is a glyph* for a character is answered whatever its number.
-/// - *Which glyph* it is has 16 bits: a larger number is answered as no glyph, and
-///   [`Wide::check`] returns an error afterwards. Asked for are the glyphs of the dotted circle, of
-///   Hangul's tones and of the virama of an Indic script. While `check` returns no error, the
-///   answers are those of a font with numbers of 16 bits.
-/// - *Advances and lookups* are asked for numbers of the buffer's, which are at most 65535 by the
-///   conditions of the hooks that ask.
+/// - *Whether there is a glyph* for a character is known whatever its number.
+/// - *Which glyph* it is has 16 bits: a larger number counts as no glyph, and [`Wide::check`] returns
+///   an error afterwards. The hooks need the glyphs of the dotted circle, of Hangul's tones and of
+///   the virama of an Indic script. While `check` returns no error, the results are those of a font
+///   with numbers of 16 bits.
+/// - *Advances and lookups* take numbers of the buffer's, which are at most 65535 by the conditions of
+///   the hooks that call them.
 ///
-/// A question costs a test that no other is being answered, and one for a lookup a copy of its
-/// glyphs: for Indic's initial reordering, which asks most, 7 % more instructions. The hooks ask one
-/// question at a time; a font that asks through its own adapter panics.
+/// A call costs a test that no other is in progress, and one for a lookup a copy of its glyphs: for
+/// Indic's initial reordering, which makes most calls, 7 % more instructions. The hooks make one call
+/// at a time; a font that calls its own adapter panics.
 #[derive(Debug, Default)]
 pub struct Wide<F> {
     font: RefCell<F>,
@@ -103,7 +103,7 @@ impl<F> Wide<F> {
         self.font.into_inner()
     }
 
-    /// Returns an error if a glyph asked for since the last check had too large a number. What the
+    /// Returns an error if a glyph needed since the last check had too large a number. What the
     /// hook made is then what it makes of a font without that glyph.
     pub fn check(&self) -> Result<(), GlyphTooLarge> {
         match self.too_large.take() {
@@ -142,7 +142,7 @@ impl<F: WideGlyphs> Font for Wide<F> {
 
     /// # Panics
     ///
-    /// If there are more than 8 glyphs: the hooks ask for two or three.
+    /// If there are more than 8 glyphs: the hooks pass two or three.
     #[inline]
     fn would_apply_any(&self, lookups: &[u16], glyphs: &[GlyphId], zero_context: bool) -> bool {
         if lookups.is_empty() {

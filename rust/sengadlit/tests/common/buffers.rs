@@ -60,7 +60,7 @@ impl Contents {
     }
 }
 
-/// Numbers in rising order, each once if that is asked.
+/// Numbers in rising order, each once if that is wanted.
 pub fn sorted(numbers: impl Iterator<Item = u32>, once: bool) -> Vec<u32> {
     let mut numbers: Vec<_> = numbers.collect();
     numbers.sort_unstable();

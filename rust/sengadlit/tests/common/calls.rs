@@ -135,7 +135,7 @@ impl Call {
         self == Call::Postprocess
     }
 
-    /// Whether all that the call demands of its caller holds, but for steady answers.
+    /// Whether all that the call requires of its caller holds, but for steady results.
     pub fn fits<F, T>(self, setting: &Setting<F, T>, buffer: &Buffer) -> bool {
         let glyphs = buffer.glyphs();
         let positions_fit = match self.wants_positions() {

@@ -18,13 +18,13 @@ pub const JOINING_TYPES: [JoiningType; 8] = [
     JoiningType::X,
 ];
 
-/// A font and tables whose answers are drawn by lot: the lot of a question is its answer.
+/// A font and tables whose results are random.
 pub trait Lots {
     /// A number below `end` for a question.
     fn lot(&self, question: &[u64], end: u64) -> u64;
 }
 
-/// The same question has the same answer.
+/// The same arguments give the same result.
 #[derive(Clone, Copy, Debug)]
 pub struct Steady(pub u64);
 
@@ -35,7 +35,7 @@ impl Lots for Steady {
     }
 }
 
-/// The same question has another answer each time.
+/// The same arguments give another result each time.
 #[derive(Debug)]
 pub struct Changing(Cell<u64>);
 

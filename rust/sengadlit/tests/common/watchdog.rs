@@ -1,4 +1,4 @@
-//! A time limit for what must not hang.
+//! A time limit for what must end.
 
 use std::any::Any;
 use std::panic::{self, AssertUnwindSafe};

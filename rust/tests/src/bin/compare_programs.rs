@@ -24,7 +24,7 @@ struct Comparison {
 }
 
 impl Comparison {
-    /// What the arguments ask for.
+    /// What the arguments select.
     fn parse(mut arguments: impl Iterator<Item = String>) -> Option<Self> {
         let mut number = || arguments.next()?.parse().ok();
         let (first, count, threads) = (number()?, number()?, number()?);

@@ -3,6 +3,7 @@
 use super::fault::{Fault, check};
 use super::fields::{character, decimal};
 use super::session::Session;
+use crate::pieces::{breaks_at, is_clear, piece};
 use sengadlit::plan::Preprocess;
 use sengadlit::shaper::pause_fits;
 use sengadlit::{Buffer, Pause, Plan, Shaper, run_pause};
@@ -50,9 +51,32 @@ impl Session {
         check(shaper.glyphs_fit(plan, &self.buffer))?;
         let mut glyphs = self.buffer.glyphs().iter();
         check(shaper != Shaper::Hangul || glyphs.all(|glyph| glyph.auxiliary <= 3))?;
+        if self.cuts.is_some() {
+            self.break_text(shaper, plan);
+        }
         let returned = shaper.setup_masks(plan, &self.font, &self.tables, &mut self.buffer);
         self.answer_if_absent(returned);
         Ok(())
+    }
+
+    /// Breaks the text at each clear place, and counts these.
+    fn break_text(&mut self, shaper: Shaper, plan: &Plan) {
+        let hook = |buffer: &mut Buffer| {
+            shaper.setup_masks(plan, &self.font, &self.tables, buffer);
+        };
+        let mut whole = piece(&self.buffer, 0..self.buffer.len());
+        hook(&mut whole);
+        let whole = whole.glyphs();
+        let clear: Vec<_> = (1..whole.len())
+            .filter(|place| is_clear(whole, *place))
+            .collect();
+        for place in &clear {
+            assert!(
+                breaks_at(&self.buffer, whole, *place, hook),
+                "{whole:x?} at {place}"
+            );
+        }
+        self.cuts = self.cuts.map(|cuts| cuts + clear.len());
     }
 
     fn marks(
@@ -110,7 +134,7 @@ impl Session {
     }
 }
 
-/// What a line `run ..` asks for.
+/// What a line `run ..` calls.
 enum Call {
     Preprocess,
     Masks,

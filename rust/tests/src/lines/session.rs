@@ -19,6 +19,8 @@ pub struct Session {
     pub tables: LineTables,
     pub spans: Vec<Span>,
     pub buffer: Buffer,
+    /// At how many places texts were broken, where that is asked for.
+    pub cuts: Option<usize>,
     answers: String,
 }
 
@@ -39,6 +41,19 @@ pub fn run_script(script: &[u8]) -> End {
     }
 }
 
+/// Runs the lines of a script with the choice `Sound`, and breaks the text of each `run masks` at each
+/// clear place, where the pieces must be the whole: at how many places.
+pub fn broken_script(script: &[u8]) -> usize {
+    let mut session = Session::new();
+    session.cuts = Some(0);
+    for line in script.split(|byte| *byte == b'\n') {
+        if session.carry_out_bytes(line).is_err() {
+            break;
+        }
+    }
+    session.cuts.unwrap()
+}
+
 impl Session {
     fn new() -> Self {
         Session {
@@ -47,6 +62,7 @@ impl Session {
             tables: LineTables::default(),
             spans: Vec::new(),
             buffer: Buffer::new(Global, MAX_LEN),
+            cuts: None,
             answers: String::new(),
         }
     }

@@ -1,6 +1,6 @@
 //! Generated from crates/hbhook_draw/src/boxes.rt by rust/erase; edit the source.
 //!
-//! Boxes, a box a glyph: pieces of a row as drawings that the page lets wrap.
+//! Boxes, one per glyph: pieces of a row as drawings that the page lets wrap.
 
 use crate::support::prelude::*;
 
@@ -381,7 +381,7 @@ fn draw_details(
     Ok(())
 }
 
-// Underlines the boxes of each syllable, and tells its serial and its kind.
+// Underlines the boxes of each syllable, and writes its serial and its kind.
 fn draw_syllables(
     page: &mut String,
     row: &Row,

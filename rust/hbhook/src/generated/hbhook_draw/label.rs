@@ -53,8 +53,7 @@ impl Style {
     }
 }
 
-/// A place for a text: its middle, the line that it stands on, the room that there is for it, and
-/// how it looks.
+/// A place for a text: its middle, its baseline, the room that there is for it, and how it looks.
 #[derive(Clone, Copy)]
 pub(crate) struct Place {
     pub x: usize,

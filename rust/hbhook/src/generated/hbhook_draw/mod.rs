@@ -1,7 +1,7 @@
 //! Generated from crates/hbhook_draw/src/lib.rt by rust/erase; edit the source.
 //!
 //! Draws what hooks do: carries out the lines of the program, and writes a page of HTML with a row
-//! of boxes, a box a glyph, for the text and after each hook.
+//! of boxes, one per glyph, for the text and after each hook.
 
 mod boxes;
 mod drawing;
@@ -23,8 +23,8 @@ use drawing::Drawing;
 
 /// Carries out the lines of the input and writes a page that shows the buffer before and after each
 /// hook. A refusal or a fault ends the run: the page then shows it below all that came before it,
-/// and the faults tell it. The answer is the status to end with: 0, 1 for a refusal, and 2 for a
-/// line that doesn't read, and without a message for a reader or a writer that fails.
+/// and the message goes to `faults`. Returns the status to end with: 0, 1 for a refusal, and 2 for
+/// a rejected line, and without a message for a reader or a writer that fails.
 ///
 /// <details><summary>Contract</summary>
 ///
@@ -64,7 +64,7 @@ where
     }
 }
 
-// Draws the lines in order, to the first fault, which is the answer.
+// Draws the lines in order, up to the first fault, which it returns.
 fn draw_each(drawing: &mut Drawing, lines: &[&[u8]]) -> Result<Option<Fault>, AllocError> {
     for (i, line) in lines.iter().enumerate() {
         if let Err(fault) = drawing.draw(i + 1, line) {

@@ -13,12 +13,12 @@ use sengadlit::buffer::{Buffer, BufferClusterLevel, GlyphInfo, ShaperError};
 pub(crate) struct Origins {
     /// The glyphs before the hook.
     pub before: Vec<GlyphInfo>,
-    /// The place of each glyph; none where it can't be told.
+    /// The place of each glyph; none where it isn't known.
     pub places: Vec<usize>,
 }
 
 impl Origins {
-    /// What there is to tell where nothing stood before.
+    /// What is known where there was nothing before.
     pub(crate) fn none(session: &Session) -> Self {
         Origins {
             before: Vec::new(session.buffer.alloc()),

@@ -59,12 +59,12 @@ text{fill:currentColor;text-anchor:middle;font-size:11px}
 /// How a page ends.
 pub(crate) const FOOT: &str = "</body>\n</html>\n";
 
-// The most characters of a line, and the most lines, that are told.
+// The most characters of a line, and the most lines, that are shown.
 const LONGEST_LINE: usize = 120;
 
 const MOST_LINES: usize = 6;
 
-/// A line of the input, by its number from 1, as the page tells it.
+/// A line of the input, by its number from 1, as the page shows it.
 pub(crate) struct Line {
     number: usize,
     text: String,
@@ -108,7 +108,7 @@ pub(crate) fn write_text(page: &mut String, text: &str) -> Result<(), AllocError
     page.push_str("</bdi></p>\n")
 }
 
-/// Writes what hooks answered, a line each.
+/// Writes what hooks returned, one line each.
 pub(crate) fn write_answers(page: &mut String, answers: &str) -> Result<(), AllocError> {
     for answer in answers.lines() {
         page.push_str("<p>answered <code>")?;

@@ -1,6 +1,6 @@
 //! Generated from crates/hbhook_draw/src/row.rt by rust/erase; edit the source.
 //!
-//! A row of boxes: the glyphs of a buffer, and what is told of them.
+//! A row of boxes: the glyphs of a buffer, and what is shown of them.
 
 use crate::support::prelude::*;
 
@@ -22,7 +22,7 @@ pub(crate) struct Row<'a> {
     pub positions: &'a [GlyphPosition],
     /// The glyphs before the hook.
     pub before: &'a [GlyphInfo],
-    /// For each glyph its place before the hook; none where nothing is to be told of it.
+    /// For each glyph its place before the hook; none where nothing is to be shown of it.
     pub origins: &'a [usize],
     pub shaper: Option<Shaper>,
     pub features: &'a [Feature],
@@ -71,7 +71,7 @@ impl Row<'_> {
         self.glyphs.iter().any(|glyph| glyph.syllable != 0)
     }
 
-    /// What is told of a glyph: category, auxiliary byte and combining class where they aren't 0,
+    /// What is shown of a glyph: category, auxiliary byte and combining class where they aren't 0,
     /// and its masks.
     pub(crate) fn details(&self, glyph: &GlyphInfo) -> Result<Vec<Detail>, AllocError> {
         let mut details = Vec::new(self.alloc);

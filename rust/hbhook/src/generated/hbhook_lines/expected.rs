@@ -1,6 +1,6 @@
 //! Generated from crates/hbhook_lines/src/expected.rt by rust/erase; edit the source.
 //!
-//! What was expected of a line that doesn't read.
+//! What was expected of a rejected line.
 
 /// A number that one byte holds.
 pub(crate) const BYTE: Expected = Expected::Number(0xFF);
@@ -32,12 +32,12 @@ pub enum Expected {
     Hexadecimal,
     Character,
     FourCharacters,
-    /// What the call of the line asks.
+    /// A condition of the line's call.
     Condition(&'static str),
 }
 
 impl Expected {
-    /// What was expected of a whole line that doesn't read: what holds of every line comes first.
+    /// What was expected of a rejected line as a whole: what holds of every line comes first.
     pub(crate) fn of_line(self, line: &str) -> Self {
         if line.starts_with('\u{FEFF}') {
             Expected::NoByteOrderMark

@@ -25,9 +25,8 @@ pub use session::{Session, kind_of_line};
 pub use settings::Feature;
 
 /// Carries out the lines of the input and prints the buffer that they leave. A refusal or a fault
-/// ends the run with nothing but a message among the faults. The answer is the status to end with:
-/// 0, 1 for a refusal, and 2 for a line that doesn't read, and without a message for a reader or
-/// a writer that fails.
+/// ends the run with nothing but a message in `faults`. Returns the status to end with: 0, 1 for a
+/// refusal, and 2 for a rejected line, and without a message for a reader or a writer that fails.
 ///
 /// <details><summary>Contract</summary>
 ///
@@ -50,8 +49,8 @@ where
     }
 }
 
-/// Does what `run_lines` does, and tells among the faults, behind the message, what was expected of
-/// the line that doesn't read, or which line was refused.
+/// Does what `run_lines` does, and after the message writes to `faults` what was expected of the
+/// rejected line, or which line was refused.
 ///
 /// <details><summary>Contract</summary>
 ///

@@ -40,7 +40,7 @@ fn print_glyph(text: &mut String, buffer: &Buffer, i: usize) -> Result<(), Alloc
     Ok(())
 }
 
-/// Writes all of a text, or tells that the writer is broken.
+/// Writes all of a text, or reports that the writer is broken.
 ///
 /// <details><summary>Contract</summary>
 ///
@@ -58,8 +58,8 @@ pub fn write_text<W: Write>(mut output: W, text: &str) -> Result<(), Fault> {
     written.map_err(|_| Fault::Broken)
 }
 
-/// Tells of a fault as `report` does, and then on a line of its own what was expected of a line that
-/// doesn't read, or which line was refused.
+/// Reports a fault as `report` does, and then on a line of its own what was expected of a rejected
+/// line, or which line was refused.
 ///
 /// <details><summary>Contract</summary>
 ///
@@ -89,7 +89,7 @@ pub fn explain<W: Write>(mut faults: W, fault: Fault) -> u8 {
     }
 }
 
-/// Tells of a fault and answers the status to end with.
+/// Reports a fault and returns the status to end with.
 ///
 /// <details><summary>Contract</summary>
 ///

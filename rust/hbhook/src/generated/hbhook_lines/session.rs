@@ -76,7 +76,7 @@ impl Session {
         }
     }
 
-    /// What the hooks have answered since this was last asked, a line each.
+    /// What the hooks have returned since the last call of this, one line each.
     pub fn take_answers(&mut self) -> String {
         mem::replace(&mut self.answers, String::new(self.buffer.alloc()))
     }
@@ -104,7 +104,7 @@ impl Session {
         Ok(())
     }
 
-    /// What the run prints: the answers of its hooks, then the glyphs.
+    /// What the run prints: the results of its hooks, then the glyphs.
     pub(crate) fn printed(self) -> Result<String, AllocError> {
         let mut text = self.answers;
         print_buffer(&mut text, &self.buffer)?;

@@ -1,7 +1,7 @@
 //! Generated from crates/rustybuzz_shapers/src/shaper.rt by rust/erase; edit the source.
 //!
-//! The shapers behind one enum, a method a hook. Where a shaper lacks a hook, its method answers
-//! None and changes nothing.
+//! The shapers behind one enum, one method per hook. Where a shaper lacks a hook, its method
+//! returns None and changes nothing.
 
 use crate::generated::shapers_base::buffer::{Buffer, ShaperError, Tag};
 use crate::generated::shapers_base::font::{Font, Tables};
@@ -99,8 +99,8 @@ pub const THAI_SHAPER: Shaper = Shaper::Thai;
 pub const UNIVERSAL_SHAPER: Shaper = Shaper::Universal;
 
 impl Shaper {
-    /// Whether the shaper has a hook. Where it lacks one, the hook's method answers None and changes
-    /// nothing.
+    /// Whether the shaper has a hook. Where it lacks one, the hook's method returns None and
+    /// changes nothing.
     ///
     /// <details><summary>Contract</summary>
     ///
@@ -155,6 +155,7 @@ impl Shaper {
     /// - `normalizes`: crates/rustybuzz_shapers/specs/Records.antt
     ///
     /// </details>
+    #[inline]
     pub const fn normalization_preference(self) -> NormalizationMode {
         match self {
             Self::Hangul | Self::MyanmarZawgyi => NormalizationMode::NONE,
@@ -176,6 +177,7 @@ impl Shaper {
     /// - `wants_gpos_script`: crates/rustybuzz_shapers/specs/Records.antt
     ///
     /// </details>
+    #[inline]
     pub const fn gpos_tag(self) -> Option<Tag> {
         match self {
             Self::Hebrew => Some(Tag(*b"hebr")),
@@ -196,6 +198,7 @@ impl Shaper {
     /// - `zeroes_marks`: crates/rustybuzz_shapers/specs/Records.antt
     ///
     /// </details>
+    #[inline]
     pub const fn zero_width_marks(self) -> ZeroWidthMarks {
         match self {
             Self::Hangul | Self::Indic | Self::Khmer | Self::MyanmarZawgyi => ZeroWidthMarks::NONE,
@@ -217,11 +220,12 @@ impl Shaper {
     /// - `places_marks`: crates/rustybuzz_shapers/specs/Records.antt
     ///
     /// </details>
+    #[inline]
     pub const fn fallback_position(self) -> bool {
         matches!(self, Self::Arabic | Self::Hebrew)
     }
 
-    /// Asks for the features of the shaper's scripts: all of the list, or nothing where memory is
+    /// Requests the features of the shaper's scripts: all of the list, or nothing where memory is
     /// refused. Arabic's list depends on the planner's script and on the font.
     ///
     /// <details><summary>Contract</summary>
@@ -260,8 +264,8 @@ impl Shaper {
         }
     }
 
-    /// Asks for what stands after the features of all shapers: all of it, or nothing where memory
-    /// is refused.
+    /// Requests what comes after the features of all shapers: all of it, or nothing where memory is
+    /// refused.
     ///
     /// <details><summary>Contract</summary>
     ///
@@ -342,6 +346,7 @@ impl Shaper {
     /// - `standing`: crates/rustybuzz_shapers/specs/Standing.antt
     ///
     /// </details>
+    #[inline]
     pub fn preprocess_text<F: Font>(
         self,
         plan: &Plan,
@@ -365,7 +370,7 @@ impl Shaper {
     }
 
     /// Rewrites the glyphs after positioning: for Arabic, marks stretch over the words before them,
-    /// as wide as these or wider by less than a unit an added copy, where their tiles fit.
+    /// as wide as these or wider by less than one unit per added copy, where their tiles fit.
     ///
     /// <details><summary>Contract</summary>
     ///
@@ -391,6 +396,7 @@ impl Shaper {
     /// - `glyphs_added`: crates/rustybuzz_shapers/specs/Stretched.antt
     ///
     /// </details>
+    #[inline]
     pub fn postprocess_glyphs<F: Font>(
         self,
         plan: &Plan,
@@ -430,6 +436,7 @@ impl Shaper {
     /// - `standing`: crates/rustybuzz_shapers/specs/Standing.antt
     ///
     /// </details>
+    #[inline]
     pub fn compose<T: Tables>(
         self,
         plan: &Plan,
@@ -462,6 +469,7 @@ impl Shaper {
     /// - `standing`: crates/rustybuzz_shapers/specs/Standing.antt
     ///
     /// </details>
+    #[inline]
     pub fn decompose<T: Tables>(
         self,
         _plan: &Plan,
@@ -504,6 +512,7 @@ impl Shaper {
     /// - `OnlyFlagsAdded`: crates/shapers_clusters/specs/FlagLaw.antt
     ///
     /// </details>
+    #[inline]
     pub fn setup_masks<F: Font, T: Tables>(
         self,
         plan: &Plan,
@@ -545,6 +554,7 @@ impl Shaper {
     /// - `standing`: crates/rustybuzz_shapers/specs/Standing.antt
     ///
     /// </details>
+    #[inline]
     pub fn reorder_marks(
         self,
         plan: &Plan,

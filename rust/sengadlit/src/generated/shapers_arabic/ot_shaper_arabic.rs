@@ -41,7 +41,7 @@ const LAST_REQUESTS: [Request; 3] = [
     Request::Feature(Tag(*b"mset"), GLOBAL_ZWJ, 1),
 ];
 
-/// Asks for the features of Arabic, in the order of its OpenType specification; for the script
+/// Requests the features of Arabic, in the order of its OpenType specification; for the script
 /// Arabic itself with the pause of the fallback shaper.
 /// The only refusal is `Memory`, which leaves the planner as it was.
 ///
@@ -69,6 +69,7 @@ pub fn collect_features<F: Font>(face: &F, planner: &mut Planner) -> Result<(), 
 }
 
 // The list for the script Arabic or another one, for a font that has `rclt` or has it not.
+#[inline]
 fn arabic_requests(is_arabic: bool, has_rclt: bool) -> ArrayVec<Request, 26> {
     let fallback = if is_arabic { F_HAS_FALLBACK } else { F_NONE };
     let mut requests = ArrayVec::new();
@@ -93,6 +94,7 @@ fn arabic_requests(is_arabic: bool, has_rclt: bool) -> ArrayVec<Request, 26> {
 }
 
 // The joining forms, each followed by a pause; the forms of Syriac alone never have a fallback.
+#[inline]
 fn joining_requests(flags: u32) -> [Request; 14] {
     [
         Request::Feature(Tag(*b"isol"), flags, 1),
@@ -112,7 +114,7 @@ fn joining_requests(flags: u32) -> [Request; 14] {
     ]
 }
 
-/// Gives each glyph the form that its neighbours ask for, in its auxiliary byte, the form's mask
+/// Gives each glyph the form that its neighbours require, in its auxiliary byte, the form's mask
 /// and the glyph flags of joining; a text that is cut acts as the whole where the halves see their
 /// neighbours. It can't refuse and takes no memory.
 ///
@@ -143,6 +145,7 @@ fn joining_requests(flags: u32) -> [Request; 14] {
 /// - `OnlyFlagsAdded`: crates/shapers_clusters/specs/FlagLaw.antt
 ///
 /// </details>
+#[inline]
 pub fn setup_masks_inner<T: Tables>(
     arabic_plan: &ArabicPlan,
     script: Option<Script>,
@@ -196,6 +199,7 @@ pub fn setup_masks_inner<T: Tables>(
 /// - `OnlyFlagsAdded`: crates/shapers_clusters/specs/FlagLaw.antt
 ///
 /// </details>
+#[inline]
 pub fn setup_masks<T: Tables>(plan: &Plan, tables: &T, buffer: &mut Buffer) {
     match &plan.plan_data {
         PlanData::Arabic(arabic_plan) => {

@@ -8,7 +8,7 @@ use crate::generated::shapers_base::map::{F_GLOBAL, F_NONE};
 use crate::generated::shapers_base::plan::{
     HangulPlan, Plan, PlanData, Planner, Request, ShaperError,
 };
-use rewriting::rewrite;
+use rewriting::{rewrite, rewrite_changes};
 
 mod item;
 mod jamo;
@@ -24,7 +24,7 @@ const REQUESTS: [Request; 3] = [
 // Some fonts put all jamo forms into `calt` as well, so it stays off.
 const OVERRIDES: [Request; 1] = [Request::Feature(Tag(*b"calt"), F_GLOBAL, 0)];
 
-/// Asks for the forms of jamo.
+/// Requests the forms of jamo.
 /// The only refusal is `Memory`, which leaves the planner as it was.
 ///
 /// <details><summary>Contract</summary>
@@ -96,12 +96,44 @@ pub fn override_features(planner: &mut Planner) -> Result<(), ShaperError> {
 /// - `AllKept`, `KeepsClusters`, `KeepsGlyphFlags`, `SpellsByUnits`, `SpellsSame`: crates/shapers_hangul/specs/HangulLaws.antt
 ///
 /// </details>
+#[inline]
 pub fn preprocess_text<F: Font>(
     _plan: &Plan,
     face: &F,
     buffer: &mut Buffer,
 ) -> Result<(), ShaperError> {
     rewrite(face, buffer)
+}
+
+/// `preprocess_text`, which returns whether it rewrote the text: where every character stays as it
+/// is, it returns false and has changed nothing.
+///
+/// <details><summary>Contract</summary>
+///
+/// # Contract
+///
+/// ```text
+/// requires { buffer.old.positions ≡ [] }
+/// ensures ok { OnOk result (buffer.new ≡ rewritten (F.font face.now) buffer.old) }
+/// ensures kept { AllKept (F.font face.now) buffer.old → result ≡ Ok false }
+/// ensures unchanged { result ≡ Ok false → buffer.new ≡ buffer.old }
+/// ensures length { let text = (rewritten (F.font face.now) buffer.old).glyphs in
+///     RefusesLength buffer.old.max_len (length text) result }
+/// ensures err { OnErr result (buffer.new ≡ buffer.old) }
+/// ```
+///
+/// - `RefusesLength`: crates/shapers_buffer/specs/Refusals.antt
+/// - `rewritten`: crates/shapers_hangul/specs/Hangul.antt
+/// - `AllKept`: crates/shapers_hangul/specs/HangulLaws.antt
+///
+/// </details>
+#[inline]
+pub fn preprocess_text_changes<F: Font>(
+    _plan: &Plan,
+    face: &F,
+    buffer: &mut Buffer,
+) -> Result<bool, ShaperError> {
+    rewrite_changes(face, buffer)
 }
 
 /// Keeps the masks of the features of jamo in the plan. None of them touches a glyph flag bit.
@@ -180,6 +212,7 @@ pub fn setup_masks_in(hangul_plan: &HangulPlan, glyphs: &mut [GlyphInfo]) {
 /// - `is_hangul_data`, `with_jamo_masks`: crates/shapers_hangul/specs/Masks.antt
 ///
 /// </details>
+#[inline]
 pub fn setup_masks(plan: &Plan, buffer: &mut Buffer) {
     match &plan.plan_data {
         PlanData::Hangul(data) => {

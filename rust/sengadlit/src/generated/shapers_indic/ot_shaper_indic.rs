@@ -65,7 +65,7 @@ const OVERRIDES: [Request; 2] = [
     Request::Pause(Some(Pause::SyllabicClearVar)),
 ];
 
-/// Asks for the features of Indic, in the order of its OpenType specification.
+/// Requests the features of Indic, in the order of its OpenType specification.
 /// The only refusal is `Memory`, which leaves the planner as it was.
 ///
 /// <details><summary>Contract</summary>
@@ -86,7 +86,7 @@ pub fn collect_features(planner: &mut Planner) -> Result<(), ShaperError> {
     planner.add_requests(&REQUESTS)
 }
 
-/// Turns off ligatures, and asks that syllables be cleared.
+/// Turns off ligatures, and requests that syllables be cleared.
 /// The only refusal is `Memory`, which leaves the planner as it was.
 ///
 /// <details><summary>Contract</summary>
@@ -168,6 +168,7 @@ pub fn decompose<T: Tables>(tables: &T, ab: char) -> Option<(char, char)> {
 /// - `with_category_and_position`: crates/shapers_syllabic/specs/Characters.antt
 ///
 /// </details>
+#[inline]
 pub fn setup_masks<T: Tables>(tables: &T, buffer: &mut Buffer) {
     ot_shaper_syllabic::set_categories_and_positions(tables, buffer);
 }

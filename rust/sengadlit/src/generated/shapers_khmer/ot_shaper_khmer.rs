@@ -40,7 +40,7 @@ const OVERRIDES: [Request; 2] = [
     Request::Feature(Tag(*b"liga"), F_GLOBAL, 0),
 ];
 
-/// Asks for the features of Khmer, in the order of its OpenType specification.
+/// Requests the features of Khmer, in the order of its OpenType specification.
 /// The only refusal is `Memory`, which leaves the planner as it was.
 ///
 /// <details><summary>Contract</summary>
@@ -61,7 +61,7 @@ pub fn collect_features(planner: &mut Planner) -> Result<(), ShaperError> {
     planner.add_requests(&REQUESTS)
 }
 
-/// Asks for contextual ligatures, and turns off the others.
+/// Requests contextual ligatures, and turns off the others.
 /// The only refusal is `Memory`, which leaves the planner as it was.
 ///
 /// <details><summary>Contract</summary>
@@ -170,6 +170,7 @@ pub fn decompose<T: Tables>(tables: &T, ab: char) -> Option<(char, char)> {
 /// - `with_category`: crates/shapers_syllabic/specs/Characters.antt
 ///
 /// </details>
+#[inline]
 pub fn setup_masks<T: Tables>(tables: &T, buffer: &mut Buffer) {
     ot_shaper_syllabic::set_categories(tables, buffer);
 }

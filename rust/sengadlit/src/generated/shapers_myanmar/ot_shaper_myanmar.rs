@@ -38,7 +38,7 @@ const REQUESTS: [Request; 17] = [
     Request::Feature(Tag(*b"psts"), F_GLOBAL | F_MANUAL_ZWJ, 1),
 ];
 
-/// Asks for the features of Myanmar, in the order of its OpenType specification.
+/// Requests the features of Myanmar, in the order of its OpenType specification.
 /// The only refusal is `Memory`, which leaves the planner as it was.
 ///
 /// <details><summary>Contract</summary>
@@ -73,6 +73,7 @@ pub fn collect_features(planner: &mut Planner) -> Result<(), ShaperError> {
 /// - `with_category`: crates/shapers_syllabic/specs/Characters.antt
 ///
 /// </details>
+#[inline]
 pub fn setup_masks<T: Tables>(tables: &T, buffer: &mut Buffer) {
     set_categories(tables, buffer);
 }
@@ -86,9 +87,9 @@ const CIRCLES: ScriptCircles = ScriptCircles {
 };
 
 /// Gives broken syllables their dotted circles, and then brings each syllable into the order in
-/// which it is drawn. (OpenType, Myanmar script development.) Answers whether circles were wanted.
-/// Every cluster afterwards is one that the text had. Refuses with `UnknownSyllable` where a kind is unknown, with `TooLong`, and with `Memory`, but
-/// that not where no circle opens.
+/// which it is drawn. (OpenType, Myanmar script development.) Returns whether circles were wanted.
+/// Every cluster afterwards is one that the text had. Refuses with `UnknownSyllable` where a kind
+/// is unknown, with `TooLong`, and with `Memory`, but not where no circle opens.
 ///
 /// <details><summary>Contract</summary>
 ///
@@ -128,6 +129,7 @@ const CIRCLES: ScriptCircles = ScriptCircles {
 /// - `PauseCutsAtBorders`: crates/shapers_syllabic/specs/ReorderingLaws.antt
 ///
 /// </details>
+#[inline]
 pub fn reorder_myanmar<F: Font>(face: &F, buffer: &mut Buffer) -> Result<bool, ShaperError> {
     let last_kind = Some(myanmar_syllable::NON_MYANMAR_CLUSTER);
     reorder_pause(face, &MyanmarOrder, &CIRCLES, last_kind, buffer)

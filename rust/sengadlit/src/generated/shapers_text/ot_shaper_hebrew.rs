@@ -42,7 +42,8 @@ pub fn reorder_marks(_plan: &Plan, buffer: &mut Buffer, start: usize, end: usize
     buffer.walk(&mut MarkOrder { level, start, end });
 }
 
-/// The same in a slice whose clusters merge at this level.
+/// The same in a slice whose clusters merge at this level. Returns whether marks changed places:
+/// where it returns false nothing changed.
 ///
 /// <details><summary>Contract</summary>
 ///
@@ -51,23 +52,26 @@ pub fn reorder_marks(_plan: &Plan, buffer: &mut Buffer, start: usize, end: usize
 /// ```text
 /// requires in_order { start ≤ end }
 /// requires in_range { end ≤ length glyphs.old }
-/// ensures { glyphs.new ≡ run_step level (mark_step start end glyphs.old) glyphs.old }
+/// ensures step { glyphs.new ≡ run_step level (mark_step start end glyphs.old) glyphs.old }
+/// ensures moved { result ≡ is_some (second_of_triple start end glyphs.old) }
+/// ensures unchanged { result ≡ false → glyphs.new ≡ glyphs.old }
 /// ```
 ///
 /// - `run_step`: crates/shapers_clusters/specs/Steps.antt
-/// - `mark_step`: crates/shapers_text/specs/Hebrew.antt
+/// - `mark_step`, `second_of_triple`: crates/shapers_text/specs/Hebrew.antt
 ///
 /// </details>
-#[inline]
 pub fn reorder_marks_in(
     level: BufferClusterLevel,
     glyphs: &mut [GlyphInfo],
     start: usize,
     end: usize,
-) {
-    if let Some(i) = find_triple(glyphs, start, end) {
-        merge_and_swap(level, glyphs, i);
-    }
+) -> bool {
+    let Some(i) = find_triple(glyphs, start, end) else {
+        return false;
+    };
+    merge_and_swap(level, glyphs, i);
+    true
 }
 
 // Where the marks stand, and whether clusters merge.
@@ -78,29 +82,40 @@ struct MarkOrder {
 }
 
 impl GlyphWalk for MarkOrder {
+    #[inline]
     fn walk(&mut self, glyphs: &mut [GlyphInfo]) {
         reorder_marks_in(self.level, glyphs, self.start, self.end);
     }
 }
 
 // Merges the glyphs at `i` and behind it, and swaps them.
+#[inline(never)]
 fn merge_and_swap(level: BufferClusterLevel, glyphs: &mut [GlyphInfo], i: usize) {
     merge_clusters_in(level, glyphs, i, i + 2);
     glyphs.swap(i, i + 1);
 }
 
 // The place of the second of the first three such neighbours.
+#[inline]
+#[allow(clippy::explicit_counter_loop)]
 fn find_triple(glyphs: &[GlyphInfo], start: usize, end: usize) -> Option<usize> {
-    for i in start..end.saturating_sub(2) {
-        if is_triple(glyphs[i], glyphs[i + 1], glyphs[i + 2]) {
-            return Some(i + 1);
+    let marks = &glyphs[start..end];
+    let mut second = start + 1;
+    for triple in marks.windows(3) {
+        if opens_triple(triple) {
+            return Some(second);
         }
+        second += 1;
     }
     None
 }
 
-// Whether three neighbours are marks whose last two change places.
-fn is_triple(a: GlyphInfo, b: GlyphInfo, c: GlyphInfo) -> bool {
+// Whether the first three are marks of which the last two change places.
+#[inline]
+fn opens_triple(marks: &[GlyphInfo]) -> bool {
+    let [a, b, c, ..] = marks else {
+        return false;
+    };
     matches!(a.modified_combining_class, CCC17 | CCC18)
         && matches!(b.modified_combining_class, CCC10 | CCC14)
         && matches!(c.modified_combining_class, CCC22 | BELOW)
@@ -161,11 +176,13 @@ fn form_of(a: char, b: char) -> Option<char> {
 }
 
 // Whether a letter and dagesh stand in the row of letters with dagesh.
+#[inline]
 fn is_in_dagesh_row(a: char, b: char) -> bool {
     b == '\u{05BC}' && matches!(a, '\u{05D0}'..='\u{05EA}') && !lacks_dagesh(a)
 }
 
 // Whether a letter has no form with dagesh.
+#[inline]
 fn lacks_dagesh(a: char) -> bool {
     matches!(
         a,
@@ -174,6 +191,7 @@ fn lacks_dagesh(a: char) -> bool {
 }
 
 // The form in the list of pairs.
+#[inline]
 fn listed_form(a: char, b: char) -> Option<char> {
     PAIRS
         .iter()

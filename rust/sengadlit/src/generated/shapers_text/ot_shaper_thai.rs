@@ -12,7 +12,7 @@ mod forms;
 mod sara_am;
 
 use forms::do_pua_shaping;
-use sara_am::rewrite_sara_am;
+use sara_am::{has_sara_am, rewrite_sara_am};
 
 // The script Thai.
 const THAI: Script = Script(*b"Thai");
@@ -64,7 +64,43 @@ pub fn preprocess_text<F: Font>(
     Ok(())
 }
 
-// Whether the plan asks for private use forms.
+/// `preprocess_text`, which returns whether it rewrote the text: where there is no SARA AM and the
+/// plan asks for no private use forms, it returns false and has changed nothing.
+///
+/// <details><summary>Contract</summary>
+///
+/// # Contract
+///
+/// ```text
+/// requires { buffer.old.positions ≡ [] }
+/// ensures ok { let new = preprocessed_in_thai plan.now (F.font face.now) buffer.old in
+///     OnOk result (buffer.new ≡ new) }
+/// ensures changes { let some = list_any (λ g. is_sara_am g.glyph_id) buffer.old.glyphs in
+///     IfOk result (λ changes. changes ≡ (some || asks_for_forms plan.now)) }
+/// ensures unchanged { result ≡ Ok false → buffer.new ≡ buffer.old }
+/// ensures length { let wanted = length (glyphs_in_two buffer.old.glyphs) in
+///     RefusesLength buffer.old.max_len wanted result }
+/// ensures err { OnErr result (buffer.new ≡ buffer.old) }
+/// ```
+///
+/// - `RefusesLength`: crates/shapers_buffer/specs/Refusals.antt
+/// - `glyphs_in_two`, `is_sara_am`: crates/shapers_text/specs/Thai.antt
+/// - `asks_for_forms`, `preprocessed_in_thai`: crates/shapers_text/specs/ThaiForms.antt
+///
+/// </details>
+pub fn preprocess_text_changes<F: Font>(
+    plan: &Plan,
+    face: &F,
+    buffer: &mut Buffer,
+) -> Result<bool, ShaperError> {
+    if !has_sara_am(buffer) && !wants_forms(plan) {
+        return Ok(false);
+    }
+    preprocess_text(plan, face, buffer)?;
+    Ok(true)
+}
+
+// Whether the plan wants private use forms.
 fn wants_forms(plan: &Plan) -> bool {
     is_thai(plan.script) && !plan.ot_map.found_script(TableIndex::GSUB)
 }

@@ -63,7 +63,7 @@ const REQUESTS: [Request; 30] = [
     Request::Feature(Tag(*b"psts"), F_GLOBAL | F_MANUAL_ZWJ, 1),
 ];
 
-/// Asks for the features of the universal shaper, in the order of its OpenType specification.
+/// Requests the features of the universal shaper, in the order of its OpenType specification.
 /// The only refusal is `Memory`, which leaves the planner as it was.
 ///
 /// <details><summary>Contract</summary>

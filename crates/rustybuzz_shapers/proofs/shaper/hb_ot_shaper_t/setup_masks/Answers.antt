@@ -14,7 +14,7 @@ pub returns-in-Myanmar-clause-flags : goal.returns-in-Myanmar-clause-flags
 returns-in-Myanmar-clause-flags g c = masks_added Myanmar c.args.plan.now (g.T.Tables.tables c.args.tables.now) c.args.buffer.now c.setup_masks-in-Myanmar.new.buffer c.setup_masks-in-Myanmar.ensures
 
 pub returns-in-Universal-clause-flags : goal.returns-in-Universal-clause-flags
-returns-in-Universal-clause-flags g c = masks_added Universal c.args.plan.now (g.T.Tables.tables c.args.tables.now) c.args.buffer.now c.setup_masks-in-Universal.new.buffer c.setup_masks-in-Universal.ensures
+returns-in-Universal-clause-flags g c = masks_added Universal c.args.plan.now (g.T.Tables.tables c.args.tables.now) c.args.buffer.now c.setup_masks-in-Universal.new.buffer c.setup_masks-in-Universal.ensures.masks
 
 pub returns-in-Hebrew-clause-flags : goal.returns-in-Hebrew-clause-flags
 returns-in-Hebrew-clause-flags g c = unchanged_added c.args.buffer.now c.args.buffer.now refl

@@ -1,10 +1,7 @@
--- Merging leaves the lengths of the parts.
-use Rattle.shapers_clusters.specs.Steps.{shifted}
-use Rattle.shapers_arabic.specs.MarkParts.{passed_by}
-use Rattle.shapers_arabic.proofs.MarkLaws.{lengths-merged}
+-- Where no mark modifies a letter, all stay.
+use Rattle.std.proofs.Common.{sym, ◌∙◌}
+use Rattle.shapers_arabic.proofs.MarkLists.{unmodified}
 use Rattle.shapers_arabic.proofs.ot_shaper_arabic.marks.reorder_marks_in.Goals as goal
 
-pub bring_forward-requires : goal.bring_forward-requires
-bring_forward-requires c =
-    let p = c.parts_of-parts.result in
-    lengths-merged c.args.level (shifted c.args.start (passed_by p)) c.args.start c.args.end c.args.glyphs.now c.merge_passed.new.glyphs p c.merge_passed.ensures c.parts_of-parts.ensures.lengths
+pub returns-then-not-has_modifier-clause-marks : goal.returns-then-not-has_modifier-clause-marks
+returns-then-not-has_modifier-clause-marks c = sym (unmodified c.args.level c.args.start c.args.end c.args.glyphs.now c.requires.in_order (sym c.has_modifier.ensures ∙ c.if-not-has_modifier.true))

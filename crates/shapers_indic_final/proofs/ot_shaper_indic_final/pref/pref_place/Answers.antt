@@ -1,10 +1,16 @@
 -- One place more.
-use Rattle.std.proofs.Common.{length, sym, ◌∙◌, arith}
+use Rattle.std.proofs.Common.{◌+◌, length, ap, sym, ◌∙◌, arith}
 use Rattle.shapers_buffer.specs.Glyph.{default_glyph}
-use Rattle.shapers_indic.specs.Glyphs.{passes}
+use Rattle.shapers_indic.specs.Glyphs.{least_place, passes}
 use Rattle.shapers_indic_final.specs.FinalGlyphs.{has_mask}
 use Rattle.shapers_indic_final.proofs.FinalPlaces.{least_none, least_step, least_stop, passes_there}
+use Rattle.shapers_indic_final.proofs.FinalNoMask.{no_place}
 use Rattle.shapers_indic_final.proofs.ot_shaper_indic_final.pref.pref_place.Goals as goal
+
+pub returns-then-pref-eq0-clause-place : goal.returns-then-pref-eq0-clause-place
+returns-then-pref-eq0-clause-place c =
+    let gs = c.args.glyphs.now in
+    sym (ap (λ mask. least_place (passes (has_mask mask) gs) (c.args.base + 1) (length gs)) c.if-pref-eq0.true ∙ no_place gs (c.args.base + 1) (length gs))
 
 pub returns-then-has_mask-clause-place : goal.returns-then-has_mask-clause-place
 returns-then-has_mask-clause-place c =

@@ -1,5 +1,6 @@
 -- Joining sees the characters, which categories leave.
 use Rattle.std.proofs.Common.{◌∙◌, ap, subst, map}
+use Rattle.shapers_arabic.specs.Breaks.{BreaksWhereClear, NoneNeedless}
 use Rattle.shapers_arabic.specs.JoinedText.{CutsAsHalves, HoldsCut, joined}
 use Rattle.shapers_universal.proofs.MaskLemmas.{characters_stay, text_stays}
 use Rattle.shapers_universal.proofs.ot_shaper_use.masks.setup_masks.Goals as goal
@@ -8,13 +9,24 @@ pub setup_masks_inner-requires : goal.setup_masks_inner-requires
 setup_masks_inner-requires g c =
     rw c.set_categories.ensures (characters_stay _ _ (rw (c.in-Universal.is, c.in-Some.is) at c.requires.characters))
 
-pub returns-in-Some : goal.returns-in-Some
-returns-in-Some g c =
+pub returns-in-Some-clause-masks : goal.returns-in-Some-clause-masks
+returns-in-Some-clause-masks g c =
     let t = g.T.Tables.tables c.args.tables.now in
     let script = c.args.plan.now.script in
     let new = c.setup_masks_inner.new.buffer in
     let auxiliaries = map (λ h. h.auxiliary) new.glyphs in
     let masks = c.in-Some.arabic_plan.mask_array in
-    let equation = c.setup_masks_inner.ensures.joined ∙ ap (joined masks script t.joining t.general) c.set_categories.ensures in
+    let equation = c.setup_masks_inner.ensures.joined ∙ ap (joined c.in-Some.arabic_plan.break_flags masks script t.joining t.general) c.set_categories.ensures in
     let cut = subst (λ b. CutsAsHalves script t.joining t.general b new) c.set_categories.ensures c.setup_masks_inner.ensures.cut in
     rw (c.in-Universal.is, c.in-Some.is) (equation, subst (λ text. HoldsCut script text auxiliaries) (text_stays t t.joining t.general c.args.buffer.now) cut)
+
+pub returns-in-Some-clause-breaks : goal.returns-in-Some-clause-breaks
+returns-in-Some-clause-breaks g c =
+    let t = g.T.Tables.tables c.args.tables.now in
+    let script = c.args.plan.now.script in
+    let new = c.setup_masks_inner.new.buffer in
+    let masks = c.in-Some.arabic_plan.mask_array in
+    let breaks = c.in-Some.arabic_plan.break_flags in
+    let clear = subst (λ b. BreaksWhereClear breaks masks script t.joining t.general b new) c.set_categories.ensures c.setup_masks_inner.ensures.breaks in
+    let needless = subst (λ b. NoneNeedless breaks masks script t.joining t.general b new) c.set_categories.ensures c.setup_masks_inner.ensures.needless in
+    rw (c.in-Universal.is, c.in-Some.is) (clear, needless)

@@ -7,7 +7,7 @@ use crate::generated::hbhook_lines::expected::{COUNT, Expected};
 use crate::generated::hbhook_lines::fault::LineFault;
 use sengadlit::plan::Pause;
 
-// What may stand behind `run`.
+// What may follow `run`.
 const CALLS: &str = "run preprocess, run masks, run postprocess, run marks S E, run compose A B, \
     run decompose A, run pause NAME";
 
@@ -17,7 +17,7 @@ const PAUSES: &str = "setup_syllables_indic, setup_syllables_khmer, setup_syllab
     reorder_use, record_rphf, record_pref, record_stch, arabic_fallback_shape, \
     syllabic_clear_var, clear_substitution_flags";
 
-/// A hook or a pause, and what it is asked.
+/// A hook or a pause, and its arguments.
 #[derive(Clone, Copy)]
 pub(crate) enum HookCall {
     Preprocess,

@@ -103,7 +103,7 @@ fn cluster_level(number: &str) -> Result<BufferClusterLevel, LineFault> {
     }
 }
 
-// Flags of a buffer; an unknown bit doesn't read.
+// Flags of a buffer; an unknown bit is rejected.
 fn buffer_flags(bits: &str) -> Result<BufferFlags, LineFault> {
     let expected = Expected::Condition("no bits but 20, 40 and 80");
     BufferFlags::from_bits(hexadecimal(bits)?).ok_or(LineFault::Unreadable(expected))

@@ -1,6 +1,6 @@
 //! Generated from crates/hbhook_lines/src/session/hooks.rt by rust/erase; edit the source.
 //!
-//! The lines `run NAME ..`: the conditions of a call are asked before the call is made.
+//! The lines `run NAME ..`: the conditions of a call are tested before the call is made.
 
 use super::Session;
 use crate::generated::hbhook_lines::command::HookCall;
@@ -10,7 +10,7 @@ use sengadlit::buffer::{GlyphInfo, Span};
 use sengadlit::plan::Plan;
 use sengadlit::shaper::{Pause, Preprocess, Shaper, pause_fits, run_pause};
 
-// What calls ask.
+// The conditions of calls.
 const SHAPER: Expected = Expected::Condition("a line `set shaper` before it");
 
 const NO_POSITIONS: Expected =
@@ -35,8 +35,8 @@ const KINDS: Expected = Expected::Condition("spans whose kinds are at most 15");
 const DATA: Expected = Expected::Condition("a shaper that keeps what the pause reads");
 
 impl Session {
-    /// Asks a hook of the shaper. Without a shaper, and where the call's conditions fail, the line
-    /// doesn't read.
+    /// Calls a hook of the shaper. Without a shaper, and where the call's conditions fail, the line
+    /// is rejected.
     pub(super) fn run(&mut self, call: HookCall) -> Result<(), LineFault> {
         let shaper = self.settings.shaper.ok_or(LineFault::Unreadable(SHAPER))?;
         let plan = shaper.with_data(self.settings.plan()?);
@@ -151,7 +151,7 @@ impl Session {
     }
 }
 
-// A condition, without which the line doesn't read.
+// A condition, without which the line is rejected.
 fn check(holds: bool, condition: Expected) -> Result<(), LineFault> {
     if holds {
         Ok(())

@@ -10,10 +10,10 @@ use crate::generated::shapers_base::buffer::{Buffer, ShaperError, Span};
 use crate::generated::shapers_base::font::{Font, Tables};
 use crate::generated::shapers_base::plan::{Pause, Plan, Preprocess};
 
-/// What a hook or pause asks of its caller.
+/// A condition that a hook or pause requires of its caller.
 #[derive(Clone, Copy, Debug, PartialEq, Eq)]
 pub enum Condition {
-    /// Before positioning there are no positions; for `postprocess_glyphs` there is one a glyph.
+    /// Before positioning there are no positions; for `postprocess_glyphs` there is one per glyph.
     Positions,
     /// The range of marks rises and lies within the buffer.
     Range,
@@ -38,12 +38,14 @@ pub enum CallError {
 }
 
 impl From<Condition> for CallError {
+    #[inline]
     fn from(condition: Condition) -> Self {
         CallError::Condition(condition)
     }
 }
 
 impl From<ShaperError> for CallError {
+    #[inline]
     fn from(refusal: ShaperError) -> Self {
         CallError::Refused(refusal)
     }
@@ -71,6 +73,7 @@ impl Shaper {
     /// - `PreprocessKeeps`, `Preprocessed`, `RefusesPreprocess`, `preprocess_answer`: crates/rustybuzz_shapers/specs/Hooks.antt
     ///
     /// </details>
+    #[inline]
     pub fn checked_preprocess_text<F: Font>(
         self,
         plan: &Plan,
@@ -94,6 +97,7 @@ impl Shaper {
     ///     IfOk result (λ answer. is_some answer ≡ there) }
     /// ensures masks { let tables = T.tables tables.now in
     ///     OnOk result (MasksSet self plan.now tables buffer.old buffer.new) }
+    /// ensures flags { OnOk result (OnlyFlagsAdded buffer.old.glyphs buffer.new.glyphs) }
     /// ensures refusal { AsRefused IsOk result }
     /// ensures err { OnErr result (buffer.new ≡ buffer.old) }
     /// ```
@@ -101,8 +105,10 @@ impl Shaper {
     /// - `AsRefused`, `StopsAt`, `masks_ask`: crates/rustybuzz_shapers/specs/Checked.antt
     /// - `MasksSet`: crates/rustybuzz_shapers/specs/Hooks.antt
     /// - `standing`: crates/rustybuzz_shapers/specs/Standing.antt
+    /// - `OnlyFlagsAdded`: crates/shapers_clusters/specs/FlagLaw.antt
     ///
     /// </details>
+    #[inline]
     pub fn checked_setup_masks<F: Font, T: Tables>(
         self,
         plan: &Plan,
@@ -135,6 +141,7 @@ impl Shaper {
     /// - `standing`: crates/rustybuzz_shapers/specs/Standing.antt
     ///
     /// </details>
+    #[inline]
     pub fn checked_reorder_marks(
         self,
         plan: &Plan,
@@ -159,6 +166,8 @@ impl Shaper {
     ///     IfOk result (λ answer. is_some answer ≡ there) }
     /// ensures ok { let font = F.font face.now in
     ///     OnOk result (Postprocessed self plan.now font buffer.old buffer.new) }
+    /// ensures laws { let font = F.font face.now in
+    ///     OnOk result (PostprocessKeeps self plan.now font buffer.old buffer.new) }
     /// ensures longer { let added = glyphs_added self (F.font face.now) buffer.old in
     ///     OnOk result (length buffer.new.glyphs ≡ length buffer.old.glyphs + added) }
     /// ensures refusal { let font = F.font face.now in
@@ -167,11 +176,12 @@ impl Shaper {
     /// ```
     ///
     /// - `AsRefused`, `StopsAt`, `postprocess_asks`: crates/rustybuzz_shapers/specs/Checked.antt
-    /// - `Postprocessed`, `RefusesPostprocess`: crates/rustybuzz_shapers/specs/Hooks.antt
+    /// - `PostprocessKeeps`, `Postprocessed`, `RefusesPostprocess`: crates/rustybuzz_shapers/specs/Hooks.antt
     /// - `standing`: crates/rustybuzz_shapers/specs/Standing.antt
     /// - `glyphs_added`: crates/rustybuzz_shapers/specs/Stretched.antt
     ///
     /// </details>
+    #[inline]
     pub fn checked_postprocess_glyphs<F: Font>(
         self,
         plan: &Plan,
@@ -183,6 +193,7 @@ impl Shaper {
     }
 
     // The first condition of `setup_masks` that isn't met.
+    #[inline]
     fn check_masks(self, plan: &Plan, buffer: &Buffer) -> Result<(), Condition> {
         check(lacks_positions(buffer), Condition::Positions)?;
         check(self.plan_fits(plan), Condition::PlanData)?;
@@ -190,6 +201,7 @@ impl Shaper {
     }
 
     // The first condition of `reorder_marks` that isn't met.
+    #[inline]
     fn check_marks(self, buffer: &Buffer, start: usize, end: usize) -> Result<(), Condition> {
         check(lacks_positions(buffer), Condition::Positions)?;
         check(start <= end && end <= buffer.len(), Condition::Range)?;
@@ -197,6 +209,7 @@ impl Shaper {
     }
 
     // The first condition of `postprocess_glyphs` that isn't met.
+    #[inline]
     fn check_postprocess(self, plan: &Plan, buffer: &Buffer) -> Result<(), Condition> {
         check(has_positions(buffer), Condition::Positions)?;
         match self {
@@ -239,6 +252,7 @@ impl Shaper {
 /// - `PauseKeeps`, `Paused`, `RefusesPause`, `circles_of`: crates/rustybuzz_shapers/specs/Pauses.antt
 ///
 /// </details>
+#[inline]
 pub fn checked_run_pause<F: Font>(
     pause: Pause,
     plan: &Plan,
@@ -251,6 +265,7 @@ pub fn checked_run_pause<F: Font>(
 }
 
 // The first condition of `run_pause` that isn't met.
+#[inline]
 fn check_pause(
     pause: Pause,
     plan: &Plan,
@@ -263,6 +278,7 @@ fn check_pause(
 }
 
 // The condition, unless it is met.
+#[inline]
 fn check(is_met: bool, condition: Condition) -> Result<(), Condition> {
     if is_met { Ok(()) } else { Err(condition) }
 }

@@ -1,6 +1,6 @@
 //! Generated from crates/rustybuzz_shapers/src/shaper/conditions.rt by rust/erase; edit the source.
 //!
-//! What the hooks ask of their callers: the plan's data, and tests of the rest.
+//! What the hooks require of their callers: the plan's data, and tests of the rest.
 
 use super::Shaper;
 use crate::generated::shapers_arabic::ot_shaper_arabic;
@@ -13,7 +13,7 @@ use crate::generated::shapers_universal::ot_shaper_use;
 
 impl Shaper {
     /// The plan with the data that the shaper keeps, if it keeps any. So it fits the shaper's hooks
-    /// and each pause that its lists ask for. No mask in these data touches a glyph flag bit.
+    /// and each pause in its lists. No mask in these data touches a glyph flag bit.
     ///
     /// <details><summary>Contract</summary>
     ///
@@ -56,6 +56,7 @@ impl Shaper {
     /// - `PlanFits`: crates/rustybuzz_shapers/specs/Hooks.antt
     ///
     /// </details>
+    #[inline]
     pub fn plan_fits(self, plan: &Plan) -> bool {
         match self {
             Self::Arabic => matches!(plan.plan_data, PlanData::Arabic(_)),
@@ -70,7 +71,7 @@ impl Shaper {
         }
     }
 
-    /// Whether `reorder_marks` takes so many marks: for Arabic at most 32.
+    /// Whether `reorder_marks` takes this many marks: for Arabic at most 32.
     ///
     /// <details><summary>Contract</summary>
     ///
@@ -84,6 +85,7 @@ impl Shaper {
     /// - `MarksFit`: crates/rustybuzz_shapers/specs/Hooks.antt
     ///
     /// </details>
+    #[inline]
     pub fn marks_fit(self, start: usize, end: usize) -> bool {
         match self {
             Self::Arabic => end - start <= 32,
@@ -98,7 +100,7 @@ impl Shaper {
         }
     }
 
-    /// Whether the glyphs are such as `setup_masks` asks for: for Arabic, and for the universal
+    /// Whether the glyphs are such as `setup_masks` requires: for Arabic, and for the universal
     /// shaper where letters join, characters.
     ///
     /// <details><summary>Contract</summary>
@@ -112,6 +114,7 @@ impl Shaper {
     /// - `GlyphsFit`: crates/rustybuzz_shapers/specs/Hooks.antt
     ///
     /// </details>
+    #[inline]
     pub fn glyphs_fit(self, plan: &Plan, buffer: &Buffer) -> bool {
         match self {
             Self::Arabic => are_characters(buffer.glyphs()),
@@ -140,6 +143,7 @@ impl Shaper {
     /// - `PostprocessFits`: crates/rustybuzz_shapers/specs/Hooks.antt
     ///
     /// </details>
+    #[inline]
     pub fn postprocess_fits(self, plan: &Plan, buffer: &Buffer) -> bool {
         match self {
             Self::Arabic => is_arabic(&plan.plan_data) && are_glyph_numbers(buffer.glyphs()),
@@ -190,7 +194,7 @@ pub fn pause_fits(pause: Pause, plan: &Plan) -> bool {
     }
 }
 
-/// Whether each span's kind is at most 15, as the pauses ask. It takes one pass over the spans.
+/// Whether each span's kind is at most 15, as the pauses require. It takes one pass over the spans.
 ///
 /// <details><summary>Contract</summary>
 ///
@@ -201,12 +205,13 @@ pub fn pause_fits(pause: Pause, plan: &Plan) -> bool {
 /// ```
 ///
 /// </details>
+#[inline]
 pub fn kinds_fit(spans: &[Span]) -> bool {
     spans.iter().all(|span| span.kind <= 15)
 }
 
-/// Whether the buffer has no positions, as the pauses and all hooks but `postprocess_glyphs` ask.
-/// It takes constant time.
+/// Whether the buffer has no positions, as the pauses and all hooks but `postprocess_glyphs`
+/// require. It takes constant time.
 ///
 /// <details><summary>Contract</summary>
 ///
@@ -217,11 +222,12 @@ pub fn kinds_fit(spans: &[Span]) -> bool {
 /// ```
 ///
 /// </details>
+#[inline]
 pub fn lacks_positions(buffer: &Buffer) -> bool {
     buffer.positions_len() == 0
 }
 
-/// Whether the buffer has a position for each glyph, as `postprocess_glyphs` asks. It takes
+/// Whether the buffer has a position for each glyph, as `postprocess_glyphs` requires. It takes
 /// constant time.
 ///
 /// <details><summary>Contract</summary>
@@ -233,11 +239,13 @@ pub fn lacks_positions(buffer: &Buffer) -> bool {
 /// ```
 ///
 /// </details>
+#[inline]
 pub fn has_positions(buffer: &Buffer) -> bool {
     buffer.positions_len() == buffer.len()
 }
 
 // Whether the universal shaper has a plan of Arabic.
+#[inline]
 fn joins_letters(plan_data: &PlanData) -> bool {
     match plan_data {
         PlanData::Universal(kept) => kept.arabic_plan.is_some(),
@@ -246,6 +254,7 @@ fn joins_letters(plan_data: &PlanData) -> bool {
 }
 
 // Whether these glyphs are characters.
+#[inline]
 fn are_characters(glyphs: &[GlyphInfo]) -> bool {
     glyphs
         .iter()
@@ -253,11 +262,13 @@ fn are_characters(glyphs: &[GlyphInfo]) -> bool {
 }
 
 /// Whether these are the data of Arabic.
+#[inline]
 pub(super) fn is_arabic(plan_data: &PlanData) -> bool {
     matches!(plan_data, PlanData::Arabic(_))
 }
 
 /// Whether these glyphs are numbered as a font's are.
+#[inline]
 pub(super) fn are_glyph_numbers(glyphs: &[GlyphInfo]) -> bool {
     glyphs.iter().all(|glyph| glyph.glyph_id <= 65535)
 }

@@ -8,17 +8,20 @@ use crate::generated::shapers_base::buffer::{GlyphInfo, Script, unsafe_to_break_
 use crate::generated::shapers_base::plan::BreakFlags;
 
 // Whether an Alaph takes this form from a letter that doesn't join on.
+#[inline]
 fn is_second_or_third(form: u8) -> bool {
     matches!(form, FIN2 | FIN3)
 }
 
 // Whether a letter takes this form from what stands before it.
+#[inline]
 fn is_taken(form: u8) -> bool {
     matches!(form, FINA | FIN2 | FIN3 | MEDI | MED2)
 }
 
 // Flags a letter in its final form, which ends before `end`: from the last place with a form on, or
 // from the text's start on.
+#[inline]
 fn flag_form(glyphs: &mut [GlyphInfo], last: Option<usize>, end: usize, form: u8) {
     match last {
         None => {
@@ -36,6 +39,7 @@ fn flag_form(glyphs: &mut [GlyphInfo], last: Option<usize>, end: usize, form: u8
 
 // Flags each letter whose final form is FIN2 or FIN3 with the letter before it, and the first one
 // where it took its form from the context.
+#[inline]
 fn flag_forms(glyphs: &mut [GlyphInfo]) {
     let mut last = None;
     for i in 0..glyphs.len() {
@@ -48,6 +52,7 @@ fn flag_forms(glyphs: &mut [GlyphInfo]) {
 }
 
 // Flags each selector whose copied form isn't its own with the glyph before it.
+#[inline]
 fn flag_selectors(glyphs: &mut [GlyphInfo]) {
     let mut previous = None;
     for i in 0..glyphs.len() {
@@ -60,6 +65,7 @@ fn flag_selectors(glyphs: &mut [GlyphInfo]) {
 }
 
 // Flags what Sound adds: selectors with the script Mongolian alone.
+#[inline]
 fn flag_sound(script: Option<Script>, glyphs: &mut [GlyphInfo]) {
     flag_forms(glyphs);
     if is_mongolian(script) {
@@ -68,6 +74,7 @@ fn flag_sound(script: Option<Script>, glyphs: &mut [GlyphInfo]) {
 }
 
 // Flags what the choice adds, in glyphs with their forms by the joining rule.
+#[inline]
 pub(super) fn flag_breaks(breaks: BreakFlags, script: Option<Script>, glyphs: &mut [GlyphInfo]) {
     match breaks {
         BreakFlags::AsCode => {}

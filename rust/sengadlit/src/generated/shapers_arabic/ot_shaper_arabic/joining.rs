@@ -1,6 +1,6 @@
 //! Generated from crates/shapers_arabic/src/ot_shaper_arabic/joining.rt by rust/erase; edit the source.
 //!
-//! Joining: each letter takes the form that its neighbours ask for. (The Unicode Standard, "Cursive
+//! Joining: each letter takes the form that its neighbours require. (The Unicode Standard, "Cursive
 //! Joining"; for Alaph, Dalath and Rish the OpenType specification for Syriac.)
 
 use super::arabic_action_t::{FIN2, FIN3, FINA, INIT, ISOL, MED2, MEDI, NONE};
@@ -84,6 +84,7 @@ static STATE_TABLE: [[Transition; 6]; 7] = [
 ];
 
 // The column of a letter.
+#[inline]
 fn column(joining_type: JoiningType) -> usize {
     match joining_type {
         JoiningType::L => 1,
@@ -111,11 +112,13 @@ fn state_at_start(before: Option<JoiningType>) -> usize {
 }
 
 // Whether the next letter can change the form of the last one, by the state that it left.
+#[inline]
 fn can_change(state: usize) -> bool {
     (2..=5).contains(&state)
 }
 
 // Whether a letter joins the one before it, or could.
+#[inline]
 fn joins_back(joining_type: JoiningType) -> bool {
     matches!(
         joining_type,
@@ -124,6 +127,7 @@ fn joins_back(joining_type: JoiningType) -> bool {
 }
 
 // Whether a category lets a character of type X be passed over.
+#[inline]
 fn is_passed_over(category: GeneralCategory) -> bool {
     matches!(
         category,
@@ -131,7 +135,7 @@ fn is_passed_over(category: GeneralCategory) -> bool {
     )
 }
 
-// The joining type, where X is told by the category.
+// The joining type, where the category decides X.
 #[inline]
 fn resolve(joining_type: JoiningType, category: GeneralCategory) -> JoiningType {
     match joining_type {
@@ -141,19 +145,21 @@ fn resolve(joining_type: JoiningType, category: GeneralCategory) -> JoiningType 
     }
 }
 
-// The joining type of a character as the tables have it; no other function asks them for it.
+// The joining type of a character as the tables have it; no other function looks it up.
 #[inline]
 fn look_up<T: Tables>(tables: &T, c: char) -> JoiningType {
     tables.joining_type(c)
 }
 
 // The type of a glyph, by its stored category.
+#[inline]
 fn stored_type<T: Tables>(glyph: &GlyphInfo, tables: &T) -> JoiningType {
     let c = char::from_u32(glyph.glyph_id).unwrap();
     resolve(look_up(tables, c), glyph.general_category)
 }
 
 // The nearest type of a context that isn't transparent, by the table's own categories.
+#[inline]
 pub(super) fn nearest_in<T: Tables>(context: &[char], tables: &T) -> Option<JoiningType> {
     for &c in context {
         match resolve(look_up(tables, c), tables.general_category(c)) {
@@ -172,12 +178,14 @@ struct Letters {
 }
 
 // Gives the glyph at place `i` a form.
+#[inline]
 fn set_form(glyphs: &mut [GlyphInfo], i: usize, form: u8) {
     glyphs[i].auxiliary = form;
 }
 
-// Gives the letter at `last` the form that the next one asks for, which stands before `end`; both
-// and what stands between are flagged, also where the form could have depended on the next letter.
+// Gives the letter at `last` the form that the next one requires, which is right before `end`; both
+// and what is between are flagged, also where the form could have depended on the next letter.
+#[inline]
 fn give_form(
     flags: BufferFlags,
     glyphs: &mut [GlyphInfo],
@@ -194,8 +202,9 @@ fn give_form(
     }
 }
 
-// Gives the last letter, if there was one, the form that the next one asks for, which stands before
-// `end`. A first letter that could join is flagged with all before it.
+// Gives the last letter, if there was one, the form that the next one requires, which is right
+// before `end`. A first letter that could join is flagged with all before it.
+#[inline]
 fn give_last(
     flags: BufferFlags,
     glyphs: &mut [GlyphInfo],
@@ -215,6 +224,7 @@ fn give_last(
 }
 
 // Joins the letter at place `i` to the one before it.
+#[inline]
 fn join_letter(
     flags: BufferFlags,
     glyphs: &mut [GlyphInfo],
@@ -247,6 +257,7 @@ fn join_place(
 }
 
 // Gives each glyph its form as long as nothing follows the text.
+#[inline]
 fn join_letters<T: Tables>(
     flags: BufferFlags,
     glyphs: &mut [GlyphInfo],

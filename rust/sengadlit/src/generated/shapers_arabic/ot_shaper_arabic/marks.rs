@@ -60,7 +60,8 @@ impl GlyphWalk for MarkOrder {
     }
 }
 
-/// The same in a slice whose clusters merge at this level.
+/// The same in a slice whose clusters merge at this level. Returns whether one of the marks modifies
+/// a letter: where it returns false nothing changed.
 ///
 /// <details><summary>Contract</summary>
 ///
@@ -69,19 +70,42 @@ impl GlyphWalk for MarkOrder {
 /// ```text
 /// requires in_order { start ≤ end }
 /// requires in_range { end ≤ length glyphs.old }
-/// ensures { glyphs.new ≡ marks_reordered start end (marks_merged level start end glyphs.old) }
+/// ensures marks { glyphs.new
+///     ≡ marks_reordered start end (marks_merged level start end glyphs.old) }
+/// ensures moved { let marks = stretch_of start end glyphs.old in
+///     result ≡ list_any is_modifier marks }
+/// ensures unchanged { result ≡ false → glyphs.new ≡ glyphs.old }
 /// ```
 ///
+/// - `is_modifier`: crates/shapers_arabic/specs/MarkParts.antt
 /// - `marks_merged`, `marks_reordered`: crates/shapers_arabic/specs/Marks.antt
+/// - `stretch_of`: crates/shapers_buffer/specs/Clusters.antt
 ///
 /// </details>
-#[inline]
 pub fn reorder_marks_in(
     level: BufferClusterLevel,
     glyphs: &mut [GlyphInfo],
     start: usize,
     end: usize,
-) {
+) -> bool {
+    if !has_modifier(&glyphs[start..end]) {
+        return false;
+    }
+    move_modifiers(level, glyphs, start, end);
+    true
+}
+
+// Whether one of these marks modifies a letter.
+#[inline]
+fn has_modifier(marks: &[GlyphInfo]) -> bool {
+    marks
+        .iter()
+        .any(|mark| is_modifier_of(BELOW, mark) || is_modifier_of(ABOVE, mark))
+}
+
+// Merges what the modifiers pass with them, and brings them to the front.
+#[inline(never)]
+fn move_modifiers(level: BufferClusterLevel, glyphs: &mut [GlyphInfo], start: usize, end: usize) {
     let parts = parts_of(&glyphs[start..end]);
     merge_passed(level, glyphs, start, parts);
     bring_forward(&mut glyphs[start..end], parts);
@@ -97,6 +121,7 @@ struct Parts {
 }
 
 // The lengths of the parts of these marks.
+#[inline]
 fn parts_of(marks: &[GlyphInfo]) -> Parts {
     let low = count_below(BELOW, marks);
     let second = &marks[low..];
@@ -113,6 +138,7 @@ fn parts_of(marks: &[GlyphInfo]) -> Parts {
 }
 
 // How many marks in front are of classes below this one.
+#[inline]
 fn count_below(class: u8, marks: &[GlyphInfo]) -> usize {
     marks
         .iter()
@@ -121,6 +147,7 @@ fn count_below(class: u8, marks: &[GlyphInfo]) -> usize {
 }
 
 // How many marks in front are of this class and modify a letter.
+#[inline]
 fn count_modifiers(class: u8, marks: &[GlyphInfo]) -> usize {
     marks
         .iter()
@@ -129,16 +156,19 @@ fn count_modifiers(class: u8, marks: &[GlyphInfo]) -> usize {
 }
 
 // Whether a mark is of this class and modifies a letter.
+#[inline]
 fn is_modifier_of(class: u8, mark: &GlyphInfo) -> bool {
     mark.modified_combining_class == class && modifies(mark.glyph_id)
 }
 
 // Whether this mark modifies a letter.
+#[inline]
 fn modifies(character: u32) -> bool {
     MODIFIERS.contains(&character)
 }
 
 // Merges what the modifiers pass with them.
+#[inline]
 fn merge_passed(level: BufferClusterLevel, glyphs: &mut [GlyphInfo], start: usize, parts: Parts) {
     let second = start + parts.modifiers_below;
     let third = start + parts.low + parts.modifiers_below;
@@ -148,6 +178,7 @@ fn merge_passed(level: BufferClusterLevel, glyphs: &mut [GlyphInfo], start: usiz
 }
 
 // Merges the glyphs from `s` to `e`, unless no marks move.
+#[inline]
 fn merge_for(
     level: BufferClusterLevel,
     glyphs: &mut [GlyphInfo],
@@ -162,6 +193,7 @@ fn merge_for(
 }
 
 // Brings the modifiers to the front, those below first.
+#[inline]
 fn bring_forward(marks: &mut [GlyphInfo], parts: Parts) {
     let first = parts.modifiers_below;
     let passed = parts.low + parts.modifiers_below;
@@ -171,6 +203,7 @@ fn bring_forward(marks: &mut [GlyphInfo], parts: Parts) {
 }
 
 // Brings the last `count` marks before the others, and gives them a class.
+#[inline]
 fn bring_last(marks: &mut [GlyphInfo], count: usize, class: u8) {
     if count == 0 {
         return;
@@ -180,6 +213,7 @@ fn bring_last(marks: &mut [GlyphInfo], count: usize, class: u8) {
 }
 
 // Gives all these marks a class.
+#[inline]
 fn set_class(marks: &mut [GlyphInfo], class: u8) {
     for mark in marks.iter_mut() {
         mark.modified_combining_class = class;

@@ -5,16 +5,19 @@
 use crate::generated::shapers_base::buffer::{GlyphInfo, Script};
 
 // Whether the script is Mongolian.
+#[inline]
 pub(super) fn is_mongolian(script: Option<Script>) -> bool {
     script == Some(Script(*b"Mong"))
 }
 
 // Whether a character is a free variation selector of Mongolian.
+#[inline]
 fn is_selector(c: u32) -> bool {
     matches!(c, 0x180B..=0x180D | 0x180F)
 }
 
 // The form of a glyph behind one of the form `previous`.
+#[inline]
 pub(super) fn form_behind(previous: Option<u8>, glyph: &GlyphInfo) -> u8 {
     match previous {
         Some(form) if is_selector(glyph.glyph_id) => form,
@@ -23,6 +26,7 @@ pub(super) fn form_behind(previous: Option<u8>, glyph: &GlyphInfo) -> u8 {
 }
 
 // Gives each selector the form of the glyph before it.
+#[inline]
 pub(super) fn copy_to_selectors(glyphs: &mut [GlyphInfo]) {
     let mut previous = None;
     for glyph in glyphs.iter_mut() {
@@ -33,6 +37,7 @@ pub(super) fn copy_to_selectors(glyphs: &mut [GlyphInfo]) {
 }
 
 // Gives each glyph the mask of its form.
+#[inline]
 pub(super) fn add_masks(masks: &[u32; 8], glyphs: &mut [GlyphInfo]) {
     for glyph in glyphs.iter_mut() {
         glyph.mask |= masks[usize::from(glyph.auxiliary)];

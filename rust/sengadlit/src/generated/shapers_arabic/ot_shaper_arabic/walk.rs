@@ -22,6 +22,7 @@ pub(super) struct JoiningWalk<'a, T: Tables> {
 }
 
 impl<'a, T: Tables> GlyphWalk for JoiningWalk<'a, T> {
+    #[inline]
     fn walk(&mut self, glyphs: &mut [GlyphInfo]) {
         join(self.flags, glyphs, self.before, self.after, self.tables);
         flag_breaks(self.breaks, self.script, glyphs);
@@ -30,6 +31,7 @@ impl<'a, T: Tables> GlyphWalk for JoiningWalk<'a, T> {
 }
 
 // Gives the selectors their forms, with the script Mongolian alone, and all glyphs their masks.
+#[inline]
 fn finish_forms(script: Option<Script>, masks: &[u32; 8], glyphs: &mut [GlyphInfo]) {
     if is_mongolian(script) {
         copy_to_selectors(glyphs);

@@ -79,6 +79,7 @@ fn character_at(glyphs: &[GlyphInfo], i: usize) -> u32 {
 }
 
 // Whether the font has the character with advance 0.
+#[inline]
 fn is_zero_width_char<F: Font>(face: &F, u: u32) -> bool {
     match face.get_nominal_glyph(u) {
         Some(glyph) => face.glyph_h_advance(glyph) == 0,
@@ -87,6 +88,7 @@ fn is_zero_width_char<F: Font>(face: &F, u: u32) -> bool {
 }
 
 // A tone without a syllable before it.
+#[inline]
 fn lone_tone<F: Font>(face: &F, circles: bool, u: u32) -> Unit {
     if !circles || !face.has_glyph(DOTTED_CIRCLE) {
         return Unit::Other;
@@ -98,6 +100,7 @@ fn lone_tone<F: Font>(face: &F, circles: bool, u: u32) -> Unit {
 }
 
 // L V.
+#[inline]
 fn jamo_two<F: Font>(face: &F, l: u32, v: u32) -> Unit {
     if is_combining_l(l) && is_combining_v(v) {
         let lv = compose_two(l, v);
@@ -109,6 +112,7 @@ fn jamo_two<F: Font>(face: &F, l: u32, v: u32) -> Unit {
 }
 
 // L V T.
+#[inline]
 fn jamo_three<F: Font>(face: &F, l: u32, v: u32, t: u32) -> Unit {
     if is_combining_l(l) && is_combining_v(v) && is_combining_t(t) {
         let lvt = compose_three(compose_two(l, v), t);
@@ -120,6 +124,7 @@ fn jamo_three<F: Font>(face: &F, l: u32, v: u32, t: u32) -> Unit {
 }
 
 // Whether the font has the jamo of a syllable character.
+#[inline]
 fn has_jamo_of<F: Font>(face: &F, s: u32) -> bool {
     let [l, v, t] = decompose(s);
     face.has_glyph(l) && face.has_glyph(v) && (is_lv(s) || face.has_glyph(t))
@@ -158,6 +163,7 @@ fn syllable_unit<F: Font>(face: &F, s: u32, v: u32) -> Unit {
 }
 
 // L V, and L V T.
+#[inline]
 fn jamo_unit<F: Font>(face: &F, l: u32, v: u32, t: u32) -> Unit {
     if is_t(t) {
         return jamo_three(face, l, v, t);
@@ -166,6 +172,7 @@ fn jamo_unit<F: Font>(face: &F, l: u32, v: u32, t: u32) -> Unit {
 }
 
 // The unit of a character that no jamo follows.
+#[inline]
 fn lone_unit<F: Font>(face: &F, circles: bool, u: u32) -> Unit {
     if is_combined_s(u) {
         if face.has_glyph(u) {
@@ -183,6 +190,7 @@ fn lone_unit<F: Font>(face: &F, circles: bool, u: u32) -> Unit {
 }
 
 // The unit that the character `u` and the next two open.
+#[inline]
 fn first_unit<F: Font>(face: &F, circles: bool, u: u32, v: u32, t: u32) -> Unit {
     if is_hangul_tone(u) {
         return lone_tone(face, circles, u);
@@ -197,6 +205,7 @@ fn first_unit<F: Font>(face: &F, circles: bool, u: u32, v: u32, t: u32) -> Unit 
 }
 
 // The tone `w` after a unit.
+#[inline]
 fn joined_tone<F: Font>(face: &F, unit: Unit, w: u32) -> JoinedTone {
     if !unit.is_syllable() || !is_hangul_tone(w) {
         return JoinedTone::Absent;
@@ -208,6 +217,7 @@ fn joined_tone<F: Font>(face: &F, unit: Unit, w: u32) -> JoinedTone {
 }
 
 // Whether the font can't join LV and the T `v` behind it, nor, where T doesn't combine, part LV.
+#[inline]
 fn is_split<F: Font>(face: &F, s: u32, v: u32) -> bool {
     if !is_lv(s) || !is_t(v) {
         return false;
@@ -219,6 +229,7 @@ fn is_split<F: Font>(face: &F, s: u32, v: u32) -> bool {
 }
 
 // How many characters from `u` on are unsafe to break inside, `v` being the second.
+#[inline]
 fn unsafe_len<F: Font>(face: &F, unit: Unit, tone: JoinedTone, u: u32, v: u32) -> usize {
     if is_l(u) && is_v(v) {
         return unit.taken();
@@ -232,7 +243,7 @@ fn unsafe_len<F: Font>(face: &F, unit: Unit, tone: JoinedTone, u: u32, v: u32) -
     0
 }
 
-// The item that opens the text. A character that jamo or a tone doesn't follow is told by itself.
+// The item that opens the text. A character that jamo or a tone doesn't follow decides by itself.
 fn read_item<F: Font>(face: &F, circles: bool, glyphs: &[GlyphInfo]) -> Item {
     let u = character_at(glyphs, 0);
     let v = character_at(glyphs, 1);
@@ -261,7 +272,7 @@ fn read_item<F: Font>(face: &F, circles: bool, glyphs: &[GlyphInfo]) -> Item {
     }
 }
 
-// Whether the character that opens the text stays as it is, as far as it and the next one tell.
+// Whether the character that opens the text stays as it is, as far as it and the next one decide.
 #[inline]
 pub(super) fn stays_alone<F: Font>(face: &F, glyphs: &[GlyphInfo]) -> bool {
     let u = character_at(glyphs, 0);
@@ -293,6 +304,7 @@ impl JoinedTone {
 
 impl Unit {
     // How many characters it takes.
+    #[inline]
     fn taken(self) -> usize {
         match self {
             Unit::ComposedThree(_) | Unit::JamoThree => 3,
@@ -307,6 +319,7 @@ impl Unit {
     }
 
     // How many glyphs it becomes.
+    #[inline]
     fn output_len(self) -> usize {
         match self {
             Unit::ComposedTwo(_) | Unit::ComposedThree(_) | Unit::Syllable | Unit::Other => 1,
@@ -336,6 +349,7 @@ impl Unit {
 }
 
 // The glyph as another character.
+#[inline]
 fn as_character(glyph: GlyphInfo, u: u32) -> GlyphInfo {
     GlyphInfo {
         glyph_id: u,
@@ -344,6 +358,7 @@ fn as_character(glyph: GlyphInfo, u: u32) -> GlyphInfo {
 }
 
 // The glyph marked as jamo.
+#[inline]
 fn as_jamo(glyph: GlyphInfo, feature: u8) -> GlyphInfo {
     GlyphInfo {
         auxiliary: feature,
@@ -352,16 +367,19 @@ fn as_jamo(glyph: GlyphInfo, feature: u8) -> GlyphInfo {
 }
 
 // A copy of the glyph as another character, marked as jamo.
+#[inline]
 fn jamo_from(glyph: GlyphInfo, u: u32, feature: u8) -> GlyphInfo {
     as_jamo(as_character(glyph, u), feature)
 }
 
 // Adds a glyph.
+#[inline]
 fn put(list: &mut Vec<GlyphInfo>, glyph: GlyphInfo) -> Result<(), ShaperError> {
     list.push(glyph).map_err(|_| ShaperError::Memory)
 }
 
-// Adds the tone at place `i`, where it stands on this side.
+// Adds the tone at place `i`, where it goes on this side.
+#[inline]
 fn put_tone(
     is_here: bool,
     glyphs: &[GlyphInfo],
@@ -420,6 +438,7 @@ impl Unit {
     }
 
     // Whether all that it takes merges at this level.
+    #[inline]
     fn is_merged(self, level: BufferClusterLevel) -> bool {
         match level {
             BufferClusterLevel::MonotoneGraphemes => true,
@@ -451,6 +470,7 @@ impl Item {
     }
 
     // Flags what would be torn apart by a break in the item at `place`, and merges what it merges.
+    #[inline]
     pub(super) fn join(self, level: BufferClusterLevel, glyphs: &mut [GlyphInfo], place: usize) {
         let taken = self.unit.taken();
         let end = place + taken;

@@ -12,6 +12,7 @@ use crate::generated::shapers_base::font::Font;
 use crate::support::alloc::Global;
 
 // The item at a place of the text.
+#[inline]
 fn item_at<F: Font>(face: &F, circles: bool, glyphs: &[GlyphInfo], place: usize) -> Item {
     first_item(face, circles, rest_from(glyphs, place))
 }
@@ -23,12 +24,14 @@ fn rest_from(glyphs: &[GlyphInfo], place: usize) -> &[GlyphInfo] {
 }
 
 // Whether the item at a place of the text is one character that stays as it is.
+#[inline]
 fn stays_at<F: Font>(face: &F, circles: bool, glyphs: &[GlyphInfo], place: usize) -> bool {
     let rest = rest_from(glyphs, place);
     stays_alone(face, rest) || first_item(face, circles, rest).is_kept()
 }
 
 // How far the text stays as it is: the place of the first item that changes it, or its end.
+#[inline]
 fn kept_len<F: Font>(face: &F, circles: bool, glyphs: &[GlyphInfo]) -> usize {
     let mut place = 0;
     while place < glyphs.len() {
@@ -40,6 +43,9 @@ fn kept_len<F: Font>(face: &F, circles: bool, glyphs: &[GlyphInfo]) -> usize {
     place
 }
 
+// For so many items room is made at once.
+const FEW: usize = 24;
+
 // The items that change a text from a place on, each with the place of its first character, as long
 // as memory was found.
 struct Cut {
@@ -48,12 +54,12 @@ struct Cut {
 }
 
 impl Cut {
-    // None so far.
-    fn new(alloc: Global) -> Self {
-        Cut {
-            items: Vec::new(alloc),
-            is_whole: true,
-        }
+    // None so far, with room for the items of so many characters, as far as they are few.
+    #[inline]
+    fn new(alloc: Global, len: usize) -> Self {
+        let mut items = Vec::new(alloc);
+        let is_whole = items.reserve_exact(len.min(FEW)).is_ok();
+        Cut { items, is_whole }
     }
 
     // One more, unless it stays as it is.
@@ -67,6 +73,7 @@ impl Cut {
 
 // The length of the result, where the text stays up to the place `kept`, and the items that change
 // it from there on. Refuses where the result would be longer than `limit`, and for nothing else.
+#[inline]
 fn measure<F: Font>(
     face: &F,
     circles: bool,
@@ -90,6 +97,7 @@ fn measure<F: Font>(
 }
 
 // Flags and merges what the items flag and merge, one after another.
+#[inline]
 fn join_items(cut: &[(usize, Item)], level: BufferClusterLevel, glyphs: &mut [GlyphInfo]) {
     for entry in cut {
         entry.1.join(level, glyphs, entry.0);
@@ -97,6 +105,7 @@ fn join_items(cut: &[(usize, Item)], level: BufferClusterLevel, glyphs: &mut [Gl
 }
 
 // Adds the text from one place to another.
+#[inline]
 fn write_stretch(
     glyphs: &[GlyphInfo],
     place: usize,
@@ -111,6 +120,7 @@ fn write_stretch(
 }
 
 // Adds the text from a place on up to an item, and what the item becomes.
+#[inline]
 fn write_change(
     entry: &(usize, Item),
     glyphs: &[GlyphInfo],
@@ -122,6 +132,7 @@ fn write_change(
 }
 
 // Adds the text from a place on, in which these items become what they become.
+#[inline]
 fn write_changes(
     cut: &[(usize, Item)],
     glyphs: &[GlyphInfo],
@@ -139,6 +150,7 @@ fn write_changes(
 
 // The text rewritten, to a length that is known: what its items flag and merge, on the old places,
 // and then what they become, behind what stays.
+#[inline]
 fn rewritten(
     cut: &[(usize, Item)],
     level: BufferClusterLevel,
@@ -156,13 +168,27 @@ fn rewritten(
 }
 
 // Whether the caller lets circles be inserted.
+#[inline]
 fn wants_circles(buffer: &Buffer) -> bool {
     !buffer
         .flags()
         .contains(BufferFlags::DO_NOT_INSERT_DOTTED_CIRCLE)
 }
 
+/// Rewrites the text, unless every character stays as it is, and returns whether it did.
+#[inline]
+pub(super) fn rewrite_changes<F: Font>(face: &F, buffer: &mut Buffer) -> Result<bool, ShaperError> {
+    let circles = wants_circles(buffer);
+    let glyphs = buffer.glyphs();
+    if kept_len(face, circles, glyphs) == buffer.len() {
+        return Ok(false);
+    }
+    rewrite(face, buffer)?;
+    Ok(true)
+}
+
 // Rewrites the text.
+#[inline]
 pub(super) fn rewrite<F: Font>(face: &F, buffer: &mut Buffer) -> Result<(), ShaperError> {
     let circles = wants_circles(buffer);
     let (level, alloc) = (buffer.cluster_level(), buffer.alloc());
@@ -171,7 +197,7 @@ pub(super) fn rewrite<F: Font>(face: &F, buffer: &mut Buffer) -> Result<(), Shap
     if kept == buffer.len() {
         return Ok(());
     }
-    let mut cut = Cut::new(alloc);
+    let mut cut = Cut::new(alloc, glyphs.len() - kept);
     let len = measure(face, circles, glyphs, kept, buffer.max_len(), &mut cut)?;
     if !cut.is_whole {
         return Err(ShaperError::Memory);

@@ -110,7 +110,7 @@ static INDIC_CONFIGS: [IndicConfig; 10] = [
     },
 ];
 
-// What a script asks for.
+// The properties of a script.
 #[inline]
 fn config_of(script: Option<Script>) -> IndicConfig {
     listed_config(script).unwrap_or(DEFAULT)

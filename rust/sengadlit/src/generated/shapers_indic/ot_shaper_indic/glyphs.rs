@@ -1,12 +1,13 @@
 //! Generated from crates/shapers_indic/src/ot_shaper_indic/glyphs.rt by rust/erase; edit the source.
 //!
-//! What both reorderings ask of a glyph.
+//! What both reorderings read of a glyph.
 
 use crate::generated::shapers_base::buffer::GlyphInfo;
 use crate::generated::shapers_base::font::GlyphId;
-use crate::generated::shapers_base::plan::ot_category_t::{OT_M, OT_MPst, OT_ZWJ, OT_ZWNJ};
+use crate::generated::shapers_base::plan::ot_category_t::{OT_C, OT_M, OT_MPst, OT_ZWJ, OT_ZWNJ};
+use crate::generated::shapers_base::plan::ot_position_t::POS_BASE_C;
 
-/// A glyph as fonts are asked about it.
+/// The glyph's number, as fonts take it.
 ///
 /// <details><summary>Contract</summary>
 ///
@@ -58,4 +59,28 @@ pub fn is_joiner(glyph: &GlyphInfo) -> bool {
 #[inline]
 pub fn is_matra(glyph: &GlyphInfo) -> bool {
     matches!(glyph.category, OT_M | OT_MPst)
+}
+
+/// Whether a syllable is one consonant at the base, which no lookup put in for several. No
+/// reordering changes anything in such a syllable.
+///
+/// <details><summary>Contract</summary>
+///
+/// # Contract
+///
+/// ```text
+/// ensures { result ≡ is_plain_consonant syllable.now }
+/// ```
+///
+/// - `is_plain_consonant`: crates/shapers_indic/specs/Glyphs.antt
+///
+/// </details>
+#[inline]
+pub fn is_plain_consonant(syllable: &[GlyphInfo]) -> bool {
+    match syllable {
+        [glyph] => {
+            glyph.category == OT_C && glyph.auxiliary == POS_BASE_C && !glyph.marks.is_ligated()
+        }
+        _ => false,
+    }
 }

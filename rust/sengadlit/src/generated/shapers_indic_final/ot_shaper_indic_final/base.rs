@@ -65,12 +65,11 @@ impl GlyphWalk for BaseWalk {
 #[inline]
 fn find_base(rules: &Rules, script: Option<Script>, glyphs: &mut [GlyphInfo]) -> Based {
     let first = first_base(glyphs);
-    let unformed = unformed_pref(rules.pref, first, glyphs);
     let by_pref = set_pref_base(rules.pref, first, glyphs);
-    let by_links = set_links(script, by_pref, glyphs);
+    let by_links = set_links(script, by_pref.unwrap_or(first), glyphs);
     Based {
         base: settled_base(stepped_back(by_links, glyphs), glyphs),
-        tries_pref: rules.pref != 0 && unformed.is_none(),
+        tries_pref: rules.pref != 0 && by_pref.is_none(),
     }
 }
 
@@ -109,17 +108,13 @@ fn is_unformed(glyph: &GlyphInfo) -> bool {
     !(glyph.marks.is_substituted() && is_formed(glyph))
 }
 
-// The base by `pref`, which gets the base's position.
+// The base by `pref`, which gets the base's position, if there is an unformed glyph.
 #[inline]
-fn set_pref_base(pref: u32, base: usize, glyphs: &mut [GlyphInfo]) -> usize {
-    match unformed_pref(pref, base, glyphs) {
-        Some(i) => {
-            let by_pref = behind_halants(glyphs, i);
-            set_base_at(by_pref, glyphs);
-            by_pref
-        }
-        None => base,
-    }
+fn set_pref_base(pref: u32, base: usize, glyphs: &mut [GlyphInfo]) -> Option<usize> {
+    let i = unformed_pref(pref, base, glyphs)?;
+    let by_pref = behind_halants(glyphs, i);
+    set_base_at(by_pref, glyphs);
+    Some(by_pref)
 }
 
 // The first glyph from a place on that is no halant, else the end.
@@ -248,7 +243,7 @@ fn set_along_links(base: usize, glyphs: &mut [GlyphInfo]) -> usize {
 }
 
 // Gives the last glyph of a link, of place `i`, the base's position, if its below-base form was not
-// made. Answers the base then, which was `last` before.
+// made. Returns the base then, which was `last` before.
 #[inline]
 fn set_link(glyph: &mut GlyphInfo, i: usize, last: usize) -> usize {
     if is_unformed_below(glyph) {

@@ -1,6 +1,6 @@
 //! Generated from crates/shapers_indic_final/src/ot_shaper_indic_final/glyphs.rt by rust/erase; edit the source.
 //!
-//! What the final reordering asks of a glyph.
+//! What the final reordering reads of a glyph.
 
 use crate::generated::shapers_base::buffer::GlyphInfo;
 use crate::generated::shapers_base::plan::ot_category_t::{OT_H, OT_M, OT_MPst};

@@ -149,7 +149,7 @@ fn is_listed(gone: bool, i: usize, top: usize, glyphs: &[GlyphInfo], j: usize) -
 }
 
 // Lists the places from `s` to `e` of what has gone, or of what has stayed, from place `at` on.
-// Answers the place behind them.
+// Returns the place behind them.
 #[inline]
 fn list_places(
     gone: bool,
@@ -169,7 +169,7 @@ fn list_places(
     at
 }
 
-// Moves the left matras before `top` of the stretch from `s` to `e` behind what stays. Answers the
+// Moves the left matras before `top` of the stretch from `s` to `e` behind what stays. Returns the
 // place of the first of them.
 #[inline]
 fn move_matras(top: usize, buffer: &mut Buffer, s: usize, e: usize) -> usize {

@@ -11,7 +11,8 @@ use crate::generated::shapers_indic::ot_shaper_indic::indic_in;
 
 /// Reorders each syllable again, now that the basic features formed its glyphs: its base, its left
 /// matras, its reph and a glyph that `pref` formed; and gives a left matra at the start of a word
-/// `init`. Every cluster afterwards is one that the text had. It refuses nothing and takes no memory.
+/// `init`. Every cluster afterwards is one that the text had, and the placement list is empty. It
+/// refuses nothing and takes no memory.
 /// (OpenType, development of Indic scripts: "Final reordering".)
 ///
 /// <details><summary>Contract</summary>
@@ -34,6 +35,7 @@ use crate::generated::shapers_indic::ot_shaper_indic::indic_in;
 /// - `NoNewCluster`: crates/shapers_syllabic/specs/CircleLaws.antt
 ///
 /// </details>
+#[inline]
 pub fn final_reordering<F: Font>(plan: &Plan, face: &F, buffer: &mut Buffer) {
     let rules = Rules::new(indic_in(plan), face);
     let script = buffer.script();

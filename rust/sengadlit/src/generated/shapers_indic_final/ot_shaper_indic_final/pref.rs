@@ -8,10 +8,13 @@ use super::rules::has_no_half_forms;
 use crate::generated::shapers_base::buffer::{GlyphInfo, Script};
 use crate::generated::shapers_indic::ot_shaper_indic::glyphs::is_joiner;
 
-// The first glyph after the base with the mask of `pref`.
+// The first glyph after the base with the mask of `pref`, which some plans don't give.
 #[allow(clippy::manual_find, clippy::needless_range_loop)]
 #[inline]
 pub(super) fn pref_place(pref: u32, base: usize, glyphs: &[GlyphInfo]) -> Option<usize> {
+    if pref == 0 {
+        return None;
+    }
     for i in base + 1..glyphs.len() {
         if has_mask(pref, &glyphs[i]) {
             return Some(i);

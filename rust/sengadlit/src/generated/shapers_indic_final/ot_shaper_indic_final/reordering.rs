@@ -8,6 +8,7 @@ use super::placing::{place_matras, place_pref, place_reph};
 use super::rules::Rules;
 use super::viramas::recover_viramas;
 use crate::generated::shapers_base::buffer::{Buffer, Script};
+use crate::generated::shapers_indic::ot_shaper_indic::glyphs::is_plain_consonant;
 
 // Reorders each syllable of the text and opens it, from left to right.
 #[inline]
@@ -32,6 +33,9 @@ fn reorder_syllable(
     s: usize,
     e: usize,
 ) {
+    if is_plain_consonant(&buffer.glyphs()[s..e]) {
+        return;
+    }
     recover_viramas(rules.virama, buffer, s, e);
     let based = settle_base(rules, script, buffer, s, e);
     place_matras(script, based.base, buffer, s, e);

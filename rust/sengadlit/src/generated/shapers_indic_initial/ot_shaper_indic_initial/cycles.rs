@@ -17,7 +17,7 @@ fn spend_place(buffer: &mut Buffer, start: usize, i: usize) {
     buffer.set_place(start + i, start + i);
 }
 
-// Walks along the cycle of place `p` and spends each of its places as it passes. Answers the least
+// Walks along the cycle of place `p` and spends each of its places as it passes. Returns the least
 // and the greatest.
 #[inline]
 fn spend_cycle(buffer: &mut Buffer, start: usize, end: usize, p: usize) -> (usize, usize) {

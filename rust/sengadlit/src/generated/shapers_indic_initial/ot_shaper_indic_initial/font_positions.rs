@@ -22,6 +22,9 @@ pub(super) fn update_consonant_positions<F: Font>(
     match virama {
         None => {}
         Some(virama) => {
+            if !has_forms(plan, map) {
+                return;
+            }
             let mut by_virama = ByVirama {
                 plan,
                 map,
@@ -33,10 +36,20 @@ pub(super) fn update_consonant_positions<F: Font>(
     }
 }
 
+// Whether a feature that gives consonants forms with the virama has lookups. Where none has, the
+// font isn't asked about any consonant.
+#[inline]
+fn has_forms(plan: &IndicPlan, map: &Map) -> bool {
+    !plan.blwf.lookups(map).is_empty()
+        || !plan.vatu.lookups(map).is_empty()
+        || !plan.pstf.lookups(map).is_empty()
+        || !plan.pref.lookups(map).is_empty()
+}
+
 // How many consonants are known at once.
 const KNOWN: usize = 32;
 
-// A consonant and its position by the font. It is known so that the font isn't asked again.
+// A consonant and its position by the font, kept so that the font isn't queried again.
 #[derive(Clone, Copy)]
 struct Known {
     consonant: GlyphId,
@@ -74,7 +87,7 @@ impl<'a, F: Font> ByVirama<'a, F> {
         }
     }
 
-    // The position of a consonant, for which the font is asked only where it isn't known.
+    // The position of a consonant, for which the font is queried only where it isn't known.
     #[inline]
     fn position_of(&self, known: &mut [Known; KNOWN], consonant: GlyphId) -> Position {
         let slot = usize::from(consonant.0) % KNOWN;

@@ -10,6 +10,7 @@ use crate::generated::shapers_base::buffer::{Buffer, GlyphInfo, GlyphWalk, Scrip
 use crate::generated::shapers_base::font::Font;
 use crate::generated::shapers_base::map::Map;
 use crate::generated::shapers_base::plan::IndicPlan;
+use crate::generated::shapers_indic::ot_shaper_indic::glyphs::is_plain_consonant;
 use crate::generated::shapers_syllabic::ot_shaper_syllabic::Reorder;
 use crate::generated::shapers_syllabic::ot_shaper_syllabic::indic_syllable::{
     BROKEN_CLUSTER, CONSONANT_SYLLABLE, STANDALONE_CLUSTER, VOWEL_SYLLABLE,
@@ -25,6 +26,9 @@ pub(super) struct InitialOrder<'a, F: Font> {
 impl<'a, F: Font> Reorder for InitialOrder<'a, F> {
     #[inline]
     fn reorder(&self, buffer: &mut Buffer, start: usize, end: usize) -> Result<(), ShaperError> {
+        if is_plain_consonant(&buffer.glyphs()[start..end]) {
+            return Ok(());
+        }
         let (plan, map, face) = (self.plan, self.map, self.face);
         if is_reordered(&buffer.glyphs()[start..end]) {
             set_positions(plan, map, face, buffer, start, end);

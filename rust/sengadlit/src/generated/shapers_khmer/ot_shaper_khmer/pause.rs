@@ -23,7 +23,7 @@ const CIRCLES: ScriptCircles = ScriptCircles {
 
 /// Gives broken syllables their dotted circles, and then brings Coeng Ro and the vowels that stand
 /// before their base to the front of each syllable, with the masks of the plan; in a regular
-/// syllable these are its movers, the last one first. Answers whether circles were wanted. Every
+/// syllable these are its movers, the last one first. Returns whether circles were wanted. Every
 /// cluster afterwards is one that the text had. Refuses with `UnknownSyllable`, before anything
 /// changes; with `TooLong`; and with `Memory`, but not where no circle opens. (OpenType,
 /// "Developing OpenType Fonts for Khmer".)
@@ -74,6 +74,7 @@ const CIRCLES: ScriptCircles = ScriptCircles {
 /// - `PauseCutsAtBorders`: crates/shapers_syllabic/specs/ReorderingLaws.antt
 ///
 /// </details>
+#[inline]
 pub fn reorder_khmer<F: Font>(
     plan: &Plan,
     face: &F,

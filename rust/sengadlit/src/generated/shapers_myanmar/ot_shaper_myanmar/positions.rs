@@ -20,11 +20,13 @@ pub(super) fn set_positions(syllable: &mut [GlyphInfo]) {
 }
 
 // How many glyphs the reph of a syllable has: Ra, As, H, or none.
+#[inline]
 fn reph_len(syllable: &[GlyphInfo]) -> usize {
     if has_reph(syllable) { 3 } else { 0 }
 }
 
 // Whether a syllable opens with a reph.
+#[inline]
 fn has_reph(syllable: &[GlyphInfo]) -> bool {
     match syllable {
         [a, b, c, ..] => a.category == OT_Ra && b.category == OT_As && c.category == OT_H,
@@ -33,6 +35,7 @@ fn has_reph(syllable: &[GlyphInfo]) -> bool {
 }
 
 // Gives all these glyphs one position.
+#[inline]
 fn set_position(glyphs: &mut [GlyphInfo], position: u8) {
     for glyph in glyphs.iter_mut() {
         glyph.auxiliary = position;
@@ -40,6 +43,7 @@ fn set_position(glyphs: &mut [GlyphInfo], position: u8) {
 }
 
 // The positions behind the reph: what stands before the base, the base, and what follows it.
+#[inline]
 fn set_behind_reph(glyphs: &mut [GlyphInfo]) {
     let (before, rest) = glyphs.split_at_mut(before_base(glyphs));
     set_position(before, POS_PRE_C);
@@ -47,21 +51,25 @@ fn set_behind_reph(glyphs: &mut [GlyphInfo]) {
 }
 
 // How many glyphs stand before the base: the first consonant, or the first glyph.
+#[inline]
 fn before_base(glyphs: &[GlyphInfo]) -> usize {
     first_consonant(glyphs).unwrap_or(0)
 }
 
 // The place of the first consonant.
+#[inline]
 fn first_consonant(glyphs: &[GlyphInfo]) -> Option<usize> {
     glyphs.iter().position(may_be_base)
 }
 
 // Whether a glyph may be the base.
+#[inline]
 fn may_be_base(glyph: &GlyphInfo) -> bool {
     is_consonant(glyph)
 }
 
 // The positions of the base and of what follows it.
+#[inline]
 fn set_from_base(glyphs: &mut [GlyphInfo]) {
     if let Some((base, later)) = glyphs.split_first_mut() {
         base.auxiliary = POS_BASE_C;
@@ -70,6 +78,7 @@ fn set_from_base(glyphs: &mut [GlyphInfo]) {
 }
 
 // The positions behind the base, each by the part in which the glyph stands.
+#[inline]
 fn set_later(glyphs: &mut [GlyphInfo]) {
     let mut part = POS_AFTER_MAIN;
     let mut before = POS_BASE_C;
@@ -83,6 +92,7 @@ fn set_later(glyphs: &mut [GlyphInfo]) {
 // The part of a glyph behind the base, by its position, behind a glyph of part `before`. The first
 // vowel below opens the run of vowels below and anusvaras, which what stands elsewhere by itself
 // doesn't end.
+#[inline]
 fn part_of(glyph: &GlyphInfo, before: u8) -> u8 {
     match (before, glyph.category) {
         (POS_AFTER_MAIN, OT_VBlw) => POS_BELOW_C,
@@ -95,6 +105,7 @@ fn part_of(glyph: &GlyphInfo, before: u8) -> u8 {
 // The position of a glyph behind the base: the medial Ra and the vowels before the base stand in
 // front of it, a selector with the glyph before it, an anusvara before the vowels below, and others
 // in their part.
+#[inline]
 fn own_position(glyph: &GlyphInfo, part: u8, before: u8) -> u8 {
     match glyph.category {
         OT_MR => POS_PRE_C,

@@ -11,6 +11,7 @@ use crate::generated::shapers_base::plan::StretchStart;
 
 /// How many cells a text has more when it is stretched, unless one of its numbers doesn't fit 32
 /// bits.
+#[inline]
 pub(super) fn count_added<F: Font>(
     face: &F,
     choice: StretchStart,
@@ -42,6 +43,7 @@ struct Counted {
 }
 
 // Counts the last part of a text, unless one of its numbers doesn't fit 32 bits.
+#[inline]
 fn count_last<F: Font>(
     face: &F,
     choice: StretchStart,
@@ -61,6 +63,7 @@ fn count_last<F: Font>(
 }
 
 // How many copies a run adds, unless one of its numbers doesn't fit 32 bits.
+#[inline]
 fn count_run<F: Font>(
     face: &F,
     choice: StretchStart,
@@ -78,6 +81,7 @@ fn count_run<F: Font>(
 }
 
 // Whether the offsets of all copies of a run fit 32 bits.
+#[inline]
 fn offsets_fit<F: Font>(face: &F, right_to_left: bool, lay: Lay, tiles: &[GlyphInfo]) -> bool {
     let mut pen = lay.start;
     let mut left = tiles.len();
@@ -92,6 +96,7 @@ fn offsets_fit<F: Font>(face: &F, right_to_left: bool, lay: Lay, tiles: &[GlyphI
 }
 
 // Where the pen is behind the copies of a tile, unless an offset of theirs doesn't fit 32 bits.
+#[inline]
 fn behind_tile<F: Font>(
     face: &F,
     right_to_left: bool,
@@ -126,6 +131,7 @@ fn behind_copy(right_to_left: bool, pen: i128, step: i128) -> Option<i128> {
 
 // The same behind so many copies that each move the pen so far: they stand at equal distances, so
 // that the first and the last tell.
+#[inline]
 fn behind_copies(right_to_left: bool, pen: i128, step: i128, count: usize) -> Option<i128> {
     if count == 0 {
         return Some(pen);
@@ -139,22 +145,26 @@ fn behind_copies(right_to_left: bool, pen: i128, step: i128, count: usize) -> Op
 }
 
 // Whether the offsets of the first and the last of copies at equal distances fit 32 bits.
+#[inline]
 fn ends_fit(right_to_left: bool, pen: i128, behind: i128, step: i128) -> bool {
     fits_i32(first_offset(right_to_left, pen, step))
         && fits_i32(last_offset(right_to_left, behind, step))
 }
 
 // The offset of the first of such copies.
+#[inline]
 fn first_offset(right_to_left: bool, pen: i128, step: i128) -> i128 {
     if right_to_left { pen - step } else { pen }
 }
 
 // The offset of the last of them.
+#[inline]
 fn last_offset(right_to_left: bool, behind: i128, step: i128) -> i128 {
     if right_to_left { behind } else { behind - step }
 }
 
 // How far so many copies move the pen.
+#[inline]
 fn product(count: usize, step: i128) -> i128 {
     count as i128 * step
 }

@@ -38,6 +38,7 @@ impl<'a, F: Font> PositionedWalk for TileLaying<'a, F> {
 }
 
 /// Stretches the text of the first `len` cells over the whole slices.
+#[inline]
 pub(super) fn lay_all<F: Font>(
     face: &F,
     choice: StretchStart,
@@ -63,6 +64,7 @@ struct Unlaid {
 }
 
 // Lays the last part of the unlaid text: its run first, then what stands before it moves up.
+#[inline]
 fn lay_last<F: Font>(
     face: &F,
     choice: StretchStart,
@@ -147,6 +149,7 @@ struct Tile {
 }
 
 // Lays these tiles, the last one first.
+#[inline]
 fn lay_tiles<F: Font>(
     face: &F,
     right_to_left: bool,
@@ -168,6 +171,7 @@ fn lay_tiles<F: Font>(
 }
 
 // Lays a tile, and where it repeats the added copies of it.
+#[inline]
 fn lay_tile<F: Font>(
     face: &F,
     right_to_left: bool,
@@ -188,6 +192,7 @@ fn lay_tile<F: Font>(
 }
 
 // Lays so many copies of a tile that each move the pen so far.
+#[inline]
 fn lay_copies(
     right_to_left: bool,
     step: i128,
@@ -205,6 +210,7 @@ fn lay_copies(
 }
 
 // Lays one copy of a tile.
+#[inline]
 fn lay_copy(
     right_to_left: bool,
     step: i128,
@@ -226,6 +232,7 @@ fn lay_copy(
 }
 
 // Where a copy stands.
+#[inline]
 fn offset_of(right_to_left: bool, at: i128, step: i128) -> i32 {
     let offset = if right_to_left { at - step } else { at };
     i32::try_from(offset).unwrap()

@@ -34,6 +34,7 @@ pub(super) fn fits_i32(x: i128) -> bool {
 }
 
 /// What tiles and the word before them measure.
+#[inline]
 pub(super) fn measure<F: Font>(face: &F, word: &[GlyphPosition], tiles: &[GlyphInfo]) -> Run {
     let word = total_advance(word);
     let mut fixed = 0;
@@ -63,6 +64,7 @@ pub(super) fn advance_of<F: Font>(face: &F, glyph: &GlyphInfo) -> i32 {
 }
 
 // The advance of a word.
+#[inline]
 fn total_advance(word: &[GlyphPosition]) -> i128 {
     let mut sum = 0;
     for position in word {
@@ -72,6 +74,7 @@ fn total_advance(word: &[GlyphPosition]) -> i128 {
 }
 
 /// How a run is laid, unless one of its numbers doesn't fit 32 bits.
+#[inline]
 pub(super) fn lay_of(choice: StretchStart, right_to_left: bool, run: Run) -> Option<Lay> {
     if !run_fits(run) {
         return None;
@@ -90,6 +93,7 @@ pub(super) fn lay_of(choice: StretchStart, right_to_left: bool, run: Run) -> Opt
 }
 
 // Whether what a run measures fits 32 bits, and what its fixed tiles leave of the word.
+#[inline]
 fn run_fits(run: Run) -> bool {
     fits_i32(run.word)
         && fits_i32(run.fixed)
@@ -98,6 +102,7 @@ fn run_fits(run: Run) -> bool {
 }
 
 // How many times more the repeating tiles of a run fit into what is left.
+#[inline]
 fn fitting(run: Run) -> usize {
     let left = left_of(run);
     if run.repeating < left && 0 < run.repeating {
@@ -108,6 +113,7 @@ fn fitting(run: Run) -> usize {
 }
 
 // The same where they do fit.
+#[inline]
 fn times_more(run: Run, left: i128) -> usize {
     (left.unsigned_abs() as u64 / run.repeating.unsigned_abs() as u64) as usize - 1
 }
@@ -120,6 +126,7 @@ struct Rounds {
 }
 
 // How many times more they are laid, and whether that is so much that the copies overlap.
+#[inline]
 fn rounds_of(run: Run) -> Rounds {
     let fitting = fitting(run);
     let left = run.word - run.fixed;
@@ -137,26 +144,31 @@ fn rounds_of(run: Run) -> Rounds {
 }
 
 // How far the repeating tiles reach, laid once and these times more.
+#[inline]
 fn reach(run: Run, added: usize) -> i128 {
     (added as i128 + 1) * run.repeating
 }
 
 // How far they then reach too far.
+#[inline]
 fn excess(run: Run, added: usize) -> i128 {
     reach(run, added) - (run.word - run.fixed)
 }
 
 // How many copies that makes.
+#[inline]
 fn copies(run: Run, added: usize) -> i128 {
     added as i128 * run.repeaters as i128
 }
 
 // Whether these numbers fit 32 bits.
+#[inline]
 fn added_fits(run: Run, added: usize) -> bool {
     fits_i32(reach(run, added)) && fits_i32(copies(run, added))
 }
 
 // By how much each added copy overlaps the one before it.
+#[inline]
 fn overlap(run: Run, rounds: Rounds) -> i128 {
     if !rounds.squeezes {
         return 0;
@@ -165,6 +177,7 @@ fn overlap(run: Run, rounds: Rounds) -> i128 {
 }
 
 // Where the first tile begins, unless a number of the choice doesn't fit 32 bits.
+#[inline]
 fn start(
     choice: StretchStart,
     right_to_left: bool,
@@ -179,17 +192,20 @@ fn start(
 }
 
 // The first choice of a start.
+#[inline]
 fn start_as_code(run: Run, shares: bool) -> i128 {
     if shares { 0 } else { half(left_of(run)) }
 }
 
 // What the fixed tiles leave of the word.
+#[inline]
 fn left_of(run: Run) -> i128 {
     run.word - run.fixed
 }
 
 // The second choice: what is laid is centred on the word, unless its width, or the word less that
 // width, doesn't fit 32 bits.
+#[inline]
 fn centred_start(right_to_left: bool, run: Run, times: usize, shared: i128) -> Option<i128> {
     let width = width_of_laid(run, times, shared);
     if !fits_i32(width) {
@@ -203,31 +219,37 @@ fn centred_start(right_to_left: bool, run: Run, times: usize, shared: i128) -> O
 }
 
 // How much wider the word is than what is laid.
+#[inline]
 fn gap(run: Run, width: i128) -> i128 {
     run.word - width
 }
 
 // Half of a number.
+#[inline]
 fn half(x: i128) -> i128 {
     x / 2
 }
 
 // A number counted in the direction in which tiles follow one another.
+#[inline]
 fn along(right_to_left: bool, x: i128) -> i128 {
     if right_to_left { -x } else { x }
 }
 
 // The width that is laid.
+#[inline]
 fn width_of_laid(run: Run, times: usize, shared: i128) -> i128 {
     run.fixed + reach(run, times) - shared_by(copies(run, times), shared)
 }
 
 // What so many copies overlap together.
+#[inline]
 fn shared_by(copies: i128, shared: i128) -> i128 {
     copies * shared
 }
 
 // The quotient of two numbers that fit 64 bits, rounded toward zero.
+#[inline]
 fn quotient(a: i128, b: i128) -> i128 {
     i128::from(a as i64 / b as i64)
 }

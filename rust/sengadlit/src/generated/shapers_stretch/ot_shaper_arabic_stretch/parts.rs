@@ -25,6 +25,7 @@ pub(super) fn last_part(glyphs: &[GlyphInfo]) -> LastPart {
 }
 
 // How many tiles stand at the end.
+#[inline]
 fn count_last_tiles(glyphs: &[GlyphInfo]) -> usize {
     glyphs
         .iter()
@@ -34,6 +35,7 @@ fn count_last_tiles(glyphs: &[GlyphInfo]) -> usize {
 }
 
 // How many glyphs at the end can belong to the word before a run.
+#[inline]
 fn count_last_in_word(glyphs: &[GlyphInfo]) -> usize {
     glyphs
         .iter()
@@ -43,6 +45,7 @@ fn count_last_in_word(glyphs: &[GlyphInfo]) -> usize {
 }
 
 // How many glyphs at the end are no tiles.
+#[inline]
 fn count_last_others(glyphs: &[GlyphInfo]) -> usize {
     glyphs
         .iter()
@@ -64,12 +67,14 @@ pub(super) fn repeats(glyph: &GlyphInfo) -> bool {
 }
 
 // Whether a glyph can belong to the word before a run.
+#[inline]
 fn in_word(glyph: &GlyphInfo) -> bool {
     let ignorable = glyph.marks.is_ignorable() && !glyph.marks.is_substituted();
     !is_tile(glyph) && (ignorable || is_word_category(glyph.general_category))
 }
 
 // Whether a character of this category can belong to the word before a run.
+#[inline]
 fn is_word_category(category: GeneralCategory) -> bool {
     use GeneralCategory::{Cn, Co, Lm, Lo, Mc, Me, Mn, Nd, Nl, No, Sc, Sk, Sm, So};
     matches!(

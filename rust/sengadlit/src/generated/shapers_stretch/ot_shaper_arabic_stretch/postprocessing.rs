@@ -44,6 +44,7 @@ use crate::generated::shapers_base::plan::{Plan, PlanData, StretchStart};
 /// - `AreCopies`, `IsLaidOver`: crates/shapers_stretch/specs/StretchLaws.antt
 ///
 /// </details>
+#[inline]
 pub fn postprocess_glyphs<F: Font>(
     plan: &Plan,
     face: &F,
@@ -56,6 +57,7 @@ pub fn postprocess_glyphs<F: Font>(
 }
 
 // The same, where stretches begin so.
+#[inline]
 fn stretch_marks<F: Font>(
     face: &F,
     choice: StretchStart,
@@ -71,6 +73,7 @@ fn stretch_marks<F: Font>(
 }
 
 // Stretches a text that is in working order backwards.
+#[inline]
 fn stretch_backwards<F: Font>(
     face: &F,
     choice: StretchStart,
@@ -110,6 +113,7 @@ fn stretch_text<F: Font>(
 }
 
 // Makes room for so many glyphs more.
+#[inline]
 fn make_room(buffer: &mut Buffer, added: u128) -> Result<(), ShaperError> {
     let room = buffer.max_len() - buffer.len();
     if (room as u128) < added {

@@ -25,6 +25,7 @@ use crate::generated::shapers_base::plan::{Plan, PlanData};
 /// - `tiles_recorded`: crates/shapers_stretch/specs/Recorded.antt
 ///
 /// </details>
+#[inline]
 pub fn record_stch(plan: &Plan, buffer: &mut Buffer) {
     match &plan.plan_data {
         PlanData::Arabic(arabic_plan) => {
@@ -37,6 +38,7 @@ pub fn record_stch(plan: &Plan, buffer: &mut Buffer) {
 }
 
 // The same where the font stretches marks.
+#[inline]
 fn record_tiles(buffer: &mut Buffer) {
     let mut recorder = TileRecorder { has_stch: false };
     buffer.walk(&mut recorder);
@@ -86,6 +88,7 @@ pub fn record_stch_in(glyphs: &mut [GlyphInfo]) -> bool {
 }
 
 // The tile that a multiplied glyph of this component is.
+#[inline]
 fn tile_action(component: u8) -> u8 {
     if component % 2 == 1 {
         STRETCHING_REPEATING

@@ -1,6 +1,6 @@
 //! Generated from crates/shapers_syllabic/src/ot_shaper_syllabic/characters.rt by rust/erase; edit the source.
 //!
-//! What several shapers ask the tables about a character.
+//! What several shapers look up about a character.
 
 use crate::generated::shapers_base::buffer::{Buffer, GlyphChange, GlyphInfo, change_each_in};
 use crate::generated::shapers_base::font::Tables;

@@ -1,6 +1,6 @@
 //! Generated from crates/shapers_syllabic/src/ot_shaper_syllabic/circles.rt by rust/erase; edit the source.
 //!
-//! Dotted circles: what a broken syllable stands on.
+//! Dotted circles: the base of a broken syllable.
 
 use crate::generated::shapers_base::buffer::{
     Buffer, BufferFlags, GlyphInfo, GlyphWalk, ShaperError, first_syllable_len,
@@ -29,7 +29,7 @@ struct Places {
 }
 
 /// Gives each broken syllable a dotted circle, behind its leading glyphs of the repha category
-/// where one is given, else in front. Answers false, with nothing changed, where no syllable is
+/// where one is given, else in front. Returns false, with nothing changed, where no syllable is
 /// broken, the caller forbids circles or the font has none. Without its circles the text is what it
 /// was. Refuses with `TooLong` where the text
 /// would be longer than `max_len`, and with `Memory`; where no circle opens it takes none.
@@ -130,6 +130,7 @@ fn circles_for<F: Font>(
 
 impl DottedCircles {
     // Puts the circles into the text.
+    #[inline]
     fn insert(&self, buffer: &mut Buffer) -> Result<(), ShaperError> {
         let len = buffer.len();
         let count = self.count(buffer.glyphs());
@@ -145,6 +146,7 @@ impl DottedCircles {
     }
 
     // How many circles the text gets.
+    #[inline]
     fn count(&self, text: &[GlyphInfo]) -> usize {
         let mut count = 0;
         let mut rest = text;
@@ -157,6 +159,7 @@ impl DottedCircles {
 
     // Opens each broken syllable of the text, of `len` glyphs, behind which stands room for as many
     // circles. The text is written from behind, so that nothing is written over before it is read.
+    #[inline]
     fn open_all(&self, glyphs: &mut [GlyphInfo], len: usize) {
         let mut read = len;
         let mut left = glyphs.len() - len;
@@ -167,7 +170,8 @@ impl DottedCircles {
     }
 
     // Opens the last broken syllable of the first `read` glyphs, which move up, from it on, by as
-    // many places as they have broken syllables. Answers where it starts.
+    // many places as they have broken syllables. Returns where it starts.
+    #[inline]
     fn open_last(&self, glyphs: &mut [GlyphInfo], read: usize, left: usize) -> usize {
         let broken = self.last_broken(&glyphs[..read]);
         move_up(glyphs, broken.end, read, left);
@@ -176,6 +180,7 @@ impl DottedCircles {
     }
 
     // Where the last broken syllable of a text stands.
+    #[inline]
     fn last_broken(&self, text: &[GlyphInfo]) -> Places {
         let end = text.len() - unbroken_end(text, self.broken_kind);
         let byte = text[end - 1].syllable;
@@ -184,6 +189,7 @@ impl DottedCircles {
     }
 
     // Moves a syllable up by `left` places, and puts its circle into it, which takes one of them.
+    #[inline]
     fn open(&self, glyphs: &mut [GlyphInfo], broken: Places, left: usize) {
         let syllable = &glyphs[broken.start..broken.end];
         let circle = circle_in(syllable, self.circle);
@@ -194,6 +200,7 @@ impl DottedCircles {
     }
 
     // Where the first broken syllable of a text stands.
+    #[inline]
     fn first_broken(&self, text: &[GlyphInfo]) -> Option<Places> {
         let start = unbroken_len(text, self.broken_kind);
         if start == text.len() {
@@ -204,6 +211,7 @@ impl DottedCircles {
     }
 
     // How many glyphs of a syllable stand in front of its circle.
+    #[inline]
     fn rephas_len(&self, syllable: &[GlyphInfo]) -> usize {
         match self.repha {
             None => 0,
@@ -226,11 +234,13 @@ impl GlyphWalk for CircleWalk {
 }
 
 // Copies the glyphs from `from` to `to` to as many places `by` further up.
+#[inline]
 fn move_up(glyphs: &mut [GlyphInfo], from: usize, to: usize, by: usize) {
     glyphs.copy_within(from..to, from + by);
 }
 
 // How many glyphs at the end are in a syllable of another kind.
+#[inline]
 fn unbroken_end(glyphs: &[GlyphInfo], kind: u8) -> usize {
     for i in (0..glyphs.len()).rev() {
         if glyphs[i].syllable % 16 == kind {
@@ -241,6 +251,7 @@ fn unbroken_end(glyphs: &[GlyphInfo], kind: u8) -> usize {
 }
 
 // How many glyphs at the end have this byte of a syllable.
+#[inline]
 fn syllable_end(glyphs: &[GlyphInfo], byte: u8) -> usize {
     glyphs
         .iter()
@@ -250,6 +261,7 @@ fn syllable_end(glyphs: &[GlyphInfo], byte: u8) -> usize {
 }
 
 // How many glyphs at the front have this category.
+#[inline]
 fn category_len(glyphs: &[GlyphInfo], category: u8) -> usize {
     glyphs
         .iter()
@@ -258,6 +270,7 @@ fn category_len(glyphs: &[GlyphInfo], category: u8) -> usize {
 }
 
 // How many glyphs at the front are in a syllable of another kind.
+#[inline]
 fn unbroken_len(glyphs: &[GlyphInfo], kind: u8) -> usize {
     for (i, glyph) in glyphs.iter().enumerate() {
         if glyph.syllable % 16 == kind {
@@ -268,6 +281,7 @@ fn unbroken_len(glyphs: &[GlyphInfo], kind: u8) -> usize {
 }
 
 // The circle of a syllable, which takes cluster, mask and syllable byte from the first glyph.
+#[inline]
 fn circle_in(syllable: &[GlyphInfo], circle: GlyphInfo) -> GlyphInfo {
     let first = syllable[0];
     GlyphInfo {

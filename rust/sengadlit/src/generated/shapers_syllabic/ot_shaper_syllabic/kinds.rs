@@ -1,6 +1,6 @@
 //! Generated from crates/shapers_syllabic/src/ot_shaper_syllabic/kinds.rt by rust/erase; edit the source.
 //!
-//! The kinds of syllables, as the grammars of the scripts tell them apart.
+//! The kinds of syllables, as the grammars of the scripts distinguish them.
 
 /// The kinds of Indic syllables.
 pub mod indic_syllable {
@@ -16,7 +16,7 @@ pub mod indic_syllable {
     /// On a symbol.
     pub const SYMBOL_CLUSTER: u8 = 3;
 
-    /// Signs with nothing to stand on.
+    /// Signs without a base.
     pub const BROKEN_CLUSTER: u8 = 4;
 
     /// Any other glyph, by itself.
@@ -28,7 +28,7 @@ pub mod khmer_syllable {
     /// On a consonant, an independent vowel or a placeholder.
     pub const CONSONANT_SYLLABLE: u8 = 0;
 
-    /// Signs with nothing to stand on.
+    /// Signs without a base.
     pub const BROKEN_CLUSTER: u8 = 1;
 
     /// Any other glyph, by itself.
@@ -43,7 +43,7 @@ pub mod myanmar_syllable {
     /// A punctuation mark with its sign.
     pub const PUNCTUATION_CLUSTER: u8 = 1;
 
-    /// Signs with nothing to stand on.
+    /// Signs without a base.
     pub const BROKEN_CLUSTER: u8 = 2;
 
     /// Any other glyph, by itself.
@@ -73,7 +73,7 @@ pub mod use_syllable {
     /// Hieroglyphs, with the controls that join them.
     pub const HIEROGLYPH_CLUSTER: u8 = 6;
 
-    /// Signs with nothing to stand on.
+    /// Signs without a base.
     pub const BROKEN_CLUSTER: u8 = 7;
 
     /// Any other glyph, by itself.

@@ -21,7 +21,7 @@ pub struct ScriptCircles {
     pub position: Option<u8>,
 }
 
-/// Gives broken syllables their dotted circles and then reorders each syllable. Answers whether
+/// Gives broken syllables their dotted circles and then reorders each syllable. Returns whether
 /// circles were wanted. Refuses with `UnknownSyllable` where a kind is above the last known one, if
 /// there is one; with `TooLong`; and with `Memory`, but not where no circle opens. The order itself
 /// never refuses. Every cluster afterwards is one that the text had before its circles.
@@ -64,6 +64,7 @@ pub struct ScriptCircles {
 /// - `PauseCutsAtBorders`, `ReorderLaws`, `TextReordered`: crates/shapers_syllabic/specs/ReorderingLaws.antt
 ///
 /// </details>
+#[inline]
 pub fn reorder_pause<F: Font, R: Reorder>(
     face: &F,
     order: &R,
@@ -87,6 +88,7 @@ pub fn reorder_pause<F: Font, R: Reorder>(
 }
 
 // The first place of the first syllable of unknown kind, where there is a last known one.
+#[inline]
 fn first_unknown(buffer: &Buffer, last_kind: Option<u8>) -> Option<usize> {
     match last_kind {
         None => None,

@@ -29,7 +29,7 @@ pub trait Reorder {
     fn reorder(&self, buffer: &mut Buffer, start: usize, end: usize) -> Result<(), ShaperError>;
 }
 
-/// Reorders each syllable of the text, from left to right. It asks for the laws of the order: its
+/// Reorders each syllable of the text, from left to right. It requires the laws of the order: its
 /// steps fit a syllable, lose nothing and lead to what the syllable becomes. The placement list is
 /// empty afterwards, so that no place depends on how syllables were moved. It never refuses.
 ///
@@ -51,6 +51,7 @@ pub trait Reorder {
 /// - `ReorderLaws`: crates/shapers_syllabic/specs/ReorderingLaws.antt
 ///
 /// </details>
+#[inline]
 pub fn reorder_syllables<R: Reorder>(order: &R, buffer: &mut Buffer) -> Result<(), ShaperError> {
     let mut start = 0;
     while start < buffer.len() {

@@ -35,6 +35,7 @@ use crate::generated::shapers_base::buffer::{
 /// - `with_unsafe_syllables`: crates/shapers_syllabic/specs/Syllabic.antt
 ///
 /// </details>
+#[inline]
 pub fn set_up_syllables(
     spans: &[Span],
     broken_kind: u8,
@@ -96,6 +97,7 @@ pub fn flag_syllables_in(glyphs: &mut [GlyphInfo]) {
 }
 
 // Whether some syllable is of this kind.
+#[inline]
 fn has_syllable_of_kind(glyphs: &[GlyphInfo], kind: u8) -> bool {
     glyphs.iter().any(|glyph| glyph.syllable % 16 == kind)
 }
@@ -105,6 +107,7 @@ fn has_syllable_of_kind(glyphs: &[GlyphInfo], kind: u8) -> bool {
 struct FlagSyllables;
 
 impl GlyphWalk for FlagSyllables {
+    #[inline]
     fn walk(&mut self, glyphs: &mut [GlyphInfo]) {
         flag_syllables_in(glyphs);
     }
@@ -124,6 +127,7 @@ impl<'a> GlyphWalk for SetUp<'a> {
 }
 
 // Gives each place the byte of the span that covers it, and flags the inside of each span.
+#[inline]
 fn set_up_spans(glyphs: &mut [GlyphInfo], spans: &[Span]) {
     let mut start = 0;
     for (i, span) in spans.iter().enumerate() {
@@ -135,11 +139,13 @@ fn set_up_spans(glyphs: &mut [GlyphInfo], spans: &[Span]) {
 }
 
 // Makes one syllable of the glyphs from `s` to `e`.
+#[inline]
 fn set_up_span_in(glyphs: &mut [GlyphInfo], s: usize, e: usize, byte: u8) {
     set_up_span(&mut glyphs[s..e], byte);
 }
 
 // Makes one syllable of these glyphs: gives them this byte, and flags its inside.
+#[inline]
 fn set_up_span(glyphs: &mut [GlyphInfo], byte: u8) {
     if glyphs.is_empty() {
         return;
@@ -149,6 +155,7 @@ fn set_up_span(glyphs: &mut [GlyphInfo], byte: u8) {
 }
 
 // Gives these glyphs this byte, and flags those outside the least cluster.
+#[inline]
 fn set_up_each(glyphs: &mut [GlyphInfo], byte: u8, least: u32) {
     for glyph in glyphs.iter_mut() {
         glyph.syllable = byte;

@@ -46,6 +46,15 @@ fn count_sara_am(buffer: &Buffer) -> usize {
         .count()
 }
 
+/// Whether the text has a SARA AM.
+#[inline]
+pub(super) fn has_sara_am(buffer: &Buffer) -> bool {
+    buffer
+        .glyphs()
+        .iter()
+        .any(|glyph| is_sara_am(glyph.glyph_id))
+}
+
 // How many above-base marks stand right before `place`.
 fn count_marks_before(glyphs: &[GlyphInfo], place: usize) -> usize {
     glyphs[..place]
@@ -56,7 +65,7 @@ fn count_marks_before(glyphs: &[GlyphInfo], place: usize) -> usize {
 }
 
 // Merges what a SARA AM at `place` merges, its marks or, without any, the glyph before it, in the
-// glyphs with a run in its cluster. Answers the run that is to be written then.
+// glyphs with a run in its cluster. Returns the run that is to be written then.
 fn merge_sara_am(
     level: BufferClusterLevel,
     glyphs: &mut [GlyphInfo],

@@ -18,14 +18,17 @@ use crate::generated::shapers_base::plan::{Plan, PlanData};
 /// ```text
 /// requires data { is_universal plan.now.plan_data ≡ true }
 /// requires characters { CanJoin (arabic_of plan.now.plan_data) buffer.old.glyphs }
-/// ensures { let arabic = arabic_of plan.now.plan_data in
+/// ensures masks { let arabic = arabic_of plan.now.plan_data in
 ///     MasksAreSet arabic plan.now.script (T.tables tables.now) buffer.old buffer.new }
+/// ensures breaks { let arabic = arabic_of plan.now.plan_data in
+///     BreaksAsJoining arabic plan.now.script (T.tables tables.now) buffer.old buffer.new }
 /// ```
 ///
 /// - `arabic_of`, `is_universal`: crates/shapers_universal/specs/PlanData.antt
-/// - `CanJoin`, `MasksAreSet`: crates/shapers_universal/specs/UniversalMasks.antt
+/// - `BreaksAsJoining`, `CanJoin`, `MasksAreSet`: crates/shapers_universal/specs/UniversalMasks.antt
 ///
 /// </details>
+#[inline]
 pub fn setup_masks<T: Tables>(plan: &Plan, tables: &T, buffer: &mut Buffer) {
     match &plan.plan_data {
         PlanData::Universal(universal_plan) => {

@@ -176,7 +176,7 @@ fn list_piece(buffer: &mut Buffer, s: usize, behind: usize, e: usize) {
 }
 
 // Lists what goes to the front of those from `behind` to `e`, last first, from place `s` on.
-// Answers the place behind them.
+// Returns the place behind them.
 #[inline]
 fn list_fronts(buffer: &mut Buffer, s: usize, behind: usize, e: usize) -> usize {
     let mut at = s;
@@ -189,7 +189,7 @@ fn list_fronts(buffer: &mut Buffer, s: usize, behind: usize, e: usize) -> usize 
     at
 }
 
-// Lists the places from `s` to `behind` from place `at` on, the first of them last. Answers the
+// Lists the places from `s` to `behind` from place `at` on, the first of them last. Returns the
 // place behind them.
 #[inline]
 fn list_reph(buffer: &mut Buffer, s: usize, behind: usize, at: usize) -> usize {

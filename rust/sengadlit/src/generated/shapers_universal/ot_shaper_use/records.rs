@@ -3,7 +3,7 @@
 //! What lookups did, kept as categories for the reordering.
 
 use super::category;
-use super::syllable_walk::{EachSyllable, SyllableChange, change_syllables};
+use super::syllable_walk::{EachFront, FrontChange, change_fronts};
 use crate::generated::shapers_base::buffer::{Buffer, GlyphInfo};
 use crate::generated::shapers_base::plan::{Plan, PlanData};
 
@@ -23,13 +23,14 @@ use crate::generated::shapers_base::plan::{Plan, PlanData};
 /// - `with_rphf_recorded`: crates/shapers_universal/specs/UniversalSyllables.antt
 ///
 /// </details>
+#[inline]
 pub fn record_rphf(plan: &Plan, buffer: &mut Buffer) {
     match &plan.plan_data {
         PlanData::Universal(universal_plan) => {
             let record = RecordRphf {
                 mask: universal_plan.rphf_mask,
             };
-            buffer.walk(&mut EachSyllable { change: &record });
+            buffer.walk(&mut EachFront { change: &record });
         }
         _ => unreachable!(),
     }
@@ -49,8 +50,9 @@ pub fn record_rphf(plan: &Plan, buffer: &mut Buffer) {
 /// - `with_pref_recorded`: crates/shapers_universal/specs/UniversalSyllables.antt
 ///
 /// </details>
+#[inline]
 pub fn record_pref(buffer: &mut Buffer) {
-    buffer.walk(&mut EachSyllable {
+    buffer.walk(&mut EachFront {
         change: &RecordPref,
     });
 }
@@ -71,7 +73,7 @@ pub fn record_pref(buffer: &mut Buffer) {
 /// </details>
 #[inline]
 pub fn record_rphf_in(mask: u32, glyphs: &mut [GlyphInfo]) {
-    change_syllables(&RecordRphf { mask }, glyphs);
+    change_fronts(&RecordRphf { mask }, glyphs);
 }
 
 /// In each syllable of a slice the first glyph that a lookup put in becomes one that stands before
@@ -91,7 +93,7 @@ pub fn record_rphf_in(mask: u32, glyphs: &mut [GlyphInfo]) {
 /// </details>
 #[inline]
 pub fn record_pref_in(glyphs: &mut [GlyphInfo]) {
-    change_syllables(&RecordPref, glyphs);
+    change_fronts(&RecordPref, glyphs);
 }
 
 // The record of `rphf`.
@@ -100,11 +102,10 @@ struct RecordRphf {
     mask: u32,
 }
 
-impl SyllableChange for RecordRphf {
+impl FrontChange for RecordRphf {
     #[inline]
-    fn change(&self, syllable: &mut [GlyphInfo]) {
-        let leading = leading_len(syllable, self.mask);
-        record_first(&mut syllable[..leading], category::R);
+    fn change(&self, glyph: &mut GlyphInfo) -> bool {
+        glyph.mask & self.mask != 0 && record_glyph(glyph, category::R)
     }
 }
 
@@ -112,29 +113,19 @@ impl SyllableChange for RecordRphf {
 #[derive(Clone, Copy)]
 struct RecordPref;
 
-impl SyllableChange for RecordPref {
+impl FrontChange for RecordPref {
     #[inline]
-    fn change(&self, syllable: &mut [GlyphInfo]) {
-        record_first(syllable, category::VPre);
+    fn change(&self, glyph: &mut GlyphInfo) -> bool {
+        record_glyph(glyph, category::VPre)
     }
 }
 
-// How many glyphs in front have bits of this mask.
+// Gives the glyph another category if a lookup put it in, and returns whether none did.
 #[inline]
-fn leading_len(glyphs: &[GlyphInfo], mask: u32) -> usize {
-    glyphs
-        .iter()
-        .take_while(|glyph| glyph.mask & mask != 0)
-        .count()
-}
-
-// Gives the first of these glyphs that a lookup put in another category.
-#[inline]
-fn record_first(glyphs: &mut [GlyphInfo], category: u8) {
-    for glyph in glyphs.iter_mut() {
-        if glyph.marks.is_substituted() {
-            glyph.category = category;
-            break;
-        }
+fn record_glyph(glyph: &mut GlyphInfo, category: u8) -> bool {
+    if !glyph.marks.is_substituted() {
+        return true;
     }
+    glyph.category = category;
+    false
 }

@@ -18,9 +18,9 @@ const CIRCLES: ScriptCircles = ScriptCircles {
 };
 
 /// Gives each broken syllable a dotted circle, behind its leading rephas, and then each syllable
-/// its order; answers whether circles are wanted. Every cluster afterwards is one that the text had.
-/// Refuses with `TooLong` where the text would be longer than `max_len`, and with `Memory`; where no
-/// circle opens it takes none. (OpenType, the Universal Shaping Engine.)
+/// its order; returns whether circles are wanted. Every cluster afterwards is one that the text
+/// had. Refuses with `TooLong` where the text would be longer than `max_len`, and with `Memory`;
+/// where no circle opens it takes none. (OpenType, the Universal Shaping Engine.)
 ///
 /// <details><summary>Contract</summary>
 ///
@@ -59,6 +59,7 @@ const CIRCLES: ScriptCircles = ScriptCircles {
 /// - `universal_circles`: crates/shapers_universal/specs/UniversalText.antt
 ///
 /// </details>
+#[inline]
 pub fn reorder_use<F: Font>(face: &F, buffer: &mut Buffer) -> Result<bool, ShaperError> {
     reorder_pause(face, &UniversalOrder, &CIRCLES, None, buffer)
 }

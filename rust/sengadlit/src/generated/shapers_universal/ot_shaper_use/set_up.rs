@@ -43,6 +43,7 @@ use crate::generated::shapers_syllabic::ot_shaper_syllabic::{set_up_by_bytes, se
 /// - `syllables_set_up`: crates/shapers_universal/specs/UniversalSyllables.antt
 ///
 /// </details>
+#[inline]
 pub fn setup_syllables_use(
     plan: &Plan,
     spans: &[Span],

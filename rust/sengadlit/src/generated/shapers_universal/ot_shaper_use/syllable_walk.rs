@@ -33,6 +33,50 @@ pub(super) fn change_syllables<C: SyllableChange>(change: &C, glyphs: &mut [Glyp
     }
 }
 
+// A change of the first glyphs of a syllable, one after another, until one of them is the last.
+pub(super) trait FrontChange {
+    // Changes a glyph, and returns whether the next one of its syllable is to be changed too.
+    fn change(&self, glyph: &mut GlyphInfo) -> bool;
+}
+
+// The walk that changes the first glyphs of each syllable of a text.
+pub(super) struct EachFront<'a, C: FrontChange> {
+    pub(super) change: &'a C,
+}
+
+impl<'a, C: FrontChange> GlyphWalk for EachFront<'a, C> {
+    #[inline]
+    fn walk(&mut self, glyphs: &mut [GlyphInfo]) {
+        change_fronts(self.change, glyphs);
+    }
+}
+
+// Changes the first glyphs of each syllable of these glyphs.
+#[inline]
+pub(super) fn change_fronts<C: FrontChange>(change: &C, glyphs: &mut [GlyphInfo]) {
+    let mut passed = None;
+    for glyph in glyphs.iter_mut() {
+        passed = change_next(change, passed, glyph);
+    }
+}
+
+// Changes the next glyph, unless the changes of its syllable have ended, whose byte is passed on.
+#[inline]
+fn change_next<C: FrontChange>(
+    change: &C,
+    passed: Option<u8>,
+    glyph: &mut GlyphInfo,
+) -> Option<u8> {
+    let syllable = glyph.syllable;
+    if passed == Some(syllable) {
+        return passed;
+    }
+    if change.change(glyph) {
+        return None;
+    }
+    Some(syllable)
+}
+
 // Changes the glyphs from `s` to `e` as a syllable.
 #[inline]
 fn change_stretch<C: SyllableChange>(change: &C, glyphs: &mut [GlyphInfo], s: usize, e: usize) {

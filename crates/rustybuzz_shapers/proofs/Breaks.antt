@@ -1,0 +1,76 @@
+-- The break law, from what the enum says of masks.
+use Rattle.std.proofs.Common.{◌≡◌, ◌∙◌, ◌<◌, ◌++◌, ℕ, false, List, [], Some, ap, arith, drop, length, map, subst, sym, take}
+use Rattle.std.specs.List.{AllPairs}
+use Rattle.std.proofs.lemmas.List.{drop-map, length-map, take-map}
+use Rattle.std.proofs.lemmas.Simd.{map-map}
+use Rattle.shapers_buffer.specs.Buffer.{Buffer}
+use Rattle.shapers_buffer.specs.Glyph.{clusters, order_view}
+use Rattle.shapers_buffer.specs.declared.buffer.glyph.hb_glyph_info_t.{hb_glyph_info_t}
+use Rattle.shapers_buffer.proofs.MappedLists.{all-mapped}
+use Rattle.shapers_base.specs.Font.{CharacterTables}
+use Rattle.shapers_base.specs.declared.plan.arabic.arabic_shape_plan_t.{arabic_shape_plan_t}
+use Rattle.shapers_base.specs.declared.plan.hb_ot_shape_plan_t.{hb_ot_shape_plan_t}
+use Rattle.shapers_clusters.specs.Breaks.{is_unsafe}
+use Rattle.shapers_arabic.specs.Breaks.{IsSpared, back_at, front_at}
+use Rattle.shapers_arabic.specs.JoinedText.{joined}
+use Rattle.shapers_arabic.specs.PlanData.{breaks_of, masks_of}
+use Rattle.shapers_arabic.proofs.BrokenGlyphs.{breaks-where_clear, none-needless}
+use Rattle.shapers_universal.specs.PlanData.{arabic_of}
+use Rattle.shapers_universal.specs.UniversalMasks.{MasksAreSet, categorized, with_categories}
+use Rattle.shapers_universal.proofs.MaskLemmas.{text_stays}
+use Rattle.rustybuzz_shapers.specs.Breaks.{BreaksAsFlagged, SetInHalves, TextsBreakAsFlagged}
+use Rattle.rustybuzz_shapers.specs.declared.shaper.hb_ot_shaper_t.TheVariants.{Arabic, Universal}
+
+-- two joined halves in the order view
+abbrev views : Buffer → Buffer → List hb_glyph_info_t
+views one two = order_view one.glyphs ++ order_view two.glyphs
+
+same_views : (one two front back : Buffer) → one ≡ front → two ≡ back → views front back ≡ views one two
+same_views one two front back e f = ap (λ b. views b back) (sym e) ∙ ap (views one) (sym f)
+
+arabic_breaks : (plan : hb_ot_shape_plan_t) (tables : CharacterTables) (n : ℕ) (old new one two : Buffer) → SetInHalves Arabic plan tables n old new one two → BreaksAsFlagged (breaks_of plan.plan_data) (masks_of plan.plan_data) plan.script tables n old new one two
+arabic_breaks plan tables n old new one two set =
+    let breaks = breaks_of plan.plan_data in
+    let masks = masks_of plan.plan_data in
+    let script = plan.script in
+    let joining = tables.joining in
+    let general = tables.general in
+    let same = same_views one two (joined breaks masks script joining general (front_at n old)) (joined breaks masks script joining general (back_at n old)) set.first.0 set.second.0 in
+    record {
+      clear = λ clear spared. breaks-where_clear breaks masks script joining general old new set.whole.0 n set.inside.0 set.inside.1 clear spared ∙ same;
+      needless = λ e none rises unflagged low may. none-needless breaks masks script joining general old new set.whole.0 e none rises unflagged low n set.inside.0 set.inside.1 (may ∙ sym same);
+    }
+
+-- the halves of a buffer with its categories
+categories-front : (tables : CharacterTables) (n : ℕ) (b : Buffer) → with_categories tables (front_at n b) ≡ front_at n (with_categories tables b)
+categories-front tables n b = ap (λ gs. let c : Buffer = record b { glyphs = gs; after = [] } in c) (sym (take-map (categorized tables.universal) n b.glyphs))
+
+categories-back : (tables : CharacterTables) (n : ℕ) (b : Buffer) → with_categories tables (back_at n b) ≡ back_at n (with_categories tables b)
+categories-back tables n b = ap (λ gs. let c : Buffer = record b { glyphs = gs; before = [] } in c) (sym (drop-map (categorized tables.universal) n b.glyphs))
+
+universal_breaks : (plan : hb_ot_shape_plan_t) (tables : CharacterTables) (n : ℕ) (old new one two : Buffer) (joins : arabic_shape_plan_t) → arabic_of plan.plan_data ≡ Some joins → SetInHalves Universal plan tables n old new one two → BreaksAsFlagged joins.break_flags joins.mask_array plan.script tables n old new one two
+universal_breaks plan tables n old new one two joins is set =
+    let breaks = joins.break_flags in
+    let masks = joins.mask_array in
+    let script = plan.script in
+    let joining = tables.joining in
+    let general = tables.general in
+    let whole : MasksAreSet (Some joins) script tables old new = subst (λ o. MasksAreSet o script tables old new) is set.whole in
+    let first : MasksAreSet (Some joins) script tables (front_at n old) one = subst (λ o. MasksAreSet o script tables (front_at n old) one) is set.first in
+    let second : MasksAreSet (Some joins) script tables (back_at n old) two = subst (λ o. MasksAreSet o script tables (back_at n old) two) is set.second in
+    let before = with_categories tables old in
+    let inside : n < length before.glyphs = omega (arith, length-map old.glyphs (categorized tables.universal), set.inside.1) in
+    let front = first.0 ∙ ap (joined breaks masks script joining general) (categories-front tables n old) in
+    let back = second.0 ∙ ap (joined breaks masks script joining general) (categories-back tables n old) in
+    let same = same_views one two (joined breaks masks script joining general (front_at n before)) (joined breaks masks script joining general (back_at n before)) front back in
+    let kept : clusters before.glyphs ≡ clusters old.glyphs = map-map (λ (g : hb_glyph_info_t). g.cluster) (categorized tables.universal) old.glyphs in
+    record {
+      clear = λ clear spared. breaks-where_clear breaks masks script joining general before new whole.0 n set.inside.0 inside clear (subst (λ text. IsSpared breaks script text n) (sym (text_stays tables joining general old)) spared) ∙ same;
+      needless = λ e none rises unflagged low may.
+          let rising = subst (λ (cs : List ℕ). AllPairs (λ a b. a < b) cs) (sym kept) rises in
+          let still = all-mapped (λ g. is_unsafe g ≡ false) (λ g. is_unsafe g ≡ false) (categorized tables.universal) old.glyphs (λ g k. k) unflagged in
+          none-needless breaks masks script joining general before new whole.0 e none rising still low n set.inside.0 inside (may ∙ sym same);
+    }
+
+pub texts_break : TextsBreakAsFlagged
+texts_break plan tables n old new one two = (arabic_breaks plan tables n old new one two, universal_breaks plan tables n old new one two)
