@@ -1,8 +1,7 @@
 //! How harfrust is called.
 
 /// The cluster levels.
-pub const LEVELS: [&str; 4] =
-    ["MonotoneGraphemes", "MonotoneCharacters", "Characters", "Graphemes"];
+pub const LEVELS: [&str; 4] = ["MonotoneGraphemes", "MonotoneCharacters", "Characters", "Graphemes"];
 
 /// The reasons of bindings/harfrust/reasons.
 pub const REASONS: &[&str] = &[
@@ -23,9 +22,8 @@ macro_rules! calls {
         pub mod $module {
             use crate::{caught, parts, serialized, Glyph, Setting, Shaped, FEATURES};
             use $harfrust::{
-                BufferClusterLevel, BufferFlags, Direction, Feature, FontRef, GlyphBuffer,
-                GlyphFlags, Script, SerializeFlags, ShapeOptions, ShapePlan, ShaperData, Tag,
-                UnicodeBuffer,
+                BufferClusterLevel, BufferFlags, Direction, Feature, FontRef, GlyphBuffer, GlyphFlags, Script,
+                SerializeFlags, ShapeOptions, ShapePlan, ShaperData, Tag, UnicodeBuffer,
             };
 
             const LEVELS: [BufferClusterLevel; 4] = [
@@ -39,9 +37,7 @@ macro_rules! calls {
                 let wanted = if setting.features { &FEATURES[..] } else { &[] };
                 wanted
                     .iter()
-                    .map(|&(tag, value, first, last)| {
-                        Feature::new(Tag::new(tag), value, first..=last)
-                    })
+                    .map(|&(tag, value, first, last)| Feature::new(Tag::new(tag), value, first..=last))
                     .collect()
             }
 
@@ -59,14 +55,13 @@ macro_rules! calls {
 
             fn glyphs(buffer: &GlyphBuffer) -> Vec<Glyph> {
                 let positions = buffer.glyph_positions();
-                let glyphs =
-                    buffer.glyph_infos().iter().zip(positions).map(|(glyph, position)| Glyph {
-                        number: glyph.glyph_id,
-                        cluster: glyph.cluster,
-                        flags: glyph.flags().to_bits() & GlyphFlags::ALL.to_bits(),
-                        advance: (position.x_advance, position.y_advance),
-                        offset: (position.x_offset, position.y_offset),
-                    });
+                let glyphs = buffer.glyph_infos().iter().zip(positions).map(|(glyph, position)| Glyph {
+                    number: glyph.glyph_id,
+                    cluster: glyph.cluster,
+                    flags: glyph.flags().to_bits() & GlyphFlags::ALL.to_bits(),
+                    advance: (position.x_advance, position.y_advance),
+                    offset: (position.x_offset, position.y_offset),
+                });
                 glyphs.collect()
             }
 
@@ -88,12 +83,8 @@ macro_rules! calls {
                             ShapePlan::new(&shaper, direction, Some(script), None, &features),
                         ));
                     }
-                    let plan = plans
-                        .iter()
-                        .find(|plan| plan.0 == direction && plan.1 == script)
-                        .map(|plan| &plan.2);
-                    let options =
-                        ShapeOptions::new().plan(plan).features(&features).scale(setting.scale);
+                    let plan = plans.iter().find(|plan| plan.0 == direction && plan.1 == script).map(|plan| &plan.2);
+                    let options = ShapeOptions::new().plan(plan).features(&features).scale(setting.scale);
                     caught(|| glyphs(&shaper.shape(buffer, options)))
                 };
                 texts.iter().map(shape).collect()
@@ -108,9 +99,7 @@ macro_rules! calls {
                 let mut buffer = UnicodeBuffer::new();
                 fill(&mut buffer, text, setting);
                 let options = ShapeOptions::new().features(&features).scale(setting.scale);
-                serialized(|| {
-                    shaper.shape(buffer, options).serialize(&shaper, SerializeFlags::GLYPH_FLAGS)
-                })
+                serialized(|| shaper.shape(buffer, options).serialize(&shaper, SerializeFlags::GLYPH_FLAGS))
             }
 
             /// Shapes each text so many times into one buffer, and gives the sum of the glyphs'
@@ -129,22 +118,11 @@ macro_rules! calls {
                     buffer.guess_segment_properties();
                     let (direction, script) = (buffer.direction(), buffer.script());
                     if !plans.iter().any(|plan| plan.0 == direction && plan.1 == script) {
-                        plans.push((
-                            direction,
-                            script,
-                            ShapePlan::new(&shaper, direction, Some(script), None, &[]),
-                        ));
+                        plans.push((direction, script, ShapePlan::new(&shaper, direction, Some(script), None, &[])));
                     }
-                    let plan = plans
-                        .iter()
-                        .find(|plan| plan.0 == direction && plan.1 == script)
-                        .map(|plan| &plan.2);
+                    let plan = plans.iter().find(|plan| plan.0 == direction && plan.1 == script).map(|plan| &plan.2);
                     let glyphs = shaper.shape(buffer, ShapeOptions::new().plan(plan));
-                    sum += glyphs
-                        .glyph_infos()
-                        .iter()
-                        .map(|glyph| u64::from(glyph.glyph_id))
-                        .sum::<u64>();
+                    sum += glyphs.glyph_infos().iter().map(|glyph| u64::from(glyph.glyph_id)).sum::<u64>();
                     buffer = glyphs.clear();
                 }
                 sum

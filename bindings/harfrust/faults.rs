@@ -7,9 +7,10 @@ use programs::{proved, stock, text_of, Setting, Shaped};
 
 const NOTO: &str = "truetype/noto";
 
-/// Levels by number.
+/// Levels by number, and flags by bits.
 const CHARACTERS: usize = 2;
 const GRAPHEMES: usize = 3;
+const DO_NOT_INSERT_DOTTED_CIRCLE: u32 = 0x10;
 
 fn level(level: usize) -> Setting {
     Setting { level, ..Setting::default() }
@@ -17,7 +18,6 @@ fn level(level: usize) -> Setting {
 
 /// The text as it is shaped by the crate as it is and by the proved one.
 fn both(font: &[u8], code_points: &str, setting: Setting) -> [String; 2] {
-    std::panic::set_hook(Box::new(|_| {}));
     let text = text_of(code_points);
     [stock::told(font, &text, &setting), proved::told(font, &text, &setting)]
 }
@@ -40,21 +40,18 @@ fn noto(name: &str) -> Vec<u8> {
 #[test]
 fn thai_marks_are_copied_over_each_other() {
     let [stock, proved] = both(&noto("NotoSansThai"), "0E14 0E34 0E48 0E33", Setting::default());
-    assert_eq!(
-        stock,
-        "[uni0E14=0+616|uni0E4D=0+0|uni0E34=0@-29,236+0|uni0E34=0@-29,413+0|uni0E32=0+406]"
-    );
-    assert_eq!(
-        proved,
-        "[uni0E14=0+616|uni0E4D=0+0|uni0E34=0@-29,236+0|uni0E48.small=0@-29,177+0|uni0E32=0+406]"
-    );
+    assert_eq!(stock, "[uni0E14=0+616|uni0E4D=0+0|uni0E34=0@-29,236+0|uni0E34=0@-29,413+0|uni0E32=0+406]");
+    assert_eq!(proved, "[uni0E14=0+616|uni0E4D=0+0|uni0E34=0@-29,236+0|uni0E48.small=0@-29,177+0|uni0E32=0+406]");
 }
 
 /// Lao: the same.
 #[test]
 fn lao_marks_are_copied_over_each_other() {
     let [stock, proved] = both(&noto("NotoSansLao"), "0E81 0EB4 0EC8 0EB3", Setting::default());
-    assert_eq!(stock, "[koKai-lao=0+614|niggahita-lao=0@32,0+0|iVowel-lao=0@-92,278+0|iVowel-lao=0@-142,601+0|aaVowel-lao=0+324]");
+    assert_eq!(
+        stock,
+        "[koKai-lao=0+614|niggahita-lao=0@32,0+0|iVowel-lao=0@-92,278+0|iVowel-lao=0@-142,601+0|aaVowel-lao=0+324]"
+    );
     assert_eq!(proved, "[koKai-lao=0+614|niggahita-lao=0@32,0+0|iVowel-lao=0@-92,278+0|maiEk-lao.small=0@-142,278+0|aaVowel-lao=0+324]");
 }
 
@@ -63,8 +60,7 @@ fn lao_marks_are_copied_over_each_other() {
 /// `trak` added): daily text, in such a font.
 #[test]
 fn sara_am_is_tracked_twice() {
-    let [stock, proved] =
-        both(&with_tracking(&noto("NotoSansLao")), "0E81 0EB3", Setting::default());
+    let [stock, proved] = both(&with_tracking(&noto("NotoSansLao")), "0E81 0EB3", Setting::default());
     assert_eq!(stock, "[koKai-lao=0+714|amVowel-lao=0+424]");
     assert_eq!(proved, "[koKai-lao=0+714|amVowel-lao=0+324]");
 }
@@ -84,8 +80,7 @@ fn yod_with_patah_is_drawn_as_two_yods() {
 #[test]
 fn a_syllable_of_257_characters_is_shaped() {
     for number in [255, 256, 257, 400] {
-        let [stock, proved] =
-            both(&noto("NotoSansDevanagari"), &format!("0915 0951*{number}"), Setting::default());
+        let [stock, proved] = both(&noto("NotoSansDevanagari"), &format!("0915 0951*{number}"), Setting::default());
         assert!(stock == proved && !proved.starts_with("panic"), "{number}");
     }
 }
@@ -95,8 +90,7 @@ fn a_syllable_of_257_characters_is_shaped() {
 #[test]
 fn a_broken_syllable_gets_no_circle() {
     let circles = |shaped: &str| shaped.matches("uni25CC").count();
-    let [stock, proved] =
-        both(&noto("NotoSansDevanagari"), "093E 0020*14 093E", Setting::default());
+    let [stock, proved] = both(&noto("NotoSansDevanagari"), "093E 0020*14 093E", Setting::default());
     assert_eq!((circles(&stock), circles(&proved)), (1, 2));
 }
 
@@ -106,8 +100,7 @@ fn a_broken_syllable_gets_no_circle() {
 fn sums_of_a_stretch_wrap() {
     let setting = Setting { scale: Some(65_536_000), ..Setting::default() };
     let [stock, proved] = both_glyphs(&noto("NotoSansSyriac"), "070F 0710*60", setting);
-    let moved =
-        |shaped: &Shaped| shaped.glyphs().iter().filter(|glyph| glyph.offset.0 != 0).count();
+    let moved = |shaped: &Shaped| shaped.glyphs().iter().filter(|glyph| glyph.offset.0 != 0).count();
     assert!(matches!(stock, Shaped::Panic(_)) || moved(&stock) > 0);
     assert!(!proved.glyphs().is_empty() && moved(&proved) == 0);
 }
@@ -119,15 +112,11 @@ fn sums_of_a_stretch_wrap() {
 #[test]
 fn the_glyph_behind_the_syllable_is_read() {
     let plain = without(&noto("NotoSansMalayalam"), b"GSUB");
-    let glyph = |code_point: &str| {
-        u16::try_from(both_glyphs(&plain, code_point, Setting::default())[0].glyphs()[0].number)
-            .expect("a glyph")
-    };
+    let alone = Setting { flags: DO_NOT_INSERT_DOTTED_CIRCLE, ..Setting::default() };
+    let glyph = |code_point: &str| both_glyphs(&plain, code_point, alone)[0].glyphs()[0].number as u16;
     let (ka, virama, ra, e) = (glyph("0D15"), glyph("0D4D"), glyph("0D30"), glyph("0D46"));
     let font = with(&plain, b"GSUB", pref_without_ra(virama, ra, ka));
-    let numbers = |shaped: &Shaped| {
-        shaped.glyphs().iter().map(|glyph| glyph.number as u16).collect::<Vec<_>>()
-    };
+    let numbers = |shaped: &Shaped| shaped.glyphs().iter().map(|glyph| glyph.number as u16).collect::<Vec<_>>();
     let [stock, proved] = both_glyphs(&font, "0D15 0D4D 0D30 0D46", Setting::default());
     assert_eq!(numbers(&stock), [e, ka, virama]);
     assert_eq!(numbers(&proved), [ka, e, virama]);
@@ -141,8 +130,7 @@ fn the_glyph_behind_the_syllable_is_read() {
 #[test]
 fn behind_a_tab_a_bengali_word_loses_its_initial_form() {
     for control in ["0009", "000A"] {
-        let [stock, proved] =
-            both(&noto("NotoSansBengali"), &format!("{control} 0995 09C7"), Setting::default());
+        let [stock, proved] = both(&noto("NotoSansBengali"), &format!("{control} 0995 09C7"), Setting::default());
         assert_eq!(stock, "[.notdef=0+600|evowelsignbeng=1+346#1|kabeng=1+807#1]");
         assert_eq!(proved, "[.notdef=0+600|evowelsigninibeng=1+346|kabeng=1+807]");
     }
@@ -161,8 +149,7 @@ fn behind_a_dotted_circle_a_bengali_word_loses_its_initial_form() {
 /// that few callers ask for.
 #[test]
 fn the_least_cluster_is_flagged() {
-    let [stock, proved] =
-        both(&noto("NotoSansDevanagari"), "0938 094D 0925 093F", level(CHARACTERS));
+    let [stock, proved] = both(&noto("NotoSansDevanagari"), "0938 094D 0925 093F", level(CHARACTERS));
     assert_eq!(stock, "[ivowelsign00deva=9+259#1|sathadeva=0+1022#1]");
     assert_eq!(proved, "[ivowelsign00deva=9+259#1|sathadeva=0+1022]");
 }
@@ -171,10 +158,8 @@ fn the_least_cluster_is_flagged() {
 /// called safe to break.
 #[test]
 fn a_long_stretch_is_called_safe_to_break() {
-    let [stock, proved] =
-        both_glyphs(&noto("NotoSansDevanagari"), "0915 094D 0915 093F 0951*300", level(CHARACTERS));
-    let flagged =
-        |shaped: &Shaped| shaped.glyphs().iter().filter(|glyph| glyph.flags & 1 != 0).count();
+    let [stock, proved] = both_glyphs(&noto("NotoSansDevanagari"), "0915 094D 0915 093F 0951*300", level(CHARACTERS));
+    let flagged = |shaped: &Shaped| shaped.glyphs().iter().filter(|glyph| glyph.flags & 1 != 0).count();
     assert_eq!((flagged(&stock), flagged(&proved)), (257, 302));
 }
 
@@ -185,10 +170,7 @@ fn a_long_stretch_is_called_safe_to_break() {
 #[test]
 fn the_base_is_looked_for_among_medials() {
     let [stock, proved] = both(&noto("NotoSansGurmukhi"), "0A15 0A75 0A48 0A3F", level(1));
-    assert_eq!(
-        stock,
-        "[imatraguru=0+259|kaguru=0+622|yakashguru=0@36,0+0|aimatraguru=6@-20,0+0#1]"
-    );
+    assert_eq!(stock, "[imatraguru=0+259|kaguru=0+622|yakashguru=0@36,0+0|aimatraguru=6@-20,0+0#1]");
     assert_eq!(proved, "[imatraguru=0+259|kaguru=0+622|yakashguru=0@36,0+0|aimatraguru=0@-20,0+0]");
 }
 
@@ -205,8 +187,7 @@ fn thai_merges_at_level_graphemes() {
 /// HarfBuzz's say not to.
 #[test]
 fn a_hangul_tone_without_advance() {
-    let [stock, proved] =
-        both(&font("truetype/nanum/NanumGothic.ttf"), "0020 302E", Setting::default());
+    let [stock, proved] = both(&font("truetype/nanum/NanumGothic.ttf"), "0020 302E", Setting::default());
     assert_eq!(stock, "[gid1=0+280|gid0=0@-610,0+0|gid8639=0@-609,0+0]");
     assert_eq!(proved, stock);
 }

@@ -218,3 +218,35 @@ pub mod names {
         }
     }
 }
+
+// ---- The shadow ----
+
+/// The host's own pauses, by number.
+#[cfg(feature = "shadow")]
+pub const STOCK_PAUSES: [crate::hb::ot_map::pause_func_t; 15] = [
+    crate::hb::ot_shaper_indic::setup_syllables,
+    crate::hb::ot_shaper_khmer::setup_syllables,
+    crate::hb::ot_shaper_myanmar::setup_syllables,
+    crate::hb::ot_shaper_use::setup_syllables,
+    crate::hb::ot_shaper_indic::initial_reordering,
+    crate::hb::ot_shaper_khmer::reorder_khmer,
+    crate::hb::ot_shaper_myanmar::reorder_myanmar,
+    crate::hb::ot_shaper_use::reorder_use,
+    crate::hb::ot_shaper_indic::final_reordering,
+    crate::hb::ot_shaper_arabic::record_stch,
+    crate::hb::ot_shaper_use::record_rphf,
+    crate::hb::ot_shaper_use::record_pref,
+    crate::hb::ot_shaper_syllabic::syllabic_clear_var,
+    crate::hb::ot_layout::_hb_clear_substitution_flags,
+    crate::hb::ot_shaper_arabic::arabic_fallback_shape,
+];
+
+#[cfg(feature = "shadow")]
+pub fn var_bits(buffer: &hb_buffer_t) -> u8 {
+    buffer.allocated_var_bits
+}
+
+#[cfg(feature = "shadow")]
+pub fn set_var_bits(bits: u8, buffer: &mut hb_buffer_t) {
+    buffer.allocated_var_bits = bits;
+}

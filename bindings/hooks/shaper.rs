@@ -33,9 +33,18 @@ use super::ot_shape_plan::hb_ot_shape_plan_t;
 use super::ot_shaper::*;
 
 mod parts;
+#[cfg(feature = "shadow")]
+pub mod shadow;
+
+#[cfg(not(feature = "shadow"))]
+use self as hooks;
 #[cfg(not(feature = "shadow"))]
 pub use parts::names;
 use parts::{Codepoint, FontRef, Info, Ucd};
+#[cfg(feature = "shadow")]
+use shadow as hooks;
+#[cfg(feature = "shadow")]
+pub use shadow::kept;
 
 // ---- Plan ----
 
@@ -89,6 +98,12 @@ fn create_data<const S: usize>(plan: &hb_ot_shape_plan_t) -> Box<dyn Any + Send 
         .has_gpos_mark(plan.has_gpos_mark)
         .build_for(SHAPERS[S]);
     Box::new(made.expect("stages are ranges, and masks touch no glyph flag"))
+}
+
+/// What a plan keeps of this type.
+#[cfg(not(feature = "shadow"))]
+pub fn kept<T: 'static>(data: &(dyn Any + Send + Sync)) -> Option<&T> {
+    data.downcast_ref()
 }
 
 fn plan_of(plan: &hb_ot_shape_plan_t) -> &Plan {
@@ -418,21 +433,21 @@ fn postprocess_glyphs<const S: usize>(plan: &hb_ot_shape_plan_t, font: FontRef, 
 
 /// By the number of the pause.
 const PAUSES: [pause_func_t; 15] = [
-    pause::<0>,
-    pause::<1>,
-    pause::<2>,
-    pause::<3>,
-    pause::<4>,
-    pause::<5>,
-    pause::<6>,
-    pause::<7>,
-    pause::<8>,
-    pause::<9>,
-    pause::<10>,
-    pause::<11>,
-    pause::<12>,
-    pause::<13>,
-    pause::<14>,
+    hooks::pause::<0>,
+    hooks::pause::<1>,
+    hooks::pause::<2>,
+    hooks::pause::<3>,
+    hooks::pause::<4>,
+    hooks::pause::<5>,
+    hooks::pause::<6>,
+    hooks::pause::<7>,
+    hooks::pause::<8>,
+    hooks::pause::<9>,
+    hooks::pause::<10>,
+    hooks::pause::<11>,
+    hooks::pause::<12>,
+    hooks::pause::<13>,
+    hooks::pause::<14>,
 ];
 
 fn pause_function(pause: Pause) -> pause_func_t {
@@ -547,7 +562,7 @@ pub const UNIVERSAL_SHAPER: hb_ot_shaper_t = shaper::<8>();
 macro_rules! hook {
     ($hook:ident, $function:ident) => {
         if SHAPERS[S].has_hook(Hook::$hook) {
-            Some($function::<S>)
+            Some(hooks::$function::<S>)
         } else {
             None
         }
@@ -558,7 +573,7 @@ const fn shaper<const S: usize>() -> hb_ot_shaper_t {
     hb_ot_shaper_t {
         collect_features: hook!(CollectFeatures, collect_features),
         override_features: hook!(OverrideFeatures, override_features),
-        create_data: Some(create_data::<S>),
+        create_data: Some(hooks::create_data::<S>),
         preprocess_text: hook!(PreprocessText, preprocess_text),
         postprocess_glyphs: hook!(PostprocessGlyphs, postprocess_glyphs),
         normalization_preference: match SHAPERS[S].normalization_preference() {

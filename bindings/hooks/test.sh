@@ -1,6 +1,7 @@
 # shellcheck shell=sh disable=SC2154
 # What bindings/harfrust/test and bindings/rustybuzz/test do; they source this file, with $here, their folder, and $crate.
-# With `--every N` each Nth text alone is shaped; with `--quick` each 100th, by programs that are built sooner. The last line
+# With `--every N` each Nth text alone is shaped; with `--quick` each 100th, by programs that are built sooner; with `--shadow`
+# all, by the copy that runs both versions of each hook on each call, and the fields that differ are told. The last line
 # is 'N passed, M failed', or 'skipped: WHY' with status 77.
 
 # shellcheck source=bindings/hooks/programs.sh
@@ -8,6 +9,7 @@
 
 every=1
 target=target
+options=
 case ${1-} in
 '') ;;
 --every) every=${2-} ;;
@@ -16,12 +18,17 @@ case ${1-} in
     target=target/quick
     export CARGO_PROFILE_RELEASE_OPT_LEVEL=1 CARGO_PROFILE_RELEASE_CODEGEN_UNITS=64
     ;;
-*) stop 'test [--every N | --quick]' ;;
+--shadow)
+    target=target/shadow
+    options='--features shadow'
+    ;;
+*) stop 'test [--every N | --quick | --shadow]' ;;
 esac
 
 # faults: the tests of the faults, by cargo.
 faults() {
-    cd "$made/programs" && cargo test --offline --release --target-dir "$made/both/$target" --test faults
+    # shellcheck disable=SC2086
+    cd "$made/programs" && cargo test --offline --release --target-dir "$made/both/$target" --test faults $options
 }
 
 # tally COMMAND..: shows what a command prints, and adds its last line to the counts.

@@ -20,8 +20,8 @@ macro_rules! calls {
             use crate::{caught, parts, serialized, Glyph, Setting, Shaped, FEATURES};
             use $rustybuzz::ttf_parser::Tag;
             use $rustybuzz::{
-                shape, shape_with_plan, BufferClusterLevel, BufferFlags, Direction, Face, Feature,
-                GlyphBuffer, Script, SerializeFlags, ShapePlan, UnicodeBuffer,
+                shape, shape_with_plan, BufferClusterLevel, BufferFlags, Direction, Face, Feature, GlyphBuffer, Script,
+                SerializeFlags, ShapePlan, UnicodeBuffer,
             };
 
             const LEVELS: [BufferClusterLevel; 3] = [
@@ -34,9 +34,7 @@ macro_rules! calls {
                 let wanted = if setting.features { &FEATURES[..] } else { &[] };
                 wanted
                     .iter()
-                    .map(|&(tag, value, first, last)| {
-                        Feature::new(Tag::from_bytes(tag), value, first..=last)
-                    })
+                    .map(|&(tag, value, first, last)| Feature::new(Tag::from_bytes(tag), value, first..=last))
                     .collect()
             }
 
@@ -61,25 +59,22 @@ macro_rules! calls {
                 let text = buffer.serialize(face, told);
                 text.split('|')
                     .map(|glyph| {
-                        glyph
-                            .split_once('#')
-                            .map_or(0, |(_, flags)| u32::from_str_radix(flags, 16).expect("flags"))
+                        glyph.split_once('#').map_or(0, |(_, flags)| u32::from_str_radix(flags, 16).expect("flags"))
                     })
                     .collect()
             }
 
             fn glyphs(face: &Face, buffer: &GlyphBuffer) -> Vec<Glyph> {
                 let positions = buffer.glyph_positions();
-                let glyphs =
-                    buffer.glyph_infos().iter().zip(positions).zip(flags(face, buffer)).map(
-                        |((glyph, position), flags)| Glyph {
-                            number: glyph.glyph_id,
-                            cluster: glyph.cluster,
-                            flags,
-                            advance: (position.x_advance, position.y_advance),
-                            offset: (position.x_offset, position.y_offset),
-                        },
-                    );
+                let glyphs = buffer.glyph_infos().iter().zip(positions).zip(flags(face, buffer)).map(
+                    |((glyph, position), flags)| Glyph {
+                        number: glyph.glyph_id,
+                        cluster: glyph.cluster,
+                        flags,
+                        advance: (position.x_advance, position.y_advance),
+                        offset: (position.x_offset, position.y_offset),
+                    },
+                );
                 glyphs.collect()
             }
 
@@ -99,10 +94,7 @@ macro_rules! calls {
                             ShapePlan::new(&face, direction, Some(script), None, &features),
                         ));
                     }
-                    let plan = plans
-                        .iter()
-                        .find(|plan| plan.0 == direction && plan.1 == script)
-                        .expect("a plan");
+                    let plan = plans.iter().find(|plan| plan.0 == direction && plan.1 == script).expect("a plan");
                     caught(|| glyphs(&face, &shape_with_plan(&face, &plan.2, buffer)))
                 };
                 texts.iter().map(shape).collect()
@@ -116,8 +108,7 @@ macro_rules! calls {
                 serialized(|| {
                     format!(
                         "[{}]",
-                        shape(&face, &features(setting), buffer)
-                            .serialize(&face, SerializeFlags::GLYPH_FLAGS)
+                        shape(&face, &features(setting), buffer).serialize(&face, SerializeFlags::GLYPH_FLAGS)
                     )
                 })
             }
@@ -136,22 +127,11 @@ macro_rules! calls {
                     buffer.guess_segment_properties();
                     let (direction, script) = (buffer.direction(), buffer.script());
                     if !plans.iter().any(|plan| plan.0 == direction && plan.1 == script) {
-                        plans.push((
-                            direction,
-                            script,
-                            ShapePlan::new(&face, direction, Some(script), None, &[]),
-                        ));
+                        plans.push((direction, script, ShapePlan::new(&face, direction, Some(script), None, &[])));
                     }
-                    let plan = plans
-                        .iter()
-                        .find(|plan| plan.0 == direction && plan.1 == script)
-                        .expect("a plan");
+                    let plan = plans.iter().find(|plan| plan.0 == direction && plan.1 == script).expect("a plan");
                     let glyphs = shape_with_plan(&face, &plan.2, buffer);
-                    sum += glyphs
-                        .glyph_infos()
-                        .iter()
-                        .map(|glyph| u64::from(glyph.glyph_id))
-                        .sum::<u64>();
+                    sum += glyphs.glyph_infos().iter().map(|glyph| u64::from(glyph.glyph_id)).sum::<u64>();
                     buffer = glyphs.clear();
                 }
                 sum

@@ -151,7 +151,7 @@ pub const fn hb_tag(tag: Tag) -> hb_tag_t {
 
 /// One bit stands for the flags of concatenation and of tatweel.
 pub fn flag_bits(flags: BufferFlags) -> u32 {
-    flags.bits() | (flags & BufferFlags::PRODUCE_UNSAFE_TO_CONCAT).bits() << 1
+    (flags.bits() & 0x7F) | (flags & BufferFlags::PRODUCE_UNSAFE_TO_CONCAT).bits() << 1
 }
 
 /// A mask with glyph flags is noted.
@@ -208,3 +208,33 @@ pub mod names {
         }
     }
 }
+
+// ---- The shadow ----
+
+/// The host's own pauses, by number.
+#[cfg(feature = "shadow")]
+pub const STOCK_PAUSES: [crate::hb::ot_map::pause_func_t; 15] = [
+    crate::hb::ot_shaper_indic::setup_syllables,
+    crate::hb::ot_shaper_khmer::setup_syllables,
+    crate::hb::ot_shaper_myanmar::setup_syllables,
+    crate::hb::ot_shaper_use::setup_syllables,
+    crate::hb::ot_shaper_indic::initial_reordering,
+    crate::hb::ot_shaper_khmer::reorder_khmer,
+    crate::hb::ot_shaper_myanmar::reorder_myanmar,
+    crate::hb::ot_shaper_use::reorder_use,
+    crate::hb::ot_shaper_indic::final_reordering,
+    crate::hb::ot_shaper_arabic::record_stch,
+    crate::hb::ot_shaper_use::record_rphf,
+    crate::hb::ot_shaper_use::record_pref,
+    crate::hb::ot_shape::syllabic_clear_var,
+    crate::hb::ot_layout::_hb_clear_substitution_flags,
+    crate::hb::ot_shaper_arabic::arabic_fallback_shape,
+];
+
+#[cfg(feature = "shadow")]
+pub fn var_bits(_: &hb_buffer_t) -> u8 {
+    0
+}
+
+#[cfg(feature = "shadow")]
+pub fn set_var_bits(_: u8, _: &mut hb_buffer_t) {}

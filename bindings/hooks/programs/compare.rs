@@ -7,7 +7,8 @@
 //! A difference is explained where the crate as it is, with the known differences edited away,
 //! gives what the proved one gives; its reasons are the edits that this takes. A table goes to
 //! standard output, by script, and a list of reasons, each with its first text. The last line is 'N
-//! passed, M failed': M outputs differ without a reason.
+//! passed, M failed': M outputs differ without a reason. With the feature `shadow` the proved crate
+//! runs both versions of each hook on each call, and the fields that differ are told.
 
 use programs::{proved, put_in_force, reasons, stock, Setting, Shaped, LEVELS, REASONS};
 use std::collections::BTreeMap;
@@ -103,8 +104,7 @@ impl Tally {
             reason.outputs.merge(more.outputs);
             reason.levels.iter_mut().zip(more.levels).for_each(|(count, more)| *count += more);
             reason.kinds.iter_mut().zip(more.kinds).for_each(|(count, more)| *count += more);
-            let better =
-                more.outputs.real > 0 && !reason.first.as_ref().is_some_and(|(real, _)| *real);
+            let better = more.outputs.real > 0 && !reason.first.as_ref().is_some_and(|(real, _)| *real);
             if better || reason.first.is_none() {
                 reason.first.clone_from(&more.first);
             }
@@ -118,9 +118,7 @@ impl Tally {
             reason.outputs.add(real);
             reason.levels[level] += 1;
             reason.kinds[kind] += 1;
-            if reason.first.is_none()
-                || (real && !reason.first.as_ref().is_some_and(|(real, _)| *real))
-            {
+            if reason.first.is_none() || (real && !reason.first.as_ref().is_some_and(|(real, _)| *real)) {
                 reason.first = Some((real, told.to_string()));
             }
         }
@@ -133,13 +131,10 @@ fn kind(one: &Shaped, other: &Shaped) -> Option<usize> {
         return None;
     }
     let (Shaped::Glyphs(one), Shaped::Glyphs(other)) = (one, other) else { return Some(4) };
-    let numbers =
-        |glyphs: &[programs::Glyph]| glyphs.iter().map(|glyph| glyph.number).collect::<Vec<_>>();
-    let positions = |glyphs: &[programs::Glyph]| {
-        glyphs.iter().map(|glyph| (glyph.advance, glyph.offset)).collect::<Vec<_>>()
-    };
-    let clusters =
-        |glyphs: &[programs::Glyph]| glyphs.iter().map(|glyph| glyph.cluster).collect::<Vec<_>>();
+    let numbers = |glyphs: &[programs::Glyph]| glyphs.iter().map(|glyph| glyph.number).collect::<Vec<_>>();
+    let positions =
+        |glyphs: &[programs::Glyph]| glyphs.iter().map(|glyph| (glyph.advance, glyph.offset)).collect::<Vec<_>>();
+    let clusters = |glyphs: &[programs::Glyph]| glyphs.iter().map(|glyph| glyph.cluster).collect::<Vec<_>>();
     Some(if numbers(one) != numbers(other) {
         3
     } else if positions(one) != positions(other) {
@@ -150,47 +145,37 @@ fn kind(one: &Shaped, other: &Shaped) -> Option<usize> {
 }
 
 /// The crate with these reasons edited away.
-fn with_reasons(
-    names: &[&'static str],
-    font: &[u8],
-    texts: &[&str],
-    setting: &Setting,
-) -> Vec<Shaped> {
+fn with_reasons(names: &[&'static str], font: &[u8], texts: &[&str], setting: &Setting) -> Vec<Shaped> {
     put_in_force(names);
     reasons::shape_texts(font, texts, setting)
 }
 
-/// The reasons of each difference: the edits without which the crate doesn't give what the proved
-/// one gives, or else those that each change what it gives. None is explained by no edits at all.
-fn explain(
-    font: &[u8],
-    texts: &[&str],
-    setting: &Setting,
-    stock: &[Shaped],
-    proved: &[Shaped],
-) -> Vec<Vec<&'static str>> {
+/// The reasons of each difference: as few edits as give what the proved crate gives; the first names
+/// of [`REASONS`] are left out first. None where all together don't.
+fn explain(font: &[u8], texts: &[&str], setting: &Setting, proved: &[Shaped]) -> Vec<Vec<&'static str>> {
     let all = with_reasons(REASONS, font, texts, setting);
-    let mut needed: Vec<Vec<&str>> = vec![Vec::new(); texts.len()];
-    let mut alone: Vec<Vec<&str>> = vec![Vec::new(); texts.len()];
+    let mut sets: Vec<Vec<&'static str>> = Vec::new();
+    sets.extend((0..texts.len()).map(|place| match all[place] == proved[place] {
+        true => REASONS.to_vec(),
+        false => Vec::new(),
+    }));
     for name in REASONS {
-        let others: Vec<&str> = REASONS.iter().filter(|other| *other != name).copied().collect();
-        let without = with_reasons(&others, font, texts, setting);
-        let only = with_reasons(&[name], font, texts, setting);
-        for place in 0..texts.len() {
-            if without[place] != proved[place] {
-                needed[place].push(name);
-            }
-            if only[place] != stock[place] {
-                alone[place].push(name);
+        let mut groups: BTreeMap<Vec<&'static str>, Vec<usize>> = BTreeMap::new();
+        for (place, set) in sets.iter().enumerate().filter(|(_, set)| set.len() > 1) {
+            groups.entry(set.clone()).or_default().push(place);
+        }
+        for (set, places) in groups {
+            let fewer: Vec<&str> = set.into_iter().filter(|other| other != name).collect();
+            let some: Vec<&str> = places.iter().map(|&place| texts[place]).collect();
+            let shaped = with_reasons(&fewer, font, &some, setting);
+            for (place, shaped) in places.into_iter().zip(shaped) {
+                if shaped == proved[place] {
+                    sets[place].clone_from(&fewer);
+                }
             }
         }
     }
-    let explained = (0..texts.len()).map(|place| match all[place] == proved[place] {
-        true if needed[place].is_empty() => std::mem::take(&mut alone[place]),
-        true => std::mem::take(&mut needed[place]),
-        false => Vec::new(),
-    });
-    explained.collect()
+    sets
 }
 
 fn code_points(text: &str) -> String {
@@ -198,26 +183,17 @@ fn code_points(text: &str) -> String {
 }
 
 /// Compares the texts of a script with one font and setting.
-fn compare(
-    script: &Script,
-    path: &Path,
-    font: &[u8],
-    setting: &Setting,
-    show: usize,
-    tally: &mut Tally,
-) {
+fn compare(script: &Script, path: &Path, font: &[u8], setting: &Setting, show: usize, tally: &mut Tally) {
     let texts: Vec<&str> = script.texts.iter().map(String::as_str).collect();
-    let (one, other) =
-        (stock::shape_texts(font, &texts, setting), proved::shape_texts(font, &texts, setting));
+    let (one, other) = (stock::shape_texts(font, &texts, setting), proved::shape_texts(font, &texts, setting));
     tally.shaped += texts.len();
     let places: Vec<usize> = (0..texts.len()).filter(|&place| one[place] != other[place]).collect();
     if places.is_empty() {
         return;
     }
     let chosen: Vec<&str> = places.iter().map(|&place| texts[place]).collect();
-    let [one, other] = [one, other]
-        .map(|shaped| places.iter().map(|&place| shaped[place].clone()).collect::<Vec<_>>());
-    let explained = explain(font, &chosen, setting, &one, &other);
+    let [one, other] = [one, other].map(|shaped| places.iter().map(|&place| shaped[place].clone()).collect::<Vec<_>>());
+    let explained = explain(font, &chosen, setting, &other);
     for (number, &place) in places.iter().enumerate() {
         let kind = kind(&one[number], &other[number]).unwrap_or_default();
         let real = place < script.real && !setting.contexts;
@@ -258,8 +234,7 @@ fn compare_script(script: &Script, show: usize) -> Tally {
 }
 
 fn lines(path: &Path, every: usize) -> Vec<String> {
-    let text =
-        fs::read_to_string(path).unwrap_or_else(|error| panic!("{}: {error}", path.display()));
+    let text = fs::read_to_string(path).unwrap_or_else(|error| panic!("{}: {error}", path.display()));
     text.lines().step_by(every).map(String::from).collect()
 }
 
@@ -277,12 +252,7 @@ fn scripts(options: &Options) -> Vec<Script> {
         for kind in ["torn", "random", "long"] {
             texts.extend(read(kind));
         }
-        scripts.push(Script {
-            fonts: fields.map(|font| options.root.join(font)).collect(),
-            texts,
-            real,
-            name,
-        });
+        scripts.push(Script { fonts: fields.map(|font| options.root.join(font)).collect(), texts, real, name });
     }
     scripts
 }
@@ -290,8 +260,7 @@ fn scripts(options: &Options) -> Vec<Script> {
 /// The tally of each script, by as many threads as `THREADS` says or there are processors.
 fn compare_scripts(scripts: &[Script], show: usize) -> Vec<Tally> {
     let wanted = std::env::var("THREADS").ok().and_then(|number| number.parse().ok());
-    let threads =
-        wanted.unwrap_or_else(|| std::thread::available_parallelism().map_or(1, usize::from));
+    let threads = wanted.unwrap_or_else(|| std::thread::available_parallelism().map_or(1, usize::from));
     let next = AtomicUsize::new(0);
     let tallies: Vec<Mutex<Tally>> = scripts.iter().map(|_| Mutex::default()).collect();
     std::thread::scope(|scope| {
@@ -299,10 +268,7 @@ fn compare_scripts(scripts: &[Script], show: usize) -> Vec<Tally> {
             scope.spawn(|| {
                 while let Some(script) = scripts.get(next.fetch_add(1, Ordering::Relaxed)) {
                     let tally = compare_script(script, show);
-                    let place = scripts
-                        .iter()
-                        .position(|other| other.name == script.name)
-                        .expect("a script");
+                    let place = scripts.iter().position(|other| other.name == script.name).expect("a script");
                     *tallies[place].lock().expect("a lock") = tally;
                 }
             });
@@ -315,11 +281,8 @@ fn print_table(scripts: &[Script], tallies: &[Tally]) {
     println!("| script | real words | other texts | shaped | other flags | other clusters | other positions | other glyphs | reasons |");
     println!("|---|---|---|---|---|---|---|---|---|");
     for (script, tally) in scripts.iter().zip(tallies) {
-        let reasons: Vec<String> = tally
-            .reasons
-            .iter()
-            .map(|(name, reason)| format!("{name} {}", reason.outputs.all))
-            .collect();
+        let reasons: Vec<String> =
+            tally.reasons.iter().map(|(name, reason)| format!("{name} {}", reason.outputs.all)).collect();
         let counts: Vec<String> = tally.kinds[..4].iter().map(|count| count.told()).collect();
         println!(
             "| {} | {} | {} | {} | {} | {} |",
@@ -335,11 +298,8 @@ fn print_table(scripts: &[Script], tallies: &[Tally]) {
 
 /// The numbers that aren't 0, with their names.
 fn named(names: &[&str], numbers: &[usize]) -> String {
-    let told = names
-        .iter()
-        .zip(numbers)
-        .filter(|(_, number)| **number != 0)
-        .map(|(name, number)| format!("{name} {number}"));
+    let told =
+        names.iter().zip(numbers).filter(|(_, number)| **number != 0).map(|(name, number)| format!("{name} {number}"));
     told.collect::<Vec<_>>().join(", ")
 }
 
@@ -354,13 +314,20 @@ fn print_reasons(total: &Tally) {
             reason.first.as_ref().map_or("none", |(_, told)| told)
         );
     }
-    let kinds: Vec<String> = KINDS
-        .iter()
-        .zip(total.kinds)
-        .map(|(kind, count)| format!("{kind} {}", count.told()))
-        .collect();
+    let kinds: Vec<String> =
+        KINDS.iter().zip(total.kinds).map(|(kind, count)| format!("{kind} {}", count.told())).collect();
     println!("- in all: {} shaped; {}", total.shaped, kinds.join("; "));
 }
+
+/// With both hooks on each call: the calls by shaper, hook and the fields that differ, and examples.
+#[cfg(feature = "shadow")]
+fn print_shadow() {
+    println!();
+    programs::shadow_report().iter().for_each(|line| println!("- {line}"));
+}
+
+#[cfg(not(feature = "shadow"))]
+fn print_shadow() {}
 
 fn options() -> Option<Options> {
     let mut arguments = std::env::args().skip(1);
@@ -392,13 +359,10 @@ fn main() {
         total.merge(tally);
     }
     print_reasons(&total);
+    print_shadow();
     for (script, tally) in scripts.iter().zip(&tallies) {
         tally.shown.iter().for_each(|told| println!("{}: {told}", script.name));
-        tally
-            .unexplained
-            .iter()
-            .take(5)
-            .for_each(|told| println!("FAILED: {}: no reason: {told}", script.name));
+        tally.unexplained.iter().take(5).for_each(|told| println!("FAILED: {}: no reason: {told}", script.name));
     }
     let failed = total.unexplained.len();
     println!("{} passed, {failed} failed", total.shaped - failed);

@@ -11,10 +11,8 @@ pub type Tables = BTreeMap<[u8; 4], Vec<u8>>;
 ///
 /// Where there is none.
 pub fn font(name: &str) -> Vec<u8> {
-    let folder =
-        std::env::var("SENGADLIT_FONTS").expect("SENGADLIT_FONTS names the folder of fonts");
-    std::fs::read(format!("{folder}/{name}"))
-        .unwrap_or_else(|error| panic!("{folder}/{name}: {error}"))
+    let folder = std::env::var("SENGADLIT_FONTS").expect("SENGADLIT_FONTS names the folder of fonts");
+    std::fs::read(format!("{folder}/{name}")).unwrap_or_else(|error| panic!("{folder}/{name}: {error}"))
 }
 
 fn number(bytes: &[u8]) -> usize {
@@ -82,13 +80,10 @@ pub fn with_tracking(font: &[u8]) -> Vec<u8> {
 /// A `GSUB` of Malayalam that makes `formed` of virama and RA by `pref`, but drops RA before, by
 /// `nukt`.
 pub fn pref_without_ra(virama: u16, ra: u16, formed: u16) -> Vec<u8> {
-    let tag = |tag: &[u8; 4]| {
-        [u16::from_be_bytes([tag[0], tag[1]]), u16::from_be_bytes([tag[2], tag[3]])]
-    };
+    let tag = |tag: &[u8; 4]| [u16::from_be_bytes([tag[0], tag[1]]), u16::from_be_bytes([tag[2], tag[3]])];
     let header = [1, 0, 10, 32, 58];
     let scripts = [&[1][..], &tag(b"mlm2"), &[8], &[4, 0], &[0, 0xFFFF, 2, 0, 1]].concat();
-    let features =
-        [&[2][..], &tag(b"nukt"), &[14], &tag(b"pref"), &[20], &[0, 1, 0], &[0, 1, 1]].concat();
+    let features = [&[2][..], &tag(b"nukt"), &[14], &tag(b"pref"), &[20], &[0, 1, 0], &[0, 1, 1]].concat();
     let dropping = [[2, 0, 1, 8], [1, 8, 1, 14]].concat();
     let dropped = [1, 1, ra, 0];
     let forming = [[4, 0, 1, 8], [1, 8, 1, 14]].concat();

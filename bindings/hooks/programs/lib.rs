@@ -14,6 +14,8 @@ calls!(stock, stock);
 calls!(proved, proved);
 calls!(reasons, reasons);
 
+#[cfg(feature = "shadow")]
+pub use ::proved::shadow_report;
 pub use ::reasons::put_in_force;
 
 /// How a text is shaped.
@@ -94,11 +96,9 @@ impl fmt::Display for Shaped {
 
 /// Shapes; the error is what a panic said.
 fn without_panic<T>(shape: impl FnOnce() -> T) -> Result<T, String> {
-    std::panic::catch_unwind(std::panic::AssertUnwindSafe(shape)).map_err(|told| {
-        match told.downcast::<String>() {
-            Ok(text) => *text,
-            Err(told) => told.downcast_ref::<&str>().map_or(String::new(), ToString::to_string),
-        }
+    std::panic::catch_unwind(std::panic::AssertUnwindSafe(shape)).map_err(|told| match told.downcast::<String>() {
+        Ok(text) => *text,
+        Err(told) => told.downcast_ref::<&str>().map_or(String::new(), ToString::to_string),
     })
 }
 

@@ -6,8 +6,7 @@ use programs::{proved, put_in_force, reasons, stock, text_of, Setting, REASONS};
 
 fn main() {
     let mut arguments = std::env::args().skip(1);
-    let path =
-        arguments.next().expect("show FONT [--level N] [--flags HEX] [--scale N] CODE_POINTS");
+    let path = arguments.next().expect("show FONT [--level N] [--flags HEX] [--scale N] CODE_POINTS");
     let font = std::fs::read(&path).unwrap_or_else(|error| panic!("{path}: {error}"));
     let mut setting = Setting::default();
     let mut code_points = Vec::new();
