@@ -174,13 +174,16 @@ fn the_base_is_looked_for_among_medials() {
     assert_eq!(proved, "[imatraguru=0+259|kaguru=0+622|yakashguru=0@36,0+0|aimatraguru=0@-20,0+0]");
 }
 
-/// The hooks have three cluster levels, and shape level Graphemes as MonotoneGraphemes: marks that
-/// Thai moves are merged.
+/// The hooks have three cluster levels, and for Thai, Lao and Hangul level Graphemes is MonotoneGraphemes: marks that Thai
+/// moves and jamo that are composed are merged, with what has their cluster.
 #[test]
-fn thai_merges_at_level_graphemes() {
+fn level_graphemes_merges() {
     let [stock, proved] = both(&noto("NotoSansThai"), "0E48 0E33", level(GRAPHEMES));
     assert_eq!(stock, "[uni0E4D=3+0#1|uni0E48.small=0@-29,0+0|uni0E32=3+406]");
     assert_eq!(proved, "[uni0E4D=0+0|uni0E48.small=0@-29,0+0|uni0E32=0+406]");
+    let [stock, proved] = both(&font("truetype/nanum/NanumGothic.ttf"), "1104 116D 200D", level(GRAPHEMES));
+    assert_eq!(stock, "[gid11409=0+940|gid1=3+0#1]");
+    assert_eq!(proved, "[gid11409=0+940|gid1=0+0]");
 }
 
 /// Hangul's tone marks are placed by the fallback in both, as harfrust's data says; 0.20.1's and

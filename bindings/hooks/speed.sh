@@ -1,5 +1,6 @@
 # shellcheck shell=sh disable=SC2154
 # What bindings/harfrust/speed and bindings/rustybuzz/speed do; they source this file, with $here, their folder, and $crate.
+# Scripts may be named.
 
 # shellcheck source=bindings/hooks/programs.sh
 . "$(dirname "$here")/hooks/programs.sh"
@@ -13,4 +14,4 @@ command -v valgrind >/dev/null 2>&1 || stop 'there is no valgrind'
     export CARGO_PROFILE_RELEASE_LTO=fat CARGO_PROFILE_RELEASE_CODEGEN_UNITS=1
     need 'the programs are built, with fat lto and one unit' build target/lto --bin shape_stock --bin shape_proved
 } >&2
-exec python3 "$hooks/speed.py" "$texts" "$root" "$made/both/target/release" "$made/both/target/lto/release"
+exec python3 "$hooks/speed.py" "$texts" "$root" "$made/both/target/release" "$made/both/target/lto/release" "$@"

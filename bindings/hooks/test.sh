@@ -48,7 +48,8 @@ tally() {
 fetch_texts >"$made/step.log" 2>&1 </dev/null || skip "words and fonts: $(tail -n 1 "$made/step.log")"
 need 'the copy with the reasons is edited' copy_reasons
 need 'the programs are written' write_programs
-need 'the programs are built' build "\$target"
+# shellcheck disable=SC2086
+need 'the programs are built' build "$target" $options
 if step 'the faults, both sides of each' faults; then
     tests=$(sed -n 's/^test result: ok\. \([0-9]*\) passed; 0 failed.*/\1/p' "$made/step.log" | tail -n 1)
     passed=$((passed + ${tests:-1} - 1))
