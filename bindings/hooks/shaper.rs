@@ -20,8 +20,9 @@ use sengadlit::ot_shaper_syllabic::{
 use sengadlit::plan::{NormalizationMode, ZeroWidthMarks};
 use sengadlit::shaper::{pause_may_change, Hook};
 use sengadlit::{
-    ot_shaper_hangul, ot_shaper_use, run_pause, Buffer, BufferFlags, Direction, FeatureMap, GeneralCategory,
-    GlyphInfo as Glyph, GlyphPosition as Position, Pause, Plan, Planner, Request, Script, Shaper, ShaperError, Tag,
+    ot_shaper_hangul, ot_shaper_indic, ot_shaper_khmer, ot_shaper_use, run_pause, Buffer, BufferFlags, Direction,
+    FeatureMap, GeneralCategory, GlyphInfo as Glyph, GlyphPosition as Position, Pause, Plan, Planner, Request, Script,
+    Shaper, ShaperError, Tag,
 };
 
 use super::buffer::*;
@@ -250,6 +251,39 @@ fn on_text<T>(
     }
 }
 
+/// Calls a hook that changes masks, categories and auxiliary bytes alone, and reads no marks.
+fn on_masks(buffer: &mut hb_buffer_t, hook: impl FnOnce(&mut Buffer)) {
+    match load(buffer, 0..buffer.len, bare_glyph_of) {
+        Ok(text) => hook(text),
+        Err(_) => {
+            buffer.successful = false;
+            return;
+        }
+    }
+    let mut masks = 0;
+    for (info, glyph) in buffer.info.iter_mut().zip(buffer.work.text().glyphs()) {
+        info.mask = glyph.mask;
+        masks |= glyph.mask;
+        info.set_ot_shaper_var_u8_category(glyph.category);
+        info.set_ot_shaper_var_u8_auxiliary(glyph.auxiliary);
+    }
+    parts::note_masks(masks, buffer);
+}
+
+#[inline(always)]
+fn bare_glyph_of(info: &Info) -> Glyph {
+    Glyph {
+        glyph_id: info.glyph_id,
+        cluster: info.cluster,
+        mask: info.mask,
+        syllable: info.syllable(),
+        category: info.ot_shaper_var_u8_category(),
+        auxiliary: info.ot_shaper_var_u8_auxiliary(),
+        general_category: CATEGORIES[usize::from(info.unicode_props() & 31)],
+        ..Glyph::DEFAULT
+    }
+}
+
 fn direction_of(direction: super::Direction) -> Direction {
     match direction {
         super::Direction::Invalid => Direction::Invalid,
@@ -343,35 +377,14 @@ fn joins(plan: &Plan) -> bool {
     plan.plan_data.universal().is_some_and(|data| data.arabic_plan.is_some())
 }
 
-/// Sets the masks of letters that join, of which characters, clusters and general categories are read.
 fn setup_joining_masks(shaper: Shaper, plan: &Plan, buffer: &mut hb_buffer_t) {
     let [before, after] = buffer.context;
     let [before_len, after_len] = buffer.context_len;
-    let Ok(text) = load(buffer, 0..buffer.len, letter_of) else {
-        buffer.successful = false;
-        return;
-    };
-    text.set_pre_context(&parts::context(&before[..before_len]));
-    text.set_post_context(&parts::context(&after[..after_len]));
-    shaper.setup_masks(plan, &FeaturesOnly(|_: Tag| false), &Ucd, text);
-    let mut masks = 0;
-    for (info, glyph) in buffer.info.iter_mut().zip(buffer.work.text().glyphs()) {
-        info.mask = glyph.mask;
-        masks |= glyph.mask;
-        info.set_ot_shaper_var_u8_category(glyph.category);
-        info.set_ot_shaper_var_u8_auxiliary(glyph.auxiliary);
-    }
-    parts::note_masks(masks, buffer);
-}
-
-fn letter_of(info: &Info) -> Glyph {
-    Glyph {
-        glyph_id: info.glyph_id,
-        cluster: info.cluster,
-        mask: info.mask,
-        general_category: CATEGORIES[usize::from(info.unicode_props() & 31)],
-        ..Glyph::DEFAULT
-    }
+    on_masks(buffer, |text| {
+        text.set_pre_context(&parts::context(&before[..before_len]));
+        text.set_post_context(&parts::context(&after[..after_len]));
+        shaper.setup_masks(plan, &FeaturesOnly(|_: Tag| false), &Ucd, text);
+    });
 }
 
 /// Merges reach over neighbours of the same cluster and no further, so the call reads these besides.
@@ -399,16 +412,21 @@ fn may_reorder(shaper: Shaper, marks: &[Info]) -> bool {
 
 fn compose<const S: usize>(context: &hb_ot_shape_normalize_context_t, a: Codepoint, b: Codepoint) -> Option<Codepoint> {
     let (a, b) = (parts::character(a)?, parts::character(b)?);
-    let composed = SHAPERS[S].compose(plan_of(context.plan), &Ucd, a, b).flatten()?;
-    Some(composed.into())
+    let composed = match SHAPERS[S] {
+        Shaper::Indic => ot_shaper_indic::compose(&Ucd, a, b),
+        Shaper::Khmer => ot_shaper_khmer::compose(&Ucd, a, b),
+        Shaper::Universal => ot_shaper_use::compose(&Ucd, a, b),
+        shaper => shaper.compose(plan_of(context.plan), &Ucd, a, b).flatten(),
+    };
+    composed.map(Codepoint::from)
 }
 
-fn decompose<const S: usize>(
-    context: &hb_ot_shape_normalize_context_t,
-    ab: Codepoint,
-) -> Option<(Codepoint, Codepoint)> {
+fn decompose<const S: usize>(_: &hb_ot_shape_normalize_context_t, ab: Codepoint) -> Option<(Codepoint, Codepoint)> {
     let ab = parts::character(ab)?;
-    let (a, b) = SHAPERS[S].decompose(plan_of(context.plan), &Ucd, ab).flatten()?;
+    let (a, b) = match SHAPERS[S] {
+        Shaper::Indic => ot_shaper_indic::decompose(&Ucd, ab)?,
+        _ => ot_shaper_khmer::decompose(&Ucd, ab)?,
+    };
     Some((a.into(), b.into()))
 }
 
@@ -461,6 +479,10 @@ fn pause<const P: usize>(plan: &hb_ot_shape_plan_t, font: FontRef, buffer: &mut 
     if !may_change(pause, plan, buffer) || clears_in_place(pause, buffer) {
         return false;
     }
+    if pause == Pause::SetupSyllablesUse {
+        set_up_universal(plan, buffer);
+        return false;
+    }
     find_syllables(pause, buffer);
     let loaded = if buffer.work.is_newer { Ok(buffer.work.text()) } else { load(buffer, 0..buffer.len, glyph_of) };
     let done = loaded.and_then(|text| run(pause, plan, font, text));
@@ -479,7 +501,6 @@ fn run(pause: Pause, plan: &Plan, font: FontRef, text: &mut Buffer) -> Result<bo
         Pause::SetupSyllablesIndic => set_up_by_bytes(indic_syllable::BROKEN_CLUSTER, text),
         Pause::SetupSyllablesKhmer => set_up_by_bytes(khmer_syllable::BROKEN_CLUSTER, text),
         Pause::SetupSyllablesMyanmar => set_up_by_bytes(myanmar_syllable::BROKEN_CLUSTER, text),
-        Pause::SetupSyllablesUse => ot_shaper_use::setup_syllables_use_by_bytes(plan, text),
         _ => return run_pause(pause, plan, &parts::font(font), &[], text),
     }
     Ok(false)
@@ -491,7 +512,6 @@ fn find_syllables(pause: Pause, buffer: &mut hb_buffer_t) {
         Pause::SetupSyllablesIndic => super::ot_shaper_indic_machine::find_syllables_indic,
         Pause::SetupSyllablesKhmer => super::ot_shaper_khmer_machine::find_syllables_khmer,
         Pause::SetupSyllablesMyanmar => super::ot_shaper_myanmar_machine::find_syllables_myanmar,
-        Pause::SetupSyllablesUse => find_universal_syllables,
         _ => return,
     };
     settle(buffer);
@@ -499,13 +519,15 @@ fn find_syllables(pause: Pause, buffer: &mut hb_buffer_t) {
 }
 
 /// The universal machine's kinds are one more than those of the hooks; what it passes over at the front has no byte,
-/// and stays in its order.
-fn find_universal_syllables(buffer: &mut hb_buffer_t) {
+/// and stays in its order. Lookups follow, so that masks alone are copied.
+fn set_up_universal(plan: &Plan, buffer: &mut hb_buffer_t) {
+    settle(buffer);
     super::ot_shaper_use_machine::find_syllables(buffer);
     for info in &mut buffer.info[..buffer.len] {
         let byte = info.syllable().checked_sub(1);
         info.set_syllable(byte.unwrap_or(use_syllable::NUMERAL_CLUSTER));
     }
+    on_masks(buffer, |text| ot_shaper_use::setup_syllables_use_by_bytes(plan, text));
 }
 
 /// Whether a pause may change the text, by its contract.

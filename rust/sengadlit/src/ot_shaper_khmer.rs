@@ -1,5 +1,5 @@
 //! The shaper of Khmer.
 
-pub use crate::generated::shapers_khmer::ot_shaper_khmer::khmer_feature;
+pub use crate::generated::shapers_khmer::ot_shaper_khmer::{compose, decompose, khmer_feature};
 pub use crate::plan::KhmerPlan;
 pub use crate::shaper::KHMER_SHAPER;
