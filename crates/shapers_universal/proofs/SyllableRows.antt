@@ -122,9 +122,12 @@ set_up_broken = refl
 
 -- the same by the bytes that the text has, with other serials, and its mark that stays
 abbrev by_bytes : String → List (ℕ × ℕ) → Buffer
-by_bytes tag rows = set_up_by_its_bytes (Universal (universal_plan AsCode (script tag) font)) font (record (new_buffer 9) { glyphs = map (λ (row : ℕ × ℕ). record default_glyph { cluster = row.0; category = 1; syllable = row.1 }) rows })
+by_bytes tag rows = set_up_by_its_bytes (Universal (universal_plan starts.AsCode breaks.AsCode (script tag) font)) font (record (new_buffer 9) { glyphs = map (λ (row : ℕ × ℕ). record default_glyph { cluster = row.0; category = 1; syllable = row.1 }) rows })
 
-set_up_of_bytes : map (λ g. (g.mask, g.syllable)) (by_bytes "Bali" ((0, 0x52) ∷ (1, 0x52) ∷ (2, 0x52) ∷ (3, 0x52) ∷ (4, 0x27) ∷ [])).glyphs ≡ (0x120, 0x52) ∷ (0x123, 0x52) ∷ (0x123, 0x52) ∷ (0x23, 0x52) ∷ (0x180, 0x27) ∷ []
+abbrev masks_by_bytes : String → List (ℕ × ℕ) → List (ℕ × ℕ)
+masks_by_bytes tag rows = map (λ g. (g.mask, g.syllable)) (by_bytes tag rows).glyphs
+
+set_up_of_bytes : masks_by_bytes "Bali" ((0, 0x52) ∷ (1, 0x52) ∷ (2, 0x52) ∷ (3, 0x52) ∷ (4, 0x27) ∷ []) ≡ (0x120, 0x52) ∷ (0x123, 0x52) ∷ (0x123, 0x52) ∷ (0x23, 0x52) ∷ (0x180, 0x27) ∷ []
 set_up_of_bytes = refl
 
 set_up_of_joining : map (λ g. g.mask) (by_bytes "Mong" ((3, 0x16) ∷ (3, 0x16) ∷ [])).glyphs ∷ [] ≡ (0x100 ∷ 0x100 ∷ []) ∷ []

@@ -19,7 +19,7 @@ pub struct Session {
     pub tables: LineTables,
     pub spans: Vec<Span>,
     pub buffer: Buffer,
-    /// At how many places texts were broken, where that is asked for.
+    /// At how many places texts were broken, where breaking is tested.
     pub cuts: Option<usize>,
     answers: String,
 }
