@@ -99,6 +99,10 @@ pub fn character(c: Codepoint) -> Option<char> {
     char::from_u32(c)
 }
 
+pub fn codepoint(c: char) -> Codepoint {
+    c.into()
+}
+
 pub use sengadlit::buffer::context_characters as context;
 
 // ---- Glyphs ----

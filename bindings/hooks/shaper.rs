@@ -5,6 +5,9 @@
 //! its Unicode properties, and bits 3 to 5 of the marks IGNORABLE, HIDDEN and CONTINUATION. After a pause the text is the newer of the two until
 //! lookups are about to read the buffer (`settle`), so that a run of pauses copies once.
 
+// `hooks` is this module or its shadow.
+#![allow(unused_qualifications)]
+
 use alloc::boxed::Box;
 use alloc::vec::Vec;
 use core::any::Any;
@@ -253,13 +256,11 @@ fn on_text<T>(
 
 /// Calls a hook that changes masks, categories and auxiliary bytes alone, and reads no marks.
 fn on_masks(buffer: &mut hb_buffer_t, hook: impl FnOnce(&mut Buffer)) {
-    match load(buffer, 0..buffer.len, bare_glyph_of) {
-        Ok(text) => hook(text),
-        Err(_) => {
-            buffer.successful = false;
-            return;
-        }
-    }
+    let Ok(text) = load(buffer, 0..buffer.len, bare_glyph_of) else {
+        buffer.successful = false;
+        return;
+    };
+    hook(text);
     let mut masks = 0;
     for (info, glyph) in buffer.info.iter_mut().zip(buffer.work.text().glyphs()) {
         info.mask = glyph.mask;
@@ -418,7 +419,7 @@ fn compose<const S: usize>(context: &hb_ot_shape_normalize_context_t, a: Codepoi
         Shaper::Universal => ot_shaper_use::compose(&Ucd, a, b),
         shaper => shaper.compose(plan_of(context.plan), &Ucd, a, b).flatten(),
     };
-    composed.map(Codepoint::from)
+    composed.map(parts::codepoint)
 }
 
 fn decompose<const S: usize>(_: &hb_ot_shape_normalize_context_t, ab: Codepoint) -> Option<(Codepoint, Codepoint)> {
@@ -427,7 +428,7 @@ fn decompose<const S: usize>(_: &hb_ot_shape_normalize_context_t, ab: Codepoint)
         Shaper::Indic => ot_shaper_indic::decompose(&Ucd, ab)?,
         _ => ot_shaper_khmer::decompose(&Ucd, ab)?,
     };
-    Some((a.into(), b.into()))
+    Some((parts::codepoint(a), parts::codepoint(b)))
 }
 
 fn postprocess_glyphs<const S: usize>(plan: &hb_ot_shape_plan_t, font: FontRef, buffer: &mut hb_buffer_t) {

@@ -106,6 +106,10 @@ pub fn character(c: Codepoint) -> Option<char> {
     Some(c)
 }
 
+pub fn codepoint(c: char) -> Codepoint {
+    c
+}
+
 pub fn context(characters: &[char]) -> impl Deref<Target = [char]> + '_ {
     characters
 }
