@@ -14,7 +14,7 @@ import re
 import subprocess
 import sys
 
-SCRIPTS = ["Devanagari", "Tamil", "Khmer", "Myanmar", "Arabic", "Hangul", "Thai", "Hebrew", "Sinhala", "Tibetan"]
+SCRIPTS = ["Devanagari", "Tamil", "Khmer", "Myanmar", "Arabic", "Hangul", "Hangul, composed", "Thai", "Hebrew", "Sinhala", "Tibetan"]
 
 
 def counted(program, font, texts, times):
