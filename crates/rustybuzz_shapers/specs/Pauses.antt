@@ -227,8 +227,9 @@ PauseKeeps InitialReordering plan font spans old new =
     ReorderingKeeps (by_initial plan font old) old new
     × InitiallyMerged font plan.ot_map (indic_in plan) old new
 PauseKeeps ReorderKhmer plan font spans old new =
-    ReorderingKeeps (by_khmer plan font old) old new × MergedFirst (by_khmer plan font old) old new
-    × Reordered (by_khmer_movers plan font old) old new
+    ReorderingKeeps (by_khmer plan font old) old new
+    × (MergedFirst (by_khmer plan font old) old new
+    × Reordered (by_khmer_movers plan font old) old new)
 PauseKeeps ReorderMyanmar plan font spans old new =
     ReorderingKeeps (by_myanmar font old) old new × MergedFirst (by_myanmar font old) old new
 PauseKeeps ReorderUse plan font spans old new =
