@@ -131,7 +131,7 @@ fn the_least_cluster_is_flagged() {
     assert_eq!(proved, "[ivowelsign00deva=9+259#1|sathadeva=0+1022]");
 }
 
-/// The buffer's flag for tatweel has the bit of the one for concatenation: who asks for the latter
+/// The buffer's flag for tatweel has the bit of the one for concatenation: a caller that requests the latter
 /// gets both, and that two letters join is told as safe to insert tatweel (4) in place of unsafe to
 /// break (HarfBuzz: 3). It isn't a matter of the hooks, and is the same with them. Daily text,
 /// where a line breaker asks for concatenation.
