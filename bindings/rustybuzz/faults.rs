@@ -131,10 +131,10 @@ fn the_least_cluster_is_flagged() {
     assert_eq!(proved, "[ivowelsign00deva=9+259#1|sathadeva=0+1022]");
 }
 
-/// The buffer's flag for tatweel has the bit of the one for concatenation: a caller that requests the latter
-/// gets both, and that two letters join is told as safe to insert tatweel (4) in place of unsafe to
-/// break (HarfBuzz: 3). It isn't a matter of the hooks, and is the same with them. Daily text,
-/// where a line breaker asks for concatenation.
+/// The buffer's flag for tatweel has the bit of the one for concatenation. A caller that requests
+/// the latter gets both, and joined letters are flagged safe to insert tatweel (4) in place of
+/// unsafe to break (HarfBuzz: 3). It isn't a matter of the hooks, and is the same with them. Daily
+/// text, where a line breaker requests concatenation.
 #[test]
 fn tatweel_is_asked_for_with_concatenation() {
     let setting = Setting { flags: PRODUCE_UNSAFE_TO_CONCAT, ..Setting::default() };
