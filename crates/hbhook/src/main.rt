@@ -1,9 +1,6 @@
 //! Reads lines from standard input, carries them out on a buffer of glyphs and prints the buffer.
 #![tactic(auto)]
 
-#[cfg(test)]
-mod tests;
-
 use hbhook_lines::run_lines;
 use std::process::ExitCode;
 

@@ -14,8 +14,6 @@ mod pieces;
 mod row;
 mod scale;
 mod shown;
-#[cfg(test)]
-mod tests;
 
 ghost use Rattle.std.specs.Prelude.{◌≤◌};
 

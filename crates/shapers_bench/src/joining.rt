@@ -6,9 +6,7 @@ use rustybuzz_shapers::buffer::{
     ShaperError, hb_buffer_t, hb_glyph_info_t, hb_unicode_general_category_t,
 };
 use rustybuzz_shapers::font::Tables;
-use rustybuzz_shapers::ot_shaper_arabic::{
-    LookUps, arabic_shape_plan_t, setup_masks_counted, setup_masks_inner,
-};
+use rustybuzz_shapers::ot_shaper_arabic::{LookUps, arabic_shape_plan_t, setup_masks_counted};
 use rustybuzz_shapers::plan::{
     BreakFlags, Category, Position, StretchStart, hb_arabic_joining_type_t,
 };
@@ -95,18 +93,6 @@ fn glyph(c: char, cluster: u32) -> hb_glyph_info_t
         general_category: hb_unicode_general_category_t::Lo,
         ..hb_glyph_info_t::DEFAULT
     }
-}
-
-#[test]
-fn joins_to_the_contexts(rt: HostRuntime) -> Result<(), Fail> {
-    let mut buffer = text(rt.alloc(), ['d', 't', 'd'])?;
-    buffer.set_pre_context(&['t', 'd']);
-    buffer.set_post_context(&['t', 'r']);
-    setup_masks_inner(&PLAN, None, &mut buffer, &Letters);
-    for (glyph, form) in buffer.glyphs().iter().zip(&[4, 7, 4]) {
-        assert_eq!(rt; glyph.auxiliary, *form);
-    }
-    Ok(())
 }
 
 #[test]

@@ -125,32 +125,19 @@ fn a_hook_that_a_shaper_lacks_changes_nothing() {
 }
 
 #[test]
-fn shapers_ask_for_features() {
+fn shapers_request_features() {
     for shaper in SHAPERS {
         let mut planner = Planner::new(Global, Some(Script(*b"Arab")));
         let collects = shaper
             .collect_features(&PlainFont(0), &mut planner)
             .unwrap();
-        let collected = planner.requests().len();
         let overrides = shaper.override_features(&mut planner).unwrap();
-        let lengths = (collected, planner.requests().len() - collected);
-        let wanted = match shaper {
-            Shaper::Arabic => (26, 0),
-            Shaper::Hangul => (3, 1),
-            Shaper::Indic => (33, 2),
-            Shaper::Khmer => (14, 2),
-            Shaper::Myanmar => (17, 0),
-            Shaper::Universal => (30, 0),
-            Shaper::Hebrew | Shaper::MyanmarZawgyi | Shaper::Thai => (0, 0),
-        };
-        assert_eq!(lengths, wanted, "{shaper:?}");
-        assert_eq!(
-            (collects.is_some(), overrides.is_some()),
-            (wanted.0 > 0, wanted.1 > 0)
-        );
+        let is_without = [Shaper::Hebrew, Shaper::MyanmarZawgyi, Shaper::Thai].contains(&shaper);
+        let has_overrides = [Shaper::Hangul, Shaper::Indic, Shaper::Khmer].contains(&shaper);
+        let present = [collects.is_some(), overrides.is_some()];
+        assert_eq!(present, [!is_without, has_overrides], "{shaper:?}");
         let hooks = [Hook::CollectFeatures, Hook::OverrideFeatures];
-        let present = hooks.map(|hook| shaper.has_hook(hook));
-        assert_eq!(present, [collects.is_some(), overrides.is_some()]);
+        assert_eq!(hooks.map(|hook| shaper.has_hook(hook)), present);
     }
 }
 
