@@ -31,7 +31,7 @@ WITHOUT_EFFECT = {"same", "another-list"}
 
 
 def run(out, which, arguments, tally=None):
-    """Runs hb-shape of a build; answers what it printed."""
+    """Runs hb-shape of a build; returns what it printed."""
     environment = dict(os.environ)
     environment.pop("SENGADLIT_SHADOW", None)
     if tally:
@@ -81,7 +81,7 @@ class Tally:
 
 
 def shadowed(out, arguments):
-    """Runs the shadow; answers what it printed and what it counted."""
+    """Runs the shadow; returns what it printed and what it counted."""
     with tempfile.TemporaryDirectory() as folder:
         path = f"{folder}/tally"
         printed = run(out, "shadow", arguments, path)
@@ -239,7 +239,7 @@ def compare_lines(out, arguments, words, stock, proved):
 
 
 def run_words(out, root, fonts, real, others):
-    """Shapes words with each font and setting; answers the tally, and the words whose output differs."""
+    """Shapes words with each font and setting; returns the tally, and the words whose output differs."""
     tally, differ, shaped = Tally(), [], 0
     words = real + others
     with tempfile.TemporaryDirectory() as folder:
@@ -342,7 +342,7 @@ def row_of(out, script, font, kind, texts, pool):
 
 
 def compare_speed(out, root):
-    print("| script | font | a text is | characters | instructions a text, as it is | proved | answers remembered |")
+    print("| script | font | a text is | characters | instructions per text, as it is | proved | results remembered |")
     print("|---|---|---|---|---|---|---|")
     with concurrent.futures.ThreadPoolExecutor(2) as pool:
         for script in SPEED_SCRIPTS:

@@ -1,7 +1,7 @@
 /* The plan, the callbacks, and the lists of features. Included by proved.cc alone. */
 
 #ifdef SENGADLIT_REMEMBERS
-/* What the face answered of up to three glyphs. */
+/* What the face returned for up to three glyphs. */
 struct remembered_t { uint64_t question; bool answer; };
 #endif
 
@@ -61,9 +61,9 @@ struct proved_plan_t
   sengadlit_plan_t *plan;
   sengadlit_plan_data_t data;
   unsigned shaper;
-  bool zero_context; /* As HarfBuzz asks whether a lookup of Indic would apply. */
+  bool zero_context; /* As HarfBuzz queries whether a lookup of Indic would apply. */
   slot_t<work_t> work;
-  hb_vector_t<stage_t> asked; /* The lookups of the stages that Indic asks about. */
+  hb_vector_t<stage_t> asked; /* The lookups of the stages that Indic queries. */
 
   /* The plan as HarfBuzz's own functions see it, with their data. A copy that owns nothing. */
   const hb_ot_shape_plan_t *stock_plan () const { return (const hb_ot_shape_plan_t *) stock; }
@@ -79,7 +79,7 @@ proved_plan (const hb_ot_shape_plan_t *plan)
 
 /* ---- Callbacks ---- */
 
-/* Who is asked during a call. */
+/* What is queried during a call. */
 struct asked_t
 {
   hb_font_t *font;
@@ -100,7 +100,7 @@ nominal_glyph (void *user_data, uint32_t unicode, uint32_t *glyph)
   return ((asked_t *) user_data)->font->get_nominal_glyph (unicode, glyph);
 }
 
-/* The pauses of Indic ask for the virama's glyph each time. */
+/* The pauses of Indic request the virama's glyph each time. */
 static sengadlit_bool_t
 nominal_glyph_indic (void *user_data, uint32_t unicode, uint32_t *glyph)
 {
@@ -139,7 +139,7 @@ ask_face (const asked_t *asked, unsigned number, const uint32_t *glyphs, unsigne
   return false;
 }
 
-/* The library is told of one lookup a stage, by the stage's number: the face is asked about all of the stage. Glyphs have
+/* The library is told of one lookup per stage, by the stage's number: the face is queried about all of the stage. Glyphs have
    16 bits here. */
 static sengadlit_bool_t
 would_substitute (void *user_data, const uint16_t *lookups, unsigned lookups_length HB_UNUSED, const uint32_t *glyphs, unsigned length,
@@ -179,7 +179,7 @@ static const sengadlit_tables_funcs_t tables_funcs =
 
 /* ---- Lists of features ---- */
 
-/* A feature or a pause, as a shaper asks for it. */
+/* A feature or a pause, as a shaper requests it. */
 struct proved_request_t { uint32_t tag, flags, value, pause; };
 
 typedef hb_vector_t<proved_request_t> requests_t;
@@ -198,7 +198,7 @@ list_pause (void *user_data, sengadlit_pause_t pause)
 
 static const sengadlit_map_funcs_t listing_funcs = {list_feature, list_pause};
 
-/* What a shaper asks of the map, in order; with `builder`, the font is asked through it. */
+/* What a shaper requests of the map, in order; with `builder`, the font is queried through it. */
 static void
 list_requests (unsigned shaper, hb_script_t script, bool override, hb_ot_map_builder_t *builder, requests_t &requests)
 {
@@ -230,7 +230,7 @@ make_requests (unsigned shaper, bool override, hb_ot_shape_planner_t *planner)
 
 /* ---- Plan data ---- */
 
-/* The features that the shaper asked for, as the map has them. */
+/* The features that the shaper requested, as the map has them. */
 static void
 add_features (const hb_ot_shape_plan_t *plan, unsigned shaper, bool override, hb_vector_t<sengadlit_feature_t> &features)
 {

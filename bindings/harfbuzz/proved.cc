@@ -65,7 +65,7 @@ struct proved_hooks_t
 
   static void preprocess_text (const hb_ot_shape_plan_t *plan, hb_buffer_t *buffer, hb_font_t *font)
   {
-    if (shaper != SENGADLIT_SHAPER_THAI && shaper != SENGADLIT_SHAPER_HANGUL) /* Indic and the universal shaper answer alone, whatever the text. */
+    if (shaper != SENGADLIT_SHAPER_THAI && shaper != SENGADLIT_SHAPER_HANGUL) /* Indic's and the universal hook only return a result. */
     {
       _hb_preprocess_text_vowel_constraints (plan, buffer, font);
       return;

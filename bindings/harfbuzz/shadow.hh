@@ -13,7 +13,7 @@
 enum reason_t
 {
   SAME,
-  ANOTHER_LIST,    /* Arabic: 6.0.0 asks for rclt too, and has a pause that frees a byte */
+  ANOTHER_LIST,    /* Arabic: 6.0.0 requests rclt too, and has a pause that frees a byte */
   LEVEL,           /* level Characters: 6.0.0's merges flag what they would merge */
   JOINING_FLAGS,   /* 6.0.0 flags fewer places as unsafe to concatenate */
   STRETCH,         /* 6.0.0 begins a stretch at 0, and leaves tiles their advance */

@@ -2,7 +2,7 @@
 
 /* ---- HarfBuzz's own shapers ---- */
 
-/* A feature or a pause that a shaper asks of the map. */
+/* A feature or a pause that a shaper requests of the map. */
 struct request_t
 {
   hb_tag_t tag; /* 0 for a pause */
@@ -11,7 +11,7 @@ struct request_t
   hb_ot_map_t::pause_func_t pause;
 };
 
-/* Stands for the map builder in HarfBuzz's own shapers, and lists what they ask. */
+/* Stands for the map builder in HarfBuzz's own shapers, and lists what they request. */
 struct listing_map_t
 {
   void add_feature (hb_tag_t tag, hb_ot_map_feature_flags_t flags = F_NONE, unsigned value = 1)

@@ -146,7 +146,7 @@ fn behind_a_dotted_circle_a_bengali_word_loses_its_initial_form() {
 
 /// At level Characters a merge flags its stretch, and of the least cluster only the ends of a
 /// stretch are looked at, so that the glyph of the least cluster is flagged: daily text, at a level
-/// that few callers ask for.
+/// that few callers request.
 #[test]
 fn the_least_cluster_is_flagged() {
     let [stock, proved] = both(&noto("NotoSansDevanagari"), "0938 094D 0925 093F", level(CHARACTERS));

@@ -388,7 +388,7 @@ fn setup_joining_masks(shaper: Shaper, plan: &Plan, buffer: &mut hb_buffer_t) {
     });
 }
 
-/// Merges reach over neighbours of the same cluster and no further, so the call reads these besides.
+/// Merges reach over neighbours of the same cluster and no further, so the call reads these too.
 fn reorder_marks<const S: usize>(plan: &hb_ot_shape_plan_t, buffer: &mut hb_buffer_t, start: usize, end: usize) {
     let infos = &buffer.info[..buffer.len];
     if !may_reorder(SHAPERS[S], &infos[start..end]) {

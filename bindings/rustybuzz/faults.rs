@@ -122,7 +122,7 @@ fn a_merge_is_not_extended_to_the_front() {
 
 /// At level Characters a merge flags its stretch, and of the least cluster only the ends of a
 /// stretch are looked at, so that the glyph of the least cluster is flagged: daily text, at a level
-/// that few callers ask for.
+/// that few callers request.
 #[test]
 fn the_least_cluster_is_flagged() {
     let setting = Setting { level: CHARACTERS, ..Setting::default() };

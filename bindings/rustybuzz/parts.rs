@@ -53,7 +53,7 @@ impl Glyphs for hb_font_t<'_> {
     }
 }
 
-/// These as rustybuzz's glyphs: hooks ask about two or three.
+/// These as rustybuzz's glyphs: hooks query two or three.
 fn glyphs_in<'a>(room: &'a mut [ttf_parser::GlyphId; 8], glyphs: &[GlyphId]) -> &'a [ttf_parser::GlyphId] {
     for (to, from) in room.iter_mut().zip(glyphs) {
         to.0 = from.0;
