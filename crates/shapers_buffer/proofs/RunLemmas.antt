@@ -192,8 +192,8 @@ least_with c (g ∷ gs) (h ∷ hs) some more all =
     ∙ least_of_two c h.cluster (clusters hs)
 
 -- the merge of the end of glyphs in one cluster with others behind them
-joined : (c m : ℕ) (before front back more behind : List hb_glyph_info_t) → list_all (has_cluster c) front ≡ true → list_all (has_cluster c) back ≡ true → 0 < length back → 0 < length more → m ≡ min (least (clusters more)) c → reverse (flooded (first_cluster (back ++ more)) (least (clusters (back ++ more))) (reverse (before ++ front))) ++ (map (in_cluster (least (clusters (back ++ more)))) (back ++ more) ++ flooded (last_cluster (back ++ more)) (least (clusters (back ++ more))) behind) ≡ reverse (flooded c m (reverse before)) ++ (map (in_cluster m) ((front ++ back) ++ more) ++ flooded (last_cluster more) m behind)
-joined c m before front back more behind one two some others is =
+floods_joined : (c m : ℕ) (before front back more behind : List hb_glyph_info_t) → list_all (has_cluster c) front ≡ true → list_all (has_cluster c) back ≡ true → 0 < length back → 0 < length more → m ≡ min (least (clusters more)) c → reverse (flooded (first_cluster (back ++ more)) (least (clusters (back ++ more))) (reverse (before ++ front))) ++ (map (in_cluster (least (clusters (back ++ more)))) (back ++ more) ++ flooded (last_cluster (back ++ more)) (least (clusters (back ++ more))) behind) ≡ reverse (flooded c m (reverse before)) ++ (map (in_cluster m) ((front ++ back) ++ more) ++ flooded (last_cluster more) m behind)
+floods_joined c m before front back more behind one two some others is =
     let first : first_cluster (back ++ more) ≡ c = first_of_front back more some ∙ first_in c back some two in
     let low : least (clusters (back ++ more)) ≡ m = least_with c back more some others two ∙ sym is in
     let last : last_cluster (back ++ more) ≡ last_cluster more = last_of_end back more others in
@@ -270,7 +270,7 @@ merged_in_run a b c s e m gs from inside further within none is =
     ∙ ap (λ l. reverse (flooded (first_cluster (stretch_of s e hs)) (least (clusters (stretch_of s e hs))) (reverse l)) ++ (map (in_cluster (least (clusters (stretch_of s e hs)))) (stretch_of s e hs) ++ flooded (last_cluster (stretch_of s e hs)) (least (clusters (stretch_of s e hs))) (drop e hs))) k.before
     ∙ ap (λ l. reverse (flooded (first_cluster (stretch_of s e hs)) (least (clusters (stretch_of s e hs))) (reverse (take a gs ++ k.front))) ++ (map (in_cluster (least (clusters (stretch_of s e hs)))) (stretch_of s e hs) ++ flooded (last_cluster (stretch_of s e hs)) (least (clusters (stretch_of s e hs))) l)) end
     ∙ ap (λ l. reverse (flooded (first_cluster l) (least (clusters l)) (reverse (take a gs ++ k.front))) ++ (map (in_cluster (least (clusters l))) l ++ flooded (last_cluster l) (least (clusters l)) behind)) middle
-    ∙ joined c m (take a gs) k.front k.back more behind k.first k.second (omega (arith, k.as_long)) (omega arith) is
+    ∙ floods_joined c m (take a gs) k.front k.back more behind k.first k.second (omega (arith, k.as_long)) (omega arith) is
     ∙ ap (λ l. reverse (flooded c m (reverse (take a gs))) ++ (l ++ flooded (last_cluster more) m behind)) put
 
 before_within : (c m : ℕ) (gs : List hb_glyph_info_t) → equal_before c m gs ≤ length gs

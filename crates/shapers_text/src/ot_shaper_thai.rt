@@ -58,7 +58,7 @@ pub fn preprocess_text<F: hb_font_t>(
 }
 
 /// `preprocess_text`, which returns whether it rewrote the text: where there is no SARA AM and the
-/// plan asks for no private use forms, it returns false and has changed nothing.
+/// plan wants no private use forms, it returns false and has changed nothing.
 pub fn preprocess_text_changes<F: hb_font_t>(
     plan: &hb_ot_shape_plan_t,
     face: &F,

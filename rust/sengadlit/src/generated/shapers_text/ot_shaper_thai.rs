@@ -65,7 +65,7 @@ pub fn preprocess_text<F: Font>(
 }
 
 /// `preprocess_text`, which returns whether it rewrote the text: where there is no SARA AM and the
-/// plan asks for no private use forms, it returns false and has changed nothing.
+/// plan wants no private use forms, it returns false and has changed nothing.
 ///
 /// <details><summary>Contract</summary>
 ///
