@@ -253,7 +253,7 @@ typedef struct sengadlit_map_funcs_t {
     void (*add_gsub_pause)(void *user_data, sengadlit_pause_t pause);
 } sengadlit_map_funcs_t;
 
-/* Functions with what they are given first. `user_data` may be null. Nothing is kept after a call. */
+/* Functions, and the `user_data` that each gets as its first argument, which may be null. Nothing is kept after a call. */
 typedef struct sengadlit_font_t {
     const sengadlit_font_funcs_t *funcs;
     void *user_data;
@@ -294,7 +294,7 @@ typedef struct sengadlit_stage_t {
     uint32_t end;
 } sengadlit_stage_t;
 
-/* What was made of the font's GSUB and the requested features. Set the other fields to 0, by an initializer. */
+/* What was made of the font's GSUB and the requested features. Fields that aren't needed are 0, by an initializer. */
 typedef struct sengadlit_plan_input_t {
     sengadlit_tag_t script;          /* Of the text; 0 if it isn't known. */
     sengadlit_tag_t chosen_script;   /* The script tag that GSUB was found to offer, as hb_ot_map_t::chosen_script; or 0. */
@@ -303,9 +303,9 @@ typedef struct sengadlit_plan_input_t {
     sengadlit_bool_t centres_stretch; /* Whether the tiles of stretched marks are centred; else as rustybuzz lays them. */
     sengadlit_bool_t sound_breaks;   /* Whether joining flags each place where a broken text would be shaped otherwise. */
     uint32_t global_mask;            /* As hb_ot_map_t::global_mask. */
-    const sengadlit_feature_t *features; /* Of two with one tag the first counts. Null if the length is 0; */
+    const sengadlit_feature_t *features; /* Of two with one tag the first counts. Each list may be null if its length is 0. */
     unsigned int features_length;
-    const sengadlit_stage_t *stages; /* so with these two. Only Indic uses lookups: others need no stages. */
+    const sengadlit_stage_t *stages; /* Only Indic uses lookups: others need no stages. */
     unsigned int stages_length;
     const uint16_t *lookups;         /* Numbers that are passed to would_substitute; the library makes no other use of them. */
     unsigned int lookups_length;
@@ -399,7 +399,7 @@ enum {
 
 /* A glyph, or before the font's mapping a character: 24 bytes. Each hook below says which fields it reads; the others it
    carries along with the glyph, so that they may hold anything of the caller's. In a dotted circle that a pause adds, `var`
-   is 0; two glyphs that are made of one both have what it had. */
+   is 0; where a hook makes two glyphs of one, both have what it had. */
 typedef struct sengadlit_glyph_info_t {
     uint32_t codepoint;              /* A character before the font's mapping, a glyph number after it. */
     uint32_t cluster;                /* The place in the text that it leads back to. */
@@ -494,8 +494,8 @@ void sengadlit_buffer_set_state(sengadlit_buffer_t *buffer, unsigned int state);
 /* 0 for a null buffer. */
 unsigned int sengadlit_buffer_get_state(const sengadlit_buffer_t *buffer);
 
-/* Why the last call failed that was given the buffer and failed: as with errno, a call that succeeds leaves it alone. At
-   first, and where `buffer` is null, it is all zero. `error` isn't written if it is null. */
+/* Why the last call on this buffer failed that did fail: as with errno, a call that succeeds leaves it alone. At first, and
+   where `buffer` is null, it is all zero. `error` isn't written if it is null. */
 void sengadlit_buffer_get_error(const sengadlit_buffer_t *buffer, sengadlit_error_t *error);
 
 /* ---- Hooks, in the order of a pipeline ---- */

@@ -161,7 +161,7 @@ impl<'a> PlanBuilder<'a> {
         Ok(plan)
     }
 
-    /// The plan, with what the shaper keeps in it, if it keeps anything.
+    /// The plan, with what the shaper keeps in it; see [`Shaper::with_data`].
     pub fn build_for(self, shaper: Shaper) -> Result<Plan, PlanError> {
         Ok(shaper.with_data(self.build()?))
     }

@@ -1,9 +1,9 @@
 //! What the shapers read of a font and of Unicode's tables.
 //!
-//! [`Font`] is a whole font. One that has less is made a [`Font`] by an adapter, which panics in a
-//! method that it has no result for, so that none is a guess:
+//! [`Font`] is a whole font. An adapter makes a [`Font`] of less; its other methods panic, so that no
+//! result is a guess:
 //!
-//! | of | by | for |
+//! | made of | adapter | serves |
 //! |---|---|---|
 //! | [`Features`], or a function of a tag | [`FeaturesOnly`] | plan time |
 //! | [`Glyphs`] | [`GlyphsOnly`] | every hook and pause after plan time |

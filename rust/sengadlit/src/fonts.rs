@@ -1,5 +1,5 @@
-//! Fonts made of less than a whole one: of what plan time needs, of what shaping needs, or of glyphs
-//! for characters.
+//! Fonts made of parts: of what plan time needs, of what shaping needs, or of the glyphs for
+//! characters alone.
 
 use crate::buffer::Tag;
 use crate::font::{Font, GlyphId};
@@ -10,7 +10,7 @@ pub use wide::{GlyphTooLarge, Wide, WideGlyphs};
 
 /// What plan time needs of a font, and nothing else.
 ///
-/// A function of a tag is one.
+/// A function from a tag to `bool` implements it.
 pub trait Features {
     /// Whether the font has a feature by this tag.
     fn has_feature(&self, tag: Tag) -> bool;
@@ -24,8 +24,8 @@ impl<F: Fn(Tag) -> bool> Features for F {
 
 /// A [`Font`] for plan time alone: for [`Shaper::collect_features`](crate::Shaper::collect_features).
 ///
-/// It returns whether the font has a feature. Every other method panics, since it has no result;
-/// plan time calls none.
+/// It returns whether the font has a feature. Every other method panics, since it has no result; plan
+/// time calls none of them.
 ///
 /// ```
 /// use sengadlit::font::FeaturesOnly;
@@ -41,19 +41,19 @@ pub struct FeaturesOnly<F>(pub F);
 
 impl<F: Features> Font for FeaturesOnly<F> {
     fn get_nominal_glyph(&self, _c: u32) -> Option<GlyphId> {
-        no_answer("plan time", "a glyph")
+        no_result("plan time", "a glyph")
     }
 
     fn has_glyph(&self, _c: u32) -> bool {
-        no_answer("plan time", "a glyph")
+        no_result("plan time", "a glyph")
     }
 
     fn glyph_h_advance(&self, _glyph: GlyphId) -> i32 {
-        no_answer("plan time", "an advance")
+        no_result("plan time", "an advance")
     }
 
     fn would_apply(&self, _lookup: u16, _glyphs: &[GlyphId], _zero_context: bool) -> bool {
-        no_answer("plan time", "a lookup")
+        no_result("plan time", "a lookup")
     }
 
     fn has_feature(&self, tag: Tag) -> bool {
@@ -88,7 +88,7 @@ pub trait Glyphs {
 /// A [`Font`] for shaping alone: for every hook and pause but
 /// [`Shaper::collect_features`](crate::Shaper::collect_features).
 ///
-/// It can't tell whether the font has a feature, and panics; shaping doesn't call that.
+/// [`Font::has_feature`] panics, since it has no result; shaping doesn't call it.
 #[derive(Clone, Copy, Debug, Default)]
 pub struct GlyphsOnly<F>(pub F);
 
@@ -114,7 +114,7 @@ impl<F: Glyphs> Font for GlyphsOnly<F> {
     }
 
     fn has_feature(&self, _tag: Tag) -> bool {
-        no_answer("shaping", "a feature")
+        no_result("shaping", "a feature")
     }
 }
 
@@ -158,21 +158,21 @@ impl<F: Fn(u32) -> Option<GlyphId>> Font for NominalOnly<F> {
     }
 
     fn glyph_h_advance(&self, _glyph: GlyphId) -> i32 {
-        no_answer("characters", "an advance")
+        no_result("characters", "an advance")
     }
 
     fn would_apply(&self, _lookup: u16, _glyphs: &[GlyphId], _zero_context: bool) -> bool {
-        no_answer("characters", "a lookup")
+        no_result("characters", "a lookup")
     }
 
     fn has_feature(&self, _tag: Tag) -> bool {
-        no_answer("characters", "a feature")
+        no_result("characters", "a feature")
     }
 }
 
 #[cold]
-fn no_answer(part: &str, question: &str) -> ! {
-    panic!("a font for {part} alone was asked for {question}")
+fn no_result(part: &str, question: &str) -> ! {
+    panic!("a font for {part} alone has no result for {question}")
 }
 
 #[cfg(test)]

@@ -11,7 +11,7 @@
 //!
 //! # Quick start
 //!
-//! Thai takes SARA AM apart, and puts the tone before it behind NIKHAHIT:
+//! Thai: SARA AM becomes NIKHAHIT and SARA AA, and NIKHAHIT goes before the tone.
 //!
 //! ```
 //! use sengadlit::font::NominalOnly;
@@ -36,16 +36,16 @@
 //! [`Shaper::has_hook`] says which it has.
 //!
 //! 1. *Plan time*, once for a script and a font: [`collect_features`] and [`override_features`] fill
-//!    a [`Planner`] with features and pauses. The caller makes of them a [`Plan`], with
-//!    [`Plan::builder`] and [`Shaper::with_data`] (or [`create_data`]).
+//!    a [`Planner`] with features and pauses. From those that the font has, the caller makes a
+//!    [`Plan`], with [`Plan::builder`] and [`Shaper::with_data`] (or [`create_data`]).
 //! 2. *Text*: [`Buffer`] takes the characters, their clusters and general categories.
 //!    [`preprocess_text`] rewrites them.
 //! 3. *Normalization*: [`decompose`], [`compose`], and [`reorder_marks`] for each run of marks;
 //!    [`normalization_preference`] says how.
-//! 4. [`setup_masks`] says what each character is, and which features it takes. Then characters
-//!    become glyphs.
-//! 5. *Lookups*, stage by stage; between two stages [`run_pause`] does what the planner's requests
-//!    name there: syllables are set up from [`Span`]s, reordered, recorded.
+//! 4. [`setup_masks`] sets each character's category and the features that it takes. Then
+//!    characters become glyphs.
+//! 5. *Lookups*, stage by stage. Between two stages [`run_pause`] runs the pauses that the planner
+//!    has there: syllables are set up from [`Span`]s, reordered, recorded.
 //! 6. *Positioning*: [`zero_width_marks`], [`fallback_position`] and [`gpos_tag`] say how. Then
 //!    [`postprocess_glyphs`] stretches marks over their words.
 //!

@@ -1,4 +1,5 @@
-//! The map: what a font's GSUB table and the wanted features make of each other.
+//! The map: those of the requested features that the font's GSUB table has, with their masks, stages
+//! and lookups.
 
 pub use crate::generated::shapers_base::map::{
     F_GLOBAL, F_HAS_FALLBACK, F_MANUAL_JOINERS, F_MANUAL_ZWJ, F_MANUAL_ZWNJ, F_NONE,

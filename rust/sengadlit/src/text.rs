@@ -38,8 +38,8 @@ impl Buffer {
 
     /// Adds the characters of a text, each of general category Cc; see
     /// [`Buffer::set_general_categories`]. Their clusters are the places of their bytes in the
-    /// text. Returns [`ShaperError::Memory`], or [`ShaperError::TooLong`] also where a place has more
-    /// than 32 bits, and then adds nothing.
+    /// text. Returns [`ShaperError::Memory`] or [`ShaperError::TooLong`], the latter also where a place
+    /// doesn't fit 32 bits, and then adds nothing.
     pub fn push_str(&mut self, text: &str) -> Result<(), ShaperError> {
         if u32::try_from(text.len()).is_err() {
             return Err(ShaperError::TooLong);
@@ -54,8 +54,8 @@ impl Buffer {
         Ok(())
     }
 
-    /// Sets the general category of each character, as the tables have it. Marks that stretch read
-    /// it, and Indic where a word begins. What is no character stays as it is.
+    /// Sets the general category of each character, as the tables have it. Stretched marks depend on
+    /// it, and in Indic where a word begins. Glyphs that are no characters stay as they are.
     pub fn set_general_categories<T: Tables>(&mut self, tables: &T) {
         self.with_glyphs_mut(|glyphs| set_categories(tables, glyphs));
     }

@@ -78,25 +78,25 @@ fn a_font_of_features_collects_features() {
 }
 
 #[test]
-#[should_panic = "a font for plan time alone was asked for a glyph"]
+#[should_panic = "a font for plan time alone has no result for a glyph"]
 fn a_font_of_features_has_no_glyphs() {
     FeaturesOnly(|_: Tag| true).get_nominal_glyph(CIRCLE);
 }
 
 #[test]
-#[should_panic = "a font for plan time alone was asked for a glyph"]
+#[should_panic = "a font for plan time alone has no result for a glyph"]
 fn a_font_of_features_has_no_characters() {
     FeaturesOnly(|_: Tag| true).has_glyph(CIRCLE);
 }
 
 #[test]
-#[should_panic = "a font for plan time alone was asked for an advance"]
+#[should_panic = "a font for plan time alone has no result for an advance"]
 fn a_font_of_features_has_no_advances() {
     FeaturesOnly(|_: Tag| true).glyph_h_advance(GlyphId(0));
 }
 
 #[test]
-#[should_panic = "a font for plan time alone was asked for a lookup"]
+#[should_panic = "a font for plan time alone has no result for a lookup"]
 fn a_font_of_features_has_no_lookups() {
     FeaturesOnly(|_: Tag| true).would_apply(0, &[], false);
 }
@@ -113,13 +113,13 @@ fn a_font_of_glyphs_answers_as_the_glyphs_do() {
 }
 
 #[test]
-#[should_panic = "a font for shaping alone was asked for a feature"]
+#[should_panic = "a font for shaping alone has no result for a feature"]
 fn a_font_of_glyphs_has_no_features() {
     GlyphsOnly(9).has_feature(Tag(*b"rclt"));
 }
 
 #[test]
-#[should_panic = "a font for shaping alone was asked for a feature"]
+#[should_panic = "a font for shaping alone has no result for a feature"]
 fn a_wide_font_has_no_features() {
     one_glyph(9).has_feature(Tag(*b"rclt"));
 }
@@ -186,19 +186,19 @@ fn a_font_of_characters_answers_for_them() {
 }
 
 #[test]
-#[should_panic = "a font for characters alone was asked for an advance"]
+#[should_panic = "a font for characters alone has no result for an advance"]
 fn a_font_of_characters_has_no_advances() {
     NominalOnly(|_| None).glyph_h_advance(GlyphId(0));
 }
 
 #[test]
-#[should_panic = "a font for characters alone was asked for a lookup"]
+#[should_panic = "a font for characters alone has no result for a lookup"]
 fn a_font_of_characters_has_no_lookups() {
     NominalOnly(|_| None).would_apply(0, &[], false);
 }
 
 #[test]
-#[should_panic = "a font for characters alone was asked for a feature"]
+#[should_panic = "a font for characters alone has no result for a feature"]
 fn a_font_of_characters_has_no_features() {
     NominalOnly(|_| None).has_feature(Tag(*b"rclt"));
 }

@@ -1,6 +1,6 @@
 //! A font whose glyph numbers have 32 bits, and whose methods take `&mut self`.
 
-use super::no_answer;
+use super::no_result;
 use crate::buffer::Tag;
 use crate::font::{Font, GlyphId};
 use core::cell::{Cell, RefCell};
@@ -158,6 +158,6 @@ impl<F: WideGlyphs> Font for Wide<F> {
     }
 
     fn has_feature(&self, _tag: Tag) -> bool {
-        no_answer("shaping", "a feature")
+        no_result("shaping", "a feature")
     }
 }
