@@ -1,5 +1,5 @@
-//! The allocator that constructors are handed, the lists that the crate gives and takes, and the
-//! errors of those that find no room.
+//! The allocator that constructors take, the lists that the crate takes and returns, and the errors of
+//! a list that can't grow.
 
 pub use crate::support::alloc::{AllocError, AllocFailed, Global};
 pub use crate::support::arrayvec::{ArrayVec, CapacityError};
