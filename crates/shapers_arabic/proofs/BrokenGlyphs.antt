@@ -1,5 +1,5 @@
 -- Where no call forbids a break, the glyphs of a text are those of its halves; and where they are, with Sound no call does.
-use Rattle.std.proofs.Common.{◌≡◌, ℕ, zero, suc, ◌%◌, ◌<◌, Bool, true, false, cond, List, [], ◌∷◌, ◌++◌, length, map, take, drop, get_or, Option, refl, sym, ap, ◌∙◌, subst, arith, append_assoc}
+use Rattle.std.proofs.Common.{◌≡◌, ℕ, zero, suc, ◌%◌, ◌<◌, Bool, true, false, cond, List, [], ◌∷◌, ◌++◌, length, map, take, drop, get_or, Option, refl, sym, ap, ◌∙◌, subst, arith, append_assoc, inl}
 use Rattle.std.specs.Int.Bits.{bit_or}
 use Rattle.std.specs.List.{AllByRecursion, AllPairs, zip}
 use Rattle.std.proofs.lemmas.Bool.{or_from, or_parts}
@@ -218,7 +218,7 @@ clear-broken masks flags script text gs n none long rises unflagged low pos with
     let same = clusters-formed masks all gs (sym all_long) in
     let formed_long : length formed ≡ length gs = sym (length-map formed (λ (g : hb_glyph_info_t). g.cluster)) ∙ ap length same ∙ length-map gs (λ (g : hb_glyph_info_t). g.cluster) in
     let A : List ℕ → Type 0 = λ cs. AllPairs (λ a b. a < b) cs in
-    needless concat tatweel calls formed n (calls-in_order Sound script text) (subst A (sym same) rises) (unflagged-formed masks all gs low unflagged) pos (omega arith) free
+    needless concat tatweel calls formed n (calls-in_order Sound script text) (inl (subst A (sym same) rises)) (unflagged-formed masks all gs low unflagged) pos (omega arith) free
 
 pub none-needless : (breaks : BreakFlags) (masks : List ℕ) (script : Option Script) (joining : ℕ → hb_arabic_joining_type_t) (general : ℕ → hb_unicode_general_category_t) (old new : Buffer) → new ≡ joined breaks masks script joining general old → NoneNeedless breaks masks script joining general old new
 none-needless AsCode masks script joining general old new is e none rises unflagged low n pos within may = cc
