@@ -4,6 +4,7 @@ pub mod BrokenGlyphs
 pub mod Concatenation
 mod ConstantRows
 pub mod Edits
+mod FirstPieceRows
 pub mod FirstPieces
 pub mod FlagLists
 mod FlagRows
