@@ -26,7 +26,7 @@ returns-clause-ok g c =
     let m = c.args.plan.now.ot_map in
     let p = indic_in c.args.plan.now in
     let b0 = c.args.buffer.now in
-    let b1 = c.insert_dotted_circles.new.buffer in
+    let b1 = c.insert.new.buffer in
     let b2 = c.update_consonant_positions.new.buffer in
     let asked : b2 ≡ (let b : Buffer = record b1 { glyphs = all_by_virama font m p (virama_glyph font p) b1.glyphs } in b) =
     c.update_consonant_positions.ensures
