@@ -4,12 +4,13 @@
 
 use super::font_positions::update_consonant_positions;
 use super::reordering::InitialOrder;
+use super::rules::Rules;
 use crate::generated::shapers_base::buffer::{Buffer, ShaperError};
 use crate::generated::shapers_base::font::Font;
 use crate::generated::shapers_base::plan::Plan;
 use crate::generated::shapers_base::plan::ot_category_t::{OT_DOTTEDCIRCLE, OT_Repha};
 use crate::generated::shapers_base::plan::ot_position_t::POS_END;
-use crate::generated::shapers_indic::ot_shaper_indic::{indic_in, virama_glyph};
+use crate::generated::shapers_indic::ot_shaper_indic::indic_in;
 use crate::generated::shapers_syllabic::ot_shaper_syllabic::indic_syllable::{
     BROKEN_CLUSTER, NON_INDIC_CLUSTER,
 };
@@ -88,13 +89,13 @@ pub fn initial_reordering<F: Font>(
         return Err(ShaperError::UnknownSyllable(place));
     }
     let circles = CIRCLES.insert(face, buffer)?;
-    let (data, map) = (indic_in(plan), &plan.ot_map);
-    update_consonant_positions(data, map, face, virama_glyph(data, face), buffer);
-    let order = InitialOrder {
-        plan: data,
-        map,
+    let rules = Rules {
+        plan: indic_in(plan),
+        map: &plan.ot_map,
         face,
     };
+    update_consonant_positions(&rules, buffer);
+    let order = InitialOrder { rules: &rules };
     reorder_syllables(&order, buffer)?;
     Ok(circles)
 }
