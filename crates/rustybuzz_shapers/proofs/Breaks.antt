@@ -1,6 +1,5 @@
 -- The break law, from what the enum says of masks.
 use Rattle.std.proofs.Common.{◌≡◌, ◌∙◌, ◌<◌, ◌++◌, ℕ, false, List, [], Some, ap, arith, drop, length, map, subst, sym, take}
-use Rattle.std.specs.List.{AllPairs}
 use Rattle.std.proofs.lemmas.List.{drop-map, length-map, take-map}
 use Rattle.std.proofs.lemmas.Simd.{map-map}
 use Rattle.shapers_buffer.specs.Buffer.{Buffer}
@@ -10,11 +9,13 @@ use Rattle.shapers_buffer.proofs.MappedLists.{all-mapped}
 use Rattle.shapers_base.specs.Font.{CharacterTables}
 use Rattle.shapers_base.specs.declared.plan.arabic.arabic_shape_plan_t.{arabic_shape_plan_t}
 use Rattle.shapers_base.specs.declared.plan.hb_ot_shape_plan_t.{hb_ot_shape_plan_t}
-use Rattle.shapers_clusters.specs.Breaks.{is_unsafe}
+use Rattle.shapers_clusters.specs.Breaks.{IsStrictlyMonotone, is_unsafe}
 use Rattle.shapers_arabic.specs.Breaks.{IsSpared, back_at, front_at}
+use Rattle.shapers_arabic.specs.Fresh.{IsFresh, SelectorsAreTransparent}
 use Rattle.shapers_arabic.specs.JoinedText.{joined}
 use Rattle.shapers_arabic.specs.PlanData.{breaks_of, masks_of}
 use Rattle.shapers_arabic.proofs.BrokenGlyphs.{breaks-where_clear, none-needless}
+use Rattle.shapers_arabic.proofs.FirstPieces.{first-as_flagged}
 use Rattle.shapers_universal.specs.PlanData.{arabic_of}
 use Rattle.shapers_universal.specs.UniversalMasks.{MasksAreSet, categorized, with_categories}
 use Rattle.shapers_universal.proofs.MaskLemmas.{text_stays}
@@ -28,6 +29,9 @@ views one two = order_view one.glyphs ++ order_view two.glyphs
 same_views : (one two front back : Buffer) → one ≡ front → two ≡ back → views front back ≡ views one two
 same_views one two front back e f = ap (λ b. views b back) (sym e) ∙ ap (views one) (sym f)
 
+same_view : (one front : Buffer) → one ≡ front → order_view front.glyphs ≡ order_view one.glyphs
+same_view one front e = ap (λ (b : Buffer). order_view b.glyphs) (sym e)
+
 arabic_breaks : (plan : hb_ot_shape_plan_t) (tables : CharacterTables) (n : ℕ) (old new one two : Buffer) → SetInHalves Arabic plan tables n old new one two → BreaksAsFlagged (breaks_of plan.plan_data) (masks_of plan.plan_data) plan.script tables n old new one two
 arabic_breaks plan tables n old new one two set =
     let breaks = breaks_of plan.plan_data in
@@ -35,10 +39,15 @@ arabic_breaks plan tables n old new one two set =
     let script = plan.script in
     let joining = tables.joining in
     let general = tables.general in
-    let same = same_views one two (joined breaks masks script joining general (front_at n old)) (joined breaks masks script joining general (back_at n old)) set.first.0 set.second.0 in
+    let front = joined breaks masks script joining general (front_at n old) in
+    let same = same_views one two front (joined breaks masks script joining general (back_at n old)) set.first.0 set.second.0 in
+    let same_first = same_view one front set.first.0 in
+    let keeps = first-as_flagged breaks masks script joining general old new set.whole.0 n set.inside.0 set.inside.1 in
     record {
       clear = λ clear spared. breaks-where_clear breaks masks script joining general old new set.whole.0 n set.inside.0 set.inside.1 clear spared ∙ same;
-      needless = λ e none rises unflagged low may. none-needless breaks masks script joining general old new set.whole.0 e none rises unflagged low n set.inside.0 set.inside.1 (may ∙ sym same);
+      needless = λ e fresh silent may. none-needless breaks masks script joining general old new set.whole.0 e fresh silent n set.inside.0 set.inside.1 (may ∙ sym same);
+      first = λ clear. keeps.0 clear ∙ same_first;
+      first_needless = λ e fresh silent kept. keeps.1 e fresh silent (kept ∙ sym same_first);
     }
 
 -- the halves of a buffer with its categories
@@ -47,6 +56,17 @@ categories-front tables n b = ap (λ gs. let c : Buffer = record b { glyphs = gs
 
 categories-back : (tables : CharacterTables) (n : ℕ) (b : Buffer) → with_categories tables (back_at n b) ≡ back_at n (with_categories tables b)
 categories-back tables n b = ap (λ gs. let c : Buffer = record b { glyphs = gs; before = [] } in c) (sym (drop-map (categorized tables.universal) n b.glyphs))
+
+-- categories leave a fresh text fresh
+fresh_stays : (tables : CharacterTables) (masks : List ℕ) (b : Buffer) → IsFresh masks b.glyphs → IsFresh masks (with_categories tables b).glyphs
+fresh_stays tables masks b fresh =
+    let change = categorized tables.universal in
+    let kept : clusters (map change b.glyphs) ≡ clusters b.glyphs = map-map (λ (g : hb_glyph_info_t). g.cluster) change b.glyphs in
+    record {
+      single = subst IsStrictlyMonotone (sym kept) fresh.single;
+      unflagged = all-mapped (λ g. is_unsafe g ≡ false) (λ g. is_unsafe g ≡ false) change b.glyphs (λ g k. k) fresh.unflagged;
+      unmasked = fresh.unmasked;
+    }
 
 universal_breaks : (plan : hb_ot_shape_plan_t) (tables : CharacterTables) (n : ℕ) (old new one two : Buffer) (joins : arabic_shape_plan_t) → arabic_of plan.plan_data ≡ Some joins → SetInHalves Universal plan tables n old new one two → BreaksAsFlagged joins.break_flags joins.mask_array plan.script tables n old new one two
 universal_breaks plan tables n old new one two joins is set =
@@ -63,13 +83,16 @@ universal_breaks plan tables n old new one two joins is set =
     let front = first.0 ∙ ap (joined breaks masks script joining general) (categories-front tables n old) in
     let back = second.0 ∙ ap (joined breaks masks script joining general) (categories-back tables n old) in
     let same = same_views one two (joined breaks masks script joining general (front_at n before)) (joined breaks masks script joining general (back_at n before)) front back in
-    let kept : clusters before.glyphs ≡ clusters old.glyphs = map-map (λ (g : hb_glyph_info_t). g.cluster) (categorized tables.universal) old.glyphs in
+    let same_first = same_view one (joined breaks masks script joining general (front_at n before)) front in
+    let still = fresh_stays tables masks old in
+    let text = sym (text_stays tables joining general old) in
+    let silent_stays = subst (SelectorsAreTransparent script) text in
+    let keeps = first-as_flagged breaks masks script joining general before new whole.0 n set.inside.0 inside in
     record {
-      clear = λ clear spared. breaks-where_clear breaks masks script joining general before new whole.0 n set.inside.0 inside clear (subst (λ text. IsSpared breaks script text n) (sym (text_stays tables joining general old)) spared) ∙ same;
-      needless = λ e none rises unflagged low may.
-          let rising = subst (λ (cs : List ℕ). AllPairs (λ a b. a < b) cs) (sym kept) rises in
-          let still = all-mapped (λ g. is_unsafe g ≡ false) (λ g. is_unsafe g ≡ false) (categorized tables.universal) old.glyphs (λ g k. k) unflagged in
-          none-needless breaks masks script joining general before new whole.0 e none rising still low n set.inside.0 inside (may ∙ sym same);
+      clear = λ clear spared. breaks-where_clear breaks masks script joining general before new whole.0 n set.inside.0 inside clear (subst (λ text. IsSpared breaks script text n) text spared) ∙ same;
+      needless = λ e fresh silent may. none-needless breaks masks script joining general before new whole.0 e (still fresh) (silent_stays silent) n set.inside.0 inside (may ∙ sym same);
+      first = λ clear. keeps.0 clear ∙ same_first;
+      first_needless = λ e fresh silent kept. keeps.1 e (still fresh) (silent_stays silent) (kept ∙ sym same_first);
     }
 
 pub texts_break : TextsBreakAsFlagged

@@ -1,7 +1,7 @@
 -- Where no call forbids a break, the glyphs of a text are those of its halves; and where they are, with Sound no call does.
 use Rattle.std.proofs.Common.{◌≡◌, ℕ, zero, suc, ◌%◌, ◌<◌, Bool, true, false, cond, List, [], ◌∷◌, ◌++◌, length, map, take, drop, get_or, Option, refl, sym, ap, ◌∙◌, subst, arith, append_assoc}
 use Rattle.std.specs.Int.Bits.{bit_or}
-use Rattle.std.specs.List.{AllByRecursion, AllPairs, zip}
+use Rattle.std.specs.List.{AllByRecursion, zip}
 use Rattle.std.proofs.lemmas.Bool.{or_from, or_parts}
 use Rattle.std.proofs.lemmas.List.{map-append, length-map, length-take-le, take-append-drop, length-drop, take-map, drop-map}
 use Rattle.std.proofs.lemmas.List.Folds.{list_any-append}
@@ -17,17 +17,19 @@ use Rattle.shapers_buffer.specs.declared.buffer.tag.Script.{Script}
 use Rattle.shapers_base.specs.declared.plan.breaks.BreakFlags.{BreakFlags}
 use Rattle.shapers_base.specs.declared.plan.breaks.BreakFlags.TheVariants.{AsCode, Sound}
 use Rattle.shapers_base.specs.declared.plan.joining.hb_arabic_joining_type_t.{hb_arabic_joining_type_t}
-use Rattle.shapers_clusters.specs.Breaks.{forbids, IsFree, IsClear, is_unsafe}
+use Rattle.shapers_clusters.specs.Breaks.{forbids, IsFree, IsClear, IsStrictlyMonotone, is_unsafe}
 use Rattle.shapers_clusters.specs.Flags.{bit_at}
 use Rattle.shapers_clusters.proofs.ClearPlaces.{held, clear-places}
 use Rattle.shapers_clusters.proofs.FlagCalls.{map-flags_called, plain-with_bits}
 use Rattle.shapers_clusters.proofs.Needless.{needless, none-unsafe, unsafe-none}
-use Rattle.shapers_arabic.specs.Breaks.{sound_flags, MayBreak, front_at, back_at, IsSpared, BreaksWhereClear, NoneNeedless}
+use Rattle.shapers_arabic.specs.Breaks.{sound_flags, front_at, back_at, IsSpared, BreaksWhereClear, NoneNeedless}
+use Rattle.shapers_arabic.specs.Fresh.{IsFresh, SelectorsAreTransparent}
 use Rattle.shapers_arabic.specs.Joining.{resolved, forms, selected}
 use Rattle.shapers_arabic.specs.JoiningFlags.{joining_flags}
 use Rattle.shapers_arabic.specs.JoinedText.{Text, is_mongolian, added_calls, flag_calls, forms_of, first_half, second_half, with_form, with_forms, joined_glyphs, joined, text_of, stored_types, context_types}
 use Rattle.shapers_arabic.specs.SoundFlags.{form_flags_along, selector_flags}
 use Rattle.shapers_arabic.proofs.BreakLists.{exact}
+use Rattle.shapers_arabic.proofs.FreePlaces.{free-halves}
 use Rattle.shapers_arabic.proofs.JoinedGlyphs.{forms-joined}
 use Rattle.shapers_arabic.proofs.JoiningLaws.{length-forms_of}
 use Rattle.shapers_arabic.proofs.JoiningLists.{length-forms}
@@ -35,11 +37,11 @@ use Rattle.shapers_arabic.proofs.Selectors.{selected-halves}
 use Rattle.shapers_arabic.proofs.SoundOrder.{calls-in_order}
 
 -- flags don't show in the order view
-view-joined : (breaks : BreakFlags) (masks : List ℕ) (flags : BufferFlags) (script : Option Script) (text : Text) (gs : List hb_glyph_info_t) → order_view (joined_glyphs breaks masks flags script text gs) ≡ order_view (with_forms masks (forms_of script text) gs)
+pub view-joined : (breaks : BreakFlags) (masks : List ℕ) (flags : BufferFlags) (script : Option Script) (text : Text) (gs : List hb_glyph_info_t) → order_view (joined_glyphs breaks masks flags script text gs) ≡ order_view (with_forms masks (forms_of script text) gs)
 view-joined breaks masks flags script text gs =
     map-flags_called plain (λ bits g low. plain-with_bits bits g low) (has_flag flags_concat flags) (has_flag flags_tatweel flags) (flag_calls breaks script text) (with_forms masks (forms_of script text) gs) (calls-in_order breaks script text)
 
-with_forms-parts : (masks fs hs : List ℕ) (xs ys : List hb_glyph_info_t) → length fs ≡ length xs → with_forms masks (fs ++ hs) (xs ++ ys) ≡ with_forms masks fs xs ++ with_forms masks hs ys
+pub with_forms-parts : (masks fs hs : List ℕ) (xs ys : List hb_glyph_info_t) → length fs ≡ length xs → with_forms masks (fs ++ hs) (xs ++ ys) ≡ with_forms masks fs xs ++ with_forms masks hs ys
 with_forms-parts masks [] hs [] ys e = refl
 with_forms-parts masks [] hs (x ∷ xs) ys e = absurd (omega arith)
 with_forms-parts masks (f ∷ fs) hs [] ys e = absurd (omega arith)
@@ -91,7 +93,7 @@ halves-free breaks masks flags script text gs n characters long pos within free 
     ∙ ap (λ xs. order_view (joined_glyphs breaks masks flags script one (take n gs)) ++ xs) (sym (view-joined breaks masks flags script two (drop n gs)))
 
 -- a clear place that is spared is free
-free-clear : (breaks : BreakFlags) (masks : List ℕ) (flags : BufferFlags) (script : Option Script) (text : Text) (gs : List hb_glyph_info_t) (n : ℕ) → length text.characters ≡ length gs → length text.types ≡ length gs → 0 < n → n < length gs → IsClear (joined_glyphs breaks masks flags script text gs) n → IsFree (flag_calls breaks script text) n
+pub free-clear : (breaks : BreakFlags) (masks : List ℕ) (flags : BufferFlags) (script : Option Script) (text : Text) (gs : List hb_glyph_info_t) (n : ℕ) → length text.characters ≡ length gs → length text.types ≡ length gs → 0 < n → n < length gs → IsClear (joined_glyphs breaks masks flags script text gs) n → IsFree (flag_calls breaks script text) n
 free-clear breaks masks flags script text gs n characters long pos within clear =
     let formed = with_forms masks (forms_of script text) gs in
     let all_long : length (forms_of script text) ≡ length text.types = length-forms_of script text (characters ∙ sym long) in
@@ -104,7 +106,7 @@ spared-free AsCode script text n free spared =
 spared-free Sound script text n free spared = free
 
 -- the texts of the halves of a buffer
-text-front : (joining : ℕ → hb_arabic_joining_type_t) (general : ℕ → hb_unicode_general_category_t) (n : ℕ) (b : Buffer) → text_of joining general (front_at n b) ≡ first_half n [] (text_of joining general b)
+pub text-front : (joining : ℕ → hb_arabic_joining_type_t) (general : ℕ → hb_unicode_general_category_t) (n : ℕ) (b : Buffer) → text_of joining general (front_at n b) ≡ first_half n [] (text_of joining general b)
 text-front joining general n b =
     let before = context_types joining general b.before in
     ap (λ cs. let t : Text = record { before = before; characters = cs; types = stored_types joining (take n b.glyphs); after = [] } in t) (sym (take-map (λ g. g.glyph_id) n b.glyphs))
@@ -116,7 +118,7 @@ text-back joining general n b =
     ap (λ cs. let t : Text = record { before = []; characters = cs; types = stored_types joining (drop n b.glyphs); after = after } in t) (sym (drop-map (λ g. g.glyph_id) n b.glyphs))
     ∙ ap (λ ts. let t : Text = record { before = []; characters = drop n (map (λ g. g.glyph_id) b.glyphs); types = ts; after = after } in t) (sym (drop-map (λ g. resolved (joining g.glyph_id) g.general_category) n b.glyphs))
 
-types_long : (joining : ℕ → hb_arabic_joining_type_t) (gs : List hb_glyph_info_t) → length (stored_types joining gs) ≡ length gs
+pub types_long : (joining : ℕ → hb_arabic_joining_type_t) (gs : List hb_glyph_info_t) → length (stored_types joining gs) ≡ length gs
 types_long joining gs = length-map gs (λ g. resolved (joining g.glyph_id) g.general_category)
 
 -- the halves of a buffer, joined by themselves
@@ -162,68 +164,45 @@ unflagged-formed masks (f ∷ fs) [] m all = tt
 unflagged-formed masks (f ∷ fs) (g ∷ gs) m all = (unflagged-one g f (get_or masks f 0) all.0 (mask-at masks f m), unflagged-formed masks fs gs m all.1)
 
 -- the forms are shown in the order view
-forms-shown : (masks : List ℕ) (flags : BufferFlags) (script : Option Script) (text : Text) (gs : List hb_glyph_info_t) → length gs ≡ length (forms_of script text) → map (λ g. g.auxiliary) (order_view (joined_glyphs Sound masks flags script text gs)) ≡ forms_of script text
-forms-shown masks flags script text gs long =
-    map-map (λ (g : hb_glyph_info_t). g.auxiliary) plain (joined_glyphs Sound masks flags script text gs)
-    ∙ forms-joined masks (forms_of script text) flags (flag_calls Sound script text) gs long (calls-in_order Sound script text)
+pub forms-shown : (breaks : BreakFlags) (masks : List ℕ) (flags : BufferFlags) (script : Option Script) (text : Text) (gs : List hb_glyph_info_t) → length text.characters ≡ length gs → length text.types ≡ length gs → map (λ g. g.auxiliary) (order_view (joined_glyphs breaks masks flags script text gs)) ≡ forms_of script text
+forms-shown breaks masks flags script text gs characters long =
+    map-map (λ (g : hb_glyph_info_t). g.auxiliary) plain (joined_glyphs breaks masks flags script text gs)
+    ∙ forms-joined masks (forms_of script text) flags (flag_calls breaks script text) gs (sym (length-forms_of script text (characters ∙ sym long) ∙ long)) (calls-in_order breaks script text)
 
-by-rule : (script : Option Script) (text : Text) → is_mongolian script ≡ false → forms_of script text ≡ forms text.before text.types text.after
-by-rule script text e =
-    let rule = forms text.before text.types text.after in
-    ap (λ b. cond b (selected [] (zip text.characters rule)) rule) e
-
--- so where the halves are the whole the place is clear
-clear-broken : (masks : List ℕ) (flags : BufferFlags) (script : Option Script) (text : Text) (gs : List hb_glyph_info_t) (n : ℕ) → is_mongolian script ≡ false → length text.types ≡ length gs → AllPairs (λ a b. a < b) (clusters gs) → AllByRecursion (λ g. is_unsafe g ≡ false) gs → AllByRecursion (λ m. m % 8 ≡ 0) masks → 0 < n → n < length gs → order_view (joined_glyphs Sound masks flags script text gs) ≡ order_view (joined_glyphs Sound masks flags script (first_half n [] text) (take n gs)) ++ order_view (joined_glyphs Sound masks flags script (second_half n [] text) (drop n gs)) → IsClear (joined_glyphs Sound masks flags script text gs) n
-clear-broken masks flags script text gs n none long rises unflagged low pos within may =
-    let concat = has_flag flags_concat flags in
-    let tatweel = has_flag flags_tatweel flags in
-    let calls = flag_calls Sound script text in
+-- a free place of a fresh text is clear
+pub clear-fresh : (breaks : BreakFlags) (masks : List ℕ) (flags : BufferFlags) (script : Option Script) (text : Text) (gs : List hb_glyph_info_t) (n : ℕ) → length text.characters ≡ length gs → length text.types ≡ length gs → IsFresh masks gs → 0 < n → n < length gs → IsFree (flag_calls breaks script text) n → IsClear (joined_glyphs breaks masks flags script text gs) n
+clear-fresh breaks masks flags script text gs n characters long fresh pos within free =
     let all = forms_of script text in
     let formed = with_forms masks all gs in
+    let all_long : length all ≡ length gs = length-forms_of script text (characters ∙ sym long) ∙ long in
+    let same = clusters-formed masks all gs all_long in
+    let formed_long : length formed ≡ length gs = sym (length-map formed (λ (g : hb_glyph_info_t). g.cluster)) ∙ ap length same ∙ length-map gs (λ (g : hb_glyph_info_t). g.cluster) in
+    needless (has_flag flags_concat flags) (has_flag flags_tatweel flags) (flag_calls breaks script text) formed n (calls-in_order breaks script text) (subst IsStrictlyMonotone (sym same) fresh.single) (unflagged-formed masks all gs fresh.unmasked fresh.unflagged) pos (omega arith) free
+
+-- so where the halves are the whole the place is clear
+clear-broken : (masks : List ℕ) (flags : BufferFlags) (script : Option Script) (text : Text) (gs : List hb_glyph_info_t) (n : ℕ) → length text.characters ≡ length gs → length text.types ≡ length gs → IsFresh masks gs → SelectorsAreTransparent script text → 0 < n → n < length gs → order_view (joined_glyphs Sound masks flags script text gs) ≡ order_view (joined_glyphs Sound masks flags script (first_half n [] text) (take n gs)) ++ order_view (joined_glyphs Sound masks flags script (second_half n [] text) (drop n gs)) → IsClear (joined_glyphs Sound masks flags script text gs) n
+clear-broken masks flags script text gs n characters long fresh silent pos within may =
     let one = first_half n [] text in
     let two = second_half n [] text in
-    let ts = take n text.types in
-    let us = drop n text.types in
-    let rule = forms text.before text.types text.after in
-    let fs = forms text.before ts [] in
-    let hs = forms [] us text.after in
-    let whole : ts ++ us ≡ text.types = take-append-drop n text.types in
-    let at : length ts ≡ n = length-take-le n text.types (omega arith) in
-    let all_is = by-rule script text none in
-    let one_is = by-rule script one none in
-    let two_is = by-rule script two none in
-    let all_long : length gs ≡ length all = sym (ap length all_is ∙ length-forms text.before text.types text.after ∙ long) in
-    let one_long : length (take n gs) ≡ length (forms_of script one) = length-take-le n gs (omega arith) ∙ sym (ap length one_is ∙ length-forms text.before ts [] ∙ at) in
-    let two_long : length (drop n gs) ≡ length (forms_of script two) = omega (arith, length-drop n gs, length-drop n text.types, ap length two_is, length-forms [] us text.after) in
-    let forms_fall : all ≡ forms_of script one ++ forms_of script two =
-    sym (forms-shown masks flags script text gs all_long)
-    ∙ ap (map (λ (g : hb_glyph_info_t). g.auxiliary)) may
-    ∙ map-append (λ (g : hb_glyph_info_t). g.auxiliary) (order_view (joined_glyphs Sound masks flags script one (take n gs))) (order_view (joined_glyphs Sound masks flags script two (drop n gs)))
-    ∙ ap (λ xs. xs ++ map (λ (g : hb_glyph_info_t). g.auxiliary) (order_view (joined_glyphs Sound masks flags script two (drop n gs)))) (forms-shown masks flags script one (take n gs) one_long)
-    ∙ ap (λ xs. forms_of script one ++ xs) (forms-shown masks flags script two (drop n gs) two_long) in
-    let breaks : MayBreak text.before ts us text.after =
-    ap (λ xs. forms text.before xs text.after) whole
-    ∙ sym all_is
-    ∙ forms_fall
-    ∙ ap (λ xs. xs ++ forms_of script two) one_is
-    ∙ ap (λ xs. fs ++ xs) two_is in
-    let free_parts = (exact text.before ts us text.after (omega arith) (omega (arith, length-drop n text.types))).1 breaks in
-    let first = sound_flags text.before text.types text.after in
-    let R : List hb_arabic_joining_type_t → Type 0 = λ xs. IsFree (sound_flags text.before xs text.after) (length ts) in
-    let Q : ℕ → Type 0 = λ m. IsFree first m in
-    let free_first : IsFree first n = subst Q at (subst R whole free_parts) in
-    let rest = cond (is_mongolian script) (selector_flags [] (zip text.characters rule)) [] in
-    let free_rest : IsFree rest n = ap (λ b. held n (cond b (selector_flags [] (zip text.characters rule)) [])) none in
-    let free : IsFree calls n = ap (held n) (sym (append_assoc (joining_flags text.before text.types text.after) (form_flags_along text.before [] text.types text.after) rest)) ∙ list_any-append (forbids n) first rest ∙ or_from (held n first) (held n rest) free_first free_rest in
-    let same = clusters-formed masks all gs (sym all_long) in
-    let formed_long : length formed ≡ length gs = sym (length-map formed (λ (g : hb_glyph_info_t). g.cluster)) ∙ ap length same ∙ length-map gs (λ (g : hb_glyph_info_t). g.cluster) in
-    let A : List ℕ → Type 0 = λ cs. AllPairs (λ a b. a < b) cs in
-    needless concat tatweel calls formed n (calls-in_order Sound script text) (subst A (sym same) rises) (unflagged-formed masks all gs low unflagged) pos (omega arith) free
+    let aux = λ (g : hb_glyph_info_t). g.auxiliary in
+    let front = order_view (joined_glyphs Sound masks flags script one (take n gs)) in
+    let back = order_view (joined_glyphs Sound masks flags script two (drop n gs)) in
+    let one_long : length one.types ≡ length (take n gs) = length-take-le n text.types (omega arith) ∙ sym (length-take-le n gs (omega arith)) in
+    let one_same : length one.characters ≡ length (take n gs) = length-take-le n text.characters (omega arith) ∙ sym (length-take-le n gs (omega arith)) in
+    let two_long : length two.types ≡ length (drop n gs) = omega (arith, length-drop n gs, length-drop n text.types) in
+    let two_same : length two.characters ≡ length (drop n gs) = omega (arith, length-drop n gs, length-drop n text.characters) in
+    let forms_fall : forms_of script text ≡ forms_of script one ++ forms_of script two =
+    sym (forms-shown Sound masks flags script text gs characters long)
+    ∙ ap (map aux) may
+    ∙ map-append aux front back
+    ∙ ap (λ xs. xs ++ map aux back) (forms-shown Sound masks flags script one (take n gs) one_same one_long)
+    ∙ ap (λ xs. forms_of script one ++ xs) (forms-shown Sound masks flags script two (drop n gs) two_same two_long) in
+    clear-fresh Sound masks flags script text gs n characters long fresh pos within (free-halves script text n (characters ∙ sym long) pos (omega arith) silent forms_fall)
 
 pub none-needless : (breaks : BreakFlags) (masks : List ℕ) (script : Option Script) (joining : ℕ → hb_arabic_joining_type_t) (general : ℕ → hb_unicode_general_category_t) (old new : Buffer) → new ≡ joined breaks masks script joining general old → NoneNeedless breaks masks script joining general old new
-none-needless AsCode masks script joining general old new is e none rises unflagged low n pos within may = cc
-none-needless Sound masks script joining general old new is e none rises unflagged low n pos within may =
+none-needless AsCode masks script joining general old new is e fresh silent n pos within may = cc
+none-needless Sound masks script joining general old new is e fresh silent n pos within may =
     let text = text_of joining general old in
     let gs = old.glyphs in
     let whole : new.glyphs ≡ joined_glyphs Sound masks old.flags script text gs = ap (λ (b : Buffer). b.glyphs) is in
-    subst (λ hs. IsClear hs n) (sym whole) (clear-broken masks old.flags script text gs n none (types_long joining gs) rises unflagged low pos within (sym (ap order_view whole) ∙ may ∙ halves-are Sound masks script joining general n old))
+    subst (λ hs. IsClear hs n) (sym whole) (clear-broken masks old.flags script text gs n (length-map gs (λ g. g.glyph_id)) (types_long joining gs) fresh silent pos within (sym (ap order_view whole) ∙ may ∙ halves-are Sound masks script joining general n old))

@@ -4,11 +4,14 @@ pub mod BrokenGlyphs
 pub mod Concatenation
 mod ConstantRows
 pub mod Edits
+mod FirstPieceRows
+pub mod FirstPieces
 pub mod FlagLists
 mod FlagRows
 pub mod FlagWalk
 pub mod FlaggedGlyphs
 pub mod FlaggedPlaces
+pub mod FreePlaces
 pub mod JoinedFlags
 pub mod JoinedGlyphs
 pub mod JoiningLaws
@@ -21,6 +24,7 @@ pub mod MarkLaws
 pub mod MarkLists
 pub mod MarkMoves
 mod MarkRows
+pub mod OwnForms
 mod PlanRows
 mod RequestRows
 pub mod SelectedLists

@@ -1,7 +1,7 @@
 -- The flags of selectors, and where the selector rule falls into the halves of a text.
-use Rattle.std.proofs.Common.{◌≡◌, ℕ, suc, ◌+◌, ◌-◌, ◌<◌, ◌≤◌, Bool, true, false, cond, eqb, not, ◌&&◌, ◌||◌, List, [], ◌∷◌, ◌++◌, length, reverse, refl, sym, ap, ◌∙◌, arith, append_assoc}
+use Rattle.std.proofs.Common.{◌≡◌, ℕ, suc, ◌+◌, ◌-◌, ◌<◌, ◌≤◌, Bool, true, false, cond, eqb, not, ◌&&◌, ◌||◌, List, [], ◌∷◌, ◌++◌, length, get_or, reverse, refl, sym, ap, ◌∙◌, arith, append_assoc}
 use Rattle.std.specs.List.{AllByRecursion, zip}
-use Rattle.std.proofs.lemmas.Bool.{eqb-true, not-false}
+use Rattle.std.proofs.lemmas.Bool.{eq-eqb, eqb-true, not-false}
 use Rattle.std.proofs.lemmas.List.{append-nil, length-reverse, reverse-append}
 use Rattle.std.proofs.lemmas.List.Folds.{list_any-append}
 use Rattle.std.proofs.lemmas.Slice.Zip.{length-zip}
@@ -96,3 +96,22 @@ selected-halves cs ds fs gs same some free =
     let long : length xs ≡ length cs = omega (arith, length-zip cs fs) in
     ap (selected []) parts
     ∙ in-halves xs (zip ds gs) (omega arith) (ap (λ n. held n (selector_flags [] (xs ++ zip ds gs))) long ∙ ap (λ ps. held (length cs) (selector_flags [] ps)) (sym parts) ∙ free)
+
+-- the other way round: where the second half copies nothing from the first, no flag stands between the two
+no-copy : (before : List (ℕ × ℕ)) (c a : ℕ) → cond (is_selector c) (form_behind before a) a ≡ cond (is_selector c) a a → copies before c a ≡ false
+no-copy before c a e = elim (is_selector c) as (λ b. cond b (form_behind before a) a ≡ cond b a a → (b && not (eqb (form_behind before a) a)) ≡ false) [
+  | true ↦ λ f. ap not (eq-eqb (form_behind before a) a f)
+  | false ↦ λ f. refl
+] e
+
+pub selectors-free : (xs ys : List (ℕ × ℕ)) → 0 < length xs → selected (reverse xs ++ []) ys ≡ selected [] ys → IsFree (selector_flags [] (xs ++ ys)) (length xs)
+selectors-free xs [] pos e = ap (λ ps. held (length xs) (selector_flags [] ps)) (append-nil xs) ∙ selectors-past [] xs (length xs) (omega arith)
+selectors-free xs ((c, a) ∷ ys) pos e =
+    let before = reverse xs ++ [] in
+    let p = length xs in
+    let at : p ≡ length before = sym (ap length (append-nil (reverse xs)) ∙ length-reverse xs) in
+    ap (held p) (selectors-append [] xs ((c, a) ∷ ys))
+    ∙ list_any-append (forbids p) (selector_flags [] xs) (selector_flags before ((c, a) ∷ ys))
+    ∙ ap (λ b. b || held p (selector_flags before ((c, a) ∷ ys))) (selectors-past [] xs p (omega arith))
+    ∙ selectors-here before ys c a p pos at
+    ∙ no-copy before c a (ap (λ fs. get_or fs 0 0) e)

@@ -1,19 +1,19 @@
 -- Where a text may be broken, as far as joining goes.
-use Rattle.std.specs.Prelude.{ℕ, ◌≡◌, ◌%◌, ◌<◌, ◌↔◌, false, List, [], ◌++◌, length, take, drop, Option}
-use Rattle.std.specs.List.{AllByRecursion, AllPairs}
+use Rattle.std.specs.Prelude.{ℕ, ◌≡◌, ◌<◌, ◌↔◌, List, [], ◌++◌, length, take, drop, Option}
 use Rattle.shapers_buffer.specs.Buffer.{Buffer}
-use Rattle.shapers_buffer.specs.Glyph.{clusters, order_view}
+use Rattle.shapers_buffer.specs.Glyph.{order_view}
 use Rattle.shapers_buffer.specs.declared.buffer.category.hb_unicode_general_category_t.{hb_unicode_general_category_t}
 use Rattle.shapers_buffer.specs.declared.buffer.tag.Script.{Script}
 use Rattle.shapers_base.specs.declared.plan.breaks.BreakFlags.{BreakFlags}
 use Rattle.shapers_base.specs.declared.plan.breaks.BreakFlags.TheVariants.{AsCode, Sound}
 use Rattle.shapers_base.specs.declared.plan.joining.hb_arabic_joining_type_t.{hb_arabic_joining_type_t}
 use Rattle.shapers_buffer.specs.GlyphFlags.{FlagCall}
-use Rattle.shapers_clusters.specs.Breaks.{IsFree, IsClear, is_unsafe}
+use Rattle.shapers_clusters.specs.Breaks.{IsFree, IsClear}
+use Rattle.shapers_arabic.specs.Fresh.{IsFresh, SelectorsAreTransparent}
 use Rattle.shapers_arabic.specs.Joining.{forms}
 use Rattle.shapers_arabic.specs.JoiningFlags.{joining_flags}
 use Rattle.shapers_arabic.specs.SoundFlags.{form_flags_along}
-use Rattle.shapers_arabic.specs.JoinedText.{Text, is_mongolian, text_of, added_calls, joined}
+use Rattle.shapers_arabic.specs.JoinedText.{Text, text_of, added_calls, joined}
 
 -- all flags of a text of these types with Sound, selectors apart
 abbrev pub sound_flags : List hb_arabic_joining_type_t → List hb_arabic_joining_type_t →
@@ -68,13 +68,12 @@ BreaksWhereClear breaks masks script joining general old new =
     IsSpared breaks script (text_of joining general old) n →
     BreaksAt breaks masks script joining general old new n
 
--- and no flag of Sound is needless: where each glyph is a cluster of its own, clusters rise,
--- nothing was flagged before and no form's mask has a glyph flag bit, each place where the text may
--- be broken is clear (the script Mongolian apart)
+-- and no flag of Sound is needless: in a fresh text whose selectors are transparent, or that isn't
+-- Mongolian, each place where the text may be broken is clear
 abbrev pub NoneNeedless : BreakFlags → List ℕ → Option Script → (ℕ → hb_arabic_joining_type_t) →
     (ℕ → hb_unicode_general_category_t) → Buffer → Buffer → Type 0
 NoneNeedless breaks masks script joining general old new =
-    breaks ≡ Sound → is_mongolian script ≡ false → AllPairs (λ a b. a < b) (clusters old.glyphs) →
-    AllByRecursion (λ g. is_unsafe g ≡ false) old.glyphs →
-    AllByRecursion (λ m. m % 8 ≡ 0) masks → (n : ℕ) → 0 < n → n < length old.glyphs →
+    breaks ≡ Sound → IsFresh masks old.glyphs →
+    SelectorsAreTransparent script (text_of joining general old) →
+    (n : ℕ) → 0 < n → n < length old.glyphs →
     BreaksAt breaks masks script joining general old new n → IsClear new.glyphs n

@@ -1,6 +1,8 @@
 pub mod Breaks
 pub mod Concatenation
 pub mod Edits
+pub mod FirstPiece
+pub mod Fresh
 pub mod JoinedText
 pub mod Joining
 pub mod JoiningFlags

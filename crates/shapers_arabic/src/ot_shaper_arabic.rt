@@ -4,6 +4,7 @@ ghost use Rattle.shapers_buffer.specs.declared.buffer.refusal.ShaperError.TheVar
 ghost use Rattle.shapers_base.specs.Planner.{with_requests};
 ghost use Rattle.shapers_arabic.specs.Requests.{arabic_list, is_arabic, joining_list, rclt};
 ghost use Rattle.shapers_arabic.specs.Breaks.{BreaksWhereClear, NoneNeedless};
+ghost use Rattle.shapers_arabic.specs.FirstPiece.{FirstKeepsAsFlagged};
 ghost use Rattle.shapers_arabic.specs.JoinedText.{AreCharacters, CutsAsHalves, joined, look_ups, text_of};
 ghost use Rattle.shapers_arabic.specs.PlanData.{IsArabic, breaks_of, masks_of};
 ghost use Rattle.shapers_clusters.specs.FlagLaw.{OnlyFlagsAdded};
@@ -149,6 +150,10 @@ pub fn setup_masks_counted<T: Tables, L: Ledger>(
         let masks = arabic_plan.now.mask_array in let breaks = arabic_plan.now.break_flags in
         let before = buffer.old in let after = buffer.new in
         NoneNeedless breaks masks script table.joining table.general before after }
+    ensures first { let table = T.tables tables.now in
+        let masks = arabic_plan.now.mask_array in let breaks = arabic_plan.now.break_flags in
+        let before = buffer.old in let after = buffer.new in
+        FirstKeepsAsFlagged breaks masks script table.joining table.general before after }
     ensures flags { OnlyFlagsAdded buffer.old.glyphs buffer.new.glyphs }
 {
     let before = nearest_in(buffer.pre_context(), tables, count);
@@ -191,6 +196,10 @@ pub fn setup_masks_inner<T: Tables>(
         let masks = arabic_plan.now.mask_array in let breaks = arabic_plan.now.break_flags in
         let before = buffer.old in let after = buffer.new in
         NoneNeedless breaks masks script table.joining table.general before after }
+    ensures first { let table = T.tables tables.now in
+        let masks = arabic_plan.now.mask_array in let breaks = arabic_plan.now.break_flags in
+        let before = buffer.old in let after = buffer.new in
+        FirstKeepsAsFlagged breaks masks script table.joining table.general before after }
     ensures flags { OnlyFlagsAdded buffer.old.glyphs buffer.new.glyphs }
 {
     setup_masks_with::<T, Brand>(arabic_plan, script, buffer, tables, Blank::new(1));
@@ -222,6 +231,10 @@ fn setup_masks_with<T: Tables, L: Ledger>(
         let masks = arabic_plan.now.mask_array in let breaks = arabic_plan.now.break_flags in
         let before = buffer.old in let after = buffer.new in
         NoneNeedless breaks masks script table.joining table.general before after }
+    ensures first { let table = T.tables tables.now in
+        let masks = arabic_plan.now.mask_array in let breaks = arabic_plan.now.break_flags in
+        let before = buffer.old in let after = buffer.new in
+        FirstKeepsAsFlagged breaks masks script table.joining table.general before after }
     ensures flags { OnlyFlagsAdded buffer.old.glyphs buffer.new.glyphs }
 {
     let mut count = LookUps::<L>::new(blank);
@@ -247,6 +260,10 @@ pub fn setup_masks<T: Tables>(plan: &hb_ot_shape_plan_t, tables: &T, buffer: &mu
         let masks = masks_of plan.now.plan_data in let breaks = breaks_of plan.now.plan_data in
         let before = buffer.old in let after = buffer.new in
         NoneNeedless breaks masks script table.joining table.general before after }
+    ensures first { let table = T.tables tables.now in let script = plan.now.script in
+        let masks = masks_of plan.now.plan_data in let breaks = breaks_of plan.now.plan_data in
+        let before = buffer.old in let after = buffer.new in
+        FirstKeepsAsFlagged breaks masks script table.joining table.general before after }
     ensures flags { OnlyFlagsAdded buffer.old.glyphs buffer.new.glyphs }
 {
     match &plan.plan_data {

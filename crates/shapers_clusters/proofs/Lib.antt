@@ -18,6 +18,7 @@ pub mod LabelsAsMerged
 mod LawRows
 pub mod Made
 pub mod Merging
+mod MonotoneRows
 pub mod Moves
 pub mod Needless
 pub mod Neighbours

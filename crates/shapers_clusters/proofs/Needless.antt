@@ -1,5 +1,5 @@
--- Where each glyph is a cluster of its own and clusters rise, a call flags no place but those where it forbids a break.
-use Rattle.std.proofs.Common.{◌≡◌, ℕ, ◌+◌, ◌-◌, ◌<◌, ◌≤◌, ◌≢◌, Bool, true, false, cond, eqb, ltb, ◌&&◌, max, List, [], ◌∷◌, ◌++◌, length, map, take, drop, get_or, refl, sym, ap, ◌∙◌, subst, arith, inl, inr, length-take, length-drop}
+-- Where each glyph is a cluster of its own and clusters rise or fall, a call flags no place but those where it forbids a break.
+use Rattle.std.proofs.Common.{◌≡◌, ℕ, ◌+◌, ◌-◌, ◌<◌, ◌≤◌, ◌≢◌, Bool, true, false, cond, eqb, ltb, ◌&&◌, min, max, suc, List, [], ◌∷◌, ◌++◌, length, map, take, drop, get_or, refl, sym, ap, ◌∙◌, subst, arith, inl, inr, length-take, length-drop}
 use Rattle.std.specs.Int.Bits.{bit_or}
 use Rattle.std.specs.List.{AllByRecursion, AllPairs}
 use Rattle.std.proofs.lemmas.Bool.{eq-eqb, eqb-false, ne_eqb, lt-ltb, and_from, and_left, and_right, or_from, or_parts, cases_lt, cases_eq, cases_order, both_ways}
@@ -14,7 +14,7 @@ use Rattle.shapers_buffer.specs.declared.buffer.glyph.hb_glyph_info_t.{hb_glyph_
 use Rattle.shapers_clusters.specs.Flags.{bit_at, InOrder}
 use Rattle.shapers_clusters.proofs.FlagCalls.{flag_called-alone, flags_called-alone}
 use Rattle.shapers_clusters.proofs.Joined.{least-le, least-among}
-use Rattle.shapers_clusters.specs.Breaks.{forbids, IsFree, is_unsafe, greater, NeedlessLaw}
+use Rattle.shapers_clusters.specs.Breaks.{forbids, IsClear, IsFree, IsStrictlyMonotone, is_unsafe, greater, NeedlessLaw}
 use Rattle.shapers_clusters.proofs.ClearPlaces.{held, unsafe_bits, in-stretch, length-same}
 
 -- glyphs without either bit
@@ -49,48 +49,90 @@ behind-stretch f s e k gs d order h within =
     ∙ get_or-drop e gs (k - e) d
     ∙ ap (λ i. get_or gs i d) there
 
--- the first glyph of a stretch has its least cluster
+-- the clusters of a stretch
+cluster-at : (gs : List hb_glyph_info_t) (k : ℕ) (d : hb_glyph_info_t) → k < length gs → get_or (clusters gs) k 0 ≡ (get_or gs k d).cluster
+cluster-at gs k d h = get_or-map (λ (g : hb_glyph_info_t). g.cluster) gs k d 0 h
+
+length-part : (s e : ℕ) (gs : List hb_glyph_info_t) → length (clusters (stretch_of s e gs)) ≡ min (e - s) (length gs - s)
+length-part s e gs = omega (arith, length-map (stretch_of s e gs) (λ (g : hb_glyph_info_t). g.cluster), length-take (e - s) (drop s gs), length-drop s gs)
+
+cluster-in : (s e k : ℕ) (gs : List hb_glyph_info_t) (d : hb_glyph_info_t) → k < length (clusters (stretch_of s e gs)) → get_or (clusters (stretch_of s e gs)) k 0 ≡ (get_or gs (s + k) d).cluster
+cluster-in s e k gs d inside =
+    let part = stretch_of s e gs in
+    let long = length-part s e gs in
+    get_or-map (λ (g : hb_glyph_info_t). g.cluster) part k d 0 (omega (arith, length-map part (λ (g : hb_glyph_info_t). g.cluster)))
+    ∙ ap (λ (g : hb_glyph_info_t). g.cluster) (get_or-take (e - s) (drop s gs) k d (omega arith) ∙ get_or-drop s gs k d)
+
+-- where clusters rise the first glyph of a stretch has its least cluster, where they fall the last
 least-first : (s e : ℕ) (gs : List hb_glyph_info_t) (d : hb_glyph_info_t) → AllPairs (λ a b. a < b) (clusters gs) → s < e → s < length gs → least (clusters (stretch_of s e gs)) ≡ (get_or gs s d).cluster
 least-first s e gs d rises h within =
-    let part = stretch_of s e gs in
-    let cs = clusters part in
-    let long : length cs ≡ length part = length-map part (λ (g : hb_glyph_info_t). g.cluster) in
-    let some : 0 < length cs = omega (arith, length-take (e - s) (drop s gs), length-drop s gs) in
+    let cs = clusters (stretch_of s e gs) in
+    let long = length-part s e gs in
+    let some : 0 < length cs = omega arith in
     let (k, inside, is) = least-among cs some in
-    let zero_in : 0 < length part = omega arith in
-    let at_k : get_or cs k 0 ≡ get_or (clusters gs) (s + k) 0 =
-    get_or-map (λ (g : hb_glyph_info_t). g.cluster) part k d 0 (omega arith)
-    ∙ ap (λ (g : hb_glyph_info_t). g.cluster) (get_or-take (e - s) (drop s gs) k d (omega (arith, length-take (e - s) (drop s gs))) ∙ get_or-drop s gs k d)
-    ∙ sym (get_or-map (λ (g : hb_glyph_info_t). g.cluster) gs (s + k) d 0 (omega (arith, length-take (e - s) (drop s gs), length-drop s gs))) in
+    let at_k = cluster-in s e k gs d inside in
     let none : s + 0 ≡ s = omega arith in
-    let at_s : get_or cs 0 0 ≡ (get_or gs s d).cluster =
-    get_or-map (λ (g : hb_glyph_info_t). g.cluster) part 0 d 0 zero_in
-    ∙ ap (λ (g : hb_glyph_info_t). g.cluster) (get_or-take (e - s) (drop s gs) 0 d (omega arith) ∙ get_or-drop s gs 0 d ∙ ap (λ i. get_or gs i d) none) in
-    let own : get_or (clusters gs) s 0 ≡ (get_or gs s d).cluster = get_or-map (λ (g : hb_glyph_info_t). g.cluster) gs s d 0 within in
+    let at_s : get_or cs 0 0 ≡ (get_or gs s d).cluster = cluster-in s e 0 gs d some ∙ ap (λ i. (get_or gs i d).cluster) none in
     let low = least-le cs 0 some in
     elim (cases_lt 0 k) [
-      | inl more ↦ absurd (omega (arith, rises s (s + k) 0 (omega arith) (omega (arith, length-map gs (λ (g : hb_glyph_info_t). g.cluster), length-take (e - s) (drop s gs), length-drop s gs))))
-      | inr first ↦ let z : k ≡ 0 = omega arith in sym (sym (at_s) ∙ ap (λ i. get_or cs i 0) (sym z) ∙ is)
+      | inl more ↦ absurd (omega (arith, rises s (s + k) 0 (omega arith) (omega (arith, length-map gs (λ (g : hb_glyph_info_t). g.cluster))), cluster-at gs s d within, cluster-at gs (s + k) d (omega arith)))
+      | inr first ↦ let z : k ≡ 0 = omega arith in sym (sym at_s ∙ ap (λ i. get_or cs i 0) (sym z) ∙ is)
     ]
 
--- the flag of the glyph at place p through a call that forbids no break there
+least-last : (s e : ℕ) (gs : List hb_glyph_info_t) (d : hb_glyph_info_t) → AllPairs (λ a b. b < a) (clusters gs) → s < e → e ≤ length gs → least (clusters (stretch_of s e gs)) ≡ (get_or gs (e - 1) d).cluster
+least-last s e gs d falls h within =
+    let cs = clusters (stretch_of s e gs) in
+    let long = length-part s e gs in
+    let n = e - 1 - s in
+    let some : 0 < length cs = omega arith in
+    let last_in : n < length cs = omega arith in
+    let (k, inside, is) = least-among cs some in
+    let at_k = cluster-in s e k gs d inside in
+    let there : s + n ≡ e - 1 = omega arith in
+    let at_n : get_or cs n 0 ≡ (get_or gs (e - 1) d).cluster = cluster-in s e n gs d last_in ∙ ap (λ i. (get_or gs i d).cluster) there in
+    let low = least-le cs n last_in in
+    elim (cases_lt k n) [
+      | inl less ↦ absurd (omega (arith, falls (s + k) (e - 1) 0 (omega arith) (omega (arith, length-map gs (λ (g : hb_glyph_info_t). g.cluster))), cluster-at gs (e - 1) d (omega arith), cluster-at gs (s + k) d (omega arith)))
+      | inr last ↦ let z : k ≡ n = omega arith in sym (sym at_n ∙ ap (λ i. get_or cs i 0) (sym z) ∙ is)
+    ]
+
+-- of the two places that meet at p, the one with the greater cluster
+data Tops (p k : ℕ) (cs : List ℕ) : Type 0 where
+  rising : AllPairs (λ a b. a < b) cs → k ≡ p → Tops p k cs
+  falling : AllPairs (λ a b. b < a) cs → suc k ≡ p → Tops p k cs
+
+-- the flag of the glyph at that place through a call that forbids no break at p
 off-least : (bits m : ℕ) (g : hb_glyph_info_t) → m ≡ g.cluster → with_bits_off bits m g ≡ g
 off-least bits m g e = ap (λ b. let r : hb_glyph_info_t = cond b g (with_bits bits g) in r) (eq-eqb g.cluster m (sym e))
 
-break-spares : (bits s e p : ℕ) (gs : List hb_glyph_info_t) (d : hb_glyph_info_t) → s ≤ e → AllPairs (λ a b. a < b) (clusters gs) → p < length gs → (ltb s p && ltb p e) ≡ false → get_or (with_stretch s e (flagged bits) gs) p d ≡ get_or gs p d
-break-spares bits s e p gs d order rises within free =
+not-both : (s e p : ℕ) → (ltb s p && ltb p e) ≡ false → s < p → p < e → ⊥
+not-both s e p free low high = both_ways _ free (and_from (ltb s p) (ltb p e) (lt-ltb s p low) (lt-ltb p e high))
+
+has-least : (s e p k : ℕ) (gs : List hb_glyph_info_t) (d : hb_glyph_info_t) → s ≤ k → k < e → 0 < p → p < length gs → Tops p k (clusters gs) → (ltb s p && ltb p e) ≡ false → least (clusters (stretch_of s e gs)) ≡ (get_or gs k d).cluster
+has-least s e p k gs d from inner pos within (rising rises at) free = elim (cases_lt s p) [
+  | inl more ↦ absurd (not-both s e p free more (omega arith))
+  | inr here ↦ let is : s ≡ k = omega arith in least-first s e gs d rises (omega arith) (omega arith) ∙ ap (λ i. (get_or gs i d).cluster) is
+]
+has-least s e p k gs d from inner pos within (falling falls at) free = elim (cases_lt p e) [
+  | inl more ↦ absurd (not-both s e p free (omega arith) more)
+  | inr here ↦ let is : e - 1 ≡ k = omega arith in least-last s e gs d falls (omega arith) (omega arith) ∙ ap (λ i. (get_or gs i d).cluster) is
+]
+
+top-within : (p k : ℕ) (gs : List hb_glyph_info_t) → p < length gs → Tops p k (clusters gs) → k < length gs
+top-within p k gs within (rising rises at) = omega arith
+top-within p k gs within (falling falls at) = omega arith
+
+break-spares : (bits s e p k : ℕ) (gs : List hb_glyph_info_t) (d : hb_glyph_info_t) → s ≤ e → Tops p k (clusters gs) → 0 < p → p < length gs → (ltb s p && ltb p e) ≡ false → get_or (with_stretch s e (flagged bits) gs) k d ≡ get_or gs k d
+break-spares bits s e p k gs d order top pos within free =
     let m = least (clusters (stretch_of s e gs)) in
-    elim (cases_lt p s) [
-      | inl less ↦ before-stretch (with_bits_off bits m) s e p gs d less within
-      | inr from ↦ elim (cases_lt p e) [
-        | inr past ↦ behind-stretch (with_bits_off bits m) s e p gs d order past within
-        | inl inner ↦ elim (cases_lt s p) [
-          | inl more ↦ absurd (both_ways _ free (and_from (ltb s p) (ltb p e) (lt-ltb s p more) (lt-ltb p e inner)))
-          | inr at ↦
-              let is : s ≡ p = omega arith in
-              in-stretch (with_bits_off bits m) s e p gs d from inner within
-              ∙ off-least bits m (get_or gs p d) (least-first s e gs d rises (omega arith) (omega arith) ∙ ap (λ i. (get_or gs i d).cluster) is)
-        ]
+    let k_in = top-within p k gs within top in
+    elim (cases_lt k s) [
+      | inl less ↦ before-stretch (with_bits_off bits m) s e k gs d less k_in
+      | inr from ↦ elim (cases_lt k e) [
+        | inr past ↦ behind-stretch (with_bits_off bits m) s e k gs d order past k_in
+        | inl inner ↦
+            in-stretch (with_bits_off bits m) s e k gs d from inner k_in
+            ∙ off-least bits m (get_or gs k d) (has-least s e p k gs d from inner pos within top free)
       ]
     ]
 
@@ -112,48 +154,63 @@ concat-spares true s e p gs d order within =
       ]
     ]
 
-call-spares : (concat tatweel : Bool) (call : FlagCall) (p : ℕ) (gs : List hb_glyph_info_t) (d : hb_glyph_info_t) → InOrder call → AllPairs (λ a b. a < b) (clusters gs) → p < length gs → forbids p call ≡ false → unsafe_bits (get_or (flag_called concat tatweel call gs) p d).mask ≡ unsafe_bits (get_or gs p d).mask
-call-spares concat tatweel (UnsafeToBreak s e) p gs d order rises within free = ap (λ (g : hb_glyph_info_t). unsafe_bits g.mask) (break-spares 3 s e p gs d order rises within free)
-call-spares concat tatweel (UnsafeToConcat s e) p gs d order rises within free = concat-spares concat s e p gs d order within
-call-spares concat tatweel (SafeToInsertTatweel s e) p gs d order rises within free = ap (λ (g : hb_glyph_info_t). unsafe_bits g.mask) (break-spares (cond tatweel 4 3) s e p gs d order rises within free)
+call-spares : (concat tatweel : Bool) (call : FlagCall) (p k : ℕ) (gs : List hb_glyph_info_t) (d : hb_glyph_info_t) → InOrder call → Tops p k (clusters gs) → 0 < p → p < length gs → forbids p call ≡ false → unsafe_bits (get_or (flag_called concat tatweel call gs) k d).mask ≡ unsafe_bits (get_or gs k d).mask
+call-spares concat tatweel (UnsafeToBreak s e) p k gs d order top pos within free = ap (λ (g : hb_glyph_info_t). unsafe_bits g.mask) (break-spares 3 s e p k gs d order top pos within free)
+call-spares concat tatweel (UnsafeToConcat s e) p k gs d order top pos within free = concat-spares concat s e k gs d order (top-within p k gs within top)
+call-spares concat tatweel (SafeToInsertTatweel s e) p k gs d order top pos within free = ap (λ (g : hb_glyph_info_t). unsafe_bits g.mask) (break-spares (cond tatweel 4 3) s e p k gs d order top pos within free)
 
-calls-spare : (concat tatweel : Bool) (calls : List FlagCall) (p : ℕ) (gs : List hb_glyph_info_t) (d : hb_glyph_info_t) → AllByRecursion InOrder calls → AllPairs (λ a b. a < b) (clusters gs) → p < length gs → IsFree calls p → unsafe_bits (get_or (flags_called concat tatweel calls gs) p d).mask ≡ unsafe_bits (get_or gs p d).mask
-calls-spare concat tatweel [] p gs d all rises within free = refl
-calls-spare concat tatweel (call ∷ calls) p gs d all rises within free =
+calls-spare : (concat tatweel : Bool) (calls : List FlagCall) (p k : ℕ) (gs : List hb_glyph_info_t) (d : hb_glyph_info_t) → AllByRecursion InOrder calls → Tops p k (clusters gs) → 0 < p → p < length gs → IsFree calls p → unsafe_bits (get_or (flags_called concat tatweel calls gs) k d).mask ≡ unsafe_bits (get_or gs k d).mask
+calls-spare concat tatweel [] p k gs d all top pos within free = refl
+calls-spare concat tatweel (call ∷ calls) p k gs d all top pos within free =
     let once = flag_called concat tatweel call gs in
     let same = (flag_called-alone concat tatweel call gs all.0).same_clusters in
     let long = length-same gs once same in
     let both = or_parts (forbids p call) (held p calls) free in
-    let P : List ℕ → Type 0 = λ cs. AllPairs (λ a b. a < b) cs in
-    calls-spare concat tatweel calls p once d all.1 (subst P (sym same) rises) (omega arith) both.1
-    ∙ call-spares concat tatweel call p gs d all.0 rises within both.0
+    let P : List ℕ → Type 0 = λ cs. Tops p k cs in
+    calls-spare concat tatweel calls p k once d all.1 (subst P (sym same) top) pos (omega arith) both.1
+    ∙ call-spares concat tatweel call p k gs d all.0 top pos within both.0
 
-apart : (k p : ℕ) (cs : List ℕ) → AllPairs (λ a b. a < b) cs → k < length cs → p < length cs → k ≢ p → get_or cs k 0 ≡ get_or cs p 0 → ⊥
-apart k p cs rises h i n e = elim (cases_order k p) [
+apart : (k p : ℕ) (cs : List ℕ) → IsStrictlyMonotone cs → k < length cs → p < length cs → k ≢ p → get_or cs k 0 ≡ get_or cs p 0 → ⊥
+apart k p cs (inl rises) h i n e = elim (cases_order k p) [
   | inl same ↦ n same
   | inr (inl less) ↦ absurd (omega (arith, rises k p 0 less i))
   | inr (inr more) ↦ absurd (omega (arith, rises p k 0 more h))
 ]
+apart k p cs (inr falls) h i n e = elim (cases_order k p) [
+  | inl same ↦ n same
+  | inr (inl less) ↦ absurd (omega (arith, falls k p 0 less i))
+  | inr (inr more) ↦ absurd (omega (arith, falls p k 0 more h))
+]
 
--- so a free place is clear
-pub needless : NeedlessLaw
-needless concat tatweel calls gs p all rises unflagged pos within free =
+-- so a free place is clear: the place with the greater cluster has no flag, and no other has that cluster
+clear-at : (concat tatweel : Bool) (calls : List FlagCall) (gs : List hb_glyph_info_t) (p k : ℕ) → AllByRecursion InOrder calls → IsStrictlyMonotone (clusters gs) → AllByRecursion (λ g. is_unsafe g ≡ false) gs → 0 < p → p < length gs → IsFree calls p → Tops p k (clusters gs) → max (get_or (clusters gs) (p - 1) 0) (get_or (clusters gs) p 0) ≡ get_or (clusters gs) k 0 → IsClear (flags_called concat tatweel calls gs) p
+clear-at concat tatweel calls gs p top all one_way unflagged pos within free tops greatest =
     let new = flags_called concat tatweel calls gs in
     let same = (flags_called-alone concat tatweel calls gs all).same_clusters in
     let long = length-same gs new same in
     let cs = clusters gs in
     let many : length cs ≡ length gs = length-map gs (λ (g : hb_glyph_info_t). g.cluster) in
-    let less : get_or cs (p - 1) 0 < get_or cs p 0 = rises (p - 1) p 0 (omega arith) (omega arith) in
+    let top_in = top-within p top gs within tops in
     let P : List ℕ → Type 0 = λ xs. get_or xs (p - 1) 0 ≢ get_or xs p 0 in
-    let top : greater new p ≡ get_or cs p 0 = ap (λ xs. max (get_or xs (p - 1) 0) (get_or xs p 0)) same ∙ omega arith in
+    let is_top : greater new p ≡ get_or cs top 0 = ap (λ xs. max (get_or xs (p - 1) 0) (get_or xs p 0)) same ∙ greatest in
     let test = λ (g : hb_glyph_info_t). eqb g.cluster (greater new p) && is_unsafe g in
     let Q : hb_glyph_info_t → Type 0 = λ g. test g ≡ false in
     let R : hb_glyph_info_t → Type 0 = λ g. is_unsafe g ≡ false in
-    let bit : unsafe_bits (get_or new p default_glyph).mask ≡ 0 = calls-spare concat tatweel calls p gs default_glyph all rises within free ∙ none-unsafe (get_or gs p default_glyph) (All-get_or R gs p default_glyph within (All-from_recursion R gs unflagged)) in
+    let bit : unsafe_bits (get_or new top default_glyph).mask ≡ 0 = calls-spare concat tatweel calls p top gs default_glyph all tops pos within free ∙ none-unsafe (get_or gs top default_glyph) (All-get_or R gs top default_glyph top_in (All-from_recursion R gs unflagged)) in
     let each : (k : ℕ) → k < length new → Q (get_or new k default_glyph) = λ k inside.
     let own : (get_or new k default_glyph).cluster ≡ get_or cs k 0 = sym (get_or-map (λ (g : hb_glyph_info_t). g.cluster) new k default_glyph 0 inside) ∙ ap (λ xs. get_or xs k 0) same in
-    elim (cases_eq k p) [
+    elim (cases_eq k top) [
       | inl e ↦ and_right _ _ (unsafe-none (get_or new k default_glyph) (ap (λ i. unsafe_bits (get_or new i default_glyph).mask) e ∙ bit))
-      | inr n ↦ and_left _ _ (ne_eqb (get_or new k default_glyph).cluster (greater new p) (λ e. apart k p cs rises (omega arith) (omega arith) n (sym own ∙ e ∙ top)))
+      | inr n ↦ and_left _ _ (ne_eqb (get_or new k default_glyph).cluster (greater new p) (λ e. apart k top cs one_way (omega arith) (omega arith) n (sym own ∙ e ∙ is_top)))
     ] in
-    record { differ = subst P (sym same) (λ e. absurd (omega arith)); unflagged = list_any_none test new (All-from_get_or Q new default_glyph each) }
+    record { differ = subst P (sym same) (λ e. apart (p - 1) p cs one_way (omega arith) (omega arith) (λ f. absurd (omega arith)) e); unflagged = list_any_none test new (All-from_get_or Q new default_glyph each) }
+
+pub needless : NeedlessLaw
+needless concat tatweel calls gs p all (inl rises) unflagged pos within free =
+    let many : length (clusters gs) ≡ length gs = length-map gs (λ (g : hb_glyph_info_t). g.cluster) in
+    let less = rises (p - 1) p 0 (omega arith) (omega arith) in
+    clear-at concat tatweel calls gs p p all (inl rises) unflagged pos within free (rising rises refl) (omega arith)
+needless concat tatweel calls gs p all (inr falls) unflagged pos within free =
+    let many : length (clusters gs) ≡ length gs = length-map gs (λ (g : hb_glyph_info_t). g.cluster) in
+    let less = falls (p - 1) p 0 (omega arith) (omega arith) in
+    clear-at concat tatweel calls gs p (p - 1) all (inr falls) unflagged pos within free (falling falls (omega arith)) (omega arith)

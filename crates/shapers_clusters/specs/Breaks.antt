@@ -1,5 +1,5 @@
 -- Where glyphs may be broken: the places that flag calls forbid, and clear places.
-use Rattle.std.specs.Prelude.{ℕ, ◌≡◌, ◌≢◌, ◌-◌, ◌<◌, ◌==◌, nat_lt, max, Bool, false, ◌&&◌, ◌||◌, List, length, slice_index}
+use Rattle.std.specs.Prelude.{ℕ, ◌≡◌, ◌≢◌, ◌-◌, ◌<◌, ◌==◌, nat_lt, max, Bool, false, ◌&&◌, ◌||◌, ◌⊎◌, List, length, slice_index}
 use Rattle.std.specs.List.{list_any, AllByRecursion, AllPairs}
 use Rattle.shapers_buffer.specs.Glyph.{clusters}
 use Rattle.shapers_buffer.specs.GlyphFlags.{FlagCall, UnsafeToBreak, UnsafeToConcat, SafeToInsertTatweel, flags_called}
@@ -36,10 +36,14 @@ ClearLaw = (concat tatweel : Bool) (calls : List FlagCall) (gs : List hb_glyph_i
     AllByRecursion InOrder calls → 0 < p → p < length gs →
     IsClear (flags_called concat tatweel calls gs) p → IsFree calls p
 
--- and the other way round, where each glyph is a cluster of its own, clusters rise and no glyph was
--- flagged before: a place that no call forbids is clear
+-- the clusters strictly rise along the text, or strictly fall
+abbrev pub IsStrictlyMonotone : List ℕ → Type 0
+IsStrictlyMonotone cs = AllPairs (λ a b. a < b) cs ⊎ AllPairs (λ a b. b < a) cs
+
+-- and the other way round, where each glyph is a cluster of its own, clusters rise or fall and no
+-- glyph was flagged before: a place that no call forbids is clear
 abbrev pub NeedlessLaw : Type 0
 NeedlessLaw = (concat tatweel : Bool) (calls : List FlagCall) (gs : List hb_glyph_info_t) (p : ℕ) →
-    AllByRecursion InOrder calls → AllPairs (λ a b. a < b) (clusters gs) →
+    AllByRecursion InOrder calls → IsStrictlyMonotone (clusters gs) →
     AllByRecursion (λ g. is_unsafe g ≡ false) gs → 0 < p → p < length gs → IsFree calls p →
     IsClear (flags_called concat tatweel calls gs) p

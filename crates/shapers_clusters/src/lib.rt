@@ -106,8 +106,8 @@ pub fn clear_law()
     ensures { ClearLaw }
 {}
 
-/// Where each glyph is a cluster of its own and clusters rise, a place that no flag call forbids is
-/// clear.
+/// Where each glyph is a cluster of its own and clusters rise or fall, a place that no flag call
+/// forbids is clear.
 pub fn needless_law()
     ensures { NeedlessLaw }
 {}

@@ -1,14 +1,15 @@
 -- A text of which every item stays as it is.
-use Rattle.std.proofs.Common.{◌≡◌, ℕ, zero, suc, ◌+◌, ◌-◌, ◌<◌, Bool, true, false, List, [], ◌∷◌, length, drop, sym, ap, ◌∙◌, subst, arith}
+use Rattle.std.proofs.Common.{◌≡◌, ℕ, zero, suc, ◌+◌, ◌-◌, ◌<◌, ◌≤◌, Bool, true, false, List, [], ◌∷◌, length, drop, refl, sym, ap, ◌∙◌, subst, arith}
 use Rattle.std.specs.List.{AllByRecursion}
 use Rattle.std.proofs.lemmas.List.{drop-map}
 use Rattle.shapers_buffer.specs.declared.buffer.glyph.hb_glyph_info_t.{hb_glyph_info_t}
 use Rattle.shapers_buffer.specs.Buffer.{Buffer}
 use Rattle.shapers_buffer.specs.Glyph.{characters}
 use Rattle.shapers_base.specs.Font.{Font}
-use Rattle.shapers_hangul.specs.Hangul.{first_item, is_kept, item_len, items, items_from, wants_circles}
+use Rattle.shapers_hangul.specs.declared.ot_shaper_hangul.item.Item.{Item}
+use Rattle.shapers_hangul.specs.Hangul.{KeptBefore, first_item, is_kept, item_len, items, items_from, wants_circles}
 use Rattle.shapers_hangul.specs.HangulLaws.{AllKept}
-use Rattle.shapers_hangul.proofs.Walks.{kept_stays, length-characters}
+use Rattle.shapers_hangul.proofs.Walks.{glyphs_end, kept_stays, length-characters}
 
 -- there is then an item at each place
 kept_at : (font : Font) (circles : Bool) (place : ℕ) (us : List ℕ) → AllByRecursion (λ p. is_kept p.1 ≡ true) (items_from (first_item font circles) place 0 us) → (k : ℕ) → k < length us → is_kept (first_item font circles (drop k us)) ≡ true
@@ -28,3 +29,11 @@ pub never_goes : (font : Font) (b : Buffer) (circles : Bool) (gs : List hb_glyph
 never_goes font b circles gs kept same_circles same inside stops all =
     goes_at font circles gs kept inside (stops inside)
     (subst (λ c. AllByRecursion (λ p. is_kept p.1 ≡ true) (items font c (characters gs))) (sym same_circles) (subst (λ xs. AllByRecursion (λ p. is_kept p.1 ≡ true) (items font (wants_circles b) (characters xs))) (sym same) all))
+
+-- and where it comes there, every item stays
+pub all_stay : (font : Font) (b : Buffer) (circles : Bool) (gs : List hb_glyph_info_t) (kept : ℕ) → circles ≡ wants_circles b → gs ≡ b.glyphs → length gs ≤ kept → KeptBefore font circles gs kept → AllKept font b
+all_stay font b circles gs kept same_circles same past before =
+    let all : AllByRecursion (λ p. is_kept p.1 ≡ true) (items font circles (characters gs)) =
+    before.stays (subst (AllByRecursion (λ (p : ℕ × Item). is_kept p.1 ≡ true)) (sym (glyphs_end font circles gs (characters gs) kept refl past)) tt) in
+    subst (λ (xs : List hb_glyph_info_t). AllByRecursion (λ p. is_kept p.1 ≡ true) (items font (wants_circles b) (characters xs))) same
+    (subst (λ c. AllByRecursion (λ p. is_kept p.1 ≡ true) (items font c (characters gs))) same_circles all)

@@ -1,5 +1,6 @@
 -- The walks of the code over the items: what is written, what is merged, what changes.
-use Rattle.std.proofs.Common.{◌≡◌, ℕ, zero, suc, ◌+◌, ◌<◌, ◌≤◌, ◌||◌, ◌&&◌, ◌==◌, not, nat_lt, Bool, true, false, cond, List, [], ◌∷◌, ◌++◌, length, map, take, drop, refl, sym, ap, ◌∙◌, arith}
+use Rattle.std.proofs.Common.{◌≡◌, ℕ, zero, suc, ◌+◌, ◌<◌, ◌≤◌, ◌||◌, ◌&&◌, ◌==◌, not, nat_lt, Bool, true, false, cond, List, [], ◌∷◌, ◌++◌, length, map, take, drop, refl, sym, subst, ap, ◌∙◌, arith}
+use Rattle.std.specs.List.{AllByRecursion}
 use Rattle.std.specs.Prelude.{slice_index_or}
 use Rattle.std.proofs.lemmas.Bool.{eqb-true}
 use Rattle.std.proofs.lemmas.List.{append_assoc, length-append, length-map, drop-map}
@@ -182,7 +183,7 @@ one_more (suc n) [] = refl
 one_more (suc n) (x ∷ xs) = ap (λ l. x ∷ l) (one_more n xs)
 
 pub kept_start : (font : Font) (circles : Bool) (gs : List hb_glyph_info_t) → KeptBefore font circles gs 0
-kept_start font circles gs = record { within = omega arith; unjoined = λ level. refl; same = λ xs. refl }
+kept_start font circles gs = record { within = omega arith; unjoined = λ level. refl; same = λ xs. refl; stays = λ all. all }
 
 pub kept_next : (font : Font) (circles : Bool) (gs : List hb_glyph_info_t) (place : ℕ) (item : Item) → place < length gs → item ≡ first_item font circles (characters (drop place gs)) → is_kept item ≡ true → KeptBefore font circles gs place → KeptBefore font circles gs (place + 1)
 kept_next font circles gs place item inside is kept so_far =
@@ -206,4 +207,5 @@ kept_next font circles gs place item inside is kept so_far =
           ∙ ap (λ (l : List hb_glyph_info_t). take place xs ++ (l ++ rest)) (keeps.itself (drop place xs))
           ∙ sym (append_assoc (take place xs) (take 1 (drop place xs)) rest)
           ∙ ap (λ l. l ++ rest) (one_more place xs ∙ ap (λ n. take n xs) on);
+      stays = λ all. so_far.stays (subst (AllByRecursion (λ (p : ℕ × Item). is_kept p.1 ≡ true)) (sym next) (kept, all));
     }

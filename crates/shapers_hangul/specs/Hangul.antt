@@ -369,3 +369,5 @@ pub record KeptBefore (font : Font) (circles : Bool) (gs : List hb_glyph_info_t)
   pub same : (xs : List hb_glyph_info_t) →
       outputs glyph_copies (items font circles (characters gs)) xs
       ≡ take place xs ++ outputs glyph_copies (items_at font circles (characters gs) place) xs
+  pub stays : AllByRecursion (λ p. is_kept p.1 ≡ true) (items_at font circles (characters gs) place)
+      → AllByRecursion (λ p. is_kept p.1 ≡ true) (items font circles (characters gs))

@@ -82,8 +82,8 @@ pub fn preprocess_text<F: hb_font_t>(
     rewrite(face, buffer)
 }
 
-/// `preprocess_text`, which returns whether it rewrote the text: where every character stays as it
-/// is, it returns false and has changed nothing.
+/// `preprocess_text`, which returns whether it rewrote the text: just where every character stays as
+/// it is, it returns false, and has changed nothing.
 #[inline]
 pub fn preprocess_text_changes<F: hb_font_t>(
     _plan: &hb_ot_shape_plan_t,
@@ -92,7 +92,12 @@ pub fn preprocess_text_changes<F: hb_font_t>(
 ) -> Result<bool, ShaperError>
     requires { buffer.old.positions ≡ [] }
     ensures ok { OnOk result (buffer.new ≡ rewritten (F.font face.now) buffer.old) }
+    ensures clusters { OnOk result (KeepsClusters (F.font face.now) buffer.old buffer.new) }
+    ensures flags { OnOk result (KeepsGlyphFlags (F.font face.now) buffer.old buffer.new) }
+    ensures spelling { OnOk result (SpellsSame buffer.old buffer.new) }
+    ensures units { OnOk result (SpellsByUnits (F.font face.now) buffer.old buffer.new) }
     ensures kept { AllKept (F.font face.now) buffer.old → result ≡ Ok false }
+    ensures changes { result ≡ Ok false → AllKept (F.font face.now) buffer.old }
     ensures unchanged { result ≡ Ok false → buffer.new ≡ buffer.old }
     ensures length { let text = (rewritten (F.font face.now) buffer.old).glyphs in
         RefusesLength buffer.old.max_len (length text) result }

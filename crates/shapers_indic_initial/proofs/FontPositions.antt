@@ -74,6 +74,10 @@ without_forms font m p v (g ∷ gs) none =
     ap (λ x. x ∷ map (by_virama font m p v) gs) (stays_at_base font m p v g none)
     ∙ ap (λ xs. g ∷ xs) (without_forms font m p v gs none)
 
+pub without_any : (font : Font) (m : Map) (p : indic_shape_plan_t) (v : Option GlyphId) (gs : List hb_glyph_info_t) → has_forms m p ≡ false → all_by_virama font m p v gs ≡ gs
+without_any font m p None gs none = refl
+without_any font m p (Some v) gs none = without_forms font m p v gs none
+
 -- a glyph, in the order view, and what is carried along
 by_virama-plain : (font : Font) (m : Map) (p : indic_shape_plan_t) (v : GlyphId) (g : hb_glyph_info_t) → plain (by_virama font m p v g) ≡ by_virama font m p v (plain g)
 by_virama-plain font m p v g = elim (has_position POS_BASE_C g) as (λ b. plain (if b then at_position (consonant_position font m p v (number g)) g else g) ≡ (if b then at_position (consonant_position font m p v (number g)) (plain g) else plain g)) [ true ↦ refl | false ↦ refl ]

@@ -19,7 +19,7 @@ use Rattle.shapers_syllabic.specs.declared.ot_shaper_syllabic.kinds.indic_syllab
 use Rattle.shapers_syllabic.specs.Circles.{circled}
 use Rattle.shapers_syllabic.specs.declared.ot_shaper_syllabic.circles.DottedCircles.{DottedCircles}
 use Rattle.shapers_syllabic.specs.Reordering.{SyllablesReordered, script_circles}
-use Rattle.shapers_syllabic.specs.declared.ot_shaper_syllabic.pause.ScriptCircles.{ScriptCircles}
+use Rattle.shapers_syllabic.specs.declared.ot_shaper_syllabic.circles.ScriptCircles.{ScriptCircles}
 
 -- the dotted circles: behind a repha that opens a broken syllable, and of the last position, which
 -- the base's replaces where a circle is the base

@@ -1,5 +1,7 @@
 mod ConstantRows
+pub mod KhmerAlone
 pub mod KhmerByMovers
+pub mod KhmerInPlace
 pub mod KhmerCases
 pub mod KhmerLaws
 pub mod KhmerMaskPlaces

@@ -3,6 +3,7 @@ use Rattle.std.proofs.Common.{◌≡◌, ℕ, suc, ◌+◌, ◌<◌, ◌==◌, B
 use Rattle.std.specs.List.{prefix_len}
 use Rattle.std.proofs.lemmas.Bool.Decides.{nat_tests}
 use Rattle.std.proofs.lemmas.List.{drop_more, drop-set-lt, take_more_set}
+use Rattle.shapers_base.specs.declared.plan.ot_category_t.TheConstants.{OT_VBlw}
 use Rattle.shapers_buffer.specs.declared.buffer.glyph.hb_glyph_info_t.{hb_glyph_info_t}
 use Rattle.shapers_buffer.specs.Glyph.{at_position}
 use Rattle.shapers_myanmar.specs.Myanmar.{below_parts, carries_on_below, in_below_part, in_parts, main_len, main_part, own_position, with_own_positions}
@@ -25,7 +26,7 @@ below_part (g ∷ gs) =
       | false ↦ ap (λ xs. at_position 9 g ∷ xs) (last_part gs)
     ]
 
-opens_below : (g : hb_glyph_info_t) (gs : List hb_glyph_info_t) → (g.category == 21) ≡ true → behind_part 8 (g ∷ gs) ≡ in_part 8 g ∷ behind_part 8 gs
+opens_below : (g : hb_glyph_info_t) (gs : List hb_glyph_info_t) → (g.category == OT_VBlw) ≡ true → behind_part 8 (g ∷ gs) ≡ in_part 8 g ∷ behind_part 8 gs
 opens_below g gs is =
     let carries : carries_on_below g ≡ true = grind (arith, nat_tests, is) in
     ap (λ b. (let n : ℕ = if b then 8 else 9 in in_part n g ∷ behind_part n gs)) carries
@@ -36,7 +37,7 @@ parts_behind (g ∷ gs) =
     let part : Bool → ℕ = λ b. if b then 8 else 5 in
     let n : Bool → ℕ = λ b. cond (not b) (1 + main_len gs) 0 in
     let one : suc (main_len gs) ≡ 1 + main_len gs = omega arith in
-    (elim (g.category == 21) as (λ b. (g.category == 21) ≡ b → in_part (part b) g ∷ behind_part (part b) gs ≡ main_part (take (n b) (g ∷ gs)) ++ below_parts (drop (n b) (g ∷ gs))) [
+    (elim (g.category == OT_VBlw) as (λ b. (g.category == OT_VBlw) ≡ b → in_part (part b) g ∷ behind_part (part b) gs ≡ main_part (take (n b) (g ∷ gs)) ++ below_parts (drop (n b) (g ∷ gs))) [
       | true ↦ λ is. sym (opens_below g gs is) ∙ below_part (g ∷ gs)
       | false ↦ λ is. ap (λ xs. at_position 5 g ∷ xs) (parts_behind gs) ∙ ap (λ n. main_part (take n (g ∷ gs)) ++ below_parts (drop n (g ∷ gs))) one
     ]) refl

@@ -7,6 +7,7 @@ ghost use Rattle.shapers_buffer.specs.Glyph.{order_view};
 ghost use Rattle.shapers_clusters.specs.Laws.{ReorderedHold};
 ghost use Rattle.shapers_buffer.specs.Refusals.{Refuses};
 ghost use Rattle.shapers_buffer.specs.Syllables.{unknown_refusal};
+ghost use Rattle.shapers_syllabic.specs.declared.ot_shaper_syllabic.kinds.myanmar_syllable.TheConstants.{NON_MYANMAR_CLUSTER};
 ghost use Rattle.shapers_syllabic.specs.Characters.{with_category};
 ghost use Rattle.shapers_syllabic.specs.CircleLaws.{NoNewCluster};
 ghost use Rattle.shapers_syllabic.specs.Circles.{circled};
@@ -106,12 +107,12 @@ pub fn reorder_myanmar<F: hb_font_t>(
         OnOk result (ReorderedHold carried opened.level steps opened.glyphs buffer.new.glyphs) }
     ensures clusters { OnOk result (NoNewCluster buffer.old.glyphs buffer.new.glyphs) }
     ensures refusal { let circles = script_circles myanmar_circles (F.font face.now) buffer.old in
-        Refuses (unknown_refusal 3 buffer.old.glyphs)
+        Refuses (unknown_refusal NON_MYANMAR_CLUSTER buffer.old.glyphs)
         buffer.old.max_len (length (circled circles buffer.old.glyphs)) result }
     ensures err { OnErr result (buffer.new ≡ buffer.old) }
     ensures without_memory { let font = F.font face.now in
         let circles = script_circles myanmar_circles font buffer.old in
-        unknown_refusal 3 buffer.old.glyphs ≡ None →
+        unknown_refusal NON_MYANMAR_CLUSTER buffer.old.glyphs ≡ None →
         circled circles buffer.old.glyphs ≡ buffer.old.glyphs → IsOk result }
 {
     let last_kind = Some(myanmar_syllable::NON_MYANMAR_CLUSTER);

@@ -11,7 +11,7 @@ use Rattle.shapers_buffer.specs.Glyph.{clusters, default_glyph}
 use Rattle.shapers_clusters.specs.Steps.{Step, run_steps}
 use Rattle.shapers_syllabic.specs.declared.ot_shaper_syllabic.circles.DottedCircles.{DottedCircles}
 use Rattle.shapers_syllabic.specs.Reordering.{carried, script_circles, first_unknown, kind_refusal, text_order, text_steps}
-use Rattle.shapers_syllabic.specs.declared.ot_shaper_syllabic.pause.ScriptCircles.{ScriptCircles}
+use Rattle.shapers_syllabic.specs.declared.ot_shaper_syllabic.circles.ScriptCircles.{ScriptCircles}
 use Rattle.shapers_base.specs.Font.{Font}
 use Rattle.shapers_base.specs.declared.font.GlyphId.{GlyphId}
 use Rattle.shapers_buffer.specs.declared.buffer.refusal.ShaperError.TheVariants.{UnknownSyllable}

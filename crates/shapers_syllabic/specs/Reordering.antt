@@ -11,7 +11,7 @@ use Rattle.shapers_buffer.specs.Syllables.{syllables, unknown_syllable}
 use Rattle.shapers_base.specs.Font.{Font, dotted_circle}
 use Rattle.shapers_buffer.specs.declared.buffer.refusal.ShaperError.{ShaperError}
 use Rattle.shapers_buffer.specs.declared.buffer.refusal.ShaperError.TheVariants.{UnknownSyllable}
-use Rattle.shapers_syllabic.specs.declared.ot_shaper_syllabic.pause.ScriptCircles.{ScriptCircles}
+use Rattle.shapers_syllabic.specs.declared.ot_shaper_syllabic.circles.ScriptCircles.{ScriptCircles}
 use Rattle.shapers_syllabic.specs.declared.ot_shaper_syllabic.circles.DottedCircles.{DottedCircles}
 use Rattle.shapers_syllabic.specs.Circles.{circled, circles_for}
 use Rattle.shapers_clusters.specs.Steps.{Step, run_steps, steps_along, widened}

@@ -14,7 +14,7 @@ pub use characters::{
     compose, set_categories, set_categories_and_positions, set_categories_and_positions_in,
     set_categories_in,
 };
-pub use circles::{DottedCircles, insert_dotted_circles};
+pub use circles::{DottedCircles, ScriptCircles, insert_dotted_circles};
 pub use clearing::{
     clear_substitution_flags, clear_substitution_flags_in, clear_syllables, clear_syllables_in,
 };
@@ -25,6 +25,6 @@ pub use laws::{
     reordering_cuts_at_borders, reordering_loses_nothing, serials_dont_count, spans_cut_law,
     text_reordered_law,
 };
-pub use pause::{ScriptCircles, reorder_pause};
+pub use pause::reorder_pause;
 pub use reordering::{Reorder, reorder_syllables};
 pub use set_up::{flag_syllables_in, set_up_by_bytes, set_up_syllables};

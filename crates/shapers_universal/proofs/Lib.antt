@@ -1,5 +1,6 @@
 mod ConstantRows
 pub mod MaskLemmas
+mod NoMask
 pub mod NothingRecorded
 mod OneFront
 mod Pieces

@@ -1,30 +1,25 @@
 -- A syllable in which one glyph alone goes to the front: its places in order.
-use Rattle.std.proofs.Common.{◌≡◌, ℕ, zero, suc, ◌+◌, ◌-◌, ◌<◌, ◌≤◌, inl, inr, Bool, true, false, not, if◌then◌else◌, List, [], ◌∷◌, ◌++◌, map, filter, reverse, length, take, drop, get_or, subst, refl, ap, sym, ◌∙◌, arith, append_assoc, Some}
-use Rattle.std.specs.List.{flat_map, list_any, onto_first, range_with_len}
-use Rattle.std.specs.List.Sorted.{IsPermutation}
-use Rattle.std.proofs.lemmas.Bool.{cases_Bool, or_parts}
+use Rattle.std.proofs.Common.{◌≡◌, ℕ, zero, suc, ◌+◌, ◌-◌, ◌<◌, ◌≤◌, inl, inr, Bool, true, false, not, nat_lt, ◌&&◌, if◌then◌else◌, List, [], ◌∷◌, ◌++◌, map, filter, reverse, length, take, drop, get_or, refl, ap, sym, ◌∙◌, arith, append_assoc, Some}
+use Rattle.std.specs.List.{flat_map, list_any, onto_first, range_with_len, slice_rotate_right}
+use Rattle.std.proofs.lemmas.Bool.{cases_Bool, cases_lt, or_parts}
 use Rattle.std.proofs.lemmas.Bool.Decides.{nat_tests}
 use Rattle.std.proofs.lemmas.List.{append-nil, drop-drop, drop-take, map-append, take-append-drop, take-take}
 use Rattle.std.proofs.lemmas.List.Folds.{list_any-append}
-use Rattle.std.proofs.lemmas.List.FromFn.{length-range_with_len}
-use Rattle.std.proofs.lemmas.List.Sorted.{IsPermutation-middle}
 use Rattle.shapers_buffer.specs.declared.buffer.glyph.hb_glyph_info_t.{hb_glyph_info_t}
+use Rattle.shapers_buffer.specs.declared.buffer.level.BufferClusterLevel.{BufferClusterLevel}
 use Rattle.shapers_buffer.specs.Buffer.{Buffer, but_places}
-use Rattle.shapers_buffer.specs.Clusters.{merge, merge_all, stretch_of, with_stretch}
+use Rattle.shapers_buffer.specs.Clusters.{merge, merge_all, merged, merges, stretch_of, with_stretch}
 use Rattle.shapers_buffer.specs.Lists.{cut_after}
-use Rattle.shapers_buffer.specs.ListingWalk.{with_listed}
-use Rattle.shapers_buffer.specs.Places.{ListsEachOnce, listed, pick, placed}
-use Rattle.shapers_buffer.proofs.ClusterLemmas.{length-stretch}
-use Rattle.shapers_buffer.proofs.Listing.{lists}
+use Rattle.shapers_buffer.specs.Places.{pick}
+use Rattle.shapers_buffer.proofs.ClusterLemmas.{length-stretch, three_parts}
 use Rattle.shapers_clusters.proofs.Merging.{length-merge}
 use Rattle.shapers_clusters.proofs.Picks.{pick-append, pick-range}
 use Rattle.shapers_clusters.proofs.Widened.{range-append}
 use Rattle.shapers_syllabic.specs.Reordering.{SyllableReordered}
 use Rattle.shapers_universal.specs.Universal.{goes_front, goes_front_at, is_halant, is_reordered, reph_run, reversed_first, universal_order, universal_steps}
 use Rattle.shapers_universal.specs.UniversalWalk.{MergesFirst, fronts_from, has_reph, is_halant_at, last_first, places_in_order, start_from}
-use Rattle.shapers_universal.proofs.Reordered.{merge_nothing, no_reph, still_pieces, syllable_ran, syllable_reordered}
+use Rattle.shapers_universal.proofs.Reordered.{merge_nothing, no_reph, still_pieces, still_reordered, syllable_ran, syllable_reordered}
 use Rattle.shapers_universal.proofs.UniversalFronts.{fronts_next}
-use Rattle.shapers_universal.proofs.UniversalListing.{range_back}
 use Rattle.shapers_universal.proofs.UniversalLists.{cut_after-concat, filter-none, filter_not-none, reversed_first-no, reversed_first-yes}
 use Rattle.shapers_universal.proofs.UniversalPlaces.{at, front_at, halant_at, labels_any, nothing_behind, stretch_at}
 
@@ -237,10 +232,6 @@ one_reordered s e a z b0 b1 h l kind reph is done =
     ∙ ap (λ xs. with_stretch s e (λ _. pick (places_in_order s s e gs) xs) xs) (sym merges)
     ∙ sym (syllable_ran b0.level s e s gs h l kind behind))
 
--- the places listed
-pub last_first-permutes : (s e : ℕ) → s < e → IsPermutation (range_with_len s (e - s)) (last_first s e)
-last_first-permutes s e h = subst (λ xs. IsPermutation xs (last_first s e)) (sym (range_back s e h)) (subst (λ ys. IsPermutation (range_with_len s (e - 1 - s) ++ (e - 1) ∷ []) ((e - 1) ∷ ys)) (append-nil (range_with_len s (e - 1 - s))) (IsPermutation-middle (range_with_len s (e - 1 - s)) (e - 1) []))
-
 -- where pieces start, one glyph on
 start_push : (st i : ℕ) (gs : List hb_glyph_info_t) (g : hb_glyph_info_t) → start_from st i (gs ++ g ∷ []) ≡ (if is_halant g then suc (i + length gs) else start_from st i gs)
 start_push st i [] g = let none : suc i ≡ suc (i + 0) = omega arith in ap (λ k. if is_halant g then k else st) none
@@ -277,27 +268,81 @@ seen_first s i e a gs m l goes is so =
     ∙ ap (λ k. (st, k) ∷ fronts_from st k (stretch_of k e gs)) next
     ∙ ap (λ k. (k, i + 1) ∷ fronts_from k (i + 1) (stretch_of (i + 1) e gs)) (sym is)
 
--- the merge, the listing and the move
-long_moved : (s e : ℕ) → s < e → length (last_first s e) ≡ e - s
-long_moved s e h = omega (arith, length-range_with_len s (e - 1 - s), h)
+-- the merge and the move
+pub turned_is : (s e : ℕ) (xs : List hb_glyph_info_t) → s < e → e ≤ length xs → with_stretch s e (λ ys. slice_rotate_right ys 1) xs ≡ with_stretch s e (λ _. pick (last_first s e) xs) xs
+turned_is s e xs h l =
+    let ys = stretch_of s e xs in
+    let k = e - 1 - s in
+    let size : length ys - 1 ≡ k = omega (arith, length-stretch s e xs l) in
+    let up : e - s ≡ k + 1 = omega arith in
+    let to : s + k ≡ e - 1 = omega arith in
+    let front : take k ys ≡ take k (drop s xs) = take-take k (e - s) (drop s xs) (omega arith) in
+    let last : drop k ys ≡ take 1 (drop (e - 1) xs) = ap (λ n. drop k (take n (drop s xs))) up ∙ drop-take k 1 (drop s xs) ∙ ap (take 1) (drop-drop k s xs ∙ ap (λ n. drop n xs) to) in
+    let turned : slice_rotate_right ys 1 ≡ take 1 (drop (e - 1) xs) ++ take k (drop s xs) = ap (λ n. drop n ys ++ take n ys) size ∙ ap (λ zs. zs ++ take k ys) last ∙ ap (λ zs. take 1 (drop (e - 1) xs) ++ zs) front in
+    let picked : pick (last_first s e) xs ≡ take 1 (drop (e - 1) xs) ++ take k (drop s xs) =
+    pick-append (range_with_len (e - 1) 1) (range_with_len s k) xs
+    ∙ ap (λ zs. zs ++ pick (range_with_len s k) xs) (pick-range (e - 1) 1 xs (omega arith))
+    ∙ ap (λ zs. take 1 (drop (e - 1) xs) ++ zs) (pick-range s k xs (omega arith)) in
+    ap (λ zs. take s xs ++ (zs ++ drop e xs)) (turned ∙ sym picked)
 
-pub front_permutes : (s e : ℕ) (b1 b2 : Buffer) → s < e → b2 ≡ record b1 { places = with_listed s (last_first s e) b1.places } → ListsEachOnce s e b2.places
-front_permutes s e b1 b2 h is =
-    let reads : listed s e b2.places ≡ last_first s e = ap (λ (x : Buffer). listed s e x.places) is ∙ lists s e (last_first s e) b1.places (long_moved s e h) in
-    subst (IsPermutation (range_with_len s (e - s))) (sym reads) (last_first-permutes s e h)
-
-pub front_moved : (s e : ℕ) (b0 b1 b2 b3 : Buffer) → s < e → b1 ≡ record b0 { glyphs = merge b0.level s e b0.glyphs } → b2 ≡ record b1 { places = with_listed s (last_first s e) b1.places } → b3 ≡ record b2 { glyphs = placed s e b2.places b2.glyphs } → b3 ≡ record b0 { glyphs = (let ms = merge b0.level s e b0.glyphs in with_stretch s e (λ _. pick (last_first s e) ms) ms); places = b3.places }
-front_moved s e b0 b1 b2 b3 h joined list done =
+pub front_moved : (s e : ℕ) (b0 b1 b2 : Buffer) → s < e → e ≤ length b0.glyphs → b1 ≡ record b0 { glyphs = merge b0.level s e b0.glyphs } → b2.glyphs ≡ with_stretch s e (λ ys. slice_rotate_right ys 1) b1.glyphs → b2 ≡ record b1 { glyphs = b2.glyphs } → b2 ≡ record b0 { glyphs = (let ms = merge b0.level s e b0.glyphs in with_stretch s e (λ _. pick (last_first s e) ms) ms); places = b2.places }
+front_moved s e b0 b1 b2 h l joined walked others =
     let ms = merge b0.level s e b0.glyphs in
-    let ps = with_listed s (last_first s e) b1.places in
     let moved = with_stretch s e (λ _. pick (last_first s e) ms) ms in
-    let two : b2 ≡ record b0 { glyphs = ms; places = ps } = list ∙ ap (λ (x : Buffer). let y : Buffer = record x { places = ps } in y) joined in
-    let is : placed s e b2.places b2.glyphs ≡ moved = ap (λ (x : Buffer). placed s e x.places x.glyphs) two ∙ ap (λ qs. with_stretch s e (λ _. pick qs ms) ms) (lists s e (last_first s e) b1.places (long_moved s e h)) in
-    let four : b3 ≡ record b0 { glyphs = moved; places = ps } =
-    done
-    ∙ ap (λ (x : Buffer). let y : Buffer = record x { glyphs = placed s e b2.places b2.glyphs } in y) two
-    ∙ ap (λ xs. let y : Buffer = record b0 { glyphs = xs; places = ps } in y) is in
-    four ∙ ap (λ qs. let y : Buffer = record b0 { glyphs = moved; places = qs } in y) (sym (ap (λ (x : Buffer). x.places) four))
+    let glyphs : b2.glyphs ≡ moved = walked ∙ ap (λ (x : Buffer). with_stretch s e (λ ys. slice_rotate_right ys 1) x.glyphs) joined ∙ turned_is s e ms h (omega (arith, length-merge b0.level s e b0.glyphs l)) in
+    let whole : b2 ≡ record b0 { glyphs = moved } = others ∙ ap (λ (x : Buffer). let y : Buffer = record x { glyphs = b2.glyphs } in y) joined ∙ ap (λ xs. let y : Buffer = record b0 { glyphs = xs } in y) glyphs in
+    whole ∙ ap (λ qs. let y : Buffer = record b0 { glyphs = moved; places = qs } in y) (sym (ap (λ (x : Buffer). x.places) whole))
+
+-- one glyph that is no reph is left alone
+merge_one : (level : BufferClusterLevel) (s : ℕ) (gs : List hb_glyph_info_t) → merge level s (s + 1) gs ≡ gs
+merge_one level s gs =
+    let few : nat_lt (s + 1 - s) 2 ≡ true = grind (arith, nat_tests) in
+    rw few (elim (merges level) as (λ b. (if b && false then merged s (s + 1) gs else gs) ≡ gs) [ true ↦ refl | false ↦ refl ])
+
+nothing_moved : (s : ℕ) (b : Buffer) → s + 1 ≤ length b.glyphs → b ≡ record b { glyphs = (let ms = merge b.level s (s + 1) b.glyphs in with_stretch s (s + 1) (λ _. pick (last_first s (s + 1)) ms) ms) }
+nothing_moved s b l =
+    let gs = b.glyphs in
+    let n : s + 1 - s ≡ 1 = omega arith in
+    let m : s + 1 - 1 ≡ s = omega arith in
+    let k : s - s ≡ 0 = omega arith in
+    let order : last_first s (s + 1) ≡ range_with_len s 1 = ap (λ i. i ∷ range_with_len s (i - s)) m ∙ ap (λ i. s ∷ range_with_len s i) k in
+    let picked : pick (last_first s (s + 1)) gs ≡ stretch_of s (s + 1) gs = ap (λ ps. pick ps gs) order ∙ pick-range s 1 gs l ∙ ap (λ i. take i (drop s gs)) (sym n) in
+    let same : with_stretch s (s + 1) (λ _. pick (last_first s (s + 1)) gs) gs ≡ gs = ap (λ ys. take s gs ++ (ys ++ drop (s + 1) gs)) picked ∙ three_parts s (s + 1) gs (omega arith) in
+    sym (ap (λ ms. let y : Buffer = record b { glyphs = with_stretch s (s + 1) (λ _. pick (last_first s (s + 1)) ms) ms } in y) (merge_one b.level s gs) ∙ ap (λ xs. let y : Buffer = record b { glyphs = xs } in y) same)
+
+short_front : (s e : ℕ) (b : Buffer) → s ≤ e → e < s + 2 → e ≤ length b.glyphs → is_reordered (stretch_of s e b.glyphs) ≡ true → has_reph (stretch_of s e b.glyphs) ≡ false → list_any goes_front (stretch_of s e b.glyphs) ≡ true → SyllableReordered universal_order universal_steps s e b b
+short_front s e b h few l kind reph goes =
+    let gs = b.glyphs in
+    let g = at gs s in
+    elim (cases_lt s e) [
+      | inl more ↦
+          let one : e - s ≡ 1 = omega arith in
+          let next : suc s ≡ s + 1 = omega arith in
+          let alone : stretch_of s e gs ≡ g ∷ [] = stretch_at s e gs l ∙ ap (λ i. map (at gs) (range_with_len s i)) one in
+          let seen : list_any goes_front (g ∷ []) ≡ true = ap (list_any goes_front) (sym alone) ∙ goes in
+          elim (cases_Bool (goes_front g)) [
+            | inl on ↦
+                let fronts : fronts_from s s (stretch_of s e gs) ≡ (s, s + 1) ∷ [] = ap (fronts_from s s) alone ∙ ap (λ k. if k then (s, suc s) ∷ [] else fronts_from (if is_halant g then suc s else s) (suc s) []) on ∙ ap (λ k. (s, k) ∷ []) next in
+                one_reordered s e s (s + 1) b b h l kind reph fronts (nothing_moved s b (omega arith))
+            | inr off ↦ absurd (let none : list_any goes_front (g ∷ []) ≡ false = rw off refl in cc)
+          ]
+      | inr none ↦
+          let no_more : e - s ≡ 0 = omega arith in
+          let empty : list_any goes_front (stretch_of s e gs) ≡ false = ap (λ i. list_any goes_front (take i (drop s gs))) no_more in
+          absurd (cc)
+    ]
+
+pub short_reordered : (s e : ℕ) (b : Buffer) → s ≤ e → e < s + 2 → e ≤ length b.glyphs → has_reph (stretch_of s e b.glyphs) ≡ false → SyllableReordered universal_order universal_steps s e b b
+short_reordered s e b h few l reph =
+    let gs = b.glyphs in
+    let zs = stretch_of s e gs in
+    elim (cases_Bool (is_reordered zs)) [
+      | inl kind ↦ elim (cases_Bool (list_any goes_front zs)) [
+        | inl goes ↦ short_front s e b h few l kind reph goes
+        | inr stays ↦ still_reordered s e b h l (rw (reph, stays, kind) refl)
+      ]
+      | inr other ↦ still_reordered s e b h l (rw other refl)
+    ]
 
 pub start_back : (s k : ℕ) (gs : List hb_glyph_info_t) → s + 1 < k → k ≤ length gs + 1 → start_from s s (stretch_of s (k - 1) gs) ≡ (if is_halant (at gs (k - 1 - 1)) then k - 1 else start_from s s (stretch_of s (k - 1 - 1) gs))
 start_back s k gs h l =

@@ -6,6 +6,7 @@ use Rattle.shapers_base.specs.Font.{CharacterTables}
 use Rattle.shapers_base.specs.declared.plan.arabic.arabic_shape_plan_t.{arabic_shape_plan_t}
 use Rattle.shapers_buffer.specs.Buffer.{Buffer}
 use Rattle.shapers_arabic.specs.Breaks.{BreaksWhereClear, NoneNeedless}
+use Rattle.shapers_arabic.specs.FirstPiece.{FirstKeepsAsFlagged}
 use Rattle.shapers_arabic.specs.JoinedText.{AreCharacters, CutsAsHalves, joined}
 
 -- the glyph with the category that the tables give its character
@@ -32,7 +33,7 @@ MasksAreSet (Some p) script tables old new =
     × CutsAsHalves script tables.joining tables.general old new
 
 -- where there is a plan of Arabic, the buffer with the categories may be broken at each clear
--- place, and no flag of Sound is needless
+-- place, no flag of Sound is needless, and the first half keeps its forms as flagged
 abbrev pub BreaksAsJoining :
     Option arabic_shape_plan_t → Option Script → CharacterTables → Buffer → Buffer → Type 0
 BreaksAsJoining None script tables old new = Unit {0}
@@ -42,3 +43,4 @@ BreaksAsJoining (Some p) script tables old new =
     let before = with_categories tables old in
     BreaksWhereClear breaks masks script tables.joining tables.general before new
     × NoneNeedless breaks masks script tables.joining tables.general before new
+    × FirstKeepsAsFlagged breaks masks script tables.joining tables.general before new

@@ -95,6 +95,33 @@ impl Text {
     fn breaks_at(&self, whole: &[GlyphInfo], place: usize) -> bool {
         breaks_at(&self.buffer, whole, place, |buffer| self.join(buffer))
     }
+
+    /// Whether the piece before a place keeps what it has in the whole.
+    fn first_keeps(&self, whole: &[GlyphInfo], place: usize) -> bool {
+        let first = self.joined(0..place);
+        first.iter().map(shown).eq(whole[..place].iter().map(shown))
+    }
+
+    fn rises(&self) -> bool {
+        let glyphs = self.buffer.glyphs();
+        glyphs.is_sorted_by(|a, b| a.cluster < b.cluster)
+    }
+
+    fn falls(&self) -> bool {
+        let glyphs = self.buffer.glyphs();
+        glyphs.is_sorted_by(|a, b| a.cluster > b.cluster)
+    }
+
+    /// Whether each glyph is a cluster of its own, clusters rise or fall, and none was flagged. No
+    /// mask of a form has a glyph flag here, and selectors are transparent.
+    fn is_fresh(&self) -> bool {
+        let unflagged = self.buffer.glyphs().iter().all(|glyph| glyph.mask & 5 == 0);
+        (self.rises() || self.falls()) && unflagged
+    }
+
+    fn is_mongolian(&self) -> bool {
+        self.plan.script == Some(Script(*b"Mong"))
+    }
 }
 
 /// The plan of a script, with masks of forms that share no bit.
@@ -133,7 +160,7 @@ fn clusters(numbers: &mut Numbers, count: usize) -> Vec<u32> {
     }
 }
 
-/// A text of a mix, drawn by lot.
+/// A text of a mix, drawn by lot; in one of eight a glyph is flagged before it is joined.
 fn random_text(numbers: &mut Numbers, mix: &str, breaks: BreakFlags) -> Text {
     let mix: Vec<char> = mix.chars().collect();
     let is_mongolian = mix.contains(&'\u{180B}');
@@ -142,9 +169,13 @@ fn random_text(numbers: &mut Numbers, mix: &str, breaks: BreakFlags) -> Text {
     let text = characters(numbers, &mix, 9);
     let clusters = clusters(numbers, text.len());
     let mut buffer = Buffer::new(Global, text.len());
-    for (&character, cluster) in text.iter().zip(clusters) {
+    let flagged = numbers.below(64);
+    for (place, (&character, cluster)) in text.iter().zip(clusters).enumerate() {
         let mut glyph = GlyphInfo::of_character(character, cluster);
         glyph.general_category = Letters.general_category(character);
+        if place == flagged {
+            glyph.mask = numbers.below(8) as u32;
+        }
         buffer.push(glyph).unwrap();
     }
     buffer.set_flags(BufferFlags(numbers.one_of(&[0, 0x40, 0x80, 0xC0])));
@@ -190,42 +221,65 @@ fn with_sound_a_text_may_be_broken_at_every_clear_place() {
 }
 
 #[test]
-fn with_sound_no_flag_is_needless_where_clusters_rise() {
-    let mut count = 0;
+fn with_sound_no_flag_of_a_fresh_text_is_needless() {
+    let (mut rising, mut falling, mut mongolian) = (0, 0, 0);
     at_each_place(BreakFlags::Sound, |text, whole, place| {
-        let rises = whole
-            .windows(2)
-            .all(|pair| pair[0].cluster < pair[1].cluster);
-        if rises && text.plan.script == Some(Script(*b"Syrc")) {
-            count += 1;
-            let clear = is_clear(whole, place);
+        if text.is_fresh() {
+            rising += usize::from(text.rises());
+            falling += usize::from(text.falls());
+            mongolian += usize::from(text.is_mongolian());
             assert_eq!(
-                clear,
+                is_clear(whole, place),
                 text.breaks_at(whole, place),
                 "{:x?} at {place}",
                 text.buffer.glyphs()
             );
         }
     });
-    assert!(count > 30_000, "{count}");
+    let counts = [rising, falling, mongolian];
+    assert!(counts.iter().all(|&count| count > 20_000), "{counts:?}");
 }
 
 #[test]
-fn as_the_code_flags_it_the_first_piece_keeps_its_forms() {
-    let (mut kept, mut lost) = (0, 0);
+fn the_first_piece_keeps_its_forms_at_every_clear_place() {
+    for breaks in [BreakFlags::AsCode, BreakFlags::Sound] {
+        let (mut kept, mut lost) = (0, 0);
+        at_each_place(breaks, |text, whole, place| {
+            if is_clear(whole, place) {
+                assert!(
+                    text.first_keeps(whole, place),
+                    "{:x?} at {place}",
+                    text.buffer.glyphs()
+                );
+                *if text.breaks_at(whole, place) {
+                    &mut kept
+                } else {
+                    &mut lost
+                } += 1;
+            }
+        });
+        let loses = breaks == BreakFlags::AsCode;
+        assert!(kept > 30_000 && (lost > 1000) == loses, "{kept}, {lost}");
+    }
+}
+
+#[test]
+fn as_the_code_flags_it_the_first_piece_keeps_no_forms_where_a_fresh_text_is_not_clear() {
+    let (mut rising, mut falling, mut mongolian) = (0, 0, 0);
     at_each_place(BreakFlags::AsCode, |text, whole, place| {
-        if is_clear(whole, place) && text.plan.script == Some(Script(*b"Syrc")) {
-            let first = text.joined(0..place);
-            let kept_first = first.iter().map(shown).eq(whole[..place].iter().map(shown));
-            assert!(kept_first, "{:x?} at {place}", text.buffer.glyphs());
-            *if text.breaks_at(whole, place) {
-                &mut kept
-            } else {
-                &mut lost
-            } += 1;
+        if text.is_fresh() && !is_clear(whole, place) {
+            rising += usize::from(text.rises());
+            falling += usize::from(text.falls());
+            mongolian += usize::from(text.is_mongolian());
+            assert!(
+                !text.first_keeps(whole, place),
+                "{:x?} at {place}",
+                text.buffer.glyphs()
+            );
         }
     });
-    assert!(kept > 30_000 && lost > 1000, "{kept} and {lost}");
+    let counts = [rising, falling, mongolian];
+    assert!(counts.iter().all(|&count| count > 5000), "{counts:?}");
 }
 
 #[test]

@@ -33,12 +33,14 @@ pub fn headline()
     stretches_cover_law();
 }
 
-/// Where a text whose letters join may be broken: with the choice Sound at each place whose greater
-/// cluster has no glyph that is unsafe to break, and where clusters are single and rise at no other;
-/// as the code has it, where what Sound adds doesn't reach over it too. On lists of joining types:
-/// what joining flags by itself are the places where the first half loses a form, and what Sound
-/// flags those where either does. Texts without a flag at their borders may be put together, and
-/// edits stay near.
+/// Where a text whose letters join may be broken. A place is clear if no glyph of the greater of the
+/// two clusters that meet there is unsafe to break. With the choice Sound the text may be broken at
+/// every clear place, as the code has it where what Sound adds doesn't reach over it; and with
+/// either the first piece keeps its forms there. Where each glyph is a cluster of its own, clusters
+/// rise or fall and nothing was flagged before, no flag is needless: none of Sound's for the pieces,
+/// none of the code's for the first piece. On lists of joining types: what joining flags by itself
+/// are the places where the first half loses a form, and what Sound flags those where either does.
+/// Texts without a flag at their borders may be put together, and edits stay near.
 #[inline]
 pub fn breaks_law()
     ensures texts { TextsBreakAsFlagged }

@@ -250,6 +250,7 @@ pub(super) fn rewrite_changes<F: hb_font_t>(
     requires { buffer.old.positions ≡ [] }
     ensures ok { OnOk result (buffer.new ≡ rewritten (F.font face.now) buffer.old) }
     ensures kept { AllKept (F.font face.now) buffer.old → result ≡ Ok false }
+    ensures changes { result ≡ Ok false → AllKept (F.font face.now) buffer.old }
     ensures unchanged { result ≡ Ok false → buffer.new ≡ buffer.old }
     ensures length { let text = (rewritten (F.font face.now) buffer.old).glyphs in
         RefusesLength buffer.old.max_len (length text) result }

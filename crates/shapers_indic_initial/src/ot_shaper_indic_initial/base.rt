@@ -6,10 +6,9 @@ ghost use Rattle.shapers_indic_initial.specs.InitialBase.{base_place, has_reph, 
 ghost use Rattle.shapers_indic_initial.specs.InitialRules.{rules_of};
 
 use super::reph::{limit, reph_len};
+use super::rules::Rules;
 use shapers_base::buffer::hb_glyph_info_t;
 use shapers_base::font::hb_font_t;
-use shapers_base::map::hb_ot_map_t;
-use shapers_base::plan::indic_shape_plan_t;
 use shapers_base::plan::ot_category_t::{
     OT_C, OT_CS, OT_DOTTEDCIRCLE, OT_H, OT_PLACEHOLDER, OT_Ra, OT_V, OT_ZWJ,
 };
@@ -25,18 +24,15 @@ pub(super) struct Base {
 
 /// Finds the base of a syllable and its reph.
 #[inline]
-pub(super) fn find_base<F: hb_font_t>(
-    plan: &indic_shape_plan_t,
-    map: &hb_ot_map_t,
-    face: &F,
-    glyphs: &[hb_glyph_info_t],
-) -> Base
-    ensures place { let rules = rules_of (F.font face.now) map.now plan.now in
-        result.place ≡ base_place rules glyphs.now }
-    ensures reph { let rules = rules_of (F.font face.now) map.now plan.now in
-        result.has_reph ≡ has_reph rules glyphs.now }
+pub(super) fn find_base<F: hb_font_t>(rules: &Rules<F>, glyphs: &[hb_glyph_info_t]) -> Base
+    ensures place { let font = F.font rules.now.face.now in
+        let r = rules_of font rules.now.map.now rules.now.plan.now in
+        result.place ≡ base_place r glyphs.now }
+    ensures reph { let font = F.font rules.now.face.now in
+        let r = rules_of font rules.now.map.now rules.now.plan.now in
+        result.has_reph ≡ has_reph r glyphs.now }
 {
-    let reph = reph_len(plan, map, face, glyphs);
+    let reph = reph_len(rules, glyphs);
     let limit = limit(reph, glyphs);
     let otherwise = if reph == 0 { glyphs.len() } else { 0 };
     let place = last_or_first(limit.min(glyphs.len().saturating_sub(1)), glyphs).unwrap_or(

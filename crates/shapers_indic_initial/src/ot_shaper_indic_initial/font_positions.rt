@@ -2,44 +2,31 @@
 ghost use Rattle.std.specs.Prelude.{◌≡◌, find, map};
 ghost use Rattle.shapers_indic.specs.Glyphs.{has_position};
 ghost use Rattle.shapers_base.specs.declared.plan.ot_position_t.TheConstants.{POS_BASE_C};
-ghost use Rattle.shapers_indic_initial.specs.InitialFont.{all_by_virama, by_virama, consonant_position, joins_virama};
+ghost use Rattle.shapers_indic_initial.specs.InitialFont.{by_virama, consonant_position, joins_virama, positions_by_font};
 ghost use Rattle.shapers_indic_initial.specs.KnownWalk.{AllKnown, IsKnown, has_forms};
 
+use super::rules::Rules;
 use shapers_base::buffer::{GlyphWalk, hb_buffer_t, hb_glyph_info_t};
 use shapers_base::font::{GlyphId, hb_font_t};
 use shapers_base::map::hb_ot_map_t;
 use shapers_base::plan::ot_position_t::{POS_BASE_C, POS_BELOW_C, POS_POST_C};
 use shapers_base::plan::{IndicWouldSubstituteFeature, Position, indic_shape_plan_t};
 use shapers_indic::ot_shaper_indic::glyphs::number;
+use shapers_indic::ot_shaper_indic::virama_glyph;
 
 /// Gives consonants of position BASE_C for which the font has a below-base or a post-base form, by
 /// its glyph for the script's virama, that form's position. It takes no memory.
 #[inline]
-pub(super) fn update_consonant_positions<F: hb_font_t>(
-    plan: &indic_shape_plan_t,
-    map: &hb_ot_map_t,
-    face: &F,
-    virama: Option<GlyphId>,
-    buffer: &mut hb_buffer_t,
-)
-    ensures { let changed =
-        all_by_virama (F.font face.now) map.now plan.now virama buffer.old.glyphs in
+pub(super) fn update_consonant_positions<F: hb_font_t>(rules: &Rules<F>, buffer: &mut hb_buffer_t)
+    ensures { let r = rules.now in
+        let changed = positions_by_font (F.font r.face.now) r.map.now r.plan.now buffer.old.glyphs in
         buffer.new ≡ record buffer.old { glyphs = changed } }
 {
-    match virama {
-        None => {}
-        Some(virama) => {
-            if !has_forms(plan, map) {
-                return;
-            }
-            let mut by_virama = ByVirama {
-                plan,
-                map,
-                face,
-                virama,
-            };
-            buffer.walk(&mut by_virama);
-        }
+    if !has_forms(rules.plan, rules.map) {
+        return;
+    }
+    if let Some(virama) = virama_glyph(rules.plan, rules.face) {
+        buffer.walk(&mut ByVirama { rules, virama });
     }
 }
 
@@ -68,9 +55,7 @@ struct Known {
 // Positions by the forms that consonants have with a virama.
 #[derive(Drop)]
 struct ByVirama<'a, F: hb_font_t> {
-    plan: &'a indic_shape_plan_t,
-    map: &'a hb_ot_map_t,
-    face: &'a F,
+    rules: &'a Rules<'a, F>,
     virama: GlyphId,
 }
 
@@ -78,11 +63,12 @@ impl<'a, F: hb_font_t> ByVirama<'a, F> {
     // The position of a consonant.
     #[inline]
     fn consonant_position_from_face(&self, consonant: GlyphId) -> Position
-        ensures { let font = F.font self.now.face.now in
+        ensures { let r = self.now.rules.now in
+            let font = F.font r.face.now in
             result ≡
-            consonant_position font self.now.map.now self.now.plan.now self.now.virama consonant }
+            consonant_position font r.map.now r.plan.now self.now.virama consonant }
     {
-        let plan = self.plan;
+        let plan = self.rules.plan;
         if self.joins(&plan.blwf, consonant) || self.joins(&plan.vatu, consonant) {
             return POS_BELOW_C;
         }
@@ -96,8 +82,9 @@ impl<'a, F: hb_font_t> ByVirama<'a, F> {
     #[inline]
     fn asked(&self, consonant: GlyphId) -> Known
         ensures consonant { result.consonant ≡ consonant }
-        ensures known { let font = F.font self.now.face.now in
-            IsKnown font self.now.map.now self.now.plan.now self.now.virama result }
+        ensures known { let r = self.now.rules.now in
+            let font = F.font r.face.now in
+            IsKnown font r.map.now r.plan.now self.now.virama result }
     {
         Known {
             consonant,
@@ -108,13 +95,16 @@ impl<'a, F: hb_font_t> ByVirama<'a, F> {
     // The position of a consonant, for which the font is queried only where it isn't known.
     #[inline]
     fn position_of(&self, known: &mut [Known; KNOWN], consonant: GlyphId) -> Position
-        requires { let font = F.font self.now.face.now in
-            AllKnown font self.now.map.now self.now.plan.now self.now.virama known.old }
-        ensures known { let font = F.font self.now.face.now in
-            AllKnown font self.now.map.now self.now.plan.now self.now.virama known.new }
-        ensures position { let font = F.font self.now.face.now in
+        requires { let r = self.now.rules.now in
+            let font = F.font r.face.now in
+            AllKnown font r.map.now r.plan.now self.now.virama known.old }
+        ensures known { let r = self.now.rules.now in
+            let font = F.font r.face.now in
+            AllKnown font r.map.now r.plan.now self.now.virama known.new }
+        ensures position { let r = self.now.rules.now in
+            let font = F.font r.face.now in
             result ≡
-            consonant_position font self.now.map.now self.now.plan.now self.now.virama consonant }
+            consonant_position font r.map.now r.plan.now self.now.virama consonant }
     {
         let slot = usize::from(consonant.0) % KNOWN;
         let kept = known[slot];
@@ -129,13 +119,16 @@ impl<'a, F: hb_font_t> ByVirama<'a, F> {
     // Gives a glyph its position, if it is a consonant of position BASE_C.
     #[inline]
     fn position_one(&self, known: &mut [Known; KNOWN], glyph: &mut hb_glyph_info_t)
-        requires { let font = F.font self.now.face.now in
-            AllKnown font self.now.map.now self.now.plan.now self.now.virama known.old }
-        ensures known { let font = F.font self.now.face.now in
-            AllKnown font self.now.map.now self.now.plan.now self.now.virama known.new }
-        ensures glyph { let font = F.font self.now.face.now in
+        requires { let r = self.now.rules.now in
+            let font = F.font r.face.now in
+            AllKnown font r.map.now r.plan.now self.now.virama known.old }
+        ensures known { let r = self.now.rules.now in
+            let font = F.font r.face.now in
+            AllKnown font r.map.now r.plan.now self.now.virama known.new }
+        ensures glyph { let r = self.now.rules.now in
+            let font = F.font r.face.now in
             glyph.new ≡
-            by_virama font self.now.map.now self.now.plan.now self.now.virama glyph.old }
+            by_virama font r.map.now r.plan.now self.now.virama glyph.old }
     {
         if glyph.auxiliary == POS_BASE_C {
             glyph.auxiliary = self.position_of(known, number(glyph));
@@ -145,11 +138,13 @@ impl<'a, F: hb_font_t> ByVirama<'a, F> {
     // Gives all consonants of position BASE_C their positions, where that of one is known.
     #[inline]
     fn position_each(&self, first: Known, glyphs: &mut [hb_glyph_info_t])
-        requires { let font = F.font self.now.face.now in
-            IsKnown font self.now.map.now self.now.plan.now self.now.virama first }
-        ensures { let font = F.font self.now.face.now in
+        requires { let r = self.now.rules.now in
+            let font = F.font r.face.now in
+            IsKnown font r.map.now r.plan.now self.now.virama first }
+        ensures { let r = self.now.rules.now in
+            let font = F.font r.face.now in
             glyphs.new ≡
-            map (by_virama font self.now.map.now self.now.plan.now self.now.virama) glyphs.old }
+            map (by_virama font r.map.now r.plan.now self.now.virama) glyphs.old }
     {
         let mut known = [first; KNOWN];
         for glyph in glyphs.iter_mut() {
@@ -160,9 +155,10 @@ impl<'a, F: hb_font_t> ByVirama<'a, F> {
     // Gives all consonants of position BASE_C their positions.
     #[inline]
     fn position_all(&self, glyphs: &mut [hb_glyph_info_t])
-        ensures { let font = F.font self.now.face.now in
+        ensures { let r = self.now.rules.now in
+            let font = F.font r.face.now in
             glyphs.new ≡
-            map (by_virama font self.now.map.now self.now.plan.now self.now.virama) glyphs.old }
+            map (by_virama font r.map.now r.plan.now self.now.virama) glyphs.old }
     {
         if let Some(first) = first_consonant(glyphs) {
             self.position_each(self.asked(number(&first)), glyphs);
@@ -172,11 +168,12 @@ impl<'a, F: hb_font_t> ByVirama<'a, F> {
     // Whether a feature would substitute the virama and a consonant, in either order.
     #[inline(always)]
     fn joins(&self, feature: &IndicWouldSubstituteFeature, consonant: GlyphId) -> bool
-        ensures { let font = F.font self.now.face.now in
-            result ≡ joins_virama font self.now.map.now feature.now self.now.virama consonant }
+        ensures { let r = self.now.rules.now in
+            let font = F.font r.face.now in
+            result ≡ joins_virama font r.map.now feature.now self.now.virama consonant }
     {
-        feature.would_substitute(self.map, self.face, &[self.virama, consonant])
-            || feature.would_substitute(self.map, self.face, &[consonant, self.virama])
+        feature.would_substitute(self.rules.map, self.rules.face, &[self.virama, consonant])
+            || feature.would_substitute(self.rules.map, self.rules.face, &[consonant, self.virama])
     }
 }
 
@@ -187,7 +184,8 @@ impl<'a, F: hb_font_t> GlyphWalk for ByVirama<'a, F> {
     ghost can_walk = { λ _ _. Unit {0} };
 
     ghost walks = { λ v w gs hs.
-        hs ≡ map (by_virama (F.font v.face.now) v.map.now v.plan.now v.virama) gs };
+        let r = v.rules.now in
+        hs ≡ map (by_virama (F.font r.face.now) r.map.now r.plan.now v.virama) gs };
 
     #[inline]
     fn walk(&mut self, glyphs: &mut [hb_glyph_info_t]) {

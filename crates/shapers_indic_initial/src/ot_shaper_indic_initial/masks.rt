@@ -8,15 +8,16 @@ ghost use Rattle.shapers_buffer.specs.GlyphFlags.{with_bits};
 ghost use Rattle.shapers_base.specs.Font.{Font};
 ghost use Rattle.shapers_base.specs.Map.{Map};
 ghost use Rattle.shapers_base.specs.declared.plan.ot_category_t.TheConstants.{OT_ZWNJ};
+ghost use Rattle.shapers_base.specs.declared.plan.ot_position_t.TheConstants.{POS_RA_TO_BECOME_REPH};
 ghost use Rattle.shapers_indic.specs.declared.ot_shaper_indic.indic_feature.TheConstants.{HALF};
 ghost use Rattle.shapers_indic.specs.Glyphs.{has_category, has_position, is_one_of, passes};
 ghost use Rattle.shapers_syllabic.specs.Consonants.{is_consonant};
 ghost use Rattle.shapers_indic_initial.specs.InitialMasks.{applies_before_base, bits_of, has_eyelash, is_in_eyelash, mask_after_base, mask_before_base, opens_eyelash, pref_pair, with_eyelash_mask, with_initial_masks, with_pref_mask, without_half};
 ghost use Rattle.shapers_indic_initial.specs.InitialRules.{rules_of};
 
+use super::rules::Rules;
 use shapers_base::buffer::{Script, hb_glyph_info_t};
 use shapers_base::font::hb_font_t;
-use shapers_base::map::hb_ot_map_t;
 use shapers_base::plan::ot_category_t::{OT_H, OT_Ra, OT_ZWJ, OT_ZWNJ};
 use shapers_base::plan::ot_position_t::POS_RA_TO_BECOME_REPH;
 use shapers_base::plan::{BlwfMode, Category, indic_shape_plan_t};
@@ -30,22 +31,24 @@ const DEVANAGARI: Script = Script(*b"Deva");
 /// features, which touch no glyph flag.
 #[inline]
 pub(super) fn set_masks<F: hb_font_t>(
-    plan: &indic_shape_plan_t,
-    map: &hb_ot_map_t,
-    face: &F,
+    rules: &Rules<F>,
     script: Option<Script>,
     base: usize,
     glyphs: &mut [hb_glyph_info_t],
 )
     requires { base ≤ length glyphs.old }
-    ensures masks { let rules = rules_of (F.font face.now) map.now plan.now in
-        glyphs.new ≡ with_initial_masks rules script base glyphs.old }
-    ensures fits { bits_of (rules_of (F.font face.now) map.now plan.now) HALF < 2 ^ 32 }
+    ensures masks { let font = F.font rules.now.face.now in
+        let r = rules_of font rules.now.map.now rules.now.plan.now in
+        glyphs.new ≡ with_initial_masks r script base glyphs.old }
+    ensures fits { let font = F.font rules.now.face.now in
+        let r = rules_of font rules.now.map.now rules.now.plan.now in
+        bits_of r HALF < 2 ^ 32 }
 {
+    let plan = rules.plan;
     set_reph_bits(bits_of(plan, RPHF), glyphs);
     set_bits_around(bits_before_base(plan), bits_after_base(plan), base, glyphs);
     set_eyelash_mask(plan, script, base, glyphs);
-    set_pref_mask(plan, map, face, base, glyphs);
+    set_pref_mask(rules, base, glyphs);
     clear_half(bits_of(plan, HALF), glyphs);
 }
 
@@ -71,7 +74,7 @@ fn add_bits(bits: u32, glyphs: &mut [hb_glyph_info_t])
 // Gives the glyphs of a reph that opens the syllable mask bits.
 #[inline]
 fn set_reph_bits(bits: u32, glyphs: &mut [hb_glyph_info_t])
-    ensures { let len = prefix_len (has_position 1) glyphs.old in
+    ensures { let len = prefix_len (has_position POS_RA_TO_BECOME_REPH) glyphs.old in
         glyphs.new ≡ with_stretch 0 len (map (with_bits bits)) glyphs.old }
 {
     let len = reph_run_len(glyphs);
@@ -81,7 +84,7 @@ fn set_reph_bits(bits: u32, glyphs: &mut [hb_glyph_info_t])
 // How many glyphs of the reph's position stand in front.
 #[inline]
 fn reph_run_len(glyphs: &[hb_glyph_info_t]) -> usize
-    ensures len { result ≡ prefix_len (has_position 1) glyphs.now }
+    ensures len { result ≡ prefix_len (has_position POS_RA_TO_BECOME_REPH) glyphs.now }
     ensures within { result ≤ length glyphs.now }
 {
     glyphs
@@ -209,42 +212,37 @@ fn is_of_category(glyphs: &[hb_glyph_info_t], i: usize, category: Category) -> b
 
 // Gives the first two neighbours after the base that pref would substitute its mask.
 #[inline]
-fn set_pref_mask<F: hb_font_t>(
-    plan: &indic_shape_plan_t,
-    map: &hb_ot_map_t,
-    face: &F,
-    base: usize,
-    glyphs: &mut [hb_glyph_info_t],
-)
+fn set_pref_mask<F: hb_font_t>(rules: &Rules<F>, base: usize, glyphs: &mut [hb_glyph_info_t])
     requires { base ≤ length glyphs.old }
-    ensures { let rules = rules_of (F.font face.now) map.now plan.now in
-        glyphs.new ≡ with_pref_mask rules base glyphs.old }
+    ensures { let font = F.font rules.now.face.now in
+        let r = rules_of font rules.now.map.now rules.now.plan.now in
+        glyphs.new ≡ with_pref_mask r base glyphs.old }
 {
-    if let Some(pair) = pref_pair(plan, map, face, base, glyphs) {
-        add_bits(bits_of(plan, PREF), &mut glyphs[pair..pair + 2]);
+    if let Some(pair) = pref_pair(rules, base, glyphs) {
+        add_bits(bits_of(rules.plan, PREF), &mut glyphs[pair..pair + 2]);
     }
 }
 
 // The place of the first two neighbours after the base that pref would substitute.
 #[inline]
 fn pref_pair<F: hb_font_t>(
-    plan: &indic_shape_plan_t,
-    map: &hb_ot_map_t,
-    face: &F,
+    rules: &Rules<F>,
     base: usize,
     glyphs: &[hb_glyph_info_t],
 ) -> Option<usize>
     requires { base ≤ length glyphs.now }
-    ensures pair { result ≡ pref_pair (rules_of (F.font face.now) map.now plan.now) base
-        glyphs.now }
+    ensures pair { let font = F.font rules.now.face.now in
+        let r = rules_of font rules.now.map.now rules.now.plan.now in
+        result ≡ pref_pair r base glyphs.now }
     ensures within { MatchOption result (Unit {0}) (λ place. place + 2 ≤ length glyphs.now) }
 {
+    let plan = rules.plan;
     if plan.mask_array[PREF] == 0 || base + 2 >= glyphs.len() {
         return None;
     }
     for i in base + 1..glyphs.len() - 1 {
         let pair = [number(&glyphs[i]), number(&glyphs[i + 1])];
-        if plan.pref.would_substitute(map, face, &pair) {
+        if plan.pref.would_substitute(rules.map, rules.face, &pair) {
             return Some(i);
         }
     }

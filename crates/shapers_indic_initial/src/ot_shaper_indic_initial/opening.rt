@@ -4,25 +4,23 @@ ghost use Rattle.std.specs.Prelude.{◌≡◌, ◌-◌, ◌<◌, ◌≤◌, leng
 ghost use Rattle.shapers_buffer.specs.Buffer.{but_places};
 ghost use Rattle.shapers_indic_initial.specs.InitialPositions.{moved_behind};
 ghost use Rattle.shapers_indic_initial.specs.InitialReordering.{halant_steps, joiner_steps, opening_steps, positioned, with_halant_moved, with_joiner_first, with_marks_and_owners};
-ghost use Rattle.shapers_indic_initial.specs.InitialRules.{Rules, rules_of};
+ghost use Rattle.shapers_indic_initial.specs.InitialRules as initial;
+ghost use Rattle.shapers_indic_initial.specs.InitialRules.{rules_of};
 ghost use Rattle.shapers_syllabic.specs.Reordering.{SyllableReordered};
 
 use super::base::{Base, find_base};
 use super::halant::{halant_move, joiner_comes_first};
 use super::positions::{attach_marks, own, set_positions_by_base};
+use super::rules::Rules;
 use shapers_base::buffer::{GlyphWalk, Script, hb_buffer_t, hb_glyph_info_t};
 use shapers_base::font::hb_font_t;
-use shapers_base::map::hb_ot_map_t;
-use shapers_base::plan::indic_shape_plan_t;
 
-/// Gives the glyphs of the syllable from `start` to `end` their positions. Kannada's opening Ra, H,
-/// ZWJ becomes Ra, ZWJ, H, and by the older specification the H after the base goes behind the last
-/// consonant. It takes no memory.
+/// Prepares the syllable from `start` to `end` for its order. Kannada's opening Ra, H, ZWJ becomes
+/// Ra, ZWJ, H; the glyphs get their positions; and by the older specification the H after the base
+/// goes behind the last consonant. It takes no memory.
 #[inline]
-pub(super) fn set_positions<F: hb_font_t>(
-    plan: &indic_shape_plan_t,
-    map: &hb_ot_map_t,
-    face: &F,
+pub(super) fn prepare_for_order<F: hb_font_t>(
+    rules: &Rules<F>,
     buffer: &mut hb_buffer_t,
     start: usize,
     end: usize,
@@ -30,16 +28,24 @@ pub(super) fn set_positions<F: hb_font_t>(
     requires in_order { start ≤ end }
     requires in_range { end ≤ length buffer.old.glyphs }
     ensures same_length { length buffer.new.glyphs ≡ length buffer.old.glyphs }
-    ensures reordered { let rules = rules_of (F.font face.now) map.now plan.now in
-        let meaning = positioned rules buffer.old.script in
-        let steps = opening_steps rules buffer.old.script in
+    ensures reordered { let font = F.font rules.now.face.now in
+        let r = rules_of font rules.now.map.now rules.now.plan.now in
+        let meaning = positioned r buffer.old.script in
+        let steps = opening_steps r buffer.old.script in
         SyllableReordered meaning steps start end buffer.old buffer.new }
 {
     let script = buffer.script();
     put_joiner_first(script, buffer, start, end);
-    let base = find_base(plan, map, face, &buffer.glyphs()[start..end]);
+    let base = find_base(rules, &buffer.glyphs()[start..end]);
     buffer.walk(&mut PositionsByBase { base, start, end });
-    move_halant(plan.is_old_spec, script, base.place, buffer, start, end);
+    move_halant(
+        rules.plan.is_old_spec,
+        script,
+        base.place,
+        buffer,
+        start,
+        end,
+    );
     let base = base.place;
     buffer.walk(&mut PositionsOfMarks { base, start, end });
 }
@@ -72,7 +78,7 @@ fn move_halant(
     requires in_order { start ≤ end }
     requires in_range { end ≤ length buffer.old.glyphs }
     ensures same_length { length buffer.new.glyphs ≡ length buffer.old.glyphs }
-    ensures reordered { (rules : Rules) → rules.old ≡ is_old_spec → (
+    ensures reordered { (rules : initial.Rules) → rules.old ≡ is_old_spec → (
         let meaning = with_halant_moved rules script base in
         let steps = halant_steps rules script base in
         SyllableReordered meaning steps start end buffer.old buffer.new) }

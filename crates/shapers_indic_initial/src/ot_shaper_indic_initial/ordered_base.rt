@@ -1,5 +1,6 @@
 //! Where the base of a syllable stands once its glyphs are in order.
 ghost use Rattle.std.specs.Prelude.{◌≡◌, ◌≤◌, length, position};
+ghost use Rattle.shapers_base.specs.declared.plan.ot_position_t.TheConstants.{POS_BASE_C};
 ghost use Rattle.shapers_indic.specs.Glyphs.{has_position};
 ghost use Rattle.shapers_indic_initial.specs.InitialOrder.{ordered_base};
 
@@ -19,7 +20,7 @@ pub(super) fn ordered_base(glyphs: &[hb_glyph_info_t]) -> usize
 // The place of the first glyph of position BASE_C.
 #[inline]
 fn first_base(glyphs: &[hb_glyph_info_t]) -> Option<usize>
-    ensures { result ≡ position (has_position 4) glyphs.now }
+    ensures { result ≡ position (has_position POS_BASE_C) glyphs.now }
 {
     glyphs
         .iter()

@@ -11,14 +11,23 @@ ghost use Rattle.shapers_syllabic.specs.ReorderingLaws.{PauseCutsAtBorders, Text
 
 use super::font_positions::update_consonant_positions;
 use super::reordering::InitialOrder;
+use super::rules::Rules;
 use shapers_base::buffer::{ShaperError, hb_buffer_t};
 use shapers_base::font::hb_font_t;
 use shapers_base::plan::hb_ot_shape_plan_t;
 use shapers_base::plan::ot_category_t::{OT_DOTTEDCIRCLE, OT_Repha};
 use shapers_base::plan::ot_position_t::POS_END;
-use shapers_indic::ot_shaper_indic::{indic_in, virama_glyph};
+use shapers_indic::ot_shaper_indic::indic_in;
 use shapers_syllabic::ot_shaper_syllabic::indic_syllable::{BROKEN_CLUSTER, NON_INDIC_CLUSTER};
-use shapers_syllabic::ot_shaper_syllabic::{insert_dotted_circles, reorder_syllables};
+use shapers_syllabic::ot_shaper_syllabic::{ScriptCircles, reorder_syllables};
+
+// The dotted circles of Indic scripts.
+const CIRCLES: ScriptCircles = ScriptCircles {
+    broken_kind: BROKEN_CLUSTER,
+    category: OT_DOTTEDCIRCLE,
+    repha: Some(OT_Repha),
+    position: Some(POS_END),
+};
 
 /// Gives consonants positions by the font and broken syllables their dotted circles, and then
 /// reorders each syllable: its base, what goes with which glyph, the order by positions, the masks
@@ -67,21 +76,14 @@ pub fn initial_reordering<F: hb_font_t>(
     if let Some(place) = buffer.unknown_syllable(NON_INDIC_CLUSTER) {
         return Err(ShaperError::UnknownSyllable(place));
     }
-    let circles = insert_dotted_circles(
-        face,
-        buffer,
-        BROKEN_CLUSTER,
-        OT_DOTTEDCIRCLE,
-        Some(OT_Repha),
-        Some(POS_END),
-    )?;
-    let (data, map) = (indic_in(plan), &plan.ot_map);
-    update_consonant_positions(data, map, face, virama_glyph(data, face), buffer);
-    let order = InitialOrder {
-        plan: data,
-        map,
+    let circles = CIRCLES.insert(face, buffer)?;
+    let rules = Rules {
+        plan: indic_in(plan),
+        map: &plan.ot_map,
         face,
     };
+    update_consonant_positions(&rules, buffer);
+    let order = InitialOrder { rules: &rules };
     reorder_syllables(&order, buffer)?;
     Ok(circles)
 }

@@ -3,7 +3,7 @@
 ghost use Rattle.std.specs.Prelude.{◌≡◌, ◌+◌, ◌<◌, None, Some, drop, get_or, if◌then◌else◌, length, nat_le, unwrap_or};
 ghost use Rattle.shapers_buffer.specs.Glyph.{default_glyph};
 ghost use Rattle.shapers_indic_initial.specs.InitialPositions.{bounds, by_base, draws_sign, is_attached, position_by_base, with_marks_attached, with_owners, with_owners_after};
-ghost use Rattle.shapers_indic_initial.specs.MarkWalk.{drawn_position, next_behind, next_carrier, parted_position};
+ghost use Rattle.shapers_indic_initial.specs.MarkWalk.{drawn_position, next_behind, next_carrier};
 ghost use Rattle.shapers_syllabic.specs.Consonants.{is_consonant};
 
 use super::base::Base;
@@ -58,7 +58,8 @@ pub(super) fn attach_marks(glyphs: &mut [hb_glyph_info_t])
     let mut behind = POS_PRE_M;
     for i in 0..glyphs.len() {
         let (position, next) = drawn_position(glyphs, i, carrier);
-        glyphs[i].auxiliary = parted_position(&glyphs[i], position, behind);
+        let parted = glyphs[i].category == OT_H && position == POS_PRE_M;
+        glyphs[i].auxiliary = if parted { behind } else { position };
         carrier = next;
         behind = next_behind(position, behind);
     }
@@ -107,19 +108,6 @@ fn draws_sign(glyph: &hb_glyph_info_t, next: &hb_glyph_info_t) -> bool
     ensures { result ≡ draws_sign glyph.now next.now }
 {
     glyph.category == OT_SM && next.category == OT_MPst && next.auxiliary != POS_SMVD
-}
-
-// The position of a glyph that has this one so far: a halant doesn't go with a left matra, but with
-// what stands behind it.
-#[inline]
-fn parted_position(glyph: &hb_glyph_info_t, position: u8, behind: u8) -> u8
-    ensures { result ≡ parted_position behind position glyph.now }
-{
-    if glyph.category == OT_H && position == POS_PRE_M {
-        behind
-    } else {
-        position
-    }
 }
 
 // The position of the nearest glyph that doesn't go with a left matra before what follows a glyph

@@ -5,13 +5,12 @@ ghost use Rattle.shapers_indic_initial.specs.InitialRules.{rules_of};
 ghost use Rattle.shapers_syllabic.specs.Reordering.{SyllableReordered};
 
 use super::masks::set_masks;
-use super::opening::set_positions;
+use super::opening::prepare_for_order;
 use super::order::order_syllable;
 use super::ordered_base::ordered_base;
+use super::rules::Rules;
 use shapers_base::buffer::{GlyphWalk, Script, ShaperError, hb_buffer_t, hb_glyph_info_t};
 use shapers_base::font::hb_font_t;
-use shapers_base::map::hb_ot_map_t;
-use shapers_base::plan::indic_shape_plan_t;
 use shapers_indic::ot_shaper_indic::glyphs::is_plain_consonant;
 use shapers_syllabic::ot_shaper_syllabic::Reorder;
 use shapers_syllabic::ot_shaper_syllabic::indic_syllable::{
@@ -21,9 +20,7 @@ use shapers_syllabic::ot_shaper_syllabic::indic_syllable::{
 /// The initial reordering of a syllable that has positions by the font: its order, and its masks.
 #[derive(Drop)]
 pub(super) struct InitialOrder<'a, F: hb_font_t> {
-    pub(super) plan: &'a indic_shape_plan_t,
-    pub(super) map: &'a hb_ot_map_t,
-    pub(super) face: &'a F,
+    pub(super) rules: &'a Rules<'a, F>,
 }
 
 impl<'a, F: hb_font_t> Reorder for InitialOrder<'a, F> {
@@ -31,10 +28,12 @@ impl<'a, F: hb_font_t> Reorder for InitialOrder<'a, F> {
     ghost use Rattle.shapers_indic_initial.specs.InitialRules.{rules_of};
 
     ghost meaning = { λ r script gs.
-        initial_order (rules_of (F.font r.face.now) r.map.now r.plan.now) script gs };
+        let rules = r.rules.now in
+        initial_order (rules_of (F.font rules.face.now) rules.map.now rules.plan.now) script gs };
 
     ghost steps = { λ r script gs.
-        initial_steps (rules_of (F.font r.face.now) r.map.now r.plan.now) script gs };
+        let rules = r.rules.now in
+        initial_steps (rules_of (F.font rules.face.now) rules.map.now rules.plan.now) script gs };
 
     #[inline]
     fn reorder(
@@ -46,10 +45,9 @@ impl<'a, F: hb_font_t> Reorder for InitialOrder<'a, F> {
         if is_plain_consonant(&buffer.glyphs()[start..end]) {
             return Ok(());
         }
-        let (plan, map, face) = (self.plan, self.map, self.face);
         if is_reordered(&buffer.glyphs()[start..end]) {
-            set_positions(plan, map, face, buffer, start, end);
-            order_syllable(buffer, start, end, plan.is_old_spec);
+            prepare_for_order(self.rules, buffer, start, end);
+            order_syllable(buffer, start, end, self.rules.plan.is_old_spec);
             self.mask_syllable(buffer, start, end);
         }
         Ok(())
@@ -62,15 +60,13 @@ impl<'a, F: hb_font_t> InitialOrder<'a, F> {
     fn mask_syllable(&self, buffer: &mut hb_buffer_t, start: usize, end: usize)
         requires in_order { start ≤ end }
         requires in_range { end ≤ length buffer.old.glyphs }
-        ensures { let font = F.font self.now.face.now in
-            let rules = rules_of font self.now.map.now self.now.plan.now in
-            SyllableReordered (masked_in_order rules buffer.old.script) (λ _. [])
+        ensures { let rules = self.now.rules.now in
+            let r = rules_of (F.font rules.face.now) rules.map.now rules.plan.now in
+            SyllableReordered (masked_in_order r buffer.old.script) (λ _. [])
             start end buffer.old buffer.new }
     {
         let mut masks = Masks {
-            plan: self.plan,
-            map: self.map,
-            face: self.face,
+            rules: self.rules,
             script: buffer.script(),
             start,
             end,
@@ -82,9 +78,7 @@ impl<'a, F: hb_font_t> InitialOrder<'a, F> {
 // Where a syllable stands whose glyphs get their masks.
 #[derive(Drop)]
 struct Masks<'a, F: hb_font_t> {
-    plan: &'a indic_shape_plan_t,
-    map: &'a hb_ot_map_t,
-    face: &'a F,
+    rules: &'a Rules<'a, F>,
     script: Option<Script>,
     start: usize,
     end: usize,
@@ -101,15 +95,16 @@ impl<'a, F: hb_font_t> GlyphWalk for Masks<'a, F> {
     ghost can_walk = { λ w gs. (w.start ≤ w.end) × (w.end ≤ length gs) };
 
     ghost walks = { λ v w gs hs.
-        let rules = rules_of (F.font v.face.now) v.map.now v.plan.now in
-        (hs ≡ with_stretch v.start v.end (masked_in_order rules v.script) gs)
-        × (bits_of rules HALF < 2 ^ 32) };
+        let rules = v.rules.now in
+        let r = rules_of (F.font rules.face.now) rules.map.now rules.plan.now in
+        (hs ≡ with_stretch v.start v.end (masked_in_order r v.script) gs)
+        × (bits_of r HALF < 2 ^ 32) };
 
     #[inline]
     fn walk(&mut self, glyphs: &mut [hb_glyph_info_t]) {
         let syllable = &mut glyphs[self.start..self.end];
         let base = ordered_base(syllable);
-        set_masks(self.plan, self.map, self.face, self.script, base, syllable);
+        set_masks(self.rules, self.script, base, syllable);
     }
 }
 

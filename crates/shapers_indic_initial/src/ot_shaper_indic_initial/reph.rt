@@ -6,38 +6,28 @@ ghost use Rattle.shapers_indic_initial.specs.InitialBase.{limit_behind, opens_wi
 ghost use Rattle.shapers_indic.specs.Glyphs.{is_joiner};
 ghost use Rattle.shapers_indic_initial.specs.InitialRules.{rules_of};
 
+use super::rules::Rules;
 use shapers_base::buffer::hb_glyph_info_t;
 use shapers_base::font::hb_font_t;
-use shapers_base::map::hb_ot_map_t;
+use shapers_base::plan::RephMode;
 use shapers_base::plan::ot_category_t::{OT_Repha, OT_ZWJ};
-use shapers_base::plan::{RephMode, indic_shape_plan_t};
 use shapers_indic::ot_shaper_indic::glyphs::{is_joiner, number};
 use shapers_indic::ot_shaper_indic::indic_feature::RPHF;
 
 /// How many glyphs the reph that opens a syllable has, without joiners behind it; 0 if there is
 /// none.
 #[inline]
-pub(crate) fn reph_len<F: hb_font_t>(
-    plan: &indic_shape_plan_t,
-    map: &hb_ot_map_t,
-    face: &F,
-    glyphs: &[hb_glyph_info_t],
-) -> usize
-    ensures len { result ≡ reph_len (rules_of (F.font face.now) map.now plan.now) glyphs.now }
+pub(crate) fn reph_len<F: hb_font_t>(rules: &Rules<F>, glyphs: &[hb_glyph_info_t]) -> usize
+    ensures len { let font = F.font rules.now.face.now in
+        let r = rules_of font rules.now.map.now rules.now.plan.now in
+        result ≡ reph_len r glyphs.now }
     ensures within { result ≤ length glyphs.now }
 {
-    if plan.mask_array[RPHF] != 0 && third_lets_reph(plan.config.reph_mode, glyphs) {
-        return if is_formed(plan, map, face, glyphs) {
-            2
-        } else {
-            0
-        };
+    let mode = rules.plan.config.reph_mode;
+    if rules.plan.mask_array[RPHF] != 0 && third_lets_reph(mode, glyphs) {
+        return if is_formed(rules, glyphs) { 2 } else { 0 };
     }
-    if opens_with_repha(plan.config.reph_mode, glyphs) {
-        1
-    } else {
-        0
-    }
+    if opens_with_repha(mode, glyphs) { 1 } else { 0 }
 }
 
 /// Where the search for the base ends, if no ZWJ ends it before: behind the reph and the joiners
@@ -77,22 +67,19 @@ fn third_lets_reph(mode: RephMode, glyphs: &[hb_glyph_info_t]) -> bool
 
 // Whether the font forms a reph of what opens the syllable.
 #[inline]
-fn is_formed<F: hb_font_t>(
-    plan: &indic_shape_plan_t,
-    map: &hb_ot_map_t,
-    face: &F,
-    glyphs: &[hb_glyph_info_t],
-) -> bool
+fn is_formed<F: hb_font_t>(rules: &Rules<F>, glyphs: &[hb_glyph_info_t]) -> bool
     requires { 3 ≤ length glyphs.now }
-    ensures { let rules = rules_of (F.font face.now) map.now plan.now in
-        result ≡ reph_is_formed plan.now.config.reph_mode rules.forms_reph glyphs.now }
+    ensures { let font = F.font rules.now.face.now in
+        let r = rules_of font rules.now.map.now rules.now.plan.now in
+        result ≡ reph_is_formed r.config.reph_mode r.forms_reph glyphs.now }
 {
     let opening = [number(&glyphs[0]), number(&glyphs[1]), number(&glyphs[2])];
-    match plan.config.reph_mode {
-        RephMode::Implicit => plan.rphf.would_substitute(map, face, &opening[..2]),
+    let rphf = &rules.plan.rphf;
+    match rules.plan.config.reph_mode {
+        RephMode::Implicit => rphf.would_substitute(rules.map, rules.face, &opening[..2]),
         RephMode::Explicit => {
-            plan.rphf.would_substitute(map, face, &opening[..2])
-                || plan.rphf.would_substitute(map, face, &opening)
+            rphf.would_substitute(rules.map, rules.face, &opening[..2])
+                || rphf.would_substitute(rules.map, rules.face, &opening)
         }
         RephMode::LogRepha => false,
     }

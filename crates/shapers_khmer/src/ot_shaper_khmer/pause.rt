@@ -7,6 +7,7 @@ ghost use Rattle.shapers_clusters.specs.Laws.{ReorderedHold};
 ghost use Rattle.shapers_khmer.specs.Khmer.{khmer_circles, khmer_order, khmer_steps, order_in};
 ghost use Rattle.shapers_khmer.specs.KhmerMovers.{ordered_by_movers, steps_by_movers};
 ghost use Rattle.shapers_khmer.specs.Plan.{is_khmer_data};
+ghost use Rattle.shapers_syllabic.specs.declared.ot_shaper_syllabic.kinds.khmer_syllable.TheConstants.{NON_KHMER_CLUSTER};
 ghost use Rattle.shapers_syllabic.specs.CircleLaws.{NoNewCluster};
 ghost use Rattle.shapers_syllabic.specs.Circles.{circled};
 ghost use Rattle.shapers_syllabic.specs.Reordering.{PauseReordered, carried, script_circles, text_steps};
@@ -60,12 +61,12 @@ pub fn reorder_khmer<F: hb_font_t>(
         (text_steps khmer_steps (order_view opened)) opened buffer.new.glyphs) }
     ensures clusters { OnOk result (NoNewCluster buffer.old.glyphs buffer.new.glyphs) }
     ensures refusal { let circles = script_circles khmer_circles (F.font face.now) buffer.old in
-        Refuses (unknown_refusal 2 buffer.old.glyphs)
+        Refuses (unknown_refusal NON_KHMER_CLUSTER buffer.old.glyphs)
         buffer.old.max_len (length (circled circles buffer.old.glyphs)) result }
     ensures err { OnErr result (buffer.new ≡ buffer.old) }
     ensures without_memory { let circles =
         script_circles khmer_circles (F.font face.now) buffer.old in
-        unknown_refusal 2 buffer.old.glyphs ≡ None →
+        unknown_refusal NON_KHMER_CLUSTER buffer.old.glyphs ≡ None →
         circled circles buffer.old.glyphs ≡ buffer.old.glyphs → IsOk result }
 {
     let order = order_of(&plan.plan_data);

@@ -44,40 +44,193 @@ impl<'a, F: hb_font_t> PositionedWalk for TileLaying<'a, F> {
 
     #[inline]
     fn walk(&self, glyphs: &mut [hb_glyph_info_t], positions: &mut [GlyphPosition]) {
-        lay_all(
-            self.face,
-            self.choice,
-            self.right_to_left,
-            glyphs,
-            positions,
-            self.len,
-        );
+        self.lay_all(glyphs, positions);
     }
 }
 
-/// Stretches the text of the first `len` cells over the whole slices.
-#[inline]
-pub(super) fn lay_all<F: hb_font_t>(
-    face: &F,
-    choice: StretchStart,
-    right_to_left: bool,
-    glyphs: &mut [hb_glyph_info_t],
-    positions: &mut [GlyphPosition],
-    len: usize,
-)
-    requires { HasRoom (laying_by (F.font face.now) choice right_to_left)
-        glyphs.old positions.old len }
-    ensures glyphs { let how = laying_by (F.font face.now) choice right_to_left in
-        glyphs.new ≡ glyphs_of (stretched how (text_of len glyphs.old positions.old)) }
-    ensures positions { let how = laying_by (F.font face.now) choice right_to_left in
-        positions.new ≡ positions_of (stretched how (text_of len glyphs.old positions.old)) }
-{
-    let mut unlaid = Unlaid {
-        end: len,
-        place: glyphs.len(),
-    };
-    while 0 < unlaid.end {
-        unlaid = lay_last(face, choice, right_to_left, glyphs, positions, unlaid);
+impl<'a, F: hb_font_t> TileLaying<'a, F> {
+    // Stretches the text of the first `len` cells over the whole slices.
+    #[inline]
+    fn lay_all(&self, glyphs: &mut [hb_glyph_info_t], positions: &mut [GlyphPosition])
+        requires { HasRoom (laying_by (F.font self.now.face.now) self.now.choice self.now.right_to_left)
+            glyphs.old positions.old self.now.len }
+        ensures glyphs { let how = laying_by (F.font self.now.face.now) self.now.choice self.now.right_to_left in
+            glyphs.new ≡ glyphs_of (stretched how (text_of self.now.len glyphs.old positions.old)) }
+        ensures positions { let how = laying_by (F.font self.now.face.now) self.now.choice self.now.right_to_left in
+            positions.new ≡ positions_of (stretched how (text_of self.now.len glyphs.old positions.old)) }
+    {
+        let mut unlaid = Unlaid {
+            end: self.len,
+            place: glyphs.len(),
+        };
+        while 0 < unlaid.end {
+            unlaid = self.lay_last(glyphs, positions, unlaid);
+        }
+    }
+
+    // Lays the last part of the unlaid text: its run first, then what stands before it moves up.
+    #[inline]
+    fn lay_last(
+        &self,
+        glyphs: &mut [hb_glyph_info_t],
+        positions: &mut [GlyphPosition],
+        unlaid: Unlaid,
+    ) -> Unlaid
+        requires some { 0 < unlaid.end }
+        requires unlaid { IsUnlaid (laying_by (F.font self.now.face.now) self.now.choice self.now.right_to_left)
+            glyphs.old positions.old unlaid.end unlaid.place }
+        ensures laid { let how = laying_by (F.font self.now.face.now) self.now.choice self.now.right_to_left in
+            let whole = whole_of how glyphs.old positions.old unlaid.end unlaid.place in
+            IsLaidFrom how whole glyphs.new positions.new result.end result.place }
+        ensures shorter { result.end < unlaid.end }
+    {
+        let part = last_part(&glyphs[..unlaid.end]);
+        if part.tiles == unlaid.end {
+            move_up(glyphs, positions, part.start, part.tiles, unlaid.place);
+            return Unlaid {
+                end: part.start,
+                place: unlaid.place - (part.tiles - part.start),
+            };
+        }
+        let place = self.lay_run(glyphs, positions, part, unlaid);
+        move_up(glyphs, positions, part.start, part.tiles, place);
+        Unlaid {
+            end: part.start,
+            place: place - (part.tiles - part.start),
+        }
+    }
+
+    // Lays the run of the last part, and flags it and its word; where it then begins.
+    fn lay_run(
+        &self,
+        glyphs: &mut [hb_glyph_info_t],
+        positions: &mut [GlyphPosition],
+        part: LastPart,
+        unlaid: Unlaid,
+    ) -> usize
+        requires word { part.word ≤ part.tiles }
+        requires run { let how = laying_by (F.font self.now.face.now) self.now.choice self.now.right_to_left in
+            let old = zip glyphs.old positions.old in
+            let word = stretch_of part.word part.tiles old in
+            let tiles = stretch_of part.tiles unlaid.end old in
+            CanLayRun how word tiles part.tiles unlaid.end unlaid.place glyphs.old positions.old }
+        ensures both { length glyphs.new ≡ length positions.new }
+        ensures same_length { length glyphs.new ≡ length glyphs.old }
+        ensures flagged { let old = zip glyphs.old positions.old in
+            let word = stretch_of part.word part.tiles old in
+            let whole = unbroken (word ++ stretch_of part.tiles unlaid.end old) in
+            take part.tiles (zip glyphs.new positions.new) ≡ take part.word old
+            ++ take (length word) whole }
+        ensures laid { let how = laying_by (F.font self.now.face.now) self.now.choice self.now.right_to_left in
+            let old = zip glyphs.old positions.old in
+            let word = stretch_of part.word part.tiles old in
+            let tiles = stretch_of part.tiles unlaid.end old in
+            let z = measured how.font (positions_of word) (glyphs_of tiles) in
+            let run = drop (length word) (unbroken (word ++ tiles)) in
+            drop result (zip glyphs.new positions.new) ≡ reverse (laid_run how z run)
+            ++ drop unlaid.place old }
+        ensures place { let old = zip glyphs.old positions.old in
+            let word = stretch_of part.word part.tiles old in
+            let tiles = stretch_of part.tiles unlaid.end old in
+            let z = measured (F.font self.now.face.now) (positions_of word) (glyphs_of tiles) in
+            result + length (copies (F.font self.now.face.now) z tiles) ≡ unlaid.place }
+    {
+        let run = measure(
+            self.face,
+            &positions[part.word..part.tiles],
+            &glyphs[part.tiles..unlaid.end],
+        );
+        unsafe_to_break_in(glyphs, part.word, unlaid.end);
+        match lay_of(self.choice, self.right_to_left, run) {
+            Some(lay) => {
+                let pen = Pen {
+                    at: lay.start,
+                    place: unlaid.place,
+                };
+                let tiles = part.tiles..unlaid.end;
+                self.lay_tiles(lay, glyphs, positions, tiles, pen).place
+            }
+            None => unreachable!(),
+        }
+    }
+
+    // Lays these tiles, the last one first.
+    #[inline]
+    fn lay_tiles(
+        &self,
+        lay: Lay,
+        glyphs: &mut [hb_glyph_info_t],
+        positions: &mut [GlyphPosition],
+        tiles: Range<usize>,
+        pen: Pen,
+    ) -> Pen
+        requires overlap_low { pos 0 ≤ℤ lay.overlap }
+        requires overlap_high { lay.overlap ≤ℤ pos (2 ^ 66) }
+        requires near { IsNumber pen.at }
+        requires in_order { tiles.start ≤ tiles.end }
+        requires ahead { tiles.end ≤ pen.place }
+        requires numbers { AllByRecursion (λ g. g.glyph_id ≤ 65535) (take tiles.end glyphs.old) }
+        requires can { let cs = stretch_of tiles.start tiles.end (zip glyphs.old positions.old) in
+            CanLay self.now.right_to_left (run_copies (F.font self.now.face.now) lay cs) pen glyphs.old positions.old }
+        requires room { let cs = stretch_of tiles.start tiles.end (zip glyphs.old positions.old) in
+            tiles.start + length (run_copies (F.font self.now.face.now) lay cs) ≤ pen.place }
+        ensures both { length glyphs.new ≡ length positions.new }
+        ensures same_length { length glyphs.new ≡ length glyphs.old }
+        ensures lays { let old = zip glyphs.old positions.old in
+            let laid = run_copies (F.font self.now.face.now) lay (stretch_of tiles.start tiles.end old) in
+            Lays self.now.right_to_left laid pen result old (zip glyphs.new positions.new) }
+    {
+        let mut pen = pen;
+        for i in (tiles.start..tiles.end).rev() {
+            let tile = Tile {
+                glyph: glyphs[i],
+                position: positions[i],
+            };
+            pen = self.lay_tile(lay, glyphs, positions, tile, pen);
+        }
+        pen
+    }
+
+    // Lays a tile, and where it repeats the added copies of it.
+    #[inline]
+    fn lay_tile(
+        &self,
+        lay: Lay,
+        glyphs: &mut [hb_glyph_info_t],
+        positions: &mut [GlyphPosition],
+        tile: Tile,
+        pen: Pen,
+    ) -> Pen
+        requires overlap_low { pos 0 ≤ℤ lay.overlap }
+        requires overlap_high { lay.overlap ≤ℤ pos (2 ^ 66) }
+        requires near { IsNumber pen.at }
+        requires number { tile.glyph.glyph_id ≤ 65535 }
+        requires can { let cell : Cell = (tile.glyph, tile.position) in
+            CanLay self.now.right_to_left (copies_by (F.font self.now.face.now) lay cell) pen glyphs.old positions.old }
+        ensures both { length glyphs.new ≡ length positions.new }
+        ensures same_length { length glyphs.new ≡ length glyphs.old }
+        ensures near { IsNumber result.at }
+        ensures lays { let cell : Cell = (tile.glyph, tile.position) in
+            let laid = copies_by (F.font self.now.face.now) lay cell in
+            Lays self.now.right_to_left laid pen result
+            (zip glyphs.old positions.old) (zip glyphs.new positions.new) }
+    {
+        let width = i128::from(advance_of(self.face, &tile.glyph));
+        let pen = lay_copies(self.right_to_left, width, 1, glyphs, positions, tile, pen);
+        if !repeats(&tile.glyph) {
+            return pen;
+        }
+        let step = width - lay.overlap;
+        let added = lay.added;
+        lay_copies(
+            self.right_to_left,
+            step,
+            added,
+            glyphs,
+            positions,
+            tile,
+            pen,
+        )
     }
 }
 
@@ -86,40 +239,6 @@ pub(super) fn lay_all<F: hb_font_t>(
 struct Unlaid {
     end: usize,
     place: usize,
-}
-
-// Lays the last part of the unlaid text: its run first, then what stands before it moves up.
-#[inline]
-fn lay_last<F: hb_font_t>(
-    face: &F,
-    choice: StretchStart,
-    right_to_left: bool,
-    glyphs: &mut [hb_glyph_info_t],
-    positions: &mut [GlyphPosition],
-    unlaid: Unlaid,
-) -> Unlaid
-    requires some { 0 < unlaid.end }
-    requires unlaid { IsUnlaid (laying_by (F.font face.now) choice right_to_left)
-        glyphs.old positions.old unlaid.end unlaid.place }
-    ensures laid { let how = laying_by (F.font face.now) choice right_to_left in
-        let whole = whole_of how glyphs.old positions.old unlaid.end unlaid.place in
-        IsLaidFrom how whole glyphs.new positions.new result.end result.place }
-    ensures shorter { result.end < unlaid.end }
-{
-    let part = last_part(&glyphs[..unlaid.end]);
-    if part.tiles == unlaid.end {
-        move_up(glyphs, positions, part.start, part.tiles, unlaid.place);
-        return Unlaid {
-            end: part.start,
-            place: unlaid.place - (part.tiles - part.start),
-        };
-    }
-    let place = lay_run(face, choice, right_to_left, glyphs, positions, part, unlaid);
-    move_up(glyphs, positions, part.start, part.tiles, place);
-    Unlaid {
-        end: part.start,
-        place: place - (part.tiles - part.start),
-    }
 }
 
 // Moves the cells from `start` to `end` up, so that they end at `place`.
@@ -150,62 +269,6 @@ fn move_up(
     }
 }
 
-// Lays the run of the last part, and flags it and its word; where it then begins.
-fn lay_run<F: hb_font_t>(
-    face: &F,
-    choice: StretchStart,
-    right_to_left: bool,
-    glyphs: &mut [hb_glyph_info_t],
-    positions: &mut [GlyphPosition],
-    part: LastPart,
-    unlaid: Unlaid,
-) -> usize
-    requires word { part.word ≤ part.tiles }
-    requires run { let how = laying_by (F.font face.now) choice right_to_left in
-        let old = zip glyphs.old positions.old in
-        let word = stretch_of part.word part.tiles old in
-        let tiles = stretch_of part.tiles unlaid.end old in
-        CanLayRun how word tiles part.tiles unlaid.end unlaid.place glyphs.old positions.old }
-    ensures both { length glyphs.new ≡ length positions.new }
-    ensures same_length { length glyphs.new ≡ length glyphs.old }
-    ensures flagged { let old = zip glyphs.old positions.old in
-        let word = stretch_of part.word part.tiles old in
-        let whole = unbroken (word ++ stretch_of part.tiles unlaid.end old) in
-        take part.tiles (zip glyphs.new positions.new) ≡ take part.word old
-        ++ take (length word) whole }
-    ensures laid { let how = laying_by (F.font face.now) choice right_to_left in
-        let old = zip glyphs.old positions.old in
-        let word = stretch_of part.word part.tiles old in
-        let tiles = stretch_of part.tiles unlaid.end old in
-        let z = measured how.font (positions_of word) (glyphs_of tiles) in
-        let run = drop (length word) (unbroken (word ++ tiles)) in
-        drop result (zip glyphs.new positions.new) ≡ reverse (laid_run how z run)
-        ++ drop unlaid.place old }
-    ensures place { let old = zip glyphs.old positions.old in
-        let word = stretch_of part.word part.tiles old in
-        let tiles = stretch_of part.tiles unlaid.end old in
-        let z = measured (F.font face.now) (positions_of word) (glyphs_of tiles) in
-        result + length (copies (F.font face.now) z tiles) ≡ unlaid.place }
-{
-    let run = measure(
-        face,
-        &positions[part.word..part.tiles],
-        &glyphs[part.tiles..unlaid.end],
-    );
-    unsafe_to_break_in(glyphs, part.word, unlaid.end);
-    match lay_of(choice, right_to_left, run) {
-        Some(lay) => {
-            let pen = Pen {
-                at: lay.start,
-                place: unlaid.place,
-            };
-            let tiles = part.tiles..unlaid.end;
-            lay_tiles(face, right_to_left, lay, glyphs, positions, tiles, pen).place
-        }
-        None => unreachable!(),
-    }
-}
-
 // Where the pen is, and the place before which the next copy is laid.
 #[derive(Clone, Copy)]
 struct Pen {
@@ -218,79 +281,6 @@ struct Pen {
 struct Tile {
     glyph: hb_glyph_info_t,
     position: GlyphPosition,
-}
-
-// Lays these tiles, the last one first.
-#[inline]
-fn lay_tiles<F: hb_font_t>(
-    face: &F,
-    right_to_left: bool,
-    lay: Lay,
-    glyphs: &mut [hb_glyph_info_t],
-    positions: &mut [GlyphPosition],
-    tiles: Range<usize>,
-    pen: Pen,
-) -> Pen
-    requires overlap_low { pos 0 ≤ℤ lay.overlap }
-    requires overlap_high { lay.overlap ≤ℤ pos (2 ^ 66) }
-    requires near { IsNumber pen.at }
-    requires in_order { tiles.start ≤ tiles.end }
-    requires ahead { tiles.end ≤ pen.place }
-    requires numbers { AllByRecursion (λ g. g.glyph_id ≤ 65535) (take tiles.end glyphs.old) }
-    requires can { let cs = stretch_of tiles.start tiles.end (zip glyphs.old positions.old) in
-        CanLay right_to_left (run_copies (F.font face.now) lay cs) pen glyphs.old positions.old }
-    requires room { let cs = stretch_of tiles.start tiles.end (zip glyphs.old positions.old) in
-        tiles.start + length (run_copies (F.font face.now) lay cs) ≤ pen.place }
-    ensures both { length glyphs.new ≡ length positions.new }
-    ensures same_length { length glyphs.new ≡ length glyphs.old }
-    ensures lays { let old = zip glyphs.old positions.old in
-        let laid = run_copies (F.font face.now) lay (stretch_of tiles.start tiles.end old) in
-        Lays right_to_left laid pen result old (zip glyphs.new positions.new) }
-{
-    let mut pen = pen;
-    for i in (tiles.start..tiles.end).rev() {
-        let tile = Tile {
-            glyph: glyphs[i],
-            position: positions[i],
-        };
-        pen = lay_tile(face, right_to_left, lay, glyphs, positions, tile, pen);
-    }
-    pen
-}
-
-// Lays a tile, and where it repeats the added copies of it.
-#[inline]
-fn lay_tile<F: hb_font_t>(
-    face: &F,
-    right_to_left: bool,
-    lay: Lay,
-    glyphs: &mut [hb_glyph_info_t],
-    positions: &mut [GlyphPosition],
-    tile: Tile,
-    pen: Pen,
-) -> Pen
-    requires overlap_low { pos 0 ≤ℤ lay.overlap }
-    requires overlap_high { lay.overlap ≤ℤ pos (2 ^ 66) }
-    requires near { IsNumber pen.at }
-    requires number { tile.glyph.glyph_id ≤ 65535 }
-    requires can { let cell : Cell = (tile.glyph, tile.position) in
-        CanLay right_to_left (copies_by (F.font face.now) lay cell) pen glyphs.old positions.old }
-    ensures both { length glyphs.new ≡ length positions.new }
-    ensures same_length { length glyphs.new ≡ length glyphs.old }
-    ensures near { IsNumber result.at }
-    ensures lays { let cell : Cell = (tile.glyph, tile.position) in
-        let laid = copies_by (F.font face.now) lay cell in
-        Lays right_to_left laid pen result
-        (zip glyphs.old positions.old) (zip glyphs.new positions.new) }
-{
-    let width = i128::from(advance_of(face, &tile.glyph));
-    let pen = lay_copies(right_to_left, width, 1, glyphs, positions, tile, pen);
-    if !repeats(&tile.glyph) {
-        return pen;
-    }
-    let step = width - lay.overlap;
-    let added = lay.added;
-    lay_copies(right_to_left, step, added, glyphs, positions, tile, pen)
 }
 
 // Lays so many copies of a tile that each move the pen so far.

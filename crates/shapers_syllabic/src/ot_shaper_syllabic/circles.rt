@@ -5,6 +5,7 @@ ghost use Rattle.shapers_buffer.specs.Clusters.{stretch_of};
 ghost use Rattle.shapers_base.specs.Font.{dotted_circle};
 ghost use Rattle.shapers_syllabic.specs.CircleLaws.{CirclesErased};
 ghost use Rattle.shapers_syllabic.specs.Circles.{circle_in, circled, circles_for, count_of_kind, rephas_len, with_circle, with_circles};
+ghost use Rattle.shapers_syllabic.specs.Reordering.{script_circles};
 ghost use Rattle.shapers_syllabic.specs.FirstBroken.{IsFirstBroken, IsLastBroken, IsOpened, is_of_other_kind};
 ghost use Rattle.shapers_buffer.specs.Refusals.{RefusesLength};
 ghost use Rattle.shapers_buffer.specs.Syllables.{first_syllable_len, has_byte};
@@ -17,6 +18,20 @@ use shapers_base::font::hb_font_t;
 
 // The character of the dotted circle.
 const DOTTED_CIRCLE: u32 = 0x25CC;
+
+/// The dotted circles of a shaper: in syllables of the broken kind, with a category and a position,
+/// behind the leading glyphs of the repha category where there is one.
+#[derive(Clone, Copy, Debug, PartialEq, Eq)]
+pub struct ScriptCircles {
+    /// The kind of the syllables that get one.
+    pub broken_kind: u8,
+    /// The category of the circle.
+    pub category: u8,
+    /// The category of glyphs that stay in front of it.
+    pub repha: Option<u8>,
+    /// The circle's position, in its auxiliary byte, or none for 0.
+    pub position: Option<u8>,
+}
 
 /// What circles look like, and where they stand.
 #[derive(Clone, Copy, Debug)]
@@ -73,57 +88,76 @@ pub fn insert_dotted_circles<F: hb_font_t>(
         repha_category dottedcircle_position buffer.old in
         circled circles buffer.old.glyphs ≡ buffer.old.glyphs → IsOk result }
 {
-    // so that a return with nothing changed keeps the promise on lengths, too
-    prove!(buffer.len() <= buffer.max_len());
-    let circles = circles_for(
-        face,
-        buffer,
-        broken_syllable_type,
-        dottedcircle_category,
-        repha_category,
-        dottedcircle_position,
-    );
-    match circles {
-        None => Ok(false),
-        Some(circles) => {
-            circles.insert(buffer)?;
-            Ok(true)
-        }
-    }
+    let script = ScriptCircles {
+        broken_kind: broken_syllable_type,
+        category: dottedcircle_category,
+        repha: repha_category,
+        position: dottedcircle_position,
+    };
+    script.insert(face, buffer)
 }
 
-// The circles that a buffer gets.
-fn circles_for<F: hb_font_t>(
-    face: &F,
-    buffer: &hb_buffer_t,
-    broken_kind: u8,
-    category: u8,
-    repha: Option<u8>,
-    auxiliary: Option<u8>,
-) -> Option<DottedCircles>
-    ensures { let glyph = (F.font face.now).nominal dotted_circle in
-        result ≡ circles_for glyph broken_kind category repha auxiliary buffer.now }
-{
-    let forbidden = buffer
-        .flags()
-        .contains(BufferFlags::DO_NOT_INSERT_DOTTED_CIRCLE);
-    if forbidden || !buffer.has_broken_syllable() {
-        return None;
+impl ScriptCircles {
+    /// Gives each broken syllable its dotted circle. Returns false, with nothing changed, where no
+    /// syllable is broken, the caller forbids circles or the font has none. Refuses with `TooLong`
+    /// where the text would be longer than `max_len`, and with `Memory`, but not where no circle
+    /// opens; a refusal changes nothing.
+    pub fn insert<F: hb_font_t>(
+        &self,
+        face: &F,
+        buffer: &mut hb_buffer_t,
+    ) -> Result<bool, ShaperError>
+        requires { buffer.old.positions ≡ [] }
+        ensures answer { let circles = script_circles self.now (F.font face.now) buffer.old in
+            IfOk result (λ answer. answer ≡ is_some circles) }
+        ensures ok { let circles = script_circles self.now (F.font face.now) buffer.old in
+            OnOk result (buffer.new ≡
+            record buffer.old { glyphs = circled circles buffer.old.glyphs }) }
+        ensures erased { let circles = script_circles self.now (F.font face.now) buffer.old in
+            OnOk result (CirclesErased circles buffer.old.glyphs buffer.new.glyphs) }
+        ensures length { let circles = script_circles self.now (F.font face.now) buffer.old in
+            RefusesLength buffer.old.max_len (length (circled circles buffer.old.glyphs)) result }
+        ensures err { OnErr result (buffer.new ≡ buffer.old) }
+        ensures without_memory { let circles =
+            script_circles self.now (F.font face.now) buffer.old in
+            circled circles buffer.old.glyphs ≡ buffer.old.glyphs → IsOk result }
+    {
+        // so that a return with nothing changed keeps the promise on lengths, too
+        prove!(buffer.len() <= buffer.max_len());
+        match self.circles_for(face, buffer) {
+            None => Ok(false),
+            Some(circles) => {
+                circles.insert(buffer)?;
+                Ok(true)
+            }
+        }
     }
-    match face.get_nominal_glyph(DOTTED_CIRCLE) {
-        None => None,
-        Some(glyph) => {
-            let circle = hb_glyph_info_t {
-                glyph_id: u32::from(glyph.0),
-                category,
-                auxiliary: auxiliary.unwrap_or(0),
-                ..hb_glyph_info_t::DEFAULT
-            };
-            Some(DottedCircles {
-                broken_kind,
-                circle,
-                repha,
-            })
+
+    // The circles that a buffer gets.
+    fn circles_for<F: hb_font_t>(&self, face: &F, buffer: &hb_buffer_t) -> Option<DottedCircles>
+        ensures { result ≡ script_circles self.now (F.font face.now) buffer.now }
+    {
+        let forbidden = buffer
+            .flags()
+            .contains(BufferFlags::DO_NOT_INSERT_DOTTED_CIRCLE);
+        if forbidden || !buffer.has_broken_syllable() {
+            return None;
+        }
+        match face.get_nominal_glyph(DOTTED_CIRCLE) {
+            None => None,
+            Some(glyph) => {
+                let circle = hb_glyph_info_t {
+                    glyph_id: u32::from(glyph.0),
+                    category: self.category,
+                    auxiliary: self.position.unwrap_or(0),
+                    ..hb_glyph_info_t::DEFAULT
+                };
+                Some(DottedCircles {
+                    broken_kind: self.broken_kind,
+                    circle,
+                    repha: self.repha,
+                })
+            }
         }
     }
 }

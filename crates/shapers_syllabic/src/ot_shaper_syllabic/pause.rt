@@ -6,24 +6,10 @@ ghost use Rattle.shapers_syllabic.specs.Circles.{circled};
 ghost use Rattle.shapers_syllabic.specs.Reordering.{PauseReordered, script_circles, first_unknown, kind_refusal};
 ghost use Rattle.shapers_syllabic.specs.ReorderingLaws.{PauseCutsAtBorders, ReorderLaws, TextReordered};
 
-use super::circles::insert_dotted_circles;
+use super::circles::ScriptCircles;
 use super::reordering::{Reorder, reorder_syllables};
 use shapers_base::buffer::{ShaperError, hb_buffer_t};
 use shapers_base::font::hb_font_t;
-
-/// The dotted circles of a shaper: in syllables of the broken kind, with a category and a position,
-/// behind the leading glyphs of the repha category where there is one.
-#[derive(Clone, Copy, Debug, PartialEq, Eq)]
-pub struct ScriptCircles {
-    /// The kind of the syllables that get one.
-    pub broken_kind: u8,
-    /// The category of the circle.
-    pub category: u8,
-    /// The category of glyphs that stay in front of it.
-    pub repha: Option<u8>,
-    /// The circle's position, in its auxiliary byte, or none for 0.
-    pub position: Option<u8>,
-}
 
 /// Gives broken syllables their dotted circles and then reorders each syllable. Returns whether
 /// circles were wanted. Refuses with `UnknownSyllable` where a kind is above the last known one, if
@@ -65,14 +51,7 @@ pub fn reorder_pause<F: hb_font_t, R: Reorder>(
     if let Some(place) = first_unknown(buffer, last_kind) {
         return Err(ShaperError::UnknownSyllable(place));
     }
-    let circles = insert_dotted_circles(
-        face,
-        buffer,
-        script.broken_kind,
-        script.category,
-        script.repha,
-        script.position,
-    )?;
+    let circles = script.insert(face, buffer)?;
     reorder_syllables(order, buffer)?;
     Ok(circles)
 }

@@ -11,7 +11,7 @@ ghost use Rattle.shapers_universal.specs.Universal.{goes_front, goes_front_at, i
 ghost use Rattle.shapers_universal.specs.UniversalWalk.{MergesFirst, first_piece_len, fronts_from, has_reph, last_first, piece_places, places_in_order, start_from, stays_at};
 
 use super::category;
-use shapers_base::buffer::{ClusterRun, ShaperError, hb_buffer_t, hb_glyph_info_t};
+use shapers_base::buffer::{ClusterRun, GlyphWalk, ShaperError, hb_buffer_t, hb_glyph_info_t};
 use shapers_syllabic::ot_shaper_syllabic::Reorder;
 use shapers_syllabic::ot_shaper_syllabic::use_syllable::{
     BROKEN_CLUSTER, SAKOT_TERMINATED_CLUSTER, STANDARD_CLUSTER, VIRAMA_TERMINATED_CLUSTER,
@@ -59,7 +59,8 @@ impl Reorder for UniversalOrder {
         start: usize,
         end: usize,
     ) -> Result<(), ShaperError> {
-        if is_reordered(&buffer.glyphs()[start..end]) {
+        let is_short = end - start < 2 && !has_reph(&buffer.glyphs()[start..end]);
+        if !is_short && is_reordered(&buffer.glyphs()[start..end]) {
             if has_reph(&buffer.glyphs()[start..end]) {
                 reorder_syllable(buffer, start, end);
             } else {
@@ -131,21 +132,29 @@ fn move_to_front(buffer: &mut hb_buffer_t, start: usize, end: usize)
         buffer.new ≡ record buffer.old { glyphs = moved; places = buffer.new.places } }
 {
     buffer.merge_clusters(start, end);
-    list_last_first(buffer, start, end);
-    buffer.apply(start, end);
+    buffer.walk(&mut BringLast { start, end });
 }
 
-// Lists the places from `s` to `e`, the last of them first.
-#[inline]
-fn list_last_first(buffer: &mut hb_buffer_t, s: usize, e: usize)
-    requires some { s < e }
-    requires in_range { e ≤ length buffer.old.glyphs }
-    ensures { let order = last_first s e in
-        buffer.new ≡ record buffer.old { places = with_listed s order buffer.old.places } }
-{
-    buffer.set_place(s, e - 1);
-    for i in s + 1..e {
-        buffer.set_place(i, i - 1);
+// Brings the last of the glyphs from `start` to `end` to their front.
+#[derive(Clone, Copy)]
+struct BringLast {
+    start: usize,
+    end: usize,
+}
+
+impl GlyphWalk for BringLast {
+    ghost use Rattle.std.specs.Prelude.{◌≡◌, ◌<◌, ◌≤◌, length};
+    ghost use Rattle.std.specs.List.{slice_rotate_right};
+    ghost use Rattle.shapers_buffer.specs.Clusters.{with_stretch};
+
+    ghost can_walk = { λ bring gs. (bring.start < bring.end) × (bring.end ≤ length gs) };
+
+    ghost walks = { λ bring _ gs hs.
+        hs ≡ with_stretch bring.start bring.end (λ xs. slice_rotate_right xs 1) gs };
+
+    #[inline]
+    fn walk(&mut self, glyphs: &mut [hb_glyph_info_t]) {
+        glyphs[self.start..self.end].rotate_right(1);
     }
 }
 

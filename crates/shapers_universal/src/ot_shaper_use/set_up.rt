@@ -85,6 +85,9 @@ fn set_rphf(mask: u32, buffer: &mut hb_buffer_t)
         buffer.new ≡ record buffer.old { glyphs = masked } }
     ensures flags { OnlyFlagsAdded buffer.old.glyphs buffer.new.glyphs }
 {
+    if mask == 0 {
+        return;
+    }
     buffer.walk(&mut EachSyllable {
         change: &RphfMask { mask },
     });

@@ -4,6 +4,7 @@ use Rattle.shapers_buffer.specs.Buffer.{Buffer}
 use Rattle.shapers_arabic.specs.Joining.{nearest}
 use Rattle.shapers_arabic.specs.JoinedText.{context_types, joined_glyphs, text_of}
 use Rattle.shapers_arabic.proofs.BrokenGlyphs.{breaks-where_clear, none-needless}
+use Rattle.shapers_arabic.proofs.FirstPieces.{first-as_flagged}
 use Rattle.shapers_arabic.proofs.JoinedFlags.{joined_added}
 use Rattle.shapers_arabic.proofs.JoiningLaws.{cut-joined}
 use Rattle.shapers_arabic.proofs.ot_shaper_arabic.setup_masks_counted.Goals as goal
@@ -38,3 +39,8 @@ pub returns-clause-needless : goal.returns-clause-needless
 returns-clause-needless g c =
     let t = g.T.Tables.tables c.args.tables.now in
     none-needless c.args.arabic_plan.now.break_flags c.args.arabic_plan.now.mask_array c.args.script t.joining t.general c.args.buffer.now _ (returns-clause-joined g c)
+
+pub returns-clause-first : goal.returns-clause-first
+returns-clause-first g c =
+    let t = g.T.Tables.tables c.args.tables.now in
+    first-as_flagged c.args.arabic_plan.now.break_flags c.args.arabic_plan.now.mask_array c.args.script t.joining t.general c.args.buffer.now _ (returns-clause-joined g c)

@@ -1,10 +1,13 @@
 -- A text without SARA AM, where no forms are asked for.
-use Rattle.std.proofs.Common.{◌∙◌, ap, sym, arith}
+use Rattle.std.proofs.Common.{◌∙◌, ap, sym, refl, false, arith}
 use Rattle.shapers_base.specs.Font.{has_nominal}
 use Rattle.shapers_buffer.specs.Buffer.{Buffer}
 use Rattle.shapers_buffer.proofs.ListLaws.{count_from_none}
 use Rattle.shapers_text.specs.Thai.{is_sara_am}
 use Rattle.shapers_text.specs.ThaiForms.{asks_for_forms}
+use Rattle.shapers_text.proofs.ThaiClusters.{plain_in_two}
+use Rattle.shapers_text.proofs.ThaiFlags.{plain_flags}
+use Rattle.shapers_text.proofs.ThaiKept.{plain_kept}
 use Rattle.shapers_text.proofs.ThaiStretches.{length-glyphs_in_two, unchanged_plain}
 use Rattle.shapers_text.proofs.ot_shaper_thai.preprocess_text_changes.Goals as goal
 
@@ -18,3 +21,21 @@ pub returns-then-not-wants_forms-clause-length : goal.returns-then-not-wants_for
 returns-then-not-wants_forms-clause-length g c =
     let gs = c.args.buffer.now.glyphs in
     omega (arith, length-glyphs_in_two gs, count_from_none (λ g. is_sara_am g.glyph_id) gs (sym c.has_sara_am.ensures ∙ c.if-not-has_sara_am.true), c.len.ensures.length, c.len.ensures.fits)
+
+pub returns-then-not-wants_forms-clause-clusters : goal.returns-then-not-wants_forms-clause-clusters
+returns-then-not-wants_forms-clause-clusters g c =
+    let b = c.args.buffer.now in
+    let none = count_from_none (λ g. is_sara_am g.glyph_id) b.glyphs (sym c.has_sara_am.ensures ∙ c.if-not-has_sara_am.true) in
+    plain_in_two b.level b.glyphs b.glyphs (unchanged_plain false (λ _. false) b.level b.glyphs refl none)
+
+pub returns-then-not-wants_forms-clause-flags : goal.returns-then-not-wants_forms-clause-flags
+returns-then-not-wants_forms-clause-flags g c =
+    let b = c.args.buffer.now in
+    let none = count_from_none (λ g. is_sara_am g.glyph_id) b.glyphs (sym c.has_sara_am.ensures ∙ c.if-not-has_sara_am.true) in
+    plain_flags b.level b.glyphs b.glyphs (unchanged_plain false (λ _. false) b.level b.glyphs refl none)
+
+pub returns-then-not-wants_forms-clause-kept : goal.returns-then-not-wants_forms-clause-kept
+returns-then-not-wants_forms-clause-kept g c =
+    let b = c.args.buffer.now in
+    let none = count_from_none (λ g. is_sara_am g.glyph_id) b.glyphs (sym c.has_sara_am.ensures ∙ c.if-not-has_sara_am.true) in
+    plain_kept (asks_for_forms c.args.plan.now) (sym (sym c.wants_forms.ensures ∙ c.if-not-wants_forms.true)) b.level b.glyphs b.glyphs (unchanged_plain false (λ _. false) b.level b.glyphs refl none)

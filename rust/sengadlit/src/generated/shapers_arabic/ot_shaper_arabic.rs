@@ -137,10 +137,15 @@ fn joining_requests(flags: u32) -> [Request; 14] {
 ///     let masks = arabic_plan.now.mask_array in let breaks = arabic_plan.now.break_flags in
 ///     let before = buffer.old in let after = buffer.new in
 ///     NoneNeedless breaks masks script table.joining table.general before after }
+/// ensures first { let table = T.tables tables.now in
+///     let masks = arabic_plan.now.mask_array in let breaks = arabic_plan.now.break_flags in
+///     let before = buffer.old in let after = buffer.new in
+///     FirstKeepsAsFlagged breaks masks script table.joining table.general before after }
 /// ensures flags { OnlyFlagsAdded buffer.old.glyphs buffer.new.glyphs }
 /// ```
 ///
 /// - `BreaksWhereClear`, `NoneNeedless`: crates/shapers_arabic/specs/Breaks.antt
+/// - `FirstKeepsAsFlagged`: crates/shapers_arabic/specs/FirstPiece.antt
 /// - `AreCharacters`, `CutsAsHalves`, `joined`: crates/shapers_arabic/specs/JoinedText.antt
 /// - `OnlyFlagsAdded`: crates/shapers_clusters/specs/FlagLaw.antt
 ///
@@ -190,10 +195,15 @@ pub fn setup_masks_inner<T: Tables>(
 ///     let masks = masks_of plan.now.plan_data in let breaks = breaks_of plan.now.plan_data in
 ///     let before = buffer.old in let after = buffer.new in
 ///     NoneNeedless breaks masks script table.joining table.general before after }
+/// ensures first { let table = T.tables tables.now in let script = plan.now.script in
+///     let masks = masks_of plan.now.plan_data in let breaks = breaks_of plan.now.plan_data in
+///     let before = buffer.old in let after = buffer.new in
+///     FirstKeepsAsFlagged breaks masks script table.joining table.general before after }
 /// ensures flags { OnlyFlagsAdded buffer.old.glyphs buffer.new.glyphs }
 /// ```
 ///
 /// - `BreaksWhereClear`, `NoneNeedless`: crates/shapers_arabic/specs/Breaks.antt
+/// - `FirstKeepsAsFlagged`: crates/shapers_arabic/specs/FirstPiece.antt
 /// - `AreCharacters`, `CutsAsHalves`, `joined`: crates/shapers_arabic/specs/JoinedText.antt
 /// - `IsArabic`, `breaks_of`, `masks_of`: crates/shapers_arabic/specs/PlanData.antt
 /// - `OnlyFlagsAdded`: crates/shapers_clusters/specs/FlagLaw.antt

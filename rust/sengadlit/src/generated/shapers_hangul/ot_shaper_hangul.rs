@@ -105,8 +105,8 @@ pub fn preprocess_text<F: Font>(
     rewrite(face, buffer)
 }
 
-/// `preprocess_text`, which returns whether it rewrote the text: where every character stays as it
-/// is, it returns false and has changed nothing.
+/// `preprocess_text`, which returns whether it rewrote the text: just where every character stays as
+/// it is, it returns false, and has changed nothing.
 ///
 /// <details><summary>Contract</summary>
 ///
@@ -115,7 +115,12 @@ pub fn preprocess_text<F: Font>(
 /// ```text
 /// requires { buffer.old.positions ≡ [] }
 /// ensures ok { OnOk result (buffer.new ≡ rewritten (F.font face.now) buffer.old) }
+/// ensures clusters { OnOk result (KeepsClusters (F.font face.now) buffer.old buffer.new) }
+/// ensures flags { OnOk result (KeepsGlyphFlags (F.font face.now) buffer.old buffer.new) }
+/// ensures spelling { OnOk result (SpellsSame buffer.old buffer.new) }
+/// ensures units { OnOk result (SpellsByUnits (F.font face.now) buffer.old buffer.new) }
 /// ensures kept { AllKept (F.font face.now) buffer.old → result ≡ Ok false }
+/// ensures changes { result ≡ Ok false → AllKept (F.font face.now) buffer.old }
 /// ensures unchanged { result ≡ Ok false → buffer.new ≡ buffer.old }
 /// ensures length { let text = (rewritten (F.font face.now) buffer.old).glyphs in
 ///     RefusesLength buffer.old.max_len (length text) result }
@@ -124,7 +129,7 @@ pub fn preprocess_text<F: Font>(
 ///
 /// - `RefusesLength`: crates/shapers_buffer/specs/Refusals.antt
 /// - `rewritten`: crates/shapers_hangul/specs/Hangul.antt
-/// - `AllKept`: crates/shapers_hangul/specs/HangulLaws.antt
+/// - `AllKept`, `KeepsClusters`, `KeepsGlyphFlags`, `SpellsByUnits`, `SpellsSame`: crates/shapers_hangul/specs/HangulLaws.antt
 ///
 /// </details>
 #[inline]

@@ -15,5 +15,6 @@ mod pause;
 mod positions;
 mod reordering;
 mod reph;
+mod rules;
 
 pub use pause::initial_reordering;

@@ -109,12 +109,12 @@ const CIRCLES: ScriptCircles = ScriptCircles {
 ///     OnOk result (ReorderedHold carried opened.level steps opened.glyphs buffer.new.glyphs) }
 /// ensures clusters { OnOk result (NoNewCluster buffer.old.glyphs buffer.new.glyphs) }
 /// ensures refusal { let circles = script_circles myanmar_circles (F.font face.now) buffer.old in
-///     Refuses (unknown_refusal 3 buffer.old.glyphs)
+///     Refuses (unknown_refusal NON_MYANMAR_CLUSTER buffer.old.glyphs)
 ///     buffer.old.max_len (length (circled circles buffer.old.glyphs)) result }
 /// ensures err { OnErr result (buffer.new ≡ buffer.old) }
 /// ensures without_memory { let font = F.font face.now in
 ///     let circles = script_circles myanmar_circles font buffer.old in
-///     unknown_refusal 3 buffer.old.glyphs ≡ None →
+///     unknown_refusal NON_MYANMAR_CLUSTER buffer.old.glyphs ≡ None →
 ///     circled circles buffer.old.glyphs ≡ buffer.old.glyphs → IsOk result }
 /// ```
 ///

@@ -16,12 +16,12 @@ pub use characters::{
     compose, set_categories, set_categories_and_positions, set_categories_and_positions_in,
     set_categories_in,
 };
-pub use circles::{DottedCircles, insert_dotted_circles};
+pub use circles::{DottedCircles, ScriptCircles, insert_dotted_circles};
 pub use clearing::{
     clear_substitution_flags, clear_substitution_flags_in, clear_syllables, clear_syllables_in,
 };
 pub use consonants::is_consonant;
 pub use kinds::{indic_syllable, khmer_syllable, myanmar_syllable, use_syllable};
-pub use pause::{ScriptCircles, reorder_pause};
+pub use pause::reorder_pause;
 pub use reordering::{Reorder, reorder_syllables};
 pub use set_up::{flag_syllables_in, set_up_by_bytes, set_up_syllables};

@@ -77,15 +77,25 @@ pub fn preprocess_text<F: Font>(
 ///     OnOk result (buffer.new ≡ new) }
 /// ensures changes { let some = list_any (λ g. is_sara_am g.glyph_id) buffer.old.glyphs in
 ///     IfOk result (λ changes. changes ≡ (some || asks_for_forms plan.now)) }
+/// ensures clusters { let us = characters buffer.old.glyphs in
+///     let cs = clusters buffer.old.glyphs in
+///     OnOk result (ClustersInTwo buffer.old.level us cs (clusters buffer.new.glyphs)) }
+/// ensures flags { OnOk result (FlagsInTwo buffer.old.glyphs buffer.new.glyphs) }
+/// ensures kept { let forms = asks_for_forms plan.now in
+///     OnOk result (KeptInTwo forms buffer.old.glyphs buffer.new.glyphs) }
 /// ensures unchanged { result ≡ Ok false → buffer.new ≡ buffer.old }
 /// ensures length { let wanted = length (glyphs_in_two buffer.old.glyphs) in
 ///     RefusesLength buffer.old.max_len wanted result }
 /// ensures err { OnErr result (buffer.new ≡ buffer.old) }
+/// ensures without { let some = list_any (λ g. is_sara_am g.glyph_id) buffer.old.glyphs in
+///     some ≡ false → IsOk result }
 /// ```
 ///
+/// - `characters`, `clusters`: crates/shapers_buffer/specs/Glyph.antt
 /// - `RefusesLength`: crates/shapers_buffer/specs/Refusals.antt
 /// - `glyphs_in_two`, `is_sara_am`: crates/shapers_text/specs/Thai.antt
 /// - `asks_for_forms`, `preprocessed_in_thai`: crates/shapers_text/specs/ThaiForms.antt
+/// - `ClustersInTwo`, `FlagsInTwo`, `KeptInTwo`: crates/shapers_text/specs/ThaiLaws.antt
 ///
 /// </details>
 pub fn preprocess_text_changes<F: Font>(

@@ -1,7 +1,6 @@
 -- What the pause promises, by the plan's data.
-use Rattle.std.proofs.Common.{◌≡◌, Option, ap, ◌∙◌}
+use Rattle.std.proofs.Common.{◌≡◌, ap, ◌∙◌}
 use Rattle.shapers_buffer.specs.Buffer.{Buffer}
-use Rattle.shapers_base.specs.declared.font.GlyphId.{GlyphId}
 use Rattle.shapers_base.specs.declared.plan.indic.indic_shape_plan_t.{indic_shape_plan_t}
 use Rattle.shapers_indic.specs.Plan.{indic_in, virama_glyph}
 use Rattle.shapers_indic_initial.specs.InitialFont.{all_by_virama}
@@ -18,7 +17,7 @@ use Rattle.shapers_syllabic.proofs.ReorderingLaws.{text_reordered}
 use Rattle.shapers_indic_initial.proofs.ot_shaper_indic_initial.pause.initial_reordering.Goals as goal
 
 pub reorder_syllables-requires-clause-laws : goal.reorder_syllables-requires-clause-laws
-reorder_syllables-requires-clause-laws g c = initial_laws (rules_of (g.F.hb_font_t.font c.args.face.now) c.args.plan.now.ot_map c.indic_in-data.result.now) c.update_consonant_positions.new.buffer.script
+reorder_syllables-requires-clause-laws g c = initial_laws (rules_of (g.F.hb_font_t.font c.args.face.now) c.args.plan.now.ot_map c.indic_in.result.now) c.update_consonant_positions.new.buffer.script
 
 pub returns-clause-ok : goal.returns-clause-ok
 returns-clause-ok g c =
@@ -26,13 +25,12 @@ returns-clause-ok g c =
     let m = c.args.plan.now.ot_map in
     let p = indic_in c.args.plan.now in
     let b0 = c.args.buffer.now in
-    let b1 = c.insert_dotted_circles.new.buffer in
+    let b1 = c.insert.new.buffer in
     let b2 = c.update_consonant_positions.new.buffer in
     let asked : b2 ≡ (let b : Buffer = record b1 { glyphs = all_by_virama font m p (virama_glyph font p) b1.glyphs } in b) =
     c.update_consonant_positions.ensures
-    ∙ ap (λ (v : Option GlyphId). (let b : Buffer = record b1 { glyphs = all_by_virama font m c.indic_in-data.result.now v b1.glyphs } in b)) c.virama_glyph.ensures
-    ∙ ap (λ (q : indic_shape_plan_t). (let b : Buffer = record b1 { glyphs = all_by_virama font m q (virama_glyph font q) b1.glyphs } in b)) c.indic_in-data.ensures in
-    reordered_behind_circles font m p c.indic_in-data.result.now b0 b1 b2 c.reorder_syllables.new.buffer c.indic_in-data.ensures c.in_ok-circles.ensures.ok asked c.reorder_syllables.ensures.reordered
+    ∙ ap (λ (q : indic_shape_plan_t). (let b : Buffer = record b1 { glyphs = all_by_virama font m q (virama_glyph font q) b1.glyphs } in b)) c.indic_in.ensures in
+    reordered_behind_circles font m p c.indic_in.result.now b0 b1 b2 c.reorder_syllables.new.buffer c.indic_in.ensures c.in_ok-circles.ensures.ok asked c.reorder_syllables.ensures.reordered
 
 pub returns-clause-syllables : goal.returns-clause-syllables
 returns-clause-syllables g c = paused_by_font (g.F.hb_font_t.font c.args.face.now) c.args.plan.now.ot_map (indic_in c.args.plan.now) c.args.buffer.now c.reorder_syllables.new.buffer (returns-clause-ok g c)

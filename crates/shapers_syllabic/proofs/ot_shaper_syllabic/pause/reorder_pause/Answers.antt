@@ -14,7 +14,7 @@ returns-clause-cut g c =
     let new = c.reorder_syllables.new.buffer in
     let circles = script_circles c.args.script.now (g.F.hb_font_t.font c.args.face.now) old in
     cuts_at_borders circles (g.R.Reorder.meaning order old.script) (g.R.Reorder.steps order old.script) old new c.requires.laws
-    (pause_reordered circles (g.R.Reorder.meaning order) (g.R.Reorder.steps order) old c.insert_dotted_circles.new.buffer new c.in_ok-circles.ensures.ok c.reorder_syllables.ensures.reordered)
+    (pause_reordered circles (g.R.Reorder.meaning order) (g.R.Reorder.steps order) old c.insert.new.buffer new c.in_ok-circles.ensures.ok c.reorder_syllables.ensures.reordered)
 
 pub returns-clause-laws : goal.returns-clause-laws
 returns-clause-laws g c =
@@ -24,7 +24,7 @@ returns-clause-laws g c =
     let circles = script_circles c.args.script.now (g.F.hb_font_t.font c.args.face.now) old in
     let opened : Buffer = record old { glyphs = circled circles old.glyphs } in
     text_reordered (g.R.Reorder.meaning order old.script) (g.R.Reorder.steps order old.script) opened new c.requires.laws
-    (pause_reordered circles (g.R.Reorder.meaning order) (g.R.Reorder.steps order) old c.insert_dotted_circles.new.buffer new c.in_ok-circles.ensures.ok c.reorder_syllables.ensures.reordered)
+    (pause_reordered circles (g.R.Reorder.meaning order) (g.R.Reorder.steps order) old c.insert.new.buffer new c.in_ok-circles.ensures.ok c.reorder_syllables.ensures.reordered)
 
 pub returns-clause-clusters : goal.returns-clause-clusters
 returns-clause-clusters g c =

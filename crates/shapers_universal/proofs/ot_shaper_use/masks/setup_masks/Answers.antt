@@ -1,6 +1,7 @@
 -- Joining sees the characters, which categories leave.
 use Rattle.std.proofs.Common.{◌∙◌, ap, subst, map}
 use Rattle.shapers_arabic.specs.Breaks.{BreaksWhereClear, NoneNeedless}
+use Rattle.shapers_arabic.specs.FirstPiece.{FirstKeepsAsFlagged}
 use Rattle.shapers_arabic.specs.JoinedText.{CutsAsHalves, HoldsCut, joined}
 use Rattle.shapers_universal.proofs.MaskLemmas.{characters_stay, text_stays}
 use Rattle.shapers_universal.proofs.ot_shaper_use.masks.setup_masks.Goals as goal
@@ -29,4 +30,5 @@ returns-in-Some-clause-breaks g c =
     let breaks = c.in-Some.arabic_plan.break_flags in
     let clear = subst (λ b. BreaksWhereClear breaks masks script t.joining t.general b new) c.set_categories.ensures c.setup_masks_inner.ensures.breaks in
     let needless = subst (λ b. NoneNeedless breaks masks script t.joining t.general b new) c.set_categories.ensures c.setup_masks_inner.ensures.needless in
-    rw (c.in-Universal.is, c.in-Some.is) (clear, needless)
+    let first = subst (λ b. FirstKeepsAsFlagged breaks masks script t.joining t.general b new) c.set_categories.ensures c.setup_masks_inner.ensures.first in
+    rw (c.in-Universal.is, c.in-Some.is) (clear, needless, first)

@@ -4,10 +4,9 @@
 //! scripts: "Find base consonant".)
 
 use super::reph::{limit, reph_len};
+use super::rules::Rules;
 use crate::generated::shapers_base::buffer::GlyphInfo;
 use crate::generated::shapers_base::font::Font;
-use crate::generated::shapers_base::map::Map;
-use crate::generated::shapers_base::plan::IndicPlan;
 use crate::generated::shapers_base::plan::ot_category_t::{
     OT_C, OT_CS, OT_DOTTEDCIRCLE, OT_H, OT_PLACEHOLDER, OT_Ra, OT_V, OT_ZWJ,
 };
@@ -23,13 +22,8 @@ pub(super) struct Base {
 
 /// Finds the base of a syllable and its reph.
 #[inline]
-pub(super) fn find_base<F: Font>(
-    plan: &IndicPlan,
-    map: &Map,
-    face: &F,
-    glyphs: &[GlyphInfo],
-) -> Base {
-    let reph = reph_len(plan, map, face, glyphs);
+pub(super) fn find_base<F: Font>(rules: &Rules<F>, glyphs: &[GlyphInfo]) -> Base {
+    let reph = reph_len(rules, glyphs);
     let limit = limit(reph, glyphs);
     let otherwise = if reph == 0 { glyphs.len() } else { 0 };
     let place =

@@ -2,37 +2,24 @@
 //!
 //! Positions by the font: consonants that it has below-base or post-base forms of.
 
+use super::rules::Rules;
 use crate::generated::shapers_base::buffer::{Buffer, GlyphInfo, GlyphWalk};
 use crate::generated::shapers_base::font::{Font, GlyphId};
 use crate::generated::shapers_base::map::Map;
 use crate::generated::shapers_base::plan::ot_position_t::{POS_BASE_C, POS_BELOW_C, POS_POST_C};
 use crate::generated::shapers_base::plan::{IndicPlan, IndicWouldSubstituteFeature, Position};
 use crate::generated::shapers_indic::ot_shaper_indic::glyphs::number;
+use crate::generated::shapers_indic::ot_shaper_indic::virama_glyph;
 
 /// Gives consonants of position BASE_C for which the font has a below-base or a post-base form, by
 /// its glyph for the script's virama, that form's position. It takes no memory.
 #[inline]
-pub(super) fn update_consonant_positions<F: Font>(
-    plan: &IndicPlan,
-    map: &Map,
-    face: &F,
-    virama: Option<GlyphId>,
-    buffer: &mut Buffer,
-) {
-    match virama {
-        None => {}
-        Some(virama) => {
-            if !has_forms(plan, map) {
-                return;
-            }
-            let mut by_virama = ByVirama {
-                plan,
-                map,
-                face,
-                virama,
-            };
-            buffer.walk(&mut by_virama);
-        }
+pub(super) fn update_consonant_positions<F: Font>(rules: &Rules<F>, buffer: &mut Buffer) {
+    if !has_forms(rules.plan, rules.map) {
+        return;
+    }
+    if let Some(virama) = virama_glyph(rules.plan, rules.face) {
+        buffer.walk(&mut ByVirama { rules, virama });
     }
 }
 
@@ -58,9 +45,7 @@ struct Known {
 
 // Positions by the forms that consonants have with a virama.
 struct ByVirama<'a, F: Font> {
-    plan: &'a IndicPlan,
-    map: &'a Map,
-    face: &'a F,
+    rules: &'a Rules<'a, F>,
     virama: GlyphId,
 }
 
@@ -68,7 +53,7 @@ impl<'a, F: Font> ByVirama<'a, F> {
     // The position of a consonant.
     #[inline]
     fn consonant_position_from_face(&self, consonant: GlyphId) -> Position {
-        let plan = self.plan;
+        let plan = self.rules.plan;
         if self.joins(&plan.blwf, consonant) || self.joins(&plan.vatu, consonant) {
             return POS_BELOW_C;
         }
@@ -128,8 +113,8 @@ impl<'a, F: Font> ByVirama<'a, F> {
     // Whether a feature would substitute the virama and a consonant, in either order.
     #[inline(always)]
     fn joins(&self, feature: &IndicWouldSubstituteFeature, consonant: GlyphId) -> bool {
-        feature.would_substitute(self.map, self.face, &[self.virama, consonant])
-            || feature.would_substitute(self.map, self.face, &[consonant, self.virama])
+        feature.would_substitute(self.rules.map, self.rules.face, &[self.virama, consonant])
+            || feature.would_substitute(self.rules.map, self.rules.face, &[consonant, self.virama])
     }
 }
 

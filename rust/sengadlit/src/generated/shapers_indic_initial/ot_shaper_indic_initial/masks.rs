@@ -3,9 +3,9 @@
 //! The masks of a syllable in its new order. (OpenType, development of Indic scripts: which
 //! features apply where.)
 
+use super::rules::Rules;
 use crate::generated::shapers_base::buffer::{GlyphInfo, Script};
 use crate::generated::shapers_base::font::Font;
-use crate::generated::shapers_base::map::Map;
 use crate::generated::shapers_base::plan::ot_category_t::{OT_H, OT_Ra, OT_ZWJ, OT_ZWNJ};
 use crate::generated::shapers_base::plan::ot_position_t::POS_RA_TO_BECOME_REPH;
 use crate::generated::shapers_base::plan::{BlwfMode, Category, IndicPlan};
@@ -21,17 +21,16 @@ const DEVANAGARI: Script = Script(*b"Deva");
 /// features, which touch no glyph flag.
 #[inline]
 pub(super) fn set_masks<F: Font>(
-    plan: &IndicPlan,
-    map: &Map,
-    face: &F,
+    rules: &Rules<F>,
     script: Option<Script>,
     base: usize,
     glyphs: &mut [GlyphInfo],
 ) {
+    let plan = rules.plan;
     set_reph_bits(bits_of(plan, RPHF), glyphs);
     set_bits_around(bits_before_base(plan), bits_after_base(plan), base, glyphs);
     set_eyelash_mask(plan, script, base, glyphs);
-    set_pref_mask(plan, map, face, base, glyphs);
+    set_pref_mask(rules, base, glyphs);
     clear_half(bits_of(plan, HALF), glyphs);
 }
 
@@ -156,33 +155,22 @@ fn is_of_category(glyphs: &[GlyphInfo], i: usize, category: Category) -> bool {
 
 // Gives the first two neighbours after the base that pref would substitute its mask.
 #[inline]
-fn set_pref_mask<F: Font>(
-    plan: &IndicPlan,
-    map: &Map,
-    face: &F,
-    base: usize,
-    glyphs: &mut [GlyphInfo],
-) {
-    if let Some(pair) = pref_pair(plan, map, face, base, glyphs) {
-        add_bits(bits_of(plan, PREF), &mut glyphs[pair..pair + 2]);
+fn set_pref_mask<F: Font>(rules: &Rules<F>, base: usize, glyphs: &mut [GlyphInfo]) {
+    if let Some(pair) = pref_pair(rules, base, glyphs) {
+        add_bits(bits_of(rules.plan, PREF), &mut glyphs[pair..pair + 2]);
     }
 }
 
 // The place of the first two neighbours after the base that pref would substitute.
 #[inline]
-fn pref_pair<F: Font>(
-    plan: &IndicPlan,
-    map: &Map,
-    face: &F,
-    base: usize,
-    glyphs: &[GlyphInfo],
-) -> Option<usize> {
+fn pref_pair<F: Font>(rules: &Rules<F>, base: usize, glyphs: &[GlyphInfo]) -> Option<usize> {
+    let plan = rules.plan;
     if plan.mask_array[PREF] == 0 || base + 2 >= glyphs.len() {
         return None;
     }
     for i in base + 1..glyphs.len() - 1 {
         let pair = [number(&glyphs[i]), number(&glyphs[i + 1])];
-        if plan.pref.would_substitute(map, face, &pair) {
+        if plan.pref.would_substitute(rules.map, rules.face, &pair) {
             return Some(i);
         }
     }

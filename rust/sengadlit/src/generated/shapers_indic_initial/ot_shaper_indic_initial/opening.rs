@@ -6,28 +6,32 @@
 use super::base::{Base, find_base};
 use super::halant::{halant_move, joiner_comes_first};
 use super::positions::{attach_marks, own, set_positions_by_base};
+use super::rules::Rules;
 use crate::generated::shapers_base::buffer::{Buffer, GlyphInfo, GlyphWalk, Script};
 use crate::generated::shapers_base::font::Font;
-use crate::generated::shapers_base::map::Map;
-use crate::generated::shapers_base::plan::IndicPlan;
 
-/// Gives the glyphs of the syllable from `start` to `end` their positions. Kannada's opening Ra, H,
-/// ZWJ becomes Ra, ZWJ, H, and by the older specification the H after the base goes behind the last
-/// consonant. It takes no memory.
+/// Prepares the syllable from `start` to `end` for its order. Kannada's opening Ra, H, ZWJ becomes
+/// Ra, ZWJ, H; the glyphs get their positions; and by the older specification the H after the base
+/// goes behind the last consonant. It takes no memory.
 #[inline]
-pub(super) fn set_positions<F: Font>(
-    plan: &IndicPlan,
-    map: &Map,
-    face: &F,
+pub(super) fn prepare_for_order<F: Font>(
+    rules: &Rules<F>,
     buffer: &mut Buffer,
     start: usize,
     end: usize,
 ) {
     let script = buffer.script();
     put_joiner_first(script, buffer, start, end);
-    let base = find_base(plan, map, face, &buffer.glyphs()[start..end]);
+    let base = find_base(rules, &buffer.glyphs()[start..end]);
     buffer.walk(&mut PositionsByBase { base, start, end });
-    move_halant(plan.is_old_spec, script, base.place, buffer, start, end);
+    move_halant(
+        rules.plan.is_old_spec,
+        script,
+        base.place,
+        buffer,
+        start,
+        end,
+    );
     let base = base.place;
     buffer.walk(&mut PositionsOfMarks { base, start, end });
 }

@@ -4,17 +4,24 @@
 
 use super::font_positions::update_consonant_positions;
 use super::reordering::InitialOrder;
+use super::rules::Rules;
 use crate::generated::shapers_base::buffer::{Buffer, ShaperError};
 use crate::generated::shapers_base::font::Font;
 use crate::generated::shapers_base::plan::Plan;
 use crate::generated::shapers_base::plan::ot_category_t::{OT_DOTTEDCIRCLE, OT_Repha};
 use crate::generated::shapers_base::plan::ot_position_t::POS_END;
-use crate::generated::shapers_indic::ot_shaper_indic::{indic_in, virama_glyph};
+use crate::generated::shapers_indic::ot_shaper_indic::indic_in;
 use crate::generated::shapers_syllabic::ot_shaper_syllabic::indic_syllable::{
     BROKEN_CLUSTER, NON_INDIC_CLUSTER,
 };
-use crate::generated::shapers_syllabic::ot_shaper_syllabic::{
-    insert_dotted_circles, reorder_syllables,
+use crate::generated::shapers_syllabic::ot_shaper_syllabic::{ScriptCircles, reorder_syllables};
+
+// The dotted circles of Indic scripts.
+const CIRCLES: ScriptCircles = ScriptCircles {
+    broken_kind: BROKEN_CLUSTER,
+    category: OT_DOTTEDCIRCLE,
+    repha: Some(OT_Repha),
+    position: Some(POS_END),
 };
 
 /// Gives consonants positions by the font and broken syllables their dotted circles, and then
@@ -81,21 +88,14 @@ pub fn initial_reordering<F: Font>(
     if let Some(place) = buffer.unknown_syllable(NON_INDIC_CLUSTER) {
         return Err(ShaperError::UnknownSyllable(place));
     }
-    let circles = insert_dotted_circles(
-        face,
-        buffer,
-        BROKEN_CLUSTER,
-        OT_DOTTEDCIRCLE,
-        Some(OT_Repha),
-        Some(POS_END),
-    )?;
-    let (data, map) = (indic_in(plan), &plan.ot_map);
-    update_consonant_positions(data, map, face, virama_glyph(data, face), buffer);
-    let order = InitialOrder {
-        plan: data,
-        map,
+    let circles = CIRCLES.insert(face, buffer)?;
+    let rules = Rules {
+        plan: indic_in(plan),
+        map: &plan.ot_map,
         face,
     };
+    update_consonant_positions(&rules, buffer);
+    let order = InitialOrder { rules: &rules };
     reorder_syllables(&order, buffer)?;
     Ok(circles)
 }

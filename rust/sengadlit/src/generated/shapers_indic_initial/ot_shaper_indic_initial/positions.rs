@@ -49,7 +49,8 @@ pub(super) fn attach_marks(glyphs: &mut [GlyphInfo]) {
     let mut behind = POS_PRE_M;
     for i in 0..glyphs.len() {
         let (position, next) = drawn_position(glyphs, i, carrier);
-        glyphs[i].auxiliary = parted_position(&glyphs[i], position, behind);
+        let parted = glyphs[i].category == OT_H && position == POS_PRE_M;
+        glyphs[i].auxiliary = if parted { behind } else { position };
         carrier = next;
         behind = next_behind(position, behind);
     }
@@ -89,17 +90,6 @@ fn is_attached(glyph: &GlyphInfo) -> bool {
 #[inline]
 fn draws_sign(glyph: &GlyphInfo, next: &GlyphInfo) -> bool {
     glyph.category == OT_SM && next.category == OT_MPst && next.auxiliary != POS_SMVD
-}
-
-// The position of a glyph that has this one so far: a halant doesn't go with a left matra, but with
-// what stands behind it.
-#[inline]
-fn parted_position(glyph: &GlyphInfo, position: u8, behind: u8) -> u8 {
-    if glyph.category == OT_H && position == POS_PRE_M {
-        behind
-    } else {
-        position
-    }
 }
 
 // The position of the nearest glyph that doesn't go with a left matra before what follows a glyph

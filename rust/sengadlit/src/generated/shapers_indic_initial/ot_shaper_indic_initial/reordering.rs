@@ -3,13 +3,12 @@
 //! The initial reordering of one syllable.
 
 use super::masks::set_masks;
-use super::opening::set_positions;
+use super::opening::prepare_for_order;
 use super::order::order_syllable;
 use super::ordered_base::ordered_base;
+use super::rules::Rules;
 use crate::generated::shapers_base::buffer::{Buffer, GlyphInfo, GlyphWalk, Script, ShaperError};
 use crate::generated::shapers_base::font::Font;
-use crate::generated::shapers_base::map::Map;
-use crate::generated::shapers_base::plan::IndicPlan;
 use crate::generated::shapers_indic::ot_shaper_indic::glyphs::is_plain_consonant;
 use crate::generated::shapers_syllabic::ot_shaper_syllabic::Reorder;
 use crate::generated::shapers_syllabic::ot_shaper_syllabic::indic_syllable::{
@@ -18,9 +17,7 @@ use crate::generated::shapers_syllabic::ot_shaper_syllabic::indic_syllable::{
 
 /// The initial reordering of a syllable that has positions by the font: its order, and its masks.
 pub(super) struct InitialOrder<'a, F: Font> {
-    pub(super) plan: &'a IndicPlan,
-    pub(super) map: &'a Map,
-    pub(super) face: &'a F,
+    pub(super) rules: &'a Rules<'a, F>,
 }
 
 impl<'a, F: Font> Reorder for InitialOrder<'a, F> {
@@ -29,10 +26,9 @@ impl<'a, F: Font> Reorder for InitialOrder<'a, F> {
         if is_plain_consonant(&buffer.glyphs()[start..end]) {
             return Ok(());
         }
-        let (plan, map, face) = (self.plan, self.map, self.face);
         if is_reordered(&buffer.glyphs()[start..end]) {
-            set_positions(plan, map, face, buffer, start, end);
-            order_syllable(buffer, start, end, plan.is_old_spec);
+            prepare_for_order(self.rules, buffer, start, end);
+            order_syllable(buffer, start, end, self.rules.plan.is_old_spec);
             self.mask_syllable(buffer, start, end);
         }
         Ok(())
@@ -44,9 +40,7 @@ impl<'a, F: Font> InitialOrder<'a, F> {
     #[inline]
     fn mask_syllable(&self, buffer: &mut Buffer, start: usize, end: usize) {
         let mut masks = Masks {
-            plan: self.plan,
-            map: self.map,
-            face: self.face,
+            rules: self.rules,
             script: buffer.script(),
             start,
             end,
@@ -57,9 +51,7 @@ impl<'a, F: Font> InitialOrder<'a, F> {
 
 // Where a syllable stands whose glyphs get their masks.
 struct Masks<'a, F: Font> {
-    plan: &'a IndicPlan,
-    map: &'a Map,
-    face: &'a F,
+    rules: &'a Rules<'a, F>,
     script: Option<Script>,
     start: usize,
     end: usize,
@@ -70,7 +62,7 @@ impl<'a, F: Font> GlyphWalk for Masks<'a, F> {
     fn walk(&mut self, glyphs: &mut [GlyphInfo]) {
         let syllable = &mut glyphs[self.start..self.end];
         let base = ordered_base(syllable);
-        set_masks(self.plan, self.map, self.face, self.script, base, syllable);
+        set_masks(self.rules, self.script, base, syllable);
     }
 }
 

@@ -3,35 +3,23 @@
 //! The reph that opens a syllable, and the limit of the search for its base. (OpenType, development
 //! of Indic scripts.)
 
+use super::rules::Rules;
 use crate::generated::shapers_base::buffer::GlyphInfo;
 use crate::generated::shapers_base::font::Font;
-use crate::generated::shapers_base::map::Map;
+use crate::generated::shapers_base::plan::RephMode;
 use crate::generated::shapers_base::plan::ot_category_t::{OT_Repha, OT_ZWJ};
-use crate::generated::shapers_base::plan::{IndicPlan, RephMode};
 use crate::generated::shapers_indic::ot_shaper_indic::glyphs::{is_joiner, number};
 use crate::generated::shapers_indic::ot_shaper_indic::indic_feature::RPHF;
 
 /// How many glyphs the reph that opens a syllable has, without joiners behind it; 0 if there is
 /// none.
 #[inline]
-pub(crate) fn reph_len<F: Font>(
-    plan: &IndicPlan,
-    map: &Map,
-    face: &F,
-    glyphs: &[GlyphInfo],
-) -> usize {
-    if plan.mask_array[RPHF] != 0 && third_lets_reph(plan.config.reph_mode, glyphs) {
-        return if is_formed(plan, map, face, glyphs) {
-            2
-        } else {
-            0
-        };
+pub(crate) fn reph_len<F: Font>(rules: &Rules<F>, glyphs: &[GlyphInfo]) -> usize {
+    let mode = rules.plan.config.reph_mode;
+    if rules.plan.mask_array[RPHF] != 0 && third_lets_reph(mode, glyphs) {
+        return if is_formed(rules, glyphs) { 2 } else { 0 };
     }
-    if opens_with_repha(plan.config.reph_mode, glyphs) {
-        1
-    } else {
-        0
-    }
+    if opens_with_repha(mode, glyphs) { 1 } else { 0 }
 }
 
 /// Where the search for the base ends, if no ZWJ ends it before: behind the reph and the joiners
@@ -62,13 +50,14 @@ fn third_lets_reph(mode: RephMode, glyphs: &[GlyphInfo]) -> bool {
 
 // Whether the font forms a reph of what opens the syllable.
 #[inline]
-fn is_formed<F: Font>(plan: &IndicPlan, map: &Map, face: &F, glyphs: &[GlyphInfo]) -> bool {
+fn is_formed<F: Font>(rules: &Rules<F>, glyphs: &[GlyphInfo]) -> bool {
     let opening = [number(&glyphs[0]), number(&glyphs[1]), number(&glyphs[2])];
-    match plan.config.reph_mode {
-        RephMode::Implicit => plan.rphf.would_substitute(map, face, &opening[..2]),
+    let rphf = &rules.plan.rphf;
+    match rules.plan.config.reph_mode {
+        RephMode::Implicit => rphf.would_substitute(rules.map, rules.face, &opening[..2]),
         RephMode::Explicit => {
-            plan.rphf.would_substitute(map, face, &opening[..2])
-                || plan.rphf.would_substitute(map, face, &opening)
+            rphf.would_substitute(rules.map, rules.face, &opening[..2])
+                || rphf.would_substitute(rules.map, rules.face, &opening)
         }
         RephMode::LogRepha => false,
     }

@@ -52,12 +52,12 @@ const CIRCLES: ScriptCircles = ScriptCircles {
 ///     (text_steps khmer_steps (order_view opened)) opened buffer.new.glyphs) }
 /// ensures clusters { OnOk result (NoNewCluster buffer.old.glyphs buffer.new.glyphs) }
 /// ensures refusal { let circles = script_circles khmer_circles (F.font face.now) buffer.old in
-///     Refuses (unknown_refusal 2 buffer.old.glyphs)
+///     Refuses (unknown_refusal NON_KHMER_CLUSTER buffer.old.glyphs)
 ///     buffer.old.max_len (length (circled circles buffer.old.glyphs)) result }
 /// ensures err { OnErr result (buffer.new ≡ buffer.old) }
 /// ensures without_memory { let circles =
 ///     script_circles khmer_circles (F.font face.now) buffer.old in
-///     unknown_refusal 2 buffer.old.glyphs ≡ None →
+///     unknown_refusal NON_KHMER_CLUSTER buffer.old.glyphs ≡ None →
 ///     circled circles buffer.old.glyphs ≡ buffer.old.glyphs → IsOk result }
 /// ```
 ///

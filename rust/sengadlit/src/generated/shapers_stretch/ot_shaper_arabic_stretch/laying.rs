@@ -26,33 +26,121 @@ pub(super) struct TileLaying<'a, F> {
 impl<'a, F: Font> PositionedWalk for TileLaying<'a, F> {
     #[inline]
     fn walk(&self, glyphs: &mut [GlyphInfo], positions: &mut [GlyphPosition]) {
-        lay_all(
-            self.face,
-            self.choice,
-            self.right_to_left,
-            glyphs,
-            positions,
-            self.len,
-        );
+        self.lay_all(glyphs, positions);
     }
 }
 
-/// Stretches the text of the first `len` cells over the whole slices.
-#[inline]
-pub(super) fn lay_all<F: Font>(
-    face: &F,
-    choice: StretchStart,
-    right_to_left: bool,
-    glyphs: &mut [GlyphInfo],
-    positions: &mut [GlyphPosition],
-    len: usize,
-) {
-    let mut unlaid = Unlaid {
-        end: len,
-        place: glyphs.len(),
-    };
-    while 0 < unlaid.end {
-        unlaid = lay_last(face, choice, right_to_left, glyphs, positions, unlaid);
+impl<'a, F: Font> TileLaying<'a, F> {
+    // Stretches the text of the first `len` cells over the whole slices.
+    #[inline]
+    fn lay_all(&self, glyphs: &mut [GlyphInfo], positions: &mut [GlyphPosition]) {
+        let mut unlaid = Unlaid {
+            end: self.len,
+            place: glyphs.len(),
+        };
+        while 0 < unlaid.end {
+            unlaid = self.lay_last(glyphs, positions, unlaid);
+        }
+    }
+
+    // Lays the last part of the unlaid text: its run first, then what stands before it moves up.
+    #[inline]
+    fn lay_last(
+        &self,
+        glyphs: &mut [GlyphInfo],
+        positions: &mut [GlyphPosition],
+        unlaid: Unlaid,
+    ) -> Unlaid {
+        let part = last_part(&glyphs[..unlaid.end]);
+        if part.tiles == unlaid.end {
+            move_up(glyphs, positions, part.start, part.tiles, unlaid.place);
+            return Unlaid {
+                end: part.start,
+                place: unlaid.place - (part.tiles - part.start),
+            };
+        }
+        let place = self.lay_run(glyphs, positions, part, unlaid);
+        move_up(glyphs, positions, part.start, part.tiles, place);
+        Unlaid {
+            end: part.start,
+            place: place - (part.tiles - part.start),
+        }
+    }
+
+    // Lays the run of the last part, and flags it and its word; where it then begins.
+    fn lay_run(
+        &self,
+        glyphs: &mut [GlyphInfo],
+        positions: &mut [GlyphPosition],
+        part: LastPart,
+        unlaid: Unlaid,
+    ) -> usize {
+        let run = measure(
+            self.face,
+            &positions[part.word..part.tiles],
+            &glyphs[part.tiles..unlaid.end],
+        );
+        unsafe_to_break_in(glyphs, part.word, unlaid.end);
+        match lay_of(self.choice, self.right_to_left, run) {
+            Some(lay) => {
+                let pen = Pen {
+                    at: lay.start,
+                    place: unlaid.place,
+                };
+                let tiles = part.tiles..unlaid.end;
+                self.lay_tiles(lay, glyphs, positions, tiles, pen).place
+            }
+            None => unreachable!(),
+        }
+    }
+
+    // Lays these tiles, the last one first.
+    #[inline]
+    fn lay_tiles(
+        &self,
+        lay: Lay,
+        glyphs: &mut [GlyphInfo],
+        positions: &mut [GlyphPosition],
+        tiles: Range<usize>,
+        pen: Pen,
+    ) -> Pen {
+        let mut pen = pen;
+        for i in (tiles.start..tiles.end).rev() {
+            let tile = Tile {
+                glyph: glyphs[i],
+                position: positions[i],
+            };
+            pen = self.lay_tile(lay, glyphs, positions, tile, pen);
+        }
+        pen
+    }
+
+    // Lays a tile, and where it repeats the added copies of it.
+    #[inline]
+    fn lay_tile(
+        &self,
+        lay: Lay,
+        glyphs: &mut [GlyphInfo],
+        positions: &mut [GlyphPosition],
+        tile: Tile,
+        pen: Pen,
+    ) -> Pen {
+        let width = i128::from(advance_of(self.face, &tile.glyph));
+        let pen = lay_copies(self.right_to_left, width, 1, glyphs, positions, tile, pen);
+        if !repeats(&tile.glyph) {
+            return pen;
+        }
+        let step = width - lay.overlap;
+        let added = lay.added;
+        lay_copies(
+            self.right_to_left,
+            step,
+            added,
+            glyphs,
+            positions,
+            tile,
+            pen,
+        )
     }
 }
 
@@ -61,32 +149,6 @@ pub(super) fn lay_all<F: Font>(
 struct Unlaid {
     end: usize,
     place: usize,
-}
-
-// Lays the last part of the unlaid text: its run first, then what stands before it moves up.
-#[inline]
-fn lay_last<F: Font>(
-    face: &F,
-    choice: StretchStart,
-    right_to_left: bool,
-    glyphs: &mut [GlyphInfo],
-    positions: &mut [GlyphPosition],
-    unlaid: Unlaid,
-) -> Unlaid {
-    let part = last_part(&glyphs[..unlaid.end]);
-    if part.tiles == unlaid.end {
-        move_up(glyphs, positions, part.start, part.tiles, unlaid.place);
-        return Unlaid {
-            end: part.start,
-            place: unlaid.place - (part.tiles - part.start),
-        };
-    }
-    let place = lay_run(face, choice, right_to_left, glyphs, positions, part, unlaid);
-    move_up(glyphs, positions, part.start, part.tiles, place);
-    Unlaid {
-        end: part.start,
-        place: place - (part.tiles - part.start),
-    }
 }
 
 // Moves the cells from `start` to `end` up, so that they end at `place`.
@@ -105,35 +167,6 @@ fn move_up(
     }
 }
 
-// Lays the run of the last part, and flags it and its word; where it then begins.
-fn lay_run<F: Font>(
-    face: &F,
-    choice: StretchStart,
-    right_to_left: bool,
-    glyphs: &mut [GlyphInfo],
-    positions: &mut [GlyphPosition],
-    part: LastPart,
-    unlaid: Unlaid,
-) -> usize {
-    let run = measure(
-        face,
-        &positions[part.word..part.tiles],
-        &glyphs[part.tiles..unlaid.end],
-    );
-    unsafe_to_break_in(glyphs, part.word, unlaid.end);
-    match lay_of(choice, right_to_left, run) {
-        Some(lay) => {
-            let pen = Pen {
-                at: lay.start,
-                place: unlaid.place,
-            };
-            let tiles = part.tiles..unlaid.end;
-            lay_tiles(face, right_to_left, lay, glyphs, positions, tiles, pen).place
-        }
-        None => unreachable!(),
-    }
-}
-
 // Where the pen is, and the place before which the next copy is laid.
 #[derive(Clone, Copy)]
 struct Pen {
@@ -146,49 +179,6 @@ struct Pen {
 struct Tile {
     glyph: GlyphInfo,
     position: GlyphPosition,
-}
-
-// Lays these tiles, the last one first.
-#[inline]
-fn lay_tiles<F: Font>(
-    face: &F,
-    right_to_left: bool,
-    lay: Lay,
-    glyphs: &mut [GlyphInfo],
-    positions: &mut [GlyphPosition],
-    tiles: Range<usize>,
-    pen: Pen,
-) -> Pen {
-    let mut pen = pen;
-    for i in (tiles.start..tiles.end).rev() {
-        let tile = Tile {
-            glyph: glyphs[i],
-            position: positions[i],
-        };
-        pen = lay_tile(face, right_to_left, lay, glyphs, positions, tile, pen);
-    }
-    pen
-}
-
-// Lays a tile, and where it repeats the added copies of it.
-#[inline]
-fn lay_tile<F: Font>(
-    face: &F,
-    right_to_left: bool,
-    lay: Lay,
-    glyphs: &mut [GlyphInfo],
-    positions: &mut [GlyphPosition],
-    tile: Tile,
-    pen: Pen,
-) -> Pen {
-    let width = i128::from(advance_of(face, &tile.glyph));
-    let pen = lay_copies(right_to_left, width, 1, glyphs, positions, tile, pen);
-    if !repeats(&tile.glyph) {
-        return pen;
-    }
-    let step = width - lay.overlap;
-    let added = lay.added;
-    lay_copies(right_to_left, step, added, glyphs, positions, tile, pen)
 }
 
 // Lays so many copies of a tile that each move the pen so far.

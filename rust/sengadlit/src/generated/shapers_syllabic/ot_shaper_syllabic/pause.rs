@@ -2,24 +2,10 @@
 //!
 //! A reordering pause: dotted circles, and then the order of each syllable.
 
-use super::circles::insert_dotted_circles;
+use super::circles::ScriptCircles;
 use super::reordering::{Reorder, reorder_syllables};
 use crate::generated::shapers_base::buffer::{Buffer, ShaperError};
 use crate::generated::shapers_base::font::Font;
-
-/// The dotted circles of a shaper: in syllables of the broken kind, with a category and a position,
-/// behind the leading glyphs of the repha category where there is one.
-#[derive(Clone, Copy, Debug, PartialEq, Eq)]
-pub struct ScriptCircles {
-    /// The kind of the syllables that get one.
-    pub broken_kind: u8,
-    /// The category of the circle.
-    pub category: u8,
-    /// The category of glyphs that stay in front of it.
-    pub repha: Option<u8>,
-    /// The circle's position, in its auxiliary byte, or none for 0.
-    pub position: Option<u8>,
-}
 
 /// Gives broken syllables their dotted circles and then reorders each syllable. Returns whether
 /// circles were wanted. Refuses with `UnknownSyllable` where a kind is above the last known one, if
@@ -75,14 +61,7 @@ pub fn reorder_pause<F: Font, R: Reorder>(
     if let Some(place) = first_unknown(buffer, last_kind) {
         return Err(ShaperError::UnknownSyllable(place));
     }
-    let circles = insert_dotted_circles(
-        face,
-        buffer,
-        script.broken_kind,
-        script.category,
-        script.repha,
-        script.position,
-    )?;
+    let circles = script.insert(face, buffer)?;
     reorder_syllables(order, buffer)?;
     Ok(circles)
 }

@@ -4,7 +4,9 @@
 //! with what it passes, and then the syllable is written once.
 
 use super::category;
-use crate::generated::shapers_base::buffer::{Buffer, ClusterRun, GlyphInfo, ShaperError};
+use crate::generated::shapers_base::buffer::{
+    Buffer, ClusterRun, GlyphInfo, GlyphWalk, ShaperError,
+};
 use crate::generated::shapers_syllabic::ot_shaper_syllabic::Reorder;
 use crate::generated::shapers_syllabic::ot_shaper_syllabic::use_syllable::{
     BROKEN_CLUSTER, SAKOT_TERMINATED_CLUSTER, STANDARD_CLUSTER, VIRAMA_TERMINATED_CLUSTER,
@@ -41,7 +43,8 @@ pub struct UniversalOrder;
 impl Reorder for UniversalOrder {
     #[inline]
     fn reorder(&self, buffer: &mut Buffer, start: usize, end: usize) -> Result<(), ShaperError> {
-        if is_reordered(&buffer.glyphs()[start..end]) {
+        let is_short = end - start < 2 && !has_reph(&buffer.glyphs()[start..end]);
+        if !is_short && is_reordered(&buffer.glyphs()[start..end]) {
             if has_reph(&buffer.glyphs()[start..end]) {
                 reorder_syllable(buffer, start, end);
             } else {
@@ -91,16 +94,20 @@ fn piece_start(glyphs: &[GlyphInfo], s: usize, i: usize) -> usize {
 #[inline]
 fn move_to_front(buffer: &mut Buffer, start: usize, end: usize) {
     buffer.merge_clusters(start, end);
-    list_last_first(buffer, start, end);
-    buffer.apply(start, end);
+    buffer.walk(&mut BringLast { start, end });
 }
 
-// Lists the places from `s` to `e`, the last of them first.
-#[inline]
-fn list_last_first(buffer: &mut Buffer, s: usize, e: usize) {
-    buffer.set_place(s, e - 1);
-    for i in s + 1..e {
-        buffer.set_place(i, i - 1);
+// Brings the last of the glyphs from `start` to `end` to their front.
+#[derive(Clone, Copy)]
+struct BringLast {
+    start: usize,
+    end: usize,
+}
+
+impl GlyphWalk for BringLast {
+    #[inline]
+    fn walk(&mut self, glyphs: &mut [GlyphInfo]) {
+        glyphs[self.start..self.end].rotate_right(1);
     }
 }
 

@@ -94,6 +94,9 @@ fn set_masks(plan: &Plan, buffer: &mut Buffer) {
 // Gives each syllable the mask of `rphf`.
 #[inline]
 fn set_rphf(mask: u32, buffer: &mut Buffer) {
+    if mask == 0 {
+        return;
+    }
     buffer.walk(&mut EachSyllable {
         change: &RphfMask { mask },
     });

@@ -6,9 +6,9 @@ use Rattle.shapers_indic_initial.proofs.ot_shaper_indic_initial.font_positions.B
 
 abbrev pub invariant-loop-glyph : goal.invariant-loop-glyph
 invariant-loop-glyph g l =
-    let font = g.F.hb_font_t.font l.self.face.now in
-    let f = by_virama font l.self.map.now l.self.plan.now l.self.virama in
+    let font = g.F.hb_font_t.font l.self.rules.now.face.now in
+    let f = by_virama font l.self.rules.now.map.now l.self.rules.now.plan.now l.self.virama in
     record {
       glyphs : take l.glyph-index l.glyphs ++ map f (drop l.glyph-index l.glyphs) ≡ map f l.initial.glyphs;
-      known : AllKnown font l.self.map.now l.self.plan.now l.self.virama l.known;
+      known : AllKnown font l.self.rules.now.map.now l.self.rules.now.plan.now l.self.virama l.known;
     }

@@ -11,26 +11,26 @@ use Rattle.shapers_indic_initial.proofs.ot_shaper_indic_initial.reordering.Initi
 
 pub returns-then-is_reordered-clause-reordered : goal.returns-then-is_reordered-clause-reordered
 returns-then-is_reordered-clause-reordered g c =
-    let instance = c.args.self.now in
+    let instance = c.args.self.now.rules.now in
     let r = rules_of (g.F.hb_font_t.font instance.face.now) instance.map.now instance.plan.now in
     let s = c.args.start in
     let e = c.args.end in
     let b1 = c.args.buffer.now in
-    let b2 = c.set_positions.new.buffer in
+    let b2 = c.prepare_for_order.new.buffer in
     let b3 = c.order_syllable.new.buffer in
     let b4 = c.mask_syllable.new.buffer in
     let order = c.order_syllable.ensures.syllable r refl in
-    let script2 : b2.script ≡ b1.script = ap (λ b. b.script) c.set_positions.ensures.reordered.others in
+    let script2 : b2.script ≡ b1.script = ap (λ b. b.script) c.prepare_for_order.ensures.reordered.others in
     let script3 : b3.script ≡ b2.script = ap (λ b. b.script) order.others in
     initial_syllable r b1.script s e b1 b2 b3 b4 c.requires.in_order c.requires.in_range
     (ap (λ gs. is_reordered (stretch_of s e gs)) (sym c.glyphs-2.ensures) ∙ sym c.is_reordered.ensures ∙ c.if-is_reordered.true)
-    c.set_positions.ensures.reordered
+    c.prepare_for_order.ensures.reordered
     order
     (subst (λ script. SyllableReordered (masked_in_order r script) (λ _. []) s e b3 b4) (script3 ∙ script2) c.mask_syllable.ensures)
 
 pub returns-else-is_reordered-clause-reordered : goal.returns-else-is_reordered-clause-reordered
 returns-else-is_reordered-clause-reordered g c =
-    let instance = c.args.self.now in
+    let instance = c.args.self.now.rules.now in
     let r = rules_of (g.F.hb_font_t.font instance.face.now) instance.map.now instance.plan.now in
     let s = c.args.start in
     let e = c.args.end in
@@ -40,7 +40,7 @@ returns-else-is_reordered-clause-reordered g c =
 
 pub returns-then-is_plain_consonant-clause-reordered : goal.returns-then-is_plain_consonant-clause-reordered
 returns-then-is_plain_consonant-clause-reordered g c =
-    let instance = c.args.self.now in
+    let instance = c.args.self.now.rules.now in
     let r = rules_of (g.F.hb_font_t.font instance.face.now) instance.map.now instance.plan.now in
     let s = c.args.start in
     let e = c.args.end in

@@ -6,11 +6,11 @@ use Rattle.shapers_indic_initial.specs.InitialReordering.{opening_steps, positio
 use Rattle.shapers_indic_initial.specs.InitialRules.{rules_of}
 use Rattle.shapers_indic_initial.proofs.Opening.{opened}
 use Rattle.shapers_syllabic.specs.Reordering.{SyllableReordered}
-use Rattle.shapers_indic_initial.proofs.ot_shaper_indic_initial.opening.set_positions.Goals as goal
+use Rattle.shapers_indic_initial.proofs.ot_shaper_indic_initial.opening.prepare_for_order.Goals as goal
 
 pub returns-clause-reordered : goal.returns-clause-reordered
 returns-clause-reordered g c =
-    let r = rules_of (g.F.hb_font_t.font c.args.face.now) c.args.map.now c.args.plan.now in
+    let r = rules_of (g.F.hb_font_t.font c.args.rules.now.face.now) c.args.rules.now.map.now c.args.rules.now.plan.now in
     let s = c.args.start in
     let e = c.args.end in
     let b4 = c.walk-2.new.self in

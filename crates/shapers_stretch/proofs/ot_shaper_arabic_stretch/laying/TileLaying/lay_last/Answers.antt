@@ -1,11 +1,11 @@
 use Rattle.std.proofs.Common.{◌<◌, arith}
 use Rattle.shapers_stretch.specs.LayingWalk.{laying_by}
 use Rattle.shapers_stretch.proofs.PartLaying.{part_can, part_laid, part_moved, part_of}
-use Rattle.shapers_stretch.proofs.ot_shaper_arabic_stretch.laying.lay_last.Goals as goal
+use Rattle.shapers_stretch.proofs.ot_shaper_arabic_stretch.laying.TileLaying.lay_last.Goals as goal
 
 pub lay_run-place-requires-clause-run : goal.lay_run-place-requires-clause-run
 lay_run-place-requires-clause-run g c =
-    let how = laying_by (g.F.hb_font_t.font c.args.face.now) c.args.choice c.args.right_to_left in
+    let how = laying_by (g.F.hb_font_t.font c.args.self.now.face.now) c.args.self.now.choice c.args.self.now.right_to_left in
     let p = c.last_part-part.result in
     let e = c.last_part-part.ensures in
     let u = c.args.unlaid in
@@ -15,7 +15,7 @@ lay_run-place-requires-clause-run g c =
 
 pub returns-then-part-unlaid-clause-laid : goal.returns-then-part-unlaid-clause-laid
 returns-then-part-unlaid-clause-laid g c =
-    let how = laying_by (g.F.hb_font_t.font c.args.face.now) c.args.choice c.args.right_to_left in
+    let how = laying_by (g.F.hb_font_t.font c.args.self.now.face.now) c.args.self.now.choice c.args.self.now.right_to_left in
     let p = c.last_part-part.result in
     let e = c.last_part-part.ensures in
     let u = c.args.unlaid in
@@ -25,7 +25,7 @@ returns-then-part-unlaid-clause-laid g c =
 
 pub returns-then-part-unlaid-clause-shorter : goal.returns-then-part-unlaid-clause-shorter
 returns-then-part-unlaid-clause-shorter g c =
-    let how = laying_by (g.F.hb_font_t.font c.args.face.now) c.args.choice c.args.right_to_left in
+    let how = laying_by (g.F.hb_font_t.font c.args.self.now.face.now) c.args.self.now.choice c.args.self.now.right_to_left in
     let p = c.last_part-part.result in
     let e = c.last_part-part.ensures in
     let u = c.args.unlaid in
@@ -33,7 +33,7 @@ returns-then-part-unlaid-clause-shorter g c =
 
 pub move_up-requires-2-clause-ahead : goal.move_up-requires-2-clause-ahead
 move_up-requires-2-clause-ahead g c =
-    let how = laying_by (g.F.hb_font_t.font c.args.face.now) c.args.choice c.args.right_to_left in
+    let how = laying_by (g.F.hb_font_t.font c.args.self.now.face.now) c.args.self.now.choice c.args.self.now.right_to_left in
     let p = c.last_part-part.result in
     let e = c.last_part-part.ensures in
     let u = c.args.unlaid in
@@ -44,7 +44,7 @@ move_up-requires-2-clause-ahead g c =
 
 pub overflow_sub-result-3 : goal.overflow_sub-result-3
 overflow_sub-result-3 g c =
-    let how = laying_by (g.F.hb_font_t.font c.args.face.now) c.args.choice c.args.right_to_left in
+    let how = laying_by (g.F.hb_font_t.font c.args.self.now.face.now) c.args.self.now.choice c.args.self.now.right_to_left in
     let p = c.last_part-part.result in
     let e = c.last_part-part.ensures in
     let u = c.args.unlaid in
@@ -55,7 +55,7 @@ overflow_sub-result-3 g c =
 
 pub returns-clause-laid : goal.returns-clause-laid
 returns-clause-laid g c =
-    let how = laying_by (g.F.hb_font_t.font c.args.face.now) c.args.choice c.args.right_to_left in
+    let how = laying_by (g.F.hb_font_t.font c.args.self.now.face.now) c.args.self.now.choice c.args.self.now.right_to_left in
     let p = c.last_part-part.result in
     let e = c.last_part-part.ensures in
     let u = c.args.unlaid in
