@@ -34,7 +34,7 @@ pub trait hb_font_t {
     fn glyph_h_advance(&self, glyph: GlyphId) -> i32
         ensures { result ≡ (font self.now).advance glyph };
 
-    /// Whether the lookup at this place of the list would apply to exactly these glyphs; with
+    /// Whether the lookup of this number in GSUB would apply to exactly these glyphs; with
     /// `zero_context`, only if it needs no context around them.
     fn would_apply(&self, lookup: u16, glyphs: &[GlyphId], zero_context: bool) -> bool
         ensures { result ≡ (font self.now).applies lookup glyphs.now zero_context };

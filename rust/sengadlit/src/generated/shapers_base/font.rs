@@ -58,7 +58,7 @@ pub trait Font {
     /// </details>
     fn glyph_h_advance(&self, glyph: GlyphId) -> i32;
 
-    /// Whether the lookup at this place of the list would apply to exactly these glyphs; with
+    /// Whether the lookup of this number in GSUB would apply to exactly these glyphs; with
     /// `zero_context`, only if it needs no context around them.
     ///
     /// <details><summary>Contract</summary>
