@@ -1,9 +1,10 @@
 -- What each hook does, of each shaper that has it. Of the others, which lack it by their
 -- `standing`: nothing changes and the result is None.
-use Rattle.std.specs.Prelude.{ℕ, ◌+◌, ◌≤◌, ◌%◌, List, [], ◌∷◌, map, true, false, ◌≡◌, length, Option, None, Some, Result, IsOk}
+use Rattle.std.specs.Prelude.{ℕ, ◌+◌, ◌≤◌, ◌%◌, List, map, true, false, ◌≡◌, length, Option, None, Some, Result, IsOk}
 use Rattle.std.specs.List.{All, AllByRecursion, list_any}
 use Rattle.shapers_buffer.specs.Buffer.{Buffer}
 use Rattle.shapers_base.specs.Font.{CharacterTables, Font}
+use Rattle.shapers_base.specs.Masks.{masks_kept}
 use Rattle.shapers_buffer.specs.Glyph.{clusters, characters}
 use Rattle.shapers_buffer.specs.Refusals.{Refuses, RefusesLength}
 use Rattle.shapers_arabic.specs.Marks as arabic
@@ -30,7 +31,6 @@ use Rattle.shapers_stretch.specs.Stretch.{marks_stretched, stretch_refusal}
 use Rattle.shapers_stretch.specs.StretchLaws.{AreCopies, IsLaidOver}
 use Rattle.shapers_syllabic.specs.Characters.{composed_behind, with_category, with_category_and_position}
 use Rattle.shapers_universal.specs.PlanData.{arabic_of, is_universal, universal_plan}
-use Rattle.shapers_universal.specs.PlanMasks.{joining_masks}
 use Rattle.shapers_universal.specs.UniversalMasks.{CanJoin, MasksAreSet}
 use Rattle.shapers_text.specs.Hebrew as hebrew
 use Rattle.shapers_text.specs.Hebrew.{composed_in_hebrew, mark_step}
@@ -53,15 +53,7 @@ data_created Universal plan =
     Some (data_of.Universal kept)
 data_created _ plan = None
 
--- all masks in a plan's data, and that none of them touches a glyph flag bit
-abbrev pub masks_kept : PlanData → List ℕ
-masks_kept (data_of.Arabic kept) = kept.mask_array
-masks_kept (data_of.Hangul kept) = kept.mask_array
-masks_kept (data_of.Indic kept) = kept.mask_array
-masks_kept (data_of.Khmer kept) = kept.mask_array
-masks_kept (data_of.Universal kept) = kept.rphf_mask ∷ joining_masks kept.arabic_plan
-masks_kept _ = []
-
+-- none of the masks in a plan's data touches a glyph flag bit
 abbrev pub MasksOffFlags : PlanData → Type 0
 MasksOffFlags kept = AllByRecursion (λ mask. mask % 8 ≡ 0) (masks_kept kept)
 
