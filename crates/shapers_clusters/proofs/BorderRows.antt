@@ -1,5 +1,5 @@
 -- Borders and their flags on small texts, written out from the rule.
-use Rattle.std.proofs.Common.{ℕ, ◌≡◌, ⊥, Bool, true, false, List, [], ◌∷◌, map, refl, sym, arith}
+use Rattle.std.proofs.Common.{ℕ, ◌≡◌, Bool, true, false, List, [], ◌∷◌, map, refl, sym, arith}
 use Rattle.std.proofs.lemmas.Bool.{false≢true}
 use Rattle.shapers_buffer.specs.Glyph.{default_glyph}
 use Rattle.shapers_buffer.specs.GlyphFlags.{FlagCall, UnsafeToBreak, UnsafeToConcat, SafeToInsertTatweel, flags_called}

@@ -1,5 +1,5 @@
 -- A call that forbids a concatenation leaves a flag on the glyph at that place.
-use Rattle.std.proofs.Common.{◌≡◌, ℕ, ◌+◌, ◌<◌, ◌≤◌, Bool, true, false, eqb, leb, ltb, ◌&&◌, ◌||◌, List, [], ◌∷◌, length, map, get_or, refl, sym, ap, ◌∙◌, arith, inl, inr}
+use Rattle.std.proofs.Common.{◌≡◌, ℕ, ◌<◌, ◌≤◌, Bool, true, false, eqb, leb, ltb, ◌&&◌, List, [], ◌∷◌, length, get_or, refl, sym, ap, arith, inl, inr}
 use Rattle.std.specs.Int.Bits.{bit_or}
 use Rattle.std.specs.List.{AllByRecursion, list_any}
 use Rattle.std.proofs.lemmas.Bool.{leb-true, ltb-true, and_parts, and_from, or_cases, or_from, or_parts, eq-eqb, both_ways, false_from_ne_true, false≢true}
@@ -10,7 +10,7 @@ use Rattle.std.proofs.lemmas.Nat.Bits.{bit_at_or}
 use Rattle.shapers_buffer.specs.Glyph.{clusters, default_glyph}
 use Rattle.shapers_buffer.specs.GlyphFlags.{FlagCall, UnsafeToBreak, UnsafeToConcat, SafeToInsertTatweel, with_bits, flag_called, flags_called}
 use Rattle.shapers_buffer.specs.declared.buffer.glyph.hb_glyph_info_t.{hb_glyph_info_t}
-use Rattle.shapers_clusters.specs.Borders.{forbids_border, IsOpen, is_unsafe_to_concat, IsBare, BareLaw}
+use Rattle.shapers_clusters.specs.Borders.{forbids_border, IsOpen, is_unsafe_to_concat, BareLaw}
 use Rattle.shapers_clusters.specs.Breaks.{forbids, IsFree}
 use Rattle.shapers_clusters.specs.Flags.{bit_at, InOrder, KeepsBits}
 use Rattle.shapers_clusters.proofs.ClearPlaces.{held, clear-places, in-stretch, length-same}
