@@ -35,7 +35,7 @@ use Rattle.shapers_arabic.proofs.Selectors.{selected-halves}
 use Rattle.shapers_arabic.proofs.SoundOrder.{calls-in_order}
 
 -- flags don't show in the order view
-view-joined : (breaks : BreakFlags) (masks : List ℕ) (flags : BufferFlags) (script : Option Script) (text : Text) (gs : List hb_glyph_info_t) → order_view (joined_glyphs breaks masks flags script text gs) ≡ order_view (with_forms masks (forms_of script text) gs)
+pub view-joined : (breaks : BreakFlags) (masks : List ℕ) (flags : BufferFlags) (script : Option Script) (text : Text) (gs : List hb_glyph_info_t) → order_view (joined_glyphs breaks masks flags script text gs) ≡ order_view (with_forms masks (forms_of script text) gs)
 view-joined breaks masks flags script text gs =
     map-flags_called plain (λ bits g low. plain-with_bits bits g low) (has_flag flags_concat flags) (has_flag flags_tatweel flags) (flag_calls breaks script text) (with_forms masks (forms_of script text) gs) (calls-in_order breaks script text)
 
@@ -91,7 +91,7 @@ halves-free breaks masks flags script text gs n characters long pos within free 
     ∙ ap (λ xs. order_view (joined_glyphs breaks masks flags script one (take n gs)) ++ xs) (sym (view-joined breaks masks flags script two (drop n gs)))
 
 -- a clear place that is spared is free
-free-clear : (breaks : BreakFlags) (masks : List ℕ) (flags : BufferFlags) (script : Option Script) (text : Text) (gs : List hb_glyph_info_t) (n : ℕ) → length text.characters ≡ length gs → length text.types ≡ length gs → 0 < n → n < length gs → IsClear (joined_glyphs breaks masks flags script text gs) n → IsFree (flag_calls breaks script text) n
+pub free-clear : (breaks : BreakFlags) (masks : List ℕ) (flags : BufferFlags) (script : Option Script) (text : Text) (gs : List hb_glyph_info_t) (n : ℕ) → length text.characters ≡ length gs → length text.types ≡ length gs → 0 < n → n < length gs → IsClear (joined_glyphs breaks masks flags script text gs) n → IsFree (flag_calls breaks script text) n
 free-clear breaks masks flags script text gs n characters long pos within clear =
     let formed = with_forms masks (forms_of script text) gs in
     let all_long : length (forms_of script text) ≡ length text.types = length-forms_of script text (characters ∙ sym long) in
@@ -116,7 +116,7 @@ text-back joining general n b =
     ap (λ cs. let t : Text = record { before = []; characters = cs; types = stored_types joining (drop n b.glyphs); after = after } in t) (sym (drop-map (λ g. g.glyph_id) n b.glyphs))
     ∙ ap (λ ts. let t : Text = record { before = []; characters = drop n (map (λ g. g.glyph_id) b.glyphs); types = ts; after = after } in t) (sym (drop-map (λ g. resolved (joining g.glyph_id) g.general_category) n b.glyphs))
 
-types_long : (joining : ℕ → hb_arabic_joining_type_t) (gs : List hb_glyph_info_t) → length (stored_types joining gs) ≡ length gs
+pub types_long : (joining : ℕ → hb_arabic_joining_type_t) (gs : List hb_glyph_info_t) → length (stored_types joining gs) ≡ length gs
 types_long joining gs = length-map gs (λ g. resolved (joining g.glyph_id) g.general_category)
 
 -- the halves of a buffer, joined by themselves

@@ -9,6 +9,7 @@ mod FlagRows
 pub mod FlagWalk
 pub mod FlaggedGlyphs
 pub mod FlaggedPlaces
+pub mod FormedParts
 pub mod JoinedFlags
 pub mod JoinedGlyphs
 pub mod JoiningLaws
@@ -28,3 +29,4 @@ pub mod Selectors
 pub mod SoundOrder
 pub mod SoundSteps
 pub mod SoundWalk
+pub mod Together

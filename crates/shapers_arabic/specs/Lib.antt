@@ -1,5 +1,6 @@
 pub mod Breaks
 pub mod Concatenation
+pub mod Edited
 pub mod Edits
 pub mod JoinedText
 pub mod Joining
@@ -10,3 +11,4 @@ pub mod Marks
 pub mod PlanData
 pub mod Requests
 pub mod SoundFlags
+pub mod Together
