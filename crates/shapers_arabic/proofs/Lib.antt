@@ -3,6 +3,7 @@ mod BreakRows
 pub mod BrokenGlyphs
 pub mod Concatenation
 mod ConstantRows
+pub mod Edited
 pub mod Edits
 pub mod FlagLists
 mod FlagRows

@@ -1,6 +1,7 @@
 //! The laws of joining in halves of a text.
 ghost use Rattle.shapers_arabic.specs.Breaks.{AsCodeLaw, ExactLaw};
 ghost use Rattle.shapers_arabic.specs.Concatenation.{ConcatenationLaw};
+ghost use Rattle.shapers_arabic.specs.Edited.{GlyphsStayNear};
 ghost use Rattle.shapers_arabic.specs.Edits.{EditsStayNear};
 ghost use Rattle.shapers_arabic.specs.JoinedText.{CopiedContextsCut, CopiedContextsShow};
 ghost use Rattle.shapers_arabic.specs.Together.{GlyphsConcatenate};
@@ -29,7 +30,9 @@ pub fn joining_concatenation_law()
 {}
 
 /// Edits stay near: where one place of a text changes, only its own form changes and those of the
-/// nearest letters on both sides (selectors apart).
+/// nearest letters on both sides (selectors apart). So in buffers, where any stretch of glyphs is
+/// replaced by any other, with the selectors directly behind those letters and behind the edit.
 pub fn joining_edits_law()
-    ensures { EditsStayNear }
+    ensures types { EditsStayNear }
+    ensures glyphs { GlyphsStayNear }
 {}
