@@ -13,7 +13,8 @@ use Rattle.shapers_arabic.proofs.FlagLists.{flags_along-append}
 use Rattle.shapers_arabic.proofs.JoiningLists.{forms-append}
 use Rattle.shapers_clusters.specs.Breaks.{forbids, IsFree}
 use Rattle.shapers_clusters.proofs.ClearPlaces.{held}
-use Rattle.shapers_arabic.specs.Concatenation.{forbids_border, IsOpen, ConcatenationLaw}
+use Rattle.shapers_clusters.specs.Borders.{forbids_border, IsOpen}
+use Rattle.shapers_arabic.specs.Concatenation.{ConcatenationLaw}
 use Rattle.shapers_arabic.proofs.FlaggedPlaces.{StandsBefore, stands-before, changed}
 use Rattle.shapers_arabic.proofs.LostForms.{lost, first-keeps, second-keeps, not_apart, act_by, act-by}
 use Rattle.shapers_arabic.proofs.BreakLists.{as-code}
@@ -95,13 +96,17 @@ loses-none before [] behind f = refl
 loses-none before (T ∷ ds) behind f = loses-none before ds behind f
 loses-none before (t ∷ ds) behind f = not_apart _ _ (same-form before (nearest (ds ++ behind)) t f)
 
-pub concatenation : ConcatenationLaw
-concatenation before ts us after front cs ds behind some a c n =
+-- of the first text only a break matters
+pub concatenation-free : (before ts us after front cs ds behind : List hb_arabic_joining_type_t) → 0 < length us → IsFree (joining_flags before (ts ++ us) after) (length ts) → IsOpen (joining_flags front (cs ++ ds) behind) (length cs) → (nearest ds ≡ None → nearest behind ≡ None) → forms before (ts ++ ds) behind ≡ forms before ts (us ++ after) ++ forms (reverse cs ++ front) ds behind
+concatenation-free before ts us after front cs ds behind some a c n =
     let stands = open-stands front cs ds behind c in
     forms-append before ts ds behind
     ∙ ap (λ fs. fs ++ forms (reverse ts ++ before) ds behind)
     (first-keeps before ts (ds ++ behind) (stands-alone before ds behind (nearest_letter (reverse ts)) stands n)
-    ∙ sym ((as-code before ts us after some).0 (open-free (joining_flags before (ts ++ us) after) (length ts) a)))
+    ∙ sym ((as-code before ts us after some).0 a))
     ∙ ap (λ fs. forms before ts (us ++ after) ++ fs)
     (second-keeps (reverse ts ++ before) [] ds behind refl (loses-none (nearest (reverse ts ++ before)) ds behind stands)
     ∙ sym (second-keeps (reverse cs ++ front) [] ds behind refl (loses-none (nearest (reverse cs ++ front)) ds behind stands)))
+
+pub concatenation : ConcatenationLaw
+concatenation before ts us after front cs ds behind some a c n = concatenation-free before ts us after front cs ds behind some (open-free (joining_flags before (ts ++ us) after) (length ts) a) c n

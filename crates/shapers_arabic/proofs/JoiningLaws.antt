@@ -19,7 +19,7 @@ use Rattle.shapers_arabic.proofs.SelectedLists.{length-selected, selected-append
 use Rattle.shapers_arabic.proofs.JoiningLists.{forms-contexts, length-forms, forms-append}
 
 -- so two texts before differ in the selectors that open the text alone
-selected-opening : (before others : List (ℕ × ℕ)) (cs fs : List ℕ) → drop (prefix_len is_selector cs) (selected before (zip cs fs)) ≡ drop (prefix_len is_selector cs) (selected others (zip cs fs))
+pub selected-opening : (before others : List (ℕ × ℕ)) (cs fs : List ℕ) → drop (prefix_len is_selector cs) (selected before (zip cs fs)) ≡ drop (prefix_len is_selector cs) (selected others (zip cs fs))
 selected-opening before others [] fs = refl
 selected-opening before others (c ∷ cs) [] = refl
 selected-opening before others (c ∷ cs) (f ∷ fs) =
@@ -35,11 +35,11 @@ selected-opening before others (c ∷ cs) (f ∷ fs) =
     ] refl
 
 -- forms that fall into two parts, by the rule or with the selectors
-record InParts (b : Bool) (n : ℕ) (characters whole cs fs ds gs : List ℕ) : Type 0 where
-  first : take n (cond b (selected [] (zip characters whole)) whole) ≡ cond b (selected [] (zip cs fs)) fs
-  second : drop (n + cond b (prefix_len is_selector ds) 0) (cond b (selected [] (zip characters whole)) whole) ≡ drop (cond b (prefix_len is_selector ds) 0) (cond b (selected [] (zip ds gs)) gs)
+pub record InParts (b : Bool) (n : ℕ) (characters whole cs fs ds gs : List ℕ) : Type 0 where
+  pub first : take n (cond b (selected [] (zip characters whole)) whole) ≡ cond b (selected [] (zip cs fs)) fs
+  pub second : drop (n + cond b (prefix_len is_selector ds) 0) (cond b (selected [] (zip characters whole)) whole) ≡ drop (cond b (prefix_len is_selector ds) 0) (cond b (selected [] (zip ds gs)) gs)
 
-in-parts : (b : Bool) (n : ℕ) (characters whole cs fs ds gs : List ℕ) → characters ≡ cs ++ ds → whole ≡ fs ++ gs → length cs ≡ n → length fs ≡ n → InParts b n characters whole cs fs ds gs
+pub in-parts : (b : Bool) (n : ℕ) (characters whole cs fs ds gs : List ℕ) → characters ≡ cs ++ ds → whole ≡ fs ++ gs → length cs ≡ n → length fs ≡ n → InParts b n characters whole cs fs ds gs
 in-parts false n characters whole cs fs ds gs c w l m =
     let none : n + 0 ≡ n = omega arith in
     record {

@@ -3,6 +3,7 @@ mod BreakRows
 pub mod BrokenGlyphs
 pub mod Concatenation
 mod ConstantRows
+pub mod Edited
 pub mod Edits
 mod FirstPieceRows
 pub mod FirstPieces
@@ -12,6 +13,7 @@ pub mod FlagWalk
 pub mod FlaggedGlyphs
 pub mod FlaggedPlaces
 pub mod FreePlaces
+pub mod FormedParts
 pub mod JoinedFlags
 pub mod JoinedGlyphs
 pub mod JoiningLaws
@@ -32,3 +34,4 @@ pub mod Selectors
 pub mod SoundOrder
 pub mod SoundSteps
 pub mod SoundWalk
+pub mod Together

@@ -1,5 +1,6 @@
 pub mod Breaks
 pub mod Concatenation
+pub mod Edited
 pub mod Edits
 pub mod FirstPiece
 pub mod Fresh
@@ -12,3 +13,4 @@ pub mod Marks
 pub mod PlanData
 pub mod Requests
 pub mod SoundFlags
+pub mod Together

@@ -9,9 +9,9 @@ use Rattle.std.proofs.lemmas.List.Sums.{sum_by-cons}
 use Rattle.shapers_buffer.specs.declared.buffer.level.BufferClusterLevel.{BufferClusterLevel}
 use Rattle.shapers_buffer.specs.Places.{pick}
 use Rattle.shapers_buffer.proofs.MappedLists.{all-append}
-use Rattle.shapers_clusters.specs.Cuts.{EndWithin, StandsApart}
+use Rattle.shapers_clusters.specs.Cuts.{EndWithin, OneAlong, StandsApart}
 use Rattle.shapers_clusters.specs.Joined.{joined_all}
-use Rattle.shapers_clusters.specs.Labels.{IsLabelled, OneLabel, OneLabelEach}
+use Rattle.shapers_clusters.specs.Labels.{IsLabelled, OneLabelEach}
 use Rattle.shapers_clusters.specs.Steps.{FitSteps, FitsStep, Step, joined_step, joined_steps, moved_on, old_places, shifted, steps_along, widened}
 use Rattle.shapers_clusters.proofs.Labels.{Labelled, joined_steps-labels}
 use Rattle.shapers_clusters.proofs.Moves.{all-joined_steps, moved_by_old_places, stepped}
@@ -91,7 +91,7 @@ marked s e cs apart = record {
 }
 
 -- stretches beside it have no mark, and no mark moves
-no_mark : (s e : ℕ) (cs : List ℕ) (sts : List (ℕ × ℕ)) → EndWithin (length cs) sts → AllByRecursion (Beside s e) sts → AllByRecursion (OneLabel (marks s e cs)) sts
+no_mark : (s e : ℕ) (cs : List ℕ) (sts : List (ℕ × ℕ)) → EndWithin (length cs) sts → AllByRecursion (Beside s e) sts → AllByRecursion (OneAlong (marks s e cs)) sts
 no_mark s e cs [] ends beside = tt
 no_mark s e cs (st ∷ sts) ends beside =
     let end = ends.0 in
@@ -122,7 +122,7 @@ marked_each s e cs (step ∷ steps) h =
     let fits = one.fits in
     let stay = marks_stay s e cs step one in (
       no_mark s e cs step.merged_first fits.first_within one.first,
-      subst (λ ls. AllByRecursion (OneLabel ls) step.merged_then) (sym stay) (no_mark s e cs step.merged_then fits.then_within one.last),
+      subst (λ ls. AllByRecursion (OneAlong ls) step.merged_then) (sym stay) (no_mark s e cs step.merged_then fits.then_within one.last),
       subst (OneLabelEach steps) (sym stay) (marked_each s e cs steps h.1),
     )
 

@@ -5,16 +5,16 @@ use Rattle.std.proofs.lemmas.Bool.{cases_lt}
 use Rattle.shapers_buffer.specs.declared.buffer.level.BufferClusterLevel.{BufferClusterLevel}
 use Rattle.shapers_clusters.specs.Joined.{joined, joined_all}
 use Rattle.shapers_clusters.proofs.Spread.{Spread, joined_cases}
-use Rattle.shapers_clusters.specs.Cuts.{EndWithin}
+use Rattle.shapers_clusters.specs.Cuts.{EndWithin, OneAlong}
 use Rattle.shapers_clusters.proofs.Neighbours.{end_within_joined}
 use Rattle.shapers_buffer.specs.Places.{pick}
 use Rattle.shapers_clusters.specs.Steps.{Step, joined_step, joined_steps, moved_on, old_places, FitsStep, FitSteps}
 use Rattle.shapers_clusters.proofs.Picks.{length-pick, get_or-pick, pick-all, pick-pick, within_picked, within_range, within_at}
 use Rattle.shapers_clusters.proofs.Moves.{stepped}
-use Rattle.shapers_clusters.specs.Labels.{IsLabelled, OfOldPlaces, OneLabel, OneLabelEach}
+use Rattle.shapers_clusters.specs.Labels.{IsLabelled, OfOldPlaces, OneLabelEach}
 
 -- all places that a merge reaches have the label of the stretch
-spread-label : (s e : ℕ) (cs js ls : List ℕ) (f : Spread s e cs js) → s + 1 < e → IsLabelled cs ls → OneLabel ls (s, e) → (p : ℕ) → f.low ≤ p → p < f.high → get_or ls p 0 ≡ get_or ls s 0
+spread-label : (s e : ℕ) (cs js ls : List ℕ) (f : Spread s e cs js) → s + 1 < e → IsLabelled cs ls → OneAlong ls (s, e) → (p : ℕ) → f.low ≤ p → p < f.high → get_or ls p 0 ≡ get_or ls s 0
 spread-label s e cs js ls f h i o p a b = elim (cases_lt p s) [
   | inl c ↦ i.agree p s (omega (arith, f.high_end)) (omega (arith, f.high_within, f.high_end)) (f.left p a c)
   | inr c ↦ elim (cases_lt p e) [
@@ -24,7 +24,7 @@ spread-label s e cs js ls f h i o p a b = elim (cases_lt p s) [
 ]
 
 -- a place of the merged cluster has that label, whether the merge reached it or not
-spread-label_of : (s e : ℕ) (cs js ls : List ℕ) (f : Spread s e cs js) → s + 1 < e → IsLabelled cs ls → OneLabel ls (s, e) → (p : ℕ) → p < length cs → get_or cs p 0 ≡ f.m → get_or ls p 0 ≡ get_or ls s 0
+spread-label_of : (s e : ℕ) (cs js ls : List ℕ) (f : Spread s e cs js) → s + 1 < e → IsLabelled cs ls → OneAlong ls (s, e) → (p : ℕ) → p < length cs → get_or cs p 0 ≡ f.m → get_or ls p 0 ≡ get_or ls s 0
 spread-label_of s e cs js ls f h i o p l c =
     i.agree p f.at l (omega (arith, f.at_to, f.high_within, f.high_end)) (c ∙ sym f.at_is) ∙ o f.at s f.at_from f.at_to (omega arith) (omega arith)
 
@@ -35,7 +35,7 @@ reach s e cs js f p = elim (cases_lt p f.low) [
   | inr a ↦ elim (cases_lt p f.high) [ inl b ↦ inl (a, b, f.inside p a b) | inr b ↦ inr (f.behind p b) ]
 ]
 
-spread-labelled : (s e : ℕ) (cs js ls : List ℕ) → Spread s e cs js → s + 1 < e → IsLabelled cs ls → OneLabel ls (s, e) → IsLabelled js ls
+spread-labelled : (s e : ℕ) (cs js ls : List ℕ) → Spread s e cs js → s + 1 < e → IsLabelled cs ls → OneAlong ls (s, e) → IsLabelled js ls
 spread-labelled s e cs js ls f h i o = record {
   as_many = i.as_many ∙ sym f.same_length;
   agree = λ p q pl ql eq.
@@ -52,11 +52,11 @@ spread-labelled s e cs js ls f h i o = record {
       ];
 }
 
-pub joined-labelled : (level : BufferClusterLevel) (s e : ℕ) (cs ls : List ℕ) → e ≤ length cs → IsLabelled cs ls → OneLabel ls (s, e) → IsLabelled (joined level s e cs) ls
+pub joined-labelled : (level : BufferClusterLevel) (s e : ℕ) (cs ls : List ℕ) → e ≤ length cs → IsLabelled cs ls → OneAlong ls (s, e) → IsLabelled (joined level s e cs) ls
 joined-labelled level s e cs ls w i o = joined_cases (λ js. IsLabelled js ls) level s e cs w (λ _. i) (λ js _ h f. spread-labelled s e cs js ls f (omega arith) i o)
 
 -- a place that a merge reached has the cluster and the label of the stretch's least place
-spread-of_old : (s e : ℕ) (ds ks cs js ls : List ℕ) → Spread s e cs js → s + 1 < e → IsLabelled cs ls → OneLabel ls (s, e) → OfOldPlaces ds ks cs ls → OfOldPlaces ds ks js ls
+spread-of_old : (s e : ℕ) (ds ks cs js ls : List ℕ) → Spread s e cs js → s + 1 < e → IsLabelled cs ls → OneAlong ls (s, e) → OfOldPlaces ds ks cs ls → OfOldPlaces ds ks js ls
 spread-of_old s e ds ks cs js ls f h i o old p l =
     let n = f.same_length in
     elim (reach s e cs js f p) [
@@ -71,13 +71,13 @@ pub record Labelled (ds ks cs ls : List ℕ) : Type 0 where
   pub respected : IsLabelled cs ls
   pub of_old : OfOldPlaces ds ks cs ls
 
-joined-labels : (level : BufferClusterLevel) (s e : ℕ) (ds ks cs ls : List ℕ) → e ≤ length cs → Labelled ds ks cs ls → OneLabel ls (s, e) → Labelled ds ks (joined level s e cs) ls
+joined-labels : (level : BufferClusterLevel) (s e : ℕ) (ds ks cs ls : List ℕ) → e ≤ length cs → Labelled ds ks cs ls → OneAlong ls (s, e) → Labelled ds ks (joined level s e cs) ls
 joined-labels level s e ds ks cs ls w i o = record {
   respected = joined-labelled level s e cs ls w i.respected o;
   of_old = joined_cases (λ js. OfOldPlaces ds ks js ls) level s e cs w (λ _. i.of_old) (λ js _ h f. spread-of_old s e ds ks cs js ls f (omega arith) i.respected o i.of_old);
 }
 
-joined_all-labels : (level : BufferClusterLevel) (sts : List (ℕ × ℕ)) (ds ks cs ls : List ℕ) → EndWithin (length cs) sts → Labelled ds ks cs ls → AllByRecursion (OneLabel ls) sts → Labelled ds ks (joined_all level sts cs) ls
+joined_all-labels : (level : BufferClusterLevel) (sts : List (ℕ × ℕ)) (ds ks cs ls : List ℕ) → EndWithin (length cs) sts → Labelled ds ks cs ls → AllByRecursion (OneAlong ls) sts → Labelled ds ks (joined_all level sts cs) ls
 joined_all-labels level [] ds ks cs ls w i o = i
 joined_all-labels level (st ∷ sts) ds ks cs ls w i o =
     joined_all-labels level sts ds ks (joined level st.0 st.1 cs) ls (end_within_joined level st.0 st.1 cs sts w.0 w.1) (joined-labels level st.0 st.1 ds ks cs ls w.0 i o.0) o.1
@@ -104,7 +104,7 @@ pick-labels ps ds ks cs ls w i =
           (q, ql, cluster p pn ∙ c, label p pn ∙ m);
     }
 
-joined_step-labels : (n : ℕ) (level : BufferClusterLevel) (step : Step) (ds ks cs ls : List ℕ) → length cs ≡ n → FitsStep n step → Labelled ds ks cs ls → AllByRecursion (OneLabel ls) step.merged_first → AllByRecursion (OneLabel (pick step.places ls)) step.merged_then → Labelled ds ks (joined_step level step cs) (pick step.places ls)
+joined_step-labels : (n : ℕ) (level : BufferClusterLevel) (step : Step) (ds ks cs ls : List ℕ) → length cs ≡ n → FitsStep n step → Labelled ds ks cs ls → AllByRecursion (OneAlong ls) step.merged_first → AllByRecursion (OneAlong (pick step.places ls)) step.merged_then → Labelled ds ks (joined_step level step cs) (pick step.places ls)
 joined_step-labels n level step ds ks cs ls e f i first later =
     let s = stepped n level step cs e f in
     let js = joined_all level step.merged_first cs in

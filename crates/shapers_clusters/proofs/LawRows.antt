@@ -3,9 +3,8 @@ use Rattle.std.proofs.Common.{ℕ, zero, suc, ◌<◌, ◌≤◌, ◌≡◌, inl
 use Rattle.std.specs.List.{slice_index_or}
 use Rattle.shapers_buffer.specs.declared.buffer.glyph.hb_glyph_info_t.{hb_glyph_info_t}
 use Rattle.shapers_buffer.specs.Glyph.{default_glyph}
-use Rattle.shapers_clusters.specs.Cuts.{IsMonotone, SameBlock, ShareCluster, StandsApart, linked}
+use Rattle.shapers_clusters.specs.Cuts.{IsMonotone, OneAlong, SameBlock, ShareCluster, StandsApart, linked}
 use Rattle.shapers_clusters.specs.Flags.{FallsTo, KeepsBits}
-use Rattle.shapers_clusters.specs.Labels.{OneLabel}
 use Rattle.shapers_clusters.specs.Steps.{Spares, Step}
 use Rattle.shapers_clusters.proofs.FlagCalls.{keeps-with_bits}
 use Rattle.shapers_clusters.proofs.Moves.{moves_anywhere}
@@ -41,10 +40,10 @@ not_shared_before : ShareCluster numbers 3 2 → ⊥
 not_shared_before share = let same : 3 ≡ 4 = share 2 (omega arith) (omega arith) in absurd (omega (arith, same))
 
 -- a stretch has one label, its end left out
-one_label : OneLabel numbers (1, 3)
+one_label : OneAlong numbers (1, 3)
 one_label p q pl ph ql qh = omega (arith, threes p pl ph, threes q ql qh)
 
-two_labels : OneLabel numbers (1, 4) → ⊥
+two_labels : OneAlong numbers (1, 4) → ⊥
 two_labels same = let e : 4 ≡ 3 = same 3 2 (omega arith) (omega arith) (omega arith) (omega arith) in absurd (omega (arith, e))
 
 -- two stretches that meet in place 1 link places 0 to 2, but not 3

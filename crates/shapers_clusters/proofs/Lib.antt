@@ -1,5 +1,7 @@
 pub mod Alone
 pub mod Appended
+pub mod Borders
+mod BorderRows
 pub mod Bounds
 pub mod ClearPlaces
 pub mod Cuts

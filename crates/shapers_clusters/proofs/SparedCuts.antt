@@ -12,9 +12,9 @@ use Rattle.std.proofs.lemmas.Map.Made.{AllPairs-from_IsDistinct, IsDistinct-from
 use Rattle.shapers_buffer.specs.declared.buffer.level.BufferClusterLevel.{BufferClusterLevel}
 use Rattle.shapers_buffer.specs.Clusters.{merges}
 use Rattle.shapers_buffer.specs.Places.{pick}
-use Rattle.shapers_clusters.specs.Cuts.{AllDifferent, EndWithin, ExactCuts, held, linked}
+use Rattle.shapers_clusters.specs.Cuts.{AllDifferent, EndWithin, ExactCuts, OneAlong, held, linked}
 use Rattle.shapers_clusters.specs.Joined.{joined_all}
-use Rattle.shapers_clusters.specs.Labels.{IsLabelled, OneLabel}
+use Rattle.shapers_clusters.specs.Labels.{IsLabelled}
 use Rattle.shapers_clusters.specs.Steps.{FitSteps, FitsStep, Permutes, SpareMerged, Step, all_merged, joined_step, joined_steps, moved_on, old_places}
 use Rattle.shapers_clusters.proofs.Labels.{Labelled, joined_steps-labels}
 use Rattle.shapers_clusters.proofs.LabelsAsMerged.{held_label, labels_as_merged, taken_once}
@@ -144,7 +144,7 @@ unfolding numbers
 length-numbers sts n = length-map (range_with_len 0 n) (number_of sts) ∙ length-range_with_len 0 n
 
 -- each stretch has one number
-one_in_stretch : (sts : List (ℕ × ℕ)) (n : ℕ) (st : ℕ × ℕ) → st.1 ≤ n → HeldIn sts st → OneLabel (numbers sts n) st
+one_in_stretch : (sts : List (ℕ × ℕ)) (n : ℕ) (st : ℕ × ℕ) → st.1 ≤ n → HeldIn sts st → OneAlong (numbers sts n) st
 one_in_stretch sts n st end inside p q pl ph ql qh =
     let least = min p q in
     let first : (k : ℕ) → least + k < st.1 → number_of sts (least + k) ≡ number_of sts least = λ k l. one_number sts least k (λ r a b. inside r (omega arith) (omega arith)) in
@@ -152,7 +152,7 @@ one_in_stretch sts n st end inside p q pl ph ql qh =
     let j : least + (q - least) ≡ q = omega arith in
     number_at sts n p (omega arith) ∙ ap (number_of sts) (sym i) ∙ first (p - least) (omega arith) ∙ sym (first (q - least) (omega arith)) ∙ ap (number_of sts) j ∙ sym (number_at sts n q (omega arith))
 
-one_each : (sts : List (ℕ × ℕ)) (n : ℕ) (xs : List (ℕ × ℕ)) → EndWithin n xs → AllByRecursion (HeldIn sts) xs → AllByRecursion (OneLabel (numbers sts n)) xs
+one_each : (sts : List (ℕ × ℕ)) (n : ℕ) (xs : List (ℕ × ℕ)) → EndWithin n xs → AllByRecursion (HeldIn sts) xs → AllByRecursion (OneAlong (numbers sts n)) xs
 one_each sts n [] ends inside = tt
 one_each sts n (x ∷ xs) ends inside = (one_in_stretch sts n x ends.0 inside.0, one_each sts n xs ends.1 inside.1)
 
@@ -230,10 +230,10 @@ numbers_before sts n olds ol different within =
     get_or-pick 0 olds ls there p (omega arith) ∙ label_before n olds ms ol different within p pn)
 
 -- labels with which the stretches end, where all clusters are different
-labelled_by : (level : BufferClusterLevel) (n : ℕ) (steps : List Step) (cs ls ms : List ℕ) → length cs ≡ n → length ls ≡ n → FitSteps n steps → AllByRecursion (Permutes n) steps → SpareMerged n steps → AllDifferent cs → pick (old_places n steps) ls ≡ ms → AllByRecursion (OneLabel ms) (all_merged steps) → Labelled cs ls (joined_steps level steps cs) (pick (old_places n steps) ls)
+labelled_by : (level : BufferClusterLevel) (n : ℕ) (steps : List Step) (cs ls ms : List ℕ) → length cs ≡ n → length ls ≡ n → FitSteps n steps → AllByRecursion (Permutes n) steps → SpareMerged n steps → AllDifferent cs → pick (old_places n steps) ls ≡ ms → AllByRecursion (OneAlong ms) (all_merged steps) → Labelled cs ls (joined_steps level steps cs) (pick (old_places n steps) ls)
 labelled_by level n steps cs ls ms long ll fits perm spare different picked one =
     let moved : moved_on steps ls ≡ ms = moved_by_old_places n steps ls ll ∙ picked in
-    let each = labels_as_merged n steps ls ll fits perm spare (subst (λ xs. AllByRecursion (OneLabel xs) (all_merged steps)) (sym moved) one) in
+    let each = labels_as_merged n steps ls ll fits perm spare (subst (λ xs. AllByRecursion (OneAlong xs) (all_merged steps)) (sym moved) one) in
     let labelled : IsLabelled cs ls = record { as_many = ll ∙ sym long; agree = λ p q pl ql same. ap (λ k. get_or ls k 0) (one_place cs different p q pl ql same) } in
     let fit : FitSteps (length cs) steps = subst (λ k. FitSteps k steps) (sym long) fits in
     subst (λ k. Labelled cs ls (joined_steps level steps cs) (pick (old_places k steps) ls)) long (joined_steps-labels level steps cs ls fit labelled each)

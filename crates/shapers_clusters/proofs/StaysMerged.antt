@@ -5,24 +5,24 @@ use Rattle.shapers_buffer.specs.declared.buffer.level.BufferClusterLevel.{Buffer
 use Rattle.shapers_buffer.specs.Clusters.{merges}
 use Rattle.shapers_buffer.specs.Places.{pick}
 use Rattle.shapers_buffer.proofs.MappedLists.{all-append}
-use Rattle.shapers_clusters.specs.Cuts.{EndWithin}
+use Rattle.shapers_clusters.specs.Cuts.{EndWithin, OneAlong}
 use Rattle.shapers_clusters.specs.Joined.{joined, joined_all}
-use Rattle.shapers_clusters.specs.Labels.{MergedStay, OneLabel}
+use Rattle.shapers_clusters.specs.Labels.{MergedStay}
 use Rattle.shapers_clusters.specs.Steps.{FitSteps, FitsStep, MovesMerged, SpareMerged, Spares, Step, all_merged, joined_step, joined_steps}
 use Rattle.shapers_clusters.proofs.Moves.{joined-merged_steps, stepped}
 use Rattle.shapers_clusters.proofs.Neighbours.{end_within_joined, joined-shares, joined_all-share, length-joined, length-joined_all}
 use Rattle.shapers_clusters.proofs.Picks.{get_or-pick, length-pick}
 
 -- merges
-keep_joined : (level : BufferClusterLevel) (sts : List (ℕ × ℕ)) (cs : List ℕ) → EndWithin (length cs) sts → (st : ℕ × ℕ) → st.1 ≤ length cs → OneLabel cs st → OneLabel (joined_all level sts cs) st
+keep_joined : (level : BufferClusterLevel) (sts : List (ℕ × ℕ)) (cs : List ℕ) → EndWithin (length cs) sts → (st : ℕ × ℕ) → st.1 ≤ length cs → OneAlong cs st → OneAlong (joined_all level sts cs) st
 keep_joined level sts cs ends st l one p q pl ph ql qh =
     sym (joined_all-share level sts cs ends p q (omega arith) (omega arith) (λ r a b. one r p (omega arith) (omega arith) pl ph) q (omega arith) (omega arith))
 
-keep_all : (level : BufferClusterLevel) (sts : List (ℕ × ℕ)) (cs : List ℕ) → EndWithin (length cs) sts → (xs : List (ℕ × ℕ)) → EndWithin (length cs) xs → AllByRecursion (OneLabel cs) xs → AllByRecursion (OneLabel (joined_all level sts cs)) xs
+keep_all : (level : BufferClusterLevel) (sts : List (ℕ × ℕ)) (cs : List ℕ) → EndWithin (length cs) sts → (xs : List (ℕ × ℕ)) → EndWithin (length cs) xs → AllByRecursion (OneAlong cs) xs → AllByRecursion (OneAlong (joined_all level sts cs)) xs
 keep_all level sts cs ends [] l h = tt
 keep_all level sts cs ends (x ∷ xs) l h = (keep_joined level sts cs ends x l.0 h.0, keep_all level sts cs ends xs l.1 h.1)
 
-own_joined : (level : BufferClusterLevel) → merges level ≡ true → (sts : List (ℕ × ℕ)) (cs : List ℕ) → EndWithin (length cs) sts → AllByRecursion (OneLabel (joined_all level sts cs)) sts
+own_joined : (level : BufferClusterLevel) → merges level ≡ true → (sts : List (ℕ × ℕ)) (cs : List ℕ) → EndWithin (length cs) sts → AllByRecursion (OneAlong (joined_all level sts cs)) sts
 own_joined level m [] cs ends = tt
 own_joined level m (st ∷ sts) cs ends =
     let js = joined level st.0 st.1 cs in
@@ -37,10 +37,10 @@ moved_joined level m n step cs long moves =
     joined-merged_steps level m (step ∷ []) cs (subst (λ k. MovesMerged k step) (sym long) moves, tt)
     ∙ ap (λ sts. joined_all level sts cs) (append-nil step.merged_first)
 
-keep_step : (level : BufferClusterLevel) → merges level ≡ true → (n : ℕ) (step : Step) (cs : List ℕ) → length cs ≡ n → FitsStep n step → (st : ℕ × ℕ) → st.1 ≤ n → Spares n st step → OneLabel cs st → OneLabel (joined_step level step cs) st
+keep_step : (level : BufferClusterLevel) → merges level ≡ true → (n : ℕ) (step : Step) (cs : List ℕ) → length cs ≡ n → FitsStep n step → (st : ℕ × ℕ) → st.1 ≤ n → Spares n st step → OneAlong cs st → OneAlong (joined_step level step cs) st
 keep_step level m n step cs long fits st l (inr moves) one =
     let s = stepped n level step cs long fits in
-    subst (λ js. OneLabel js st) (sym (moved_joined level m n step cs long moves)) (keep_joined level step.merged_first cs s.first_within st (omega arith) one)
+    subst (λ js. OneAlong js st) (sym (moved_joined level m n step cs long moves)) (keep_joined level step.merged_first cs s.first_within st (omega arith) one)
 keep_step level m n step cs long fits st l (inl stays) one =
     let s = stepped n level step cs long fits in
     let js = joined_all level step.merged_first cs in
@@ -52,26 +52,26 @@ keep_step level m n step cs long fits st l (inl stays) one =
     let kn : length ks ≡ n = length-pick step.places js s.within ∙ fits.as_many in
     keep_joined level step.merged_then ks s.then_within st (omega arith) (λ p q pl ph ql qh. at p pl ph ∙ first p q pl ph ql qh ∙ sym (at q ql qh))
 
-own_step : (level : BufferClusterLevel) → merges level ≡ true → (n : ℕ) (step : Step) (cs : List ℕ) → length cs ≡ n → FitsStep n step → (step.merged_first ≡ []) ⊎ MovesMerged n step → AllByRecursion (OneLabel (joined_step level step cs)) (step.merged_first ++ step.merged_then)
+own_step : (level : BufferClusterLevel) → merges level ≡ true → (n : ℕ) (step : Step) (cs : List ℕ) → length cs ≡ n → FitsStep n step → (step.merged_first ≡ []) ⊎ MovesMerged n step → AllByRecursion (OneAlong (joined_step level step cs)) (step.merged_first ++ step.merged_then)
 own_step level m n step cs long fits (inl none) =
     let s = stepped n level step cs long fits in
     let js = joined_all level step.merged_first cs in
     let then = own_joined level m step.merged_then (pick step.places js) s.then_within in
-    subst (λ sts. AllByRecursion (OneLabel (joined_step level step cs)) (sts ++ step.merged_then)) (sym none) then
+    subst (λ sts. AllByRecursion (OneAlong (joined_step level step cs)) (sts ++ step.merged_then)) (sym none) then
 own_step level m n step cs long fits (inr moves) =
     let s = stepped n level step cs long fits in
     let js = joined_step level step cs in
-    let first : AllByRecursion (OneLabel js) step.merged_first = subst (λ ks. AllByRecursion (OneLabel ks) step.merged_first) (sym (moved_joined level m n step cs long moves)) (own_joined level m step.merged_first cs s.first_within) in
-    subst (AllByRecursion (OneLabel js)) (sym (ap (λ sts. step.merged_first ++ sts) moves.nothing_then ∙ append-nil step.merged_first)) first
+    let first : AllByRecursion (OneAlong js) step.merged_first = subst (λ ks. AllByRecursion (OneAlong ks) step.merged_first) (sym (moved_joined level m n step cs long moves)) (own_joined level m step.merged_first cs s.first_within) in
+    subst (AllByRecursion (OneAlong js)) (sym (ap (λ sts. step.merged_first ++ sts) moves.nothing_then ∙ append-nil step.merged_first)) first
 
 -- all of them
-keep_steps : (level : BufferClusterLevel) → merges level ≡ true → (n : ℕ) (steps : List Step) (cs : List ℕ) → length cs ≡ n → FitSteps n steps → (st : ℕ × ℕ) → st.1 ≤ n → AllByRecursion (Spares n st) steps → OneLabel cs st → OneLabel (joined_steps level steps cs) st
+keep_steps : (level : BufferClusterLevel) → merges level ≡ true → (n : ℕ) (steps : List Step) (cs : List ℕ) → length cs ≡ n → FitSteps n steps → (st : ℕ × ℕ) → st.1 ≤ n → AllByRecursion (Spares n st) steps → OneAlong cs st → OneAlong (joined_steps level steps cs) st
 keep_steps level m n [] cs long fits st l spares one = one
 keep_steps level m n (step ∷ steps) cs long fits st l spares one =
     let s = stepped n level step cs long fits.0 in
     keep_steps level m n steps (joined_step level step cs) s.as_many fits.1 st l spares.1 (keep_step level m n step cs long fits.0 st l spares.0 one)
 
-keep_stretches : (level : BufferClusterLevel) → merges level ≡ true → (n : ℕ) (steps : List Step) (cs : List ℕ) → length cs ≡ n → FitSteps n steps → (sts : List (ℕ × ℕ)) → EndWithin n sts → AllByRecursion (λ st. AllByRecursion (Spares n st) steps) sts → AllByRecursion (OneLabel cs) sts → AllByRecursion (OneLabel (joined_steps level steps cs)) sts
+keep_stretches : (level : BufferClusterLevel) → merges level ≡ true → (n : ℕ) (steps : List Step) (cs : List ℕ) → length cs ≡ n → FitSteps n steps → (sts : List (ℕ × ℕ)) → EndWithin n sts → AllByRecursion (λ st. AllByRecursion (Spares n st) steps) sts → AllByRecursion (OneAlong cs) sts → AllByRecursion (OneAlong (joined_steps level steps cs)) sts
 keep_stretches level m n steps cs long fits [] l spares h = tt
 keep_stretches level m n steps cs long fits (st ∷ sts) l spares h = (keep_steps level m n steps cs long fits st l.0 spares.0 h.0, keep_stretches level m n steps cs long fits sts l.1 spares.1 h.1)
 
@@ -83,7 +83,7 @@ merged_stay level m n (step ∷ steps) cs long fits spare =
     let sts = step.merged_first ++ step.merged_then in
     let one = fits.0 in
     let ends = all-append (λ (st : ℕ × ℕ). st.1 ≤ n) step.merged_first step.merged_then one.first_within one.then_within in
-    all-append (OneLabel (joined_steps level steps js)) sts (all_merged steps)
+    all-append (OneAlong (joined_steps level steps js)) sts (all_merged steps)
     (keep_stretches level m n steps js s.as_many fits.1 sts ends spare.1 (own_step level m n step cs long fits.0 spare.0))
     (merged_stay level m n steps js s.as_many fits.1 spare.2)
 

@@ -53,10 +53,10 @@ abbrev pub ShareNone : List hb_glyph_info_t → List hb_glyph_info_t → Type 0
 ShareNone gs hs = (i j : ℕ) → i < length gs → j < length hs →
     slice_index (clusters gs) i ≢ slice_index (clusters hs) j
 
--- all places of a stretch share one cluster
-abbrev pub InOneCluster : List ℕ → ℕ × ℕ → Type 0
-InOneCluster cs st =
-    (p q : ℕ) → st.0 ≤ p → p < st.1 → st.0 ≤ q → q < st.1 → slice_index cs p ≡ slice_index cs q
+-- all places of a stretch have one and the same cluster, or label
+abbrev pub OneAlong : List ℕ → ℕ × ℕ → Type 0
+OneAlong ns st =
+    (p q : ℕ) → st.0 ≤ p → p < st.1 → st.0 ≤ q → q < st.1 → slice_index ns p ≡ slice_index ns q
 
 -- no place outside s..e has a cluster of it
 abbrev pub StandsApart : ℕ → ℕ → List ℕ → Type 0

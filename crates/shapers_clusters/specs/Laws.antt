@@ -8,12 +8,12 @@ use Rattle.shapers_buffer.specs.Glyph.{clusters, order_view}
 use Rattle.shapers_buffer.specs.Clusters.{least, low, high, merge, merge_all, merges, stretch_of}
 use Rattle.shapers_buffer.specs.GlyphFlags.{unsafe_inside, unsafe_to_concat_in, tatweel_inside, FlagCall, flags_called}
 use Rattle.shapers_clusters.specs.Joined.{joined_all}
-use Rattle.shapers_clusters.specs.Cuts.{AllDifferent, EndWithin, ShareCluster, IsMonotone, ExactCuts, InOneCluster, ShareNone, StandsApart}
+use Rattle.shapers_clusters.specs.Cuts.{AllDifferent, EndWithin, ExactCuts, IsMonotone, OneAlong, ShareCluster, ShareNone, StandsApart}
 use Rattle.shapers_buffer.specs.Places.{pick}
 use Rattle.shapers_clusters.specs.Steps.{Step, run_steps, joined_steps, old_places, FitSteps, MovesMerged, all_first, all_merged, SpareMerged, widened, steps_along, reordered_along, Permutes}
 use Rattle.shapers_clusters.specs.Flags.{FallsTo, FlagsFall, FlagsAlone, InOrder, ShowsClusters, HidesFields, seen}
 use Rattle.shapers_clusters.specs.Made.{ExactCutsBy, HeldAlong, MovesInsideOf}
-use Rattle.shapers_clusters.specs.Labels.{IsLabelled, OfOldPlaces, OneLabel, OneLabelEach}
+use Rattle.shapers_clusters.specs.Labels.{IsLabelled, OfOldPlaces, OneLabelEach}
 
 -- Merges of any stretch at any level leave the order view of the glyphs gs; the three flag calls,
 -- whatever the buffer wants, change nothing but glyph flags, and take none away.
@@ -51,7 +51,7 @@ pub record MergeHolds (level : BufferClusterLevel) (s e : ℕ) (gs ms : List
       slice_index (clusters ms) p ≡ least (clusters (stretch_of s e gs))
   pub neighbours : (p q : ℕ) → p < length gs → q < length gs → ShareCluster (clusters gs) p q →
       ShareCluster (clusters ms) p q
-  pub labels : (ls : List ℕ) → IsLabelled (clusters gs) ls → OneLabel ls (s, e) →
+  pub labels : (ls : List ℕ) → IsLabelled (clusters gs) ls → OneAlong ls (s, e) →
       IsLabelled (clusters ms) ls
   pub unmerged : merges level ≡ false → ms ≡ gs
 
@@ -130,7 +130,7 @@ MergedStepsLaw = (level : BufferClusterLevel) (steps : List Step) (cs : List ℕ
 -- Where all clusters are different no more is merged: the cuts are exact, and each run so joined
 -- has the least cluster that the glyphs now in it had.
 pub record SparedStepsHold (steps : List Step) (cs js : List ℕ) : Type 0 where
-  pub merged : AllByRecursion (InOneCluster js) (all_merged steps)
+  pub merged : AllByRecursion (OneAlong js) (all_merged steps)
   pub exact : AllDifferent cs →
       ExactCuts (pick (old_places (length cs) steps) cs) (all_merged steps) js
 

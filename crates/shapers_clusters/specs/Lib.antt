@@ -7,3 +7,4 @@ pub mod Labels
 pub mod Made
 pub mod Laws
 pub mod Breaks
+pub mod Borders

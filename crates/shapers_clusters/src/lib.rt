@@ -2,6 +2,7 @@
 //! is the contract of a function without a body.
 #![tactic(auto)]
 
+ghost use Rattle.shapers_clusters.specs.Borders.{BareLaw};
 ghost use Rattle.shapers_clusters.specs.Breaks.{ClearLaw, NeedlessLaw};
 ghost use Rattle.shapers_clusters.specs.Laws.{ViewLaw, FlagCallsLaw, MergeLaw, ExactCutsLaw, StepsLaw, PermutedLaw, ClustersLaw, MergedStepsLaw, SparedStepsLaw, ClustersReorderedLaw, SeenStepsLaw, ReorderedLaw, WidenedLaw, AlongLaw, HalvesLaw, AloneLaw, MadeLaw, MovedSourcesLaw};
 
@@ -110,4 +111,9 @@ pub fn clear_law()
 /// forbids is clear.
 pub fn needless_law()
     ensures { NeedlessLaw }
+{}
+
+/// At a bare border no flag call forbids a break or a concatenation.
+pub fn bare_law()
+    ensures { BareLaw }
 {}

@@ -9,7 +9,7 @@ use Rattle.shapers_buffer.specs.Glyph.{clusters, default_glyph, order_view}
 use Rattle.shapers_buffer.specs.Places.{pick}
 use Rattle.shapers_buffer.specs.Syllables.{syllables}
 use Rattle.shapers_clusters.specs.Flags.{FlagsFall, seen}
-use Rattle.shapers_clusters.specs.Cuts.{InOneCluster}
+use Rattle.shapers_clusters.specs.Cuts.{OneAlong}
 use Rattle.shapers_indic_final.specs.FinalClusters.{EachSyllableCuts}
 use Rattle.shapers_indic_final.proofs.FinalClusters.{text_cuts, text_merges}
 use Rattle.shapers_clusters.specs.Laws.{ClustersHold}
@@ -60,7 +60,7 @@ finally_kept r old new done =
           ∙ ap (λ sts. pick (old_places (length gs) sts) (seen carried gs)) (sym is);
       clusters_are = are;
       in_clusters = subst (ClustersHold old.level steps (clusters gs)) (sym are) (clusters_hold old.level steps (clusters gs) (subst (λ n. FitSteps n steps) many fits));
-      merged = λ m. subst (λ js. AllByRecursion (InOneCluster js) (all_merged steps)) (sym are) (text_merges r old.script old.level gs m);
+      merged = λ m. subst (λ js. AllByRecursion (OneAlong js) (all_merged steps)) (sym are) (text_merges r old.script old.level gs m);
       exact = λ m. subst (EachSyllableCuts r old.script xs (clusters gs)) (sym are) (text_cuts r old.script old.level gs m);
       none_rises = subst (λ js. AllZip (λ a b. b ≤ a) (pick olds (clusters gs)) js) (clusters-run_steps old.level steps gs ∙ sym are)
           (subst (λ cs. AllZip (λ a b. b ≤ a) cs (clusters (run_steps old.level steps gs))) (sym (pick-map (λ g. g.cluster) olds gs)) (none_higher (pick olds gs) (run_steps old.level steps gs) held.falls));

@@ -10,7 +10,7 @@ use Rattle.shapers_buffer.specs.Glyph.{clusters, default_glyph, order_view}
 use Rattle.shapers_buffer.specs.GlyphFlags.{with_bits}
 use Rattle.shapers_buffer.specs.Places.{pick}
 use Rattle.shapers_buffer.specs.Syllables.{syllables}
-use Rattle.shapers_clusters.specs.Cuts.{InOneCluster, ShareNone}
+use Rattle.shapers_clusters.specs.Cuts.{OneAlong, ShareNone}
 use Rattle.shapers_clusters.specs.Flags.{FlagsFall, seen}
 use Rattle.shapers_buffer.specs.Clusters.{merges}
 use Rattle.shapers_indic_final.specs.FinalClusters.{EachSyllableCuts}
@@ -132,7 +132,7 @@ pub record FinallyKept (r : Rules) (old new : Buffer) : Type 0 where
   pub in_clusters : ClustersHold old.level (final_text_steps r old.script old.glyphs)
       (clusters old.glyphs) (clusters new.glyphs)
   pub merged : merges old.level ≡ true →
-      AllByRecursion (InOneCluster (clusters new.glyphs))
+      AllByRecursion (OneAlong (clusters new.glyphs))
       (all_merged (final_text_steps r old.script old.glyphs))
   pub exact : merges old.level ≡ true →
       EachSyllableCuts r old.script (order_view old.glyphs) (clusters old.glyphs)

@@ -9,7 +9,7 @@ use Rattle.shapers_buffer.specs.declared.buffer.level.BufferClusterLevel.{Buffer
 use Rattle.shapers_buffer.specs.Clusters.{merges}
 use Rattle.shapers_buffer.specs.Places.{pick}
 use Rattle.shapers_buffer.proofs.MappedLists.{all-mapped, all-range}
-use Rattle.shapers_clusters.specs.Cuts.{AllDifferent, EndWithin, ExactCuts, InOneCluster, held, linked}
+use Rattle.shapers_clusters.specs.Cuts.{AllDifferent, EndWithin, ExactCuts, OneAlong, held, linked}
 use Rattle.shapers_clusters.specs.Joined.{joined_all}
 use Rattle.shapers_clusters.proofs.Moves.{HeldIn, all_held}
 use Rattle.shapers_clusters.proofs.Neighbours.{joined_all-linked, share_all}
@@ -82,7 +82,7 @@ exact_by xs sts others js same f =
     }
 
 -- a stretch whose neighbours are all held is in one cluster
-pub one_cluster : (level : BufferClusterLevel) → merges level ≡ true → (sts : List (ℕ × ℕ)) (xs : List ℕ) → EndWithin (length xs) sts → (st : ℕ × ℕ) → st.1 ≤ length xs → HeldIn sts st → InOneCluster (joined_all level sts xs) st
+pub one_cluster : (level : BufferClusterLevel) → merges level ≡ true → (sts : List (ℕ × ℕ)) (xs : List ℕ) → EndWithin (length xs) sts → (st : ℕ × ℕ) → st.1 ≤ length xs → HeldIn sts st → OneAlong (joined_all level sts xs) st
 one_cluster level m sts xs ends st within all p q pl ph ql qh =
     sym (share_all (joined_all level sts xs) p q (λ i a b. joined_all-linked level m sts xs ends i (omega arith) (omega arith)
     (ap (λ c. slice_index xs (i - 1) == slice_index xs i || c) (all i (omega arith) (omega arith)) ∙ or_right (slice_index xs (i - 1) == slice_index xs i) true refl)) q (omega arith) (omega arith))
@@ -125,7 +125,7 @@ order_merges r level gs cs m long =
     let different = λ (h : AllDifferent cs). different_permuted cs xs (picked-permuted n from cs long within perm) h in
     let exact = λ (h : AllDifferent cs). exact_by xs sts ways js same (exact_gathered level m sts xs ends (different_gathered xs (different h))) in
     record {
-      together = all_by_two (Lies base (length from)) (HeldIn ways) (InOneCluster js) (λ st a b. one_cluster level m sts xs ends st (omega (arith, a.high)) (λ i x y. same i ∙ b i x y)) ways lies (all_held ways);
+      together = all_by_two (Lies base (length from)) (HeldIn ways) (OneAlong js) (λ st a b. one_cluster level m sts xs ends st (omega (arith, a.high)) (λ i x y. same i ∙ b i x y)) ways lies (all_held ways);
       exact = exact;
       before = λ h p b l. kept_before base (length from) ways xs js lies (λ a c l k. different h a c 0 l k) (exact h) p b (omega arith);
     }

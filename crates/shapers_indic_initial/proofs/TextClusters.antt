@@ -11,7 +11,7 @@ use Rattle.shapers_buffer.specs.Glyph.{clusters, order_view, plain}
 use Rattle.shapers_buffer.specs.Places.{pick}
 use Rattle.shapers_buffer.specs.Syllables.{syllables}
 use Rattle.shapers_buffer.proofs.MappedLists.{all-append, all-mapped}
-use Rattle.shapers_clusters.specs.Cuts.{EndWithin, InOneCluster, StandsApart, held}
+use Rattle.shapers_clusters.specs.Cuts.{EndWithin, OneAlong, StandsApart, held}
 use Rattle.shapers_clusters.specs.Joined.{joined_all}
 use Rattle.shapers_clusters.specs.Steps.{FitSteps, FitsStep, joined_step, joined_steps, shifted, steps_along, widened}
 use Rattle.shapers_clusters.proofs.Halves.{along-append}
@@ -40,7 +40,7 @@ use Rattle.shapers_syllabic.proofs.ReorderingLaws.{each_piece, sum-pieces}
 use Rattle.shapers_syllabic.proofs.ReorderingWalk.{length-meaning, pieces_of}
 
 -- one cluster still, after what leaves neighbours together
-one_cluster_left : (s e : ℕ) (cs js : List ℕ) → Leaves s e cs js → (st : ℕ × ℕ) → s ≤ st.0 → st.1 ≤ e → InOneCluster cs st → InOneCluster js st
+one_cluster_left : (s e : ℕ) (cs js : List ℕ) → Leaves s e cs js → (st : ℕ × ℕ) → s ≤ st.0 → st.1 ≤ e → OneAlong cs st → OneAlong js st
 one_cluster_left s e cs js f st low within one p q pl ph ql qh =
     sym (share_all js p q (λ i a b.
     let same : suc (i - 1) ≡ i = omega arith in
@@ -55,7 +55,7 @@ held_in_text s sts st h i a b =
 -- the order step of a syllable in its text
 record OrderInText (r : Rules) (s e : ℕ) (xs : List hb_glyph_info_t) (cs ms : List ℕ) : Type 0 where
   pub same_length : length ms ≡ length cs
-  pub together : AllByRecursion (λ st. InOneCluster ms (s + st.0, s + st.1)) (kept_together r (ordered_places xs) (ordered_base (in_order xs)))
+  pub together : AllByRecursion (λ st. OneAlong ms (s + st.0, s + st.1)) (kept_together r (ordered_places xs) (ordered_base (in_order xs)))
   pub lies : AllByRecursion (λ st. s + st.1 ≤ e) (kept_together r (ordered_places xs) (ordered_base (in_order xs)))
 
 order_in_text : (r : Rules) (level : BufferClusterLevel) (s e : ℕ) (xs : List hb_glyph_info_t) (cs : List ℕ) → merges level ≡ true → s ≤ e → e ≤ length cs → length xs ≡ e - s → OrderInText r s e xs cs (joined_step level (widened s e (length cs) (order_step r xs)) cs)
@@ -78,7 +78,7 @@ order_in_text r level s e xs cs m h l size =
     let all = clusters_hold level (w ∷ []) cs (fits, tt) in
     record {
       same_length = all.same_length;
-      together = all_by_two (Lies base (length from)) (HeldIn ways) (λ st. InOneCluster ms (s + st.0, s + st.1)) (λ st a b.
+      together = all_by_two (Lies base (length from)) (HeldIn ways) (λ st. OneAlong ms (s + st.0, s + st.1)) (λ st a b.
           one_cluster level m (shifted s sts) picked ends (s + st.0, s + st.1) (omega (arith, a.high)) (held_in_text s sts st (λ i x y. held_together r from base i o ∙ b i x y)))
           ways lies (all_held ways);
       lies = all_by_two (Lies base (length from)) (HeldIn ways) (λ st. s + st.1 ≤ e) (λ st a b. omega (arith, a.high)) ways lies (all_held ways);
@@ -95,9 +95,9 @@ syllable_merges r level s e xs cs js m h l size left =
     let ms = joined_step level (widened s e (length cs) step) cs in
     let done = order_in_text r level s e xs cs m h l size in
     let f : FitsStep (e - s) step = subst (λ k. FitsStep k step) size (order_fits r xs) in
-    let both = all_by_two (λ st. InOneCluster ms (s + st.0, s + st.1)) (λ st. s + st.1 ≤ e) (λ st. InOneCluster js (s + st.0, s + st.1)) (λ st a b. one_cluster_left s e ms js left (s + st.0, s + st.1) (omega arith) b a) ways done.together done.lies in
+    let both = all_by_two (λ st. OneAlong ms (s + st.0, s + st.1)) (λ st. s + st.1 ≤ e) (λ st. OneAlong js (s + st.0, s + st.1)) (λ st a b. one_cluster_left s e ms js left (s + st.0, s + st.1) (omega arith) b a) ways done.together done.lies in
     record {
-      together = all-mapped (λ (st : ℕ × ℕ). InOneCluster js (s + st.0, s + st.1)) (InOneCluster js) (λ st. (s + st.0, s + st.1)) ways (λ st k. k) both;
+      together = all-mapped (λ (st : ℕ × ℕ). OneAlong js (s + st.0, s + st.1)) (OneAlong js) (λ st. (s + st.0, s + st.1)) ways (λ st k. k) both;
       own = λ own.
           let apart : StandsApart s e cs = own.others in
           let seg = stretch_of s e cs in

@@ -7,7 +7,7 @@ use Rattle.shapers_buffer.specs.Clusters.{merges, stretch_of}
 use Rattle.shapers_buffer.specs.declared.buffer.tag.Script.{Script}
 use Rattle.shapers_buffer.specs.Syllables.{syllables}
 use Rattle.shapers_buffer.specs.Places.{pick}
-use Rattle.shapers_clusters.specs.Cuts.{AllDifferent, ExactCuts, InOneCluster, OwnClusters}
+use Rattle.shapers_clusters.specs.Cuts.{AllDifferent, ExactCuts, OneAlong, OwnClusters}
 use Rattle.shapers_clusters.specs.Steps.{joined_step, joined_steps, shifted, steps_along, widened}
 use Rattle.shapers_indic.specs.Glyphs.{places}
 use Rattle.shapers_indic_initial.specs.InitialOrder.{ordered_base, ordered_places}
@@ -34,7 +34,7 @@ kept_together r from base =
 -- holds both, each run so joined has the least that its glyphs had, and each glyph before the base
 -- keeps its own.
 pub record OrderMerges (base : ℕ) (sts : List (ℕ × ℕ)) (from cs js : List ℕ) : Type 0 where
-  pub together : AllByRecursion (InOneCluster js) sts
+  pub together : AllByRecursion (OneAlong js) sts
   pub exact : AllDifferent cs → ExactCuts (pick from cs) sts js
   pub before : AllDifferent cs →
       (p : ℕ) → p < base → p < length cs →
@@ -63,7 +63,7 @@ as_order_begins r script level n before syl cs =
 -- js after the pause: each of the syllable's stretches is in one cluster, and where its clusters
 -- are its own, no more is merged.
 pub record SyllableMerges (s e base : ℕ) (sts : List (ℕ × ℕ)) (from cs js : List ℕ) : Type 0 where
-  pub together : AllByRecursion (InOneCluster js) (shifted s sts)
+  pub together : AllByRecursion (OneAlong js) (shifted s sts)
   pub own : OwnClusters s e cs → OrderMerges base sts from (stretch_of s e cs) (stretch_of s e js)
 
 -- so each syllable that is reordered, of a text gs (its order view) with clusters cs before the

@@ -116,10 +116,6 @@ first_recorded c [] = []
 first_recorded c (g ∷ gs) =
     if is_substituted g.marks then in_category c g ∷ gs else g ∷ first_recorded c gs
 
--- whether a glyph has bits of a mask
-abbrev pub has_bits : ℕ → hb_glyph_info_t → Bool
-has_bits mask g = not (bit_and g.mask mask == 0)
-
 -- the record of rphf in a syllable: among its leading glyphs with that mask the first that a lookup
 -- put in becomes a reph
 abbrev pub rphf_recorded : ℕ → List hb_glyph_info_t → List hb_glyph_info_t

@@ -1,4 +1,5 @@
-//! Texts in pieces: where a text may be broken, and what a hook makes of its pieces.
+//! Texts in pieces: where a text may be broken, what a hook makes of its pieces, and pieces put
+//! together anew.
 
 use sengadlit::{Buffer, GlyphInfo};
 use std::ops::Range;
@@ -33,6 +34,31 @@ pub fn is_clear(glyphs: &[GlyphInfo], place: usize) -> bool {
     let greater = left.max(right);
     let mut in_greater = glyphs.iter().filter(|glyph| glyph.cluster == greater);
     left != right && in_greater.all(|glyph| glyph.mask & 5 == 0)
+}
+
+/// Whether the place is clear and no glyph of the cluster that begins there is unsafe to concatenate.
+pub fn is_bare(glyphs: &[GlyphInfo], place: usize) -> bool {
+    let own = glyphs[place].cluster;
+    let mut in_own = glyphs.iter().filter(|glyph| glyph.cluster == own);
+    is_clear(glyphs, place) && in_own.all(|glyph| glyph.mask & 2 == 0)
+}
+
+/// The glyphs of one text up to a place and, behind them, those of another from a place on.
+pub fn put_together(one: &Buffer, end: usize, two: &Buffer, start: usize) -> Buffer {
+    let mut both = one.copy().unwrap();
+    both.set_post_context(two.post_context());
+    let glyphs = [&one.glyphs()[..end], &two.glyphs()[start..]].concat();
+    both.replace_glyphs(glyphs.into()).unwrap();
+    both
+}
+
+/// The text with other glyphs in place of these.
+pub fn edited(buffer: &Buffer, places: Range<usize>, others: &[GlyphInfo]) -> Buffer {
+    let mut edited = buffer.copy().unwrap();
+    let glyphs = buffer.glyphs();
+    let glyphs = [&glyphs[..places.start], others, &glyphs[places.end..]].concat();
+    edited.replace_glyphs(glyphs.into()).unwrap();
+    edited
 }
 
 /// Whether a hook makes of the pieces before and after a place what it made of the whole.

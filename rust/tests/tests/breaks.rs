@@ -1,5 +1,6 @@
 //! Texts that are broken where no flag forbids it: what joining makes of the pieces, each by itself,
-//! is what it makes of the whole. HarfBuzz tests itself so by `hb-shape --verify`.
+//! is what it makes of the whole. HarfBuzz tests itself so by `hb-shape --verify`. Texts put together
+//! where no flag forbids it keep their forms, and edits stay near.
 
 use sengadlit::alloc::Global;
 use sengadlit::buffer::{BufferFlags, GeneralCategory};
@@ -9,7 +10,7 @@ use sengadlit::plan::{BreakFlags, Category, JoiningType, Position};
 use sengadlit::{Buffer, GlyphInfo, Plan, Script, Shaper, Tables, Tag};
 use sengadlit_tests::lines::broken_script;
 use sengadlit_tests::numbers::Numbers;
-use sengadlit_tests::pieces::{breaks_at, is_clear, piece, shown};
+use sengadlit_tests::pieces::{breaks_at, edited, is_bare, is_clear, piece, put_together, shown};
 use std::fs;
 use std::ops::Range;
 use std::path::Path;
@@ -28,6 +29,9 @@ const MIXES: [&str; 8] = [
 
 /// How many texts of each mix are broken.
 const TEXTS: u64 = 10_000;
+
+/// How long a text may become that is put together or edited.
+const LIMIT: usize = 32;
 
 /// A letter stands for the joining type of its name: A and E for the groups of Alaph and of Dalath
 /// and Rish, X for a mark and x for a letter whose type the table doesn't tell.
@@ -122,6 +126,37 @@ impl Text {
     fn is_mongolian(&self) -> bool {
         self.plan.script == Some(Script(*b"Mong"))
     }
+
+    /// How many selectors of Mongolian open these glyphs: they take the form of what is before them.
+    fn opening_selectors(&self, glyphs: &[GlyphInfo]) -> usize {
+        let is_selector = |glyph: &&GlyphInfo| matches!(glyph.glyph_id, 0x180B..=0x180D | 0x180F);
+        match self.plan.script {
+            Some(Script([b'M', b'o', b'n', b'g'])) => glyphs.iter().take_while(is_selector).count(),
+            _ => 0,
+        }
+    }
+
+    /// A letter at this place and the selectors directly behind it, or nothing.
+    fn near(&self, glyphs: &[GlyphInfo], letter: Option<usize>) -> Range<usize> {
+        match letter {
+            Some(place) => place..place + 1 + self.opening_selectors(&glyphs[place + 1..]),
+            None => 0..0,
+        }
+    }
+}
+
+/// Whether joining doesn't look past the character.
+fn is_letter(character: char) -> bool {
+    Letters.general_category(character) != GeneralCategory::Mn
+}
+
+fn is_letter_glyph(glyph: &GlyphInfo) -> bool {
+    char::from_u32(glyph.glyph_id).is_some_and(is_letter)
+}
+
+/// Whether two stretches have the same glyphs, clusters and glyph flags apart.
+fn are_same(one: &[GlyphInfo], two: &[GlyphInfo]) -> bool {
+    one.iter().map(shown).eq(two.iter().map(shown))
 }
 
 /// The plan of a script, with masks of forms that share no bit.
@@ -160,15 +195,25 @@ fn clusters(numbers: &mut Numbers, count: usize) -> Vec<u32> {
     }
 }
 
-/// A text of a mix, drawn by lot; in one of eight a glyph is flagged before it is joined.
+/// A text of a mix, drawn by lot, and the plan that it is joined by.
 fn random_text(numbers: &mut Numbers, mix: &str, breaks: BreakFlags) -> Text {
-    let mix: Vec<char> = mix.chars().collect();
-    let is_mongolian = mix.contains(&'\u{180B}');
+    let is_mongolian = mix.contains('\u{180B}');
     let script = Script(*if is_mongolian { b"Mong" } else { b"Syrc" });
     let shaper = numbers.one_of(&[Shaper::Arabic, Shaper::Universal]);
+    let buffer = random_buffer(numbers, mix);
+    Text {
+        shaper,
+        plan: plan(shaper, script, breaks),
+        buffer,
+    }
+}
+
+/// A text of a mix between its contexts, drawn by lot; in one of eight a glyph is flagged before it is joined.
+fn random_buffer(numbers: &mut Numbers, mix: &str) -> Buffer {
+    let mix: Vec<char> = mix.chars().collect();
     let text = characters(numbers, &mix, 9);
     let clusters = clusters(numbers, text.len());
-    let mut buffer = Buffer::new(Global, text.len());
+    let mut buffer = Buffer::new(Global, LIMIT);
     let flagged = numbers.below(64);
     for (place, (&character, cluster)) in text.iter().zip(clusters).enumerate() {
         let mut glyph = GlyphInfo::of_character(character, cluster);
@@ -181,11 +226,7 @@ fn random_text(numbers: &mut Numbers, mix: &str, breaks: BreakFlags) -> Text {
     buffer.set_flags(BufferFlags(numbers.one_of(&[0, 0x40, 0x80, 0xC0])));
     buffer.set_pre_context(&characters(numbers, &mix, 4));
     buffer.set_post_context(&characters(numbers, &mix, 4));
-    Text {
-        shaper,
-        plan: plan(shaper, script, breaks),
-        buffer,
-    }
+    buffer
 }
 
 /// Breaks texts of every mix, and calls the test with each text, the whole and each place in it.
@@ -298,4 +339,111 @@ fn texts_of_the_worked_rows_may_be_broken_at_every_clear_place() {
         }
     }
     assert!(count > 20, "{count}");
+}
+
+/// Puts the text and another together wherever no flag forbids it, and returns in how many ways.
+fn put_together_everywhere(text: &Text, two: &Buffer) -> usize {
+    let one = text.joined(0..text.buffer.len());
+    let mut joined = two.copy().unwrap();
+    text.join(&mut joined);
+    let other = joined.glyphs();
+    let letter_follows = two.post_context().iter().copied().any(is_letter);
+    let has_own_letter =
+        |place: &usize| !letter_follows || other[*place..].iter().any(is_letter_glyph);
+    let starts = (1..other.len()).filter(|&place| is_bare(other, place));
+    let starts: Vec<_> = starts.filter(has_own_letter).collect();
+    let ends = (1..one.len()).filter(|&place| is_clear(&one, place));
+    let mut count = 0;
+    for end in ends {
+        for &start in &starts {
+            let mut both = put_together(&text.buffer, end, two, start);
+            text.join(&mut both);
+            let both = both.glyphs();
+            let selectors = text.opening_selectors(&other[start..]);
+            assert!(
+                are_same(&both[..end], &one[..end])
+                    && are_same(&both[end + selectors..], &other[start + selectors..]),
+                "{:x?} up to {end} and {:x?} from {start} on",
+                text.buffer.glyphs(),
+                two.glyphs()
+            );
+            count += 1;
+        }
+    }
+    count
+}
+
+#[test]
+fn texts_may_be_put_together_where_no_flag_forbids_it() {
+    let mut counts = [0, 0];
+    for (breaks, count) in [BreakFlags::AsCode, BreakFlags::Sound]
+        .into_iter()
+        .zip(&mut counts)
+    {
+        for (mix, seed) in MIXES.into_iter().zip(100..) {
+            let mut numbers = Numbers::new(seed);
+            for _ in 0..TEXTS {
+                let text = random_text(&mut numbers, mix, breaks);
+                let mut two = random_buffer(&mut numbers, mix);
+                two.set_flags(BufferFlags(two.flags().0 | 0x40));
+                *count += put_together_everywhere(&text, &two);
+            }
+        }
+    }
+    assert!(counts.into_iter().all(|count| count > 10_000), "{counts:?}");
+}
+
+/// Edits the text, and returns how many glyphs beside the edit changed.
+fn edit(text: &Text, places: Range<usize>, others: &[GlyphInfo]) -> usize {
+    let Range { start, end } = places;
+    let shift = start + others.len();
+    let one = text.joined(0..text.buffer.len());
+    let mut two = edited(&text.buffer, places, others);
+    text.join(&mut two);
+    let two = two.glyphs();
+    let before = &one[..start];
+    let last = text.near(before, before.iter().rposition(is_letter_glyph));
+    let behind = &one[end..];
+    let opening = text.opening_selectors(behind);
+    let first = text.near(behind, behind.iter().position(is_letter_glyph));
+    let mut count = 0;
+    for place in 0..before.len() {
+        let stays = shown(&one[place]) == shown(&two[place]);
+        assert!(
+            stays || last.contains(&place),
+            "{one:x?}, {two:x?} at {place}"
+        );
+        count += usize::from(!stays);
+    }
+    for place in 0..behind.len() {
+        let stays = shown(&behind[place]) == shown(&two[shift + place]);
+        assert!(
+            stays || place < opening || first.contains(&place),
+            "{one:x?}, {two:x?} at {place} behind {end}"
+        );
+        count += usize::from(!stays);
+    }
+    count
+}
+
+#[test]
+fn edits_stay_near() {
+    let mut counts = [0, 0];
+    for (breaks, count) in [BreakFlags::AsCode, BreakFlags::Sound]
+        .into_iter()
+        .zip(&mut counts)
+    {
+        for (mix, seed) in MIXES.into_iter().zip(200..) {
+            let mut numbers = Numbers::new(seed);
+            for _ in 0..TEXTS {
+                let text = random_text(&mut numbers, mix, breaks);
+                let others = random_buffer(&mut numbers, mix);
+                let others = &others.glyphs()[..others.len().min(3)];
+                let end = numbers.below(text.buffer.len() + 1);
+                let start = numbers.below(end + 1);
+                *count += edit(&text, start..end, others);
+            }
+        }
+    }
+    assert!(counts.into_iter().all(|count| count > 10_000), "{counts:?}");
 }
