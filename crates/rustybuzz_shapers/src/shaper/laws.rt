@@ -1,5 +1,7 @@
 //! The headline, its law of widths, the cut between spans, and the law of breaks.
 ghost use Rattle.rustybuzz_shapers.specs.Breaks.{TextsBreakAsFlagged};
+ghost use Rattle.rustybuzz_shapers.specs.Edited.{TextsStayNear};
+ghost use Rattle.rustybuzz_shapers.specs.Together.{TextsConcatenate};
 ghost use Rattle.shapers_arabic.specs.Breaks.{AsCodeLaw, ExactLaw};
 ghost use Rattle.shapers_arabic.specs.Concatenation.{ConcatenationLaw};
 ghost use Rattle.shapers_arabic.specs.Edits.{EditsStayNear};
@@ -38,7 +40,7 @@ pub fn headline()
 /// as the code has it, where what Sound adds doesn't reach over it too. On lists of joining types:
 /// what joining flags by itself are the places where the first half loses a form, and what Sound
 /// flags those where either does. Texts without a flag at their borders may be put together, and
-/// edits stay near.
+/// edits stay near; so it is with each choice, of lists and of buffers.
 #[inline]
 pub fn breaks_law()
     ensures texts { TextsBreakAsFlagged }
@@ -46,6 +48,8 @@ pub fn breaks_law()
     ensures exact { ExactLaw }
     ensures concatenation { ConcatenationLaw }
     ensures edits { EditsStayNear }
+    ensures texts_together { TextsConcatenate }
+    ensures texts_edited { TextsStayNear }
 {
     joining_breaks_law();
     joining_concatenation_law();
