@@ -11,6 +11,7 @@ mod RecordRows
 mod StandingRows
 mod Regrouped
 mod Together
+mod TogetherRows
 -- lemmas to cite, of the crates below, under their names
 pub use Rattle.shapers_clusters.proofs as clusters
 pub use Rattle.shapers_syllabic.proofs as syllabic

@@ -13,13 +13,13 @@ use Rattle.shapers_base.specs.declared.plan.joining.hb_arabic_joining_type_t.{hb
 use Rattle.shapers_clusters.specs.Borders.{IsBare}
 use Rattle.shapers_clusters.specs.Breaks.{IsClear}
 use Rattle.shapers_arabic.specs.Joining.{nearest, resolved}
-use Rattle.shapers_arabic.specs.JoinedText.{context_types, joined, stored_types}
+use Rattle.shapers_arabic.specs.JoinedText.{joined, stored_types}
 use Rattle.shapers_arabic.specs.PlanData.{breaks_of, masks_of}
 use Rattle.shapers_arabic.specs.Together.{HasOwnLetter, KeepsParts, together_at}
 use Rattle.shapers_arabic.proofs.Together.{glyphs-concatenate}
 use Rattle.shapers_universal.specs.PlanData.{arabic_of}
 use Rattle.shapers_universal.specs.UniversalMasks.{MasksAreSet, categorized, with_categories}
-use Rattle.rustybuzz_shapers.specs.Together.{LettersJoin, SetTogether, TextsConcatenate}
+use Rattle.rustybuzz_shapers.specs.Together.{TextsConcatenate}
 use Rattle.rustybuzz_shapers.specs.declared.shaper.hb_ot_shaper_t.TheVariants.{Arabic, Universal}
 
 -- joined buffers put together

@@ -39,8 +39,8 @@ pub fn headline()
 /// cluster has no glyph that is unsafe to break, and where clusters are single and rise at no other;
 /// as the code has it, where what Sound adds doesn't reach over it too. On lists of joining types:
 /// what joining flags by itself are the places where the first half loses a form, and what Sound
-/// flags those where either does. Texts without a flag at their borders may be put together, and
-/// edits stay near; so it is with each choice, of lists and of buffers.
+/// flags those where either does. With each choice, texts without a flag at their borders may be put
+/// together, and edits stay near, on lists of types and in buffers.
 #[inline]
 pub fn breaks_law()
     ensures texts { TextsBreakAsFlagged }
