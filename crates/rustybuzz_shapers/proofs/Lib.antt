@@ -1,6 +1,7 @@
 mod Breaks
 mod CheckedRows
 mod Cuts
+mod Edited
 mod FlagLaws
 mod Headline
 mod HookRows
@@ -9,6 +10,8 @@ mod PauseRows
 mod RecordRows
 mod StandingRows
 mod Regrouped
+mod Together
+mod TogetherRows
 -- lemmas to cite, of the crates below, under their names
 pub use Rattle.shapers_clusters.proofs as clusters
 pub use Rattle.shapers_syllabic.proofs as syllabic

@@ -1,6 +1,7 @@
 pub mod Breaks
 pub mod Checked
 pub mod Cuts
+pub mod Edited
 pub mod Headline
 pub mod Hooks
 pub mod Pauses
@@ -8,6 +9,7 @@ pub mod Records
 pub mod Standing
 pub mod Regrouped
 pub mod Stretched
+pub mod Together
 -- the words of each crate below, under its name
 pub use Rattle.shapers_buffer.specs as buffer
 pub use Rattle.shapers_clusters.specs as clusters

@@ -4,6 +4,7 @@ pub mod BrokenGlyphs
 pub mod Concatenation
 mod ConstantRows
 pub mod Edited
+mod EditedRows
 pub mod Edits
 mod FirstPieceRows
 pub mod FirstPieces
@@ -35,3 +36,4 @@ pub mod SoundOrder
 pub mod SoundSteps
 pub mod SoundWalk
 pub mod Together
+mod TogetherRows

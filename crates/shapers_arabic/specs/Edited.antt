@@ -41,8 +41,9 @@ pub record StayBehind (script : Option Script) (types : List hb_arabic_joining_t
       types ≡ front ++ t ∷ tail → nearest front ≡ None → is_transparent t ≡ false →
       SameBut script (opening script characters) (length front) characters xs ys
 
--- A text of glyphs gs in joined glyphs one, and the same text with its glyphs from s to e replaced
--- by so many others in joined glyphs two: both parts stay, all but clusters and glyph flags.
+-- One: the glyphs gs after joining; two: the same after joining, where so many others have replaced
+-- those from s to e. What stands before the edit stays, and what stands behind it, all but clusters
+-- and glyph flags.
 pub record StayNear (script : Option Script) (joining : ℕ → hb_arabic_joining_type_t)
     (s e others : ℕ) (gs one two : List hb_glyph_info_t) : Type 0 where
   pub before : StayBefore script (stored_types joining (take s gs)) (characters (take s gs))

@@ -4,7 +4,7 @@ use Rattle.std.proofs.lemmas.Bool.{false≢true}
 use Rattle.shapers_buffer.specs.Glyph.{default_glyph}
 use Rattle.shapers_buffer.specs.GlyphFlags.{FlagCall, UnsafeToBreak, UnsafeToConcat, SafeToInsertTatweel, flags_called}
 use Rattle.shapers_buffer.specs.declared.buffer.glyph.hb_glyph_info_t.{hb_glyph_info_t}
-use Rattle.shapers_clusters.specs.Borders.{forbids_border, is_unsafe_to_concat, IsBare}
+use Rattle.shapers_clusters.specs.Borders.{forbids_border, IsOpen, is_unsafe_to_concat, IsBare}
 
 -- borders before places 0 to 4 that each call over places 1 and 2 forbids: a break and a tatweel between the two, a concatenation before both
 at : FlagCall → List Bool
@@ -21,6 +21,16 @@ row_concat = refl
 row_tatweel : at (SafeToInsertTatweel 1 3) ≡ false ∷ false ∷ true ∷ false ∷ false ∷ []
 unfolding at
 row_tatweel = refl
+
+-- a place is open if no call of several forbids a border there
+row_open : IsOpen (UnsafeToBreak 0 2 ∷ UnsafeToConcat 3 4 ∷ []) 2
+row_open = refl
+
+row_first_call : IsOpen (UnsafeToBreak 0 2 ∷ UnsafeToConcat 3 4 ∷ []) 1 → ⊥
+row_first_call free = false≢true (sym free)
+
+row_second_call : IsOpen (UnsafeToBreak 0 2 ∷ UnsafeToConcat 3 4 ∷ []) 3 → ⊥
+row_second_call free = false≢true (sym free)
 
 -- a glyph in this cluster with this mask; flag 2 alone is unsafe to concatenate
 glyph : ℕ → ℕ → hb_glyph_info_t

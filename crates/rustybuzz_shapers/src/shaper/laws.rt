@@ -1,5 +1,7 @@
 //! The headline, its law of widths, the cut between spans, and the law of breaks.
 ghost use Rattle.rustybuzz_shapers.specs.Breaks.{TextsBreakAsFlagged};
+ghost use Rattle.rustybuzz_shapers.specs.Edited.{TextsStayNear};
+ghost use Rattle.rustybuzz_shapers.specs.Together.{TextsConcatenate};
 ghost use Rattle.shapers_arabic.specs.Breaks.{AsCodeLaw, ExactLaw};
 ghost use Rattle.shapers_arabic.specs.Concatenation.{ConcatenationLaw};
 ghost use Rattle.shapers_arabic.specs.Edits.{EditsStayNear};
@@ -42,7 +44,8 @@ pub fn headline()
 /// rise or fall and nothing was flagged before, no flag is needless: none of Sound's for the pieces,
 /// none of the code's for the first piece. On lists of joining types: what joining flags by itself
 /// are the places where the first half loses a form, and what Sound flags those where either does.
-/// Texts without a flag at their borders may be put together, and edits stay near.
+/// With each choice, texts without a flag at their borders may be put together, and edits stay near,
+/// on lists of types and in buffers.
 #[inline]
 pub fn breaks_law()
     ensures texts { TextsBreakAsFlagged }
@@ -50,6 +53,8 @@ pub fn breaks_law()
     ensures exact { ExactLaw }
     ensures concatenation { ConcatenationLaw }
     ensures edits { EditsStayNear }
+    ensures texts_together { TextsConcatenate }
+    ensures texts_edited { TextsStayNear }
 {
     joining_breaks_law();
     joining_concatenation_law();
