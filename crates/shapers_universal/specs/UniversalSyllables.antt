@@ -5,6 +5,7 @@ use Rattle.std.specs.List.{flat_map, prefix_len}
 use Rattle.shapers_buffer.specs.declared.buffer.glyph.hb_glyph_info_t.{hb_glyph_info_t}
 use Rattle.shapers_buffer.specs.declared.buffer.syllables.Span.{Span}
 use Rattle.shapers_base.specs.Map.{Map, mask_of}
+use Rattle.shapers_base.specs.Masks.{has_bits}
 use Rattle.shapers_base.specs.declared.plan.PlanData.{PlanData}
 use Rattle.shapers_base.specs.declared.plan.arabic.arabic_shape_plan_t.{arabic_shape_plan_t}
 use Rattle.shapers_buffer.specs.Buffer.{Buffer}
