@@ -60,14 +60,14 @@ fn collect_features<const S: usize>(planner: &mut hb_ot_shape_planner_t) {
     let mut wanted = Planner::new(Global, script_of(planner.script));
     let map = &planner.ot_map;
     let font = FeaturesOnly(|tag| map.has_feature(parts::hb_tag(tag)));
-    let collected = SHAPERS[S].collect_features(&font, &mut wanted);
+    let collected = Shaper::ALL[S].collect_features(&font, &mut wanted);
     collected.expect("memory for a list of features");
     request(planner, &wanted);
 }
 
 fn override_features<const S: usize>(planner: &mut hb_ot_shape_planner_t) {
     let mut wanted = Planner::new(Global, script_of(planner.script));
-    let overridden = SHAPERS[S].override_features(&mut wanted);
+    let overridden = Shaper::ALL[S].override_features(&mut wanted);
     overridden.expect("memory for a list of features");
     request(planner, &wanted);
 }
@@ -100,7 +100,7 @@ fn create_data<const S: usize>(plan: &hb_ot_shape_plan_t) -> Box<dyn Any + Send 
         .chosen_script(map.chosen_script(GSUB).map(parts::tag_of))
         .found_script(map.found_script(GSUB))
         .has_gpos_mark(plan.has_gpos_mark)
-        .build_for(SHAPERS[S]);
+        .build_for(Shaper::ALL[S]);
     Box::new(made.expect("stages are ranges, and masks touch no glyph flag"))
 }
 
@@ -298,7 +298,7 @@ fn direction_of(direction: super::Direction) -> Direction {
 // ---- Hooks ----
 
 fn preprocess_text<const S: usize>(plan: &hb_ot_shape_plan_t, font: FontRef, buffer: &mut hb_buffer_t) {
-    let shaper = SHAPERS[S];
+    let shaper = Shaper::ALL[S];
     if matches!(shaper, Shaper::Indic | Shaper::Universal) {
         super::ot_shaper_vowel_constraints::preprocess_text_vowel_constraints(buffer);
     } else if may_rewrite(shaper, plan_of(plan), font, &buffer.info[..buffer.len]) {
@@ -341,7 +341,7 @@ fn setup_masks<const S: usize>(plan: &hb_ot_shape_plan_t, _: FontRef, buffer: &m
     let plan = plan_of(plan);
     let len = buffer.len;
     let infos = &mut buffer.info[..len];
-    match SHAPERS[S] {
+    match Shaper::ALL[S] {
         Shaper::Indic => each(infos, |glyph| set_categories_and_positions_in(&Ucd, glyph)),
         Shaper::Khmer | Shaper::Myanmar => each(infos, |glyph| set_categories_in(&Ucd, glyph)),
         Shaper::Universal if !joins(plan) => {
@@ -391,14 +391,14 @@ fn setup_joining_masks(shaper: Shaper, plan: &Plan, buffer: &mut hb_buffer_t) {
 /// Merges reach over neighbours of the same cluster and no further, so the call reads these too.
 fn reorder_marks<const S: usize>(plan: &hb_ot_shape_plan_t, buffer: &mut hb_buffer_t, start: usize, end: usize) {
     let infos = &buffer.info[..buffer.len];
-    if !may_reorder(SHAPERS[S], &infos[start..end]) {
+    if !may_reorder(Shaper::ALL[S], &infos[start..end]) {
         return;
     }
     let (first, last) = (infos[start].cluster, infos[end - 1].cluster);
     let before = infos[..start].iter().rev().take_while(|info| info.cluster == first).count();
     let after = infos[end..].iter().take_while(|info| info.cluster == last).count();
     on_text(buffer, start - before..end + after, |text| {
-        SHAPERS[S].reorder_marks(plan_of(plan), text, before, before + end - start);
+        Shaper::ALL[S].reorder_marks(plan_of(plan), text, before, before + end - start);
         Ok(())
     });
 }
@@ -413,7 +413,7 @@ fn may_reorder(shaper: Shaper, marks: &[Info]) -> bool {
 
 fn compose<const S: usize>(context: &hb_ot_shape_normalize_context_t, a: Codepoint, b: Codepoint) -> Option<Codepoint> {
     let (a, b) = (parts::character(a)?, parts::character(b)?);
-    let composed = match SHAPERS[S] {
+    let composed = match Shaper::ALL[S] {
         Shaper::Indic => ot_shaper_indic::compose(&Ucd, a, b),
         Shaper::Khmer => ot_shaper_khmer::compose(&Ucd, a, b),
         Shaper::Universal => ot_shaper_use::compose(&Ucd, a, b),
@@ -424,7 +424,7 @@ fn compose<const S: usize>(context: &hb_ot_shape_normalize_context_t, a: Codepoi
 
 fn decompose<const S: usize>(_: &hb_ot_shape_normalize_context_t, ab: Codepoint) -> Option<(Codepoint, Codepoint)> {
     let ab = parts::character(ab)?;
-    let (a, b) = match SHAPERS[S] {
+    let (a, b) = match Shaper::ALL[S] {
         Shaper::Indic => ot_shaper_indic::decompose(&Ucd, ab)?,
         _ => ot_shaper_khmer::decompose(&Ucd, ab)?,
     };
@@ -438,7 +438,7 @@ fn postprocess_glyphs<const S: usize>(plan: &hb_ot_shape_plan_t, font: FontRef, 
     let positions: Vec<_> = buffer.pos[..buffer.len].iter().map(position_of).collect();
     on_text(buffer, 0..buffer.len, |text| {
         text.set_positions(positions.into());
-        SHAPERS[S].postprocess_glyphs(plan_of(plan), &parts::font(font), text)
+        Shaper::ALL[S].postprocess_glyphs(plan_of(plan), &parts::font(font), text)
     });
     let text = buffer.work.text();
     for (to, from) in buffer.pos.iter_mut().zip(text.positions()) {
@@ -559,18 +559,6 @@ fn clears_in_place(pause: Pause, buffer: &mut hb_buffer_t) -> bool {
 
 // ---- Shapers ----
 
-const SHAPERS: [Shaper; 9] = [
-    Shaper::Arabic,
-    Shaper::Hangul,
-    Shaper::Hebrew,
-    Shaper::Indic,
-    Shaper::Khmer,
-    Shaper::Myanmar,
-    Shaper::MyanmarZawgyi,
-    Shaper::Thai,
-    Shaper::Universal,
-];
-
 pub const ARABIC_SHAPER: hb_ot_shaper_t = shaper::<0>();
 pub const HANGUL_SHAPER: hb_ot_shaper_t = shaper::<1>();
 pub const HEBREW_SHAPER: hb_ot_shaper_t = shaper::<2>();
@@ -584,7 +572,7 @@ pub const UNIVERSAL_SHAPER: hb_ot_shaper_t = shaper::<8>();
 /// The function of a hook, for a shaper that has it.
 macro_rules! hook {
     ($hook:ident, $function:ident) => {
-        if SHAPERS[S].has_hook(Hook::$hook) {
+        if Shaper::ALL[S].has_hook(Hook::$hook) {
             Some(hooks::$function::<S>)
         } else {
             None
@@ -599,7 +587,7 @@ const fn shaper<const S: usize>() -> hb_ot_shaper_t {
         create_data: Some(hooks::create_data::<S>),
         preprocess_text: hook!(PreprocessText, preprocess_text),
         postprocess_glyphs: hook!(PostprocessGlyphs, postprocess_glyphs),
-        normalization_preference: match SHAPERS[S].normalization_preference() {
+        normalization_preference: match Shaper::ALL[S].normalization_preference() {
             NormalizationMode::NONE => HB_OT_SHAPE_NORMALIZATION_MODE_NONE,
             NormalizationMode::AUTO => HB_OT_SHAPE_NORMALIZATION_MODE_AUTO,
             NormalizationMode::CD => HB_OT_SHAPE_NORMALIZATION_MODE_COMPOSED_DIACRITICS_NO_SHORT_CIRCUIT,
@@ -607,16 +595,16 @@ const fn shaper<const S: usize>() -> hb_ot_shaper_t {
         decompose: hook!(Decompose, decompose),
         compose: hook!(Compose, compose),
         setup_masks: hook!(SetupMasks, setup_masks),
-        gpos_tag: match SHAPERS[S].gpos_tag() {
+        gpos_tag: match Shaper::ALL[S].gpos_tag() {
             Some(tag) => Some(parts::hb_tag(tag)),
             None => None,
         },
         reorder_marks: hook!(ReorderMarks, reorder_marks),
-        zero_width_marks: match SHAPERS[S].zero_width_marks() {
+        zero_width_marks: match Shaper::ALL[S].zero_width_marks() {
             ZeroWidthMarks::NONE => HB_OT_SHAPE_ZERO_WIDTH_MARKS_NONE,
             ZeroWidthMarks::GDEF_EARLY => HB_OT_SHAPE_ZERO_WIDTH_MARKS_BY_GDEF_EARLY,
             ZeroWidthMarks::GDEF_LATE => HB_OT_SHAPE_ZERO_WIDTH_MARKS_BY_GDEF_LATE,
         },
-        fallback_position: SHAPERS[S].fallback_position() || parts::places_marks(SHAPERS[S]),
+        fallback_position: Shaper::ALL[S].fallback_position() || parts::places_marks(Shaper::ALL[S]),
     }
 }

@@ -4,6 +4,8 @@
 //! text into a buffer and runs hooks over it; docs/HBHOOK.md of the repository explains the lines.
 //! [`run_lines`] prints the glyphs that are left, [`explain_lines`] also what was expected of a
 //! rejected line, and [`draw_lines`] writes a page of HTML that shows what each hook did.
+//! [`explain_end`] names the field of a rejected line, and [`without_table`] the characters of the
+//! texts that no `table` line is about.
 //!
 //! ```
 //! use sengadlit::alloc::Global;
@@ -29,7 +31,9 @@ mod generated {
     pub(crate) mod hbhook_draw;
     pub(crate) mod hbhook_lines;
 }
+mod explained;
 mod support;
 
+pub use explained::{explain_end, without_table};
 pub use generated::hbhook_draw::draw_lines;
 pub use generated::hbhook_lines::{explain_lines, run_lines};

@@ -2,21 +2,23 @@
 
 #![forbid(unsafe_code)]
 
-use hbhook::{draw_lines, explain_lines, run_lines};
+use hbhook::{draw_lines, explain_end, run_lines, without_table};
 use sengadlit::alloc::Global;
 use std::env;
-use std::ffi::OsString;
+use std::ffi::{OsStr, OsString};
 use std::fs::File;
 use std::io::{self, Read, Write};
 use std::path::Path;
 use std::process::ExitCode;
 
 const USAGE: &str = "\
-usage: hbhook [FILE]         runs the lines of the file, and prints the glyphs that they leave
-       hbhook --why [FILE]   runs them, and says what was expected of a rejected line, or which line
-                             was refused
-       hbhook --draw [FILE]  runs them, and writes a page of HTML that shows what each hook did
-       hbhook --help         prints this
+usage: hbhook [FILE]            runs the lines of the file, and prints the glyphs that they leave
+       hbhook --explain [FILE]  runs them, and names the field of a rejected line and what was
+                                expected in its place, or why a line was refused
+       hbhook --why [FILE]      does that, and lists the characters without a `table` line
+       hbhook --draw [FILE]     runs them, and writes a page of HTML that shows what each hook did;
+                                also with --explain or --why
+       hbhook --help            prints this
 
 For FILE - or nothing: the lines of standard input. Status: 0; 1 after a refusal; 2 where a line or
 an argument is rejected, the input can't be read, or the output can't be written.
@@ -26,22 +28,93 @@ an argument is rejected, the input can't be read, or the output can't be written
 const UNREADABLE: u8 = 2;
 
 // What to do with the lines.
-#[derive(Clone, Copy)]
-enum Task {
-    Run,
-    Explain,
-    Draw,
+#[derive(Clone, Copy, Default)]
+struct Task {
+    explains: bool,
+    lists: bool,
+    draws: bool,
 }
 
 impl Task {
+    // Adds what an option says; false if there is no such option.
+    fn add(&mut self, option: &OsStr) -> bool {
+        match option.to_str() {
+            Some("--explain") => self.explains = true,
+            Some("--why") => (self.explains, self.lists) = (true, true),
+            Some("--draw") => self.draws = true,
+            _ => return false,
+        }
+        true
+    }
+
     // Carries out the lines of a reader, and returns the exit status.
     fn carry_out(self, input: impl Read) -> u8 {
-        let (output, faults) = (io::stdout(), io::stderr());
-        match self {
-            Task::Run => run_lines(Global, input, output, faults),
-            Task::Explain => explain_lines(Global, input, output, faults),
-            Task::Draw => draw_lines(Global, input, output, faults),
+        if !self.explains {
+            return self.run(input);
         }
+        let mut input = Keeping {
+            input,
+            kept: Vec::new(),
+            has_failed: false,
+        };
+        let status = self.run(&mut input);
+        if input.has_failed {
+            return status;
+        }
+        match io::stderr().write_all(self.told(&input.kept, status).as_bytes()) {
+            Ok(()) => status,
+            Err(_) => UNREADABLE,
+        }
+    }
+
+    // Runs or draws the lines of a reader.
+    fn run(self, input: impl Read) -> u8 {
+        let (output, faults) = (io::stdout(), io::stderr());
+        if self.draws {
+            draw_lines(Global, input, output, faults)
+        } else {
+            run_lines(Global, input, output, faults)
+        }
+    }
+
+    // What is told of a run of this script behind its own message: nothing where the output can't be
+    // written.
+    fn told(self, script: &[u8], status: u8) -> String {
+        let mut told = String::new();
+        if status != 0 {
+            match explain_end(script, status, self.draws) {
+                Some(explanation) => told = format!("{explanation}\n"),
+                None if status == UNREADABLE => return told,
+                None => {}
+            }
+        }
+        let characters = without_table(script);
+        if self.lists && !characters.is_empty() {
+            told += "characters without a `table` line:";
+            for character in characters {
+                told += &format!(" {:04X}", u32::from(character));
+            }
+            told += "\n";
+        }
+        told
+    }
+}
+
+// A reader that keeps what was read, and whether a reading failed.
+struct Keeping<R> {
+    input: R,
+    kept: Vec<u8>,
+    has_failed: bool,
+}
+
+impl<R: Read> Read for Keeping<R> {
+    fn read(&mut self, bytes: &mut [u8]) -> io::Result<usize> {
+        let count = self.input.read(bytes).inspect_err(|error| {
+            self.has_failed |= error.kind() != io::ErrorKind::Interrupted;
+        })?;
+        self.kept.try_reserve(count)?;
+        self.kept.extend_from_slice(&bytes[..count]);
+        Ok(count)
     }
 }
 
@@ -56,18 +129,36 @@ fn main() -> ExitCode {
 
 // Does what the arguments say, and returns the exit status, or what is wrong with the arguments.
 fn run(arguments: &[OsString]) -> Result<u8, String> {
-    let (task, files) = match arguments.first().and_then(|word| word.to_str()) {
-        Some("-h" | "--help") if arguments.len() == 1 => return Ok(print_usage()),
-        Some("--why") => (Task::Explain, &arguments[1..]),
-        Some("--draw") => (Task::Draw, &arguments[1..]),
-        _ => (Task::Run, arguments),
-    };
-    match files {
+    if let [argument] = arguments {
+        if argument == "--help" || argument == "-h" {
+            return Ok(print_usage());
+        }
+    }
+    let mut task = Task::default();
+    let mut files = Vec::new();
+    for argument in arguments {
+        let is_option = argument.as_encoded_bytes().starts_with(b"-") && argument != "-";
+        if !is_option {
+            files.push(argument);
+        } else if !task.add(argument) {
+            return Err(no_option(argument));
+        }
+    }
+    match files[..] {
         [] => Ok(task.carry_out(io::stdin())),
         [file] if file == "-" => Ok(task.carry_out(io::stdin())),
         [file] => Ok(task.carry_out(open(file.as_ref())?)),
         _ => Err("one file at most (hbhook --help)".into()),
     }
+}
+
+// Names an argument that is no option, and says which there are.
+fn no_option(argument: &OsStr) -> String {
+    let name = Path::new(argument).display();
+    if argument == "--help" || argument == "-h" {
+        return format!("{name} takes no other argument");
+    }
+    format!("there is no option {name}, but --draw, --explain, --why (hbhook --help)")
 }
 
 fn print_usage() -> u8 {
@@ -80,9 +171,6 @@ fn print_usage() -> u8 {
 // Opens a file of lines.
 fn open(path: &Path) -> Result<File, String> {
     let name = path.display();
-    if path.as_os_str().as_encoded_bytes().starts_with(b"-") {
-        return Err(format!("there is no option {name} (hbhook --help)"));
-    }
     if !path.exists() {
         return Err(format!("there is no file {name}"));
     }

@@ -18,12 +18,13 @@ fn expect_rejected(arguments: &[&str], message: &str) {
 fn rejects_bad_arguments() {
     expect_rejected(&["a", "b"], "one file at most (hbhook --help)");
     expect_rejected(&["--why", "a", "b"], "one file at most (hbhook --help)");
-    expect_rejected(&["--help", "a"], "one file at most (hbhook --help)");
-    expect_rejected(&["--what"], "there is no option --what (hbhook --help)");
-    expect_rejected(
-        &["--why", "--draw"],
-        "there is no option --draw (hbhook --help)",
-    );
+    expect_rejected(&["--help", "a"], "--help takes no other argument");
+    for arguments in [&["--what"][..], &["--why", "--what"], &["a", "--what"]] {
+        expect_rejected(
+            arguments,
+            "there is no option --what, but --draw, --explain, --why (hbhook --help)",
+        );
+    }
     expect_rejected(&["no such file"], "there is no file no such file");
     expect_rejected(&[""], "there is no file ");
     let folder = from_top("examples");
@@ -47,15 +48,21 @@ fn ends_as_the_lines_say() {
     let refused = Run::new(&["-"], "set maxlen 0\ntext 41");
     assert_eq!(refused.status, Some(1));
     assert_eq!(refused.told, "refused: TooLong\n");
-    let unread = Run::new(&["--why", "-"], "text 41\ntext");
-    assert_eq!(unread.status, Some(0));
-    let unread = Run::new(&["--why"], "text 41\nset");
+    let read = Run::new(&["--explain", "-"], "text 41\ntext");
+    assert_eq!((read.told.as_str(), read.status), ("", Some(0)));
+    let unread = Run::new(&["--explain"], "text 41\nset");
     assert_eq!(unread.status, Some(2));
     assert_eq!(
         unread.told,
-        "line 2: unreadable\nline 2: expected these fields: set KEY VALUE\n"
+        "line 2: unreadable\nline 2: expected these fields: set KEY VALUE; the line has 1\n"
     );
     assert_eq!(unread.printed, "");
+    let refused = Run::new(&["--explain"], "set maxlen 0\ntext 41");
+    assert_eq!(refused.status, Some(1));
+    assert_eq!(
+        refused.told,
+        "refused: TooLong\nline 2: refused: more glyphs than `maxlen`, which is 0\n"
+    );
     let drawn = Run::new(&["--draw"], "text 41\nset");
     assert_eq!(drawn.status, Some(2));
     assert_eq!(drawn.told, "line 2: unreadable\n");
@@ -66,6 +73,39 @@ fn ends_as_the_lines_say() {
     );
 }
 
+#[test]
+fn lists_characters_without_a_table_line() {
+    let script = "table 41 0 7 1 1 1\ntext 41 42 0E14 42\ntext 43\n";
+    let list = "characters without a `table` line: 0042 0E14 0043\n";
+    let listed = Run::new(&["--why"], script);
+    assert_eq!((listed.told.as_str(), listed.status), (list, Some(0)));
+    assert_eq!(Run::new(&["--explain"], script).told, "");
+    let rejected = Run::new(&["--why"], "text 42\nrun masks");
+    assert_eq!(
+        rejected.told,
+        "line 2: unreadable\nline 2: expected a line `set shaper` before it\n\
+         characters without a `table` line: 0042\n"
+    );
+}
+
+#[test]
+fn draws_and_explains() {
+    let drawn = Run::new(&["--draw"], "text 41\ntext U+42");
+    let both = Run::new(&["--draw", "--why"], "text 41\ntext U+42");
+    assert_eq!(both.printed, drawn.printed);
+    assert_eq!(both.status, Some(2));
+    assert_eq!(
+        both.told,
+        "line 2: unreadable\n\
+         line 2: field 2, `U+42`: expected a character such as 42, without U+ or 0x\n\
+         characters without a `table` line: 0041\n"
+    );
+    assert_eq!(
+        Run::new(&["--why", "-", "--draw"], "text 41\ntext U+42"),
+        both
+    );
+}
+
 // A device that is always full: the status is that of an output that can't be written.
 #[cfg(target_os = "linux")]
 #[test]
@@ -73,7 +113,7 @@ fn ends_where_the_output_is_full() {
     use std::fs::File;
     use std::process::{Command, Stdio};
 
-    for option in ["-", "--why", "--draw", "--help"] {
+    for option in ["-", "--explain", "--why", "--draw", "--help"] {
         let full = File::options().write(true).open("/dev/full").unwrap();
         let output = Command::new(env!("CARGO_BIN_EXE_hbhook"))
             .arg(option)

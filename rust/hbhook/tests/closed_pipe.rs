@@ -8,7 +8,7 @@ use std::process::{Command, Stdio};
 
 #[test]
 fn ends_where_no_one_reads_the_output() {
-    for option in ["-", "--why", "--draw"] {
+    for option in ["-", "--explain", "--why", "--draw"] {
         let mut child = Command::new(env!("CARGO_BIN_EXE_hbhook"))
             .arg(option)
             .stdin(Stdio::piped())

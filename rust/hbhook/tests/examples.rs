@@ -20,7 +20,13 @@ fn examples_print_what_is_written() {
         let script = fs::read_to_string(&path).unwrap();
         let path = path.to_str().unwrap();
         assert_eq!(Run::new(&[path], ""), expected, "{path}");
-        assert_eq!(Run::new(&["--why", path], ""), expected, "{path}");
+        assert_eq!(Run::new(&["--explain", path], ""), expected, "{path}");
+        let why = Run::new(&["--why", path], "");
+        assert_eq!(
+            (why.printed, why.status),
+            (expected.printed.clone(), Some(0)),
+            "{path}"
+        );
         assert_eq!(Run::new(&["-"], &script), expected, "{path}");
         assert_eq!(Run::new(&[], &script), expected, "{path}");
         count += 1;
@@ -31,7 +37,7 @@ fn examples_print_what_is_written() {
 // The programs that the repository proves have an input of their own, and what they print of it.
 #[test]
 fn proved_programs_print_the_same() {
-    for (option, program) in [("--why", "hbhook_why"), ("--draw", "hbhook_page")] {
+    for (option, program) in [("--explain", "hbhook_why"), ("--draw", "hbhook_page")] {
         let script = from_top("crates").join(program).join("stdin");
         let printed = from_top("crates").join(program).join("stdout");
         let expected = Run {

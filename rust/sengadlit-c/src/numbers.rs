@@ -6,26 +6,14 @@ use sengadlit::shaper::{Hook, NormalizationMode, Shaper, ZeroWidthMarks};
 /// `SENGADLIT_PAUSE_NONE`.
 pub const NO_PAUSE: u32 = 0xFF;
 
-const SHAPERS: [Shaper; 9] = [
-    Shaper::Arabic,
-    Shaper::Hangul,
-    Shaper::Hebrew,
-    Shaper::Indic,
-    Shaper::Khmer,
-    Shaper::Myanmar,
-    Shaper::MyanmarZawgyi,
-    Shaper::Thai,
-    Shaper::Universal,
-];
-
 /// The shaper of `sengadlit_shaper_t`.
 pub fn shaper(number: u32) -> Option<Shaper> {
-    SHAPERS.get(number as usize).copied()
+    Shaper::ALL.get(number as usize).copied()
 }
 
 /// Its number.
 pub fn shaper_number(shaper: Shaper) -> u32 {
-    SHAPERS
+    Shaper::ALL
         .iter()
         .position(|s| *s == shaper)
         .map_or(u32::MAX, |number| number as u32)

@@ -8,3 +8,29 @@ pub use crate::generated::rustybuzz_shapers::shaper::{
 };
 
 pub mod checked;
+
+impl Shaper {
+    /// All shapers, in the order of their declaration.
+    pub const ALL: [Shaper; 9] = [
+        Shaper::Arabic,
+        Shaper::Hangul,
+        Shaper::Hebrew,
+        Shaper::Indic,
+        Shaper::Khmer,
+        Shaper::Myanmar,
+        Shaper::MyanmarZawgyi,
+        Shaper::Thai,
+        Shaper::Universal,
+    ];
+}
+
+#[cfg(test)]
+mod tests {
+    use super::Shaper;
+
+    #[test]
+    fn all_shapers_are_listed_once_in_order() {
+        let places = Shaper::ALL.map(|shaper| shaper as usize);
+        assert_eq!(places, [0, 1, 2, 3, 4, 5, 6, 7, 8]);
+    }
+}

@@ -8,7 +8,7 @@ use common::calls::{Call, Returned, Setting};
 use common::fonts::{LotFont, LotTables, PlainFont, PlainTables, Steady};
 use common::misuse::Misuse;
 use common::numbers::Numbers;
-use common::plans::{PAUSES, SHAPERS, bare_plan, plan_of};
+use common::plans::{PAUSES, bare_plan, plan_of};
 use common::watchdog::in_time;
 use sengadlit::buffer::{Buffer, ShaperError, Span};
 use sengadlit::plan::{Pause, Plan};
@@ -57,7 +57,7 @@ fn positioned_text() -> Buffer {
 
 #[test]
 fn positions_are_there_too_early_or_missing() {
-    for shaper in SHAPERS {
+    for shaper in Shaper::ALL {
         let plan = plan_of(shaper, b"Mong");
         let pauses = PAUSES.map(Call::Pause);
         let early = [Call::Preprocess, Call::Masks, Call::Marks(0, 1)];
@@ -75,7 +75,7 @@ fn positions_are_there_too_early_or_missing() {
 
 #[test]
 fn a_range_lies_outside() {
-    for shaper in SHAPERS {
+    for shaper in Shaper::ALL {
         let plan = plan_of(shaper, b"Hebr");
         let text = text_of(&[0x5D0; 3], 10);
         for (start, end) in [(0, 4), (4, 4), (2, 1), (usize::MAX, 0), (0, usize::MAX)] {
@@ -90,7 +90,7 @@ fn a_range_lies_outside() {
 
 #[test]
 fn marks_are_too_many_for_arabic() {
-    for shaper in SHAPERS {
+    for shaper in Shaper::ALL {
         let plan = plan_of(shaper, b"Arab");
         let mut text = text_of(&[0x64B; 40], 40);
         let mut run = |start, end| {
@@ -128,7 +128,7 @@ fn a_plan_has_no_data_or_anothers() {
             true => positioned_text(),
             false => text_of(&[0x628, 0x628], 10),
         };
-        let others = SHAPERS.into_iter().filter(|other| *other != shaper);
+        let others = Shaper::ALL.into_iter().filter(|other| *other != shaper);
         let plans = others.map(|other| plan_of(other, b"Mong"));
         for plan in plans.chain([bare_plan(b"Mong", &[])]) {
             assert_stops(Condition::PlanData, &text, |buffer| {
@@ -168,7 +168,7 @@ fn glyphs_have_no_numbers_of_a_font() {
 
 #[test]
 fn spans_have_no_kinds() {
-    for shaper in SHAPERS {
+    for shaper in Shaper::ALL {
         let plan = plan_of(shaper, b"Mong");
         for pause in PAUSES {
             let spans = [Span { len: 1, kind: 15 }, Span { len: 1, kind: 16 }];

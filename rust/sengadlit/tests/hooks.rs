@@ -5,7 +5,7 @@ mod common;
 use common::buffers::{Contents, set_advances, text_of};
 use common::calls::{Call, Returned, Setting};
 use common::fonts::{PlainFont, PlainTables};
-use common::plans::{SHAPERS, plan_of};
+use common::plans::plan_of;
 use sengadlit::alloc::Global;
 use sengadlit::buffer::{Buffer, Script, ShaperError, Tag};
 use sengadlit::font::FeaturesOnly;
@@ -31,7 +31,7 @@ fn make(call: Call, shaper: Shaper, text: &mut Buffer) -> Result<Returned, Shape
 
 #[test]
 fn an_empty_text_stays_empty() {
-    for shaper in SHAPERS {
+    for shaper in Shaper::ALL {
         for call in Call::all(0) {
             let mut text = text_of(&[], 0);
             let before = Contents::of(&text);
@@ -58,7 +58,7 @@ fn reorders(pause: Pause) -> bool {
 
 #[test]
 fn a_reordering_leaves_no_place_listed() {
-    for shaper in SHAPERS {
+    for shaper in Shaper::ALL {
         for call in Call::all(0) {
             let Call::Pause(pause) = call else { continue };
             let mut text = text_of(&[0x1000; 3], 3);
@@ -108,7 +108,7 @@ const HOOKS: [Call; 6] = [
 
 #[test]
 fn a_hook_that_a_shaper_lacks_changes_nothing() {
-    for shaper in SHAPERS {
+    for shaper in Shaper::ALL {
         let present = HOOKS.map(|call| {
             let mut text = text_of(&[0x1820, 0x1821], 10);
             if call.wants_positions() {
@@ -126,7 +126,7 @@ fn a_hook_that_a_shaper_lacks_changes_nothing() {
 
 #[test]
 fn shapers_request_features() {
-    for shaper in SHAPERS {
+    for shaper in Shaper::ALL {
         let mut planner = Planner::new(Global, Some(Script(*b"Arab")));
         let collects = shaper
             .collect_features(&PlainFont(0), &mut planner)
@@ -143,7 +143,7 @@ fn shapers_request_features() {
 
 #[test]
 fn the_list_of_arabic_alone_asks_the_font() {
-    for shaper in SHAPERS {
+    for shaper in Shaper::ALL {
         let asked = RefCell::new(Vec::new());
         let font = FeaturesOnly(|tag: Tag| {
             asked.borrow_mut().push(tag);
@@ -159,7 +159,7 @@ fn the_list_of_arabic_alone_asks_the_font() {
 
 #[test]
 fn shapers_keep_data() {
-    for shaper in SHAPERS {
+    for shaper in Shaper::ALL {
         let kept = plan_of(shaper, b"Deva").plan_data;
         let is_kept = match shaper {
             Shaper::Arabic => matches!(kept, PlanData::Arabic(_)),

@@ -7,7 +7,7 @@ use common::buffers::{Contents, Glyphs, buffer_of, letter};
 use common::calls::{Call, Returned, Setting};
 use common::fonts::{LotFont, LotTables, Steady};
 use common::numbers::Numbers;
-use common::plans::{PAUSES, SHAPERS, random_plan};
+use common::plans::{PAUSES, random_plan};
 use common::scenes::Scene;
 use common::watchdog::in_time;
 use sengadlit::buffer::{GlyphInfo, ShaperError};
@@ -133,7 +133,7 @@ fn reorder_long_syllable(shaper: Shaper, pause: Pause, seed: u64) {
 fn long_syllables_are_reordered() {
     in_time(|| {
         for (pause, seed) in PAUSES.into_iter().zip(0..) {
-            for shaper in SHAPERS {
+            for shaper in Shaper::ALL {
                 reorder_long_syllable(shaper, pause, seed);
             }
         }

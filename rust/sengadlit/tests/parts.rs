@@ -4,7 +4,7 @@ mod common;
 
 use common::buffers::{Contents, buffer_of};
 use common::fonts::PlainFont;
-use common::plans::{PAUSES, SHAPERS, plan_of, plan_with};
+use common::plans::{PAUSES, plan_of, plan_with};
 use sengadlit::buffer::{Buffer, GlyphInfo, Span};
 use sengadlit::ot_shaper_hangul::setup_masks_in;
 use sengadlit::ot_shaper_use::setup_syllables_use_by_bytes;
@@ -83,7 +83,7 @@ fn a_pause_that_may_not_change_changes_nothing() {
         glyph.marks.set_multiplied(true);
     }
     let mut idle = Vec::new();
-    for shaper in SHAPERS {
+    for shaper in Shaper::ALL {
         for pause in PAUSES {
             let plan = plan_of(shaper, b"Bali");
             if pause_fits(pause, &plan) && !pause_may_change(pause, &plan) {
@@ -95,7 +95,7 @@ fn a_pause_that_may_not_change_changes_nothing() {
     assert!(idle.contains(&(Shaper::Arabic, Pause::RecordStch)));
     assert!(idle.contains(&(Shaper::Universal, Pause::RecordRphf)));
     assert!(idle.contains(&(Shaper::Hebrew, Pause::ArabicFallbackShape)));
-    assert_eq!(idle.len(), SHAPERS.len() + 2);
+    assert_eq!(idle.len(), Shaper::ALL.len() + 2);
     for (shaper, pause, tag) in [
         (Shaper::Arabic, Pause::RecordStch, b"stch"),
         (Shaper::Universal, Pause::RecordRphf, b"rphf"),

@@ -307,7 +307,7 @@ fn a_map_has_ranges_and_masks_above_the_glyph_flags() {
 
 #[test]
 fn data_are_of_the_shaper_that_makes_them() {
-    for shaper in common::plans::SHAPERS {
+    for shaper in Shaper::ALL {
         let mut plan = bare_plan(b"Mong", &[(b"init", 8)]);
         let data = shaper.create_data(&plan);
         let has_data = data.is_some();

@@ -4,7 +4,7 @@ use super::buffers::{Glyphs, random_buffer, random_spans, set_random_positions};
 use super::calls::{Call, Setting};
 use super::fonts::{LotFont, LotTables};
 use super::numbers::Numbers;
-use super::plans::{SHAPERS, random_plan};
+use super::plans::random_plan;
 use sengadlit::buffer::{Buffer, Span};
 use sengadlit::plan::Plan;
 use sengadlit::shaper::Shaper;
@@ -22,8 +22,8 @@ pub struct Misuse {
 impl Misuse {
     /// A misuse drawn by lot.
     pub fn random(numbers: &mut Numbers, kind: Glyphs) -> Self {
-        let shaper = numbers.one_of(&SHAPERS);
-        let other = numbers.one_of(&SHAPERS);
+        let shaper = numbers.one_of(&Shaper::ALL);
+        let other = numbers.one_of(&Shaper::ALL);
         let last_kind = numbers.one_of(&[15, 15, 15, u8::MAX]);
         let planned = if numbers.once_in(3) { other } else { shaper };
         let mut buffer = random_buffer(numbers, kind);

@@ -8,19 +8,6 @@ use sengadlit::plan::{BreakFlags, Pause, Plan, StretchStart};
 use sengadlit::shaper::Shaper;
 use std::ops::Range;
 
-/// Every shaper.
-pub const SHAPERS: [Shaper; 9] = [
-    Shaper::Arabic,
-    Shaper::Hangul,
-    Shaper::Hebrew,
-    Shaper::Indic,
-    Shaper::Khmer,
-    Shaper::Myanmar,
-    Shaper::MyanmarZawgyi,
-    Shaper::Thai,
-    Shaper::Universal,
-];
-
 /// Every pause.
 pub const PAUSES: [Pause; 15] = [
     Pause::SetupSyllablesIndic,

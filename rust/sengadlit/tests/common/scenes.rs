@@ -6,7 +6,7 @@ use super::buffers::{
 use super::calls::{Call, Returned, Setting};
 use super::fonts::{LotFont, LotTables, Steady};
 use super::numbers::Numbers;
-use super::plans::{SHAPERS, random_plan};
+use super::plans::random_plan;
 use sengadlit::buffer::{Buffer, ShaperError, Span};
 use sengadlit::plan::Plan;
 use sengadlit::shaper::Shaper;
@@ -26,7 +26,7 @@ impl Scene {
     /// The scene of a seed.
     pub fn random(seed: u64, kind: Glyphs) -> Self {
         let numbers = &mut Numbers::new(seed);
-        let shaper = numbers.one_of(&SHAPERS);
+        let shaper = numbers.one_of(&Shaper::ALL);
         let mut buffer = random_buffer(numbers, kind);
         let call = Call::random(numbers, buffer.len());
         if call.wants_positions() {

@@ -3,7 +3,7 @@
 use crate::common::buffers::{buffer_of, letter, set_advances};
 use crate::common::calls::{Call, Setting};
 use crate::common::fonts::{PlainFont, PlainTables};
-use crate::common::plans::{PAUSES, SHAPERS, plan_of};
+use crate::common::plans::{PAUSES, plan_of};
 use crate::trial::{Subject, Trial};
 use sengadlit::buffer::{Buffer, Direction, GlyphInfo, Span};
 use sengadlit::ot_shaper_syllabic::{
@@ -167,7 +167,7 @@ const STANDING: Kind = Kind {
 /// Each hook and pause of each shaper on a text that it leaves as long as it is: none takes memory.
 pub fn standing(length: usize) -> Vec<Trial> {
     let mut trials = Vec::new();
-    for shaper in SHAPERS {
+    for shaper in Shaper::ALL {
         let hooks = [
             Call::Preprocess,
             Call::Masks,

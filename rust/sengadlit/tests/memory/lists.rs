@@ -2,7 +2,6 @@
 
 use crate::common::buffers::{buffer_of, letter, set_advances};
 use crate::common::fonts::PlainFont;
-use crate::common::plans::SHAPERS;
 use crate::trial::{Subject, Trial};
 use sengadlit::alloc::{Global, Vec as List};
 use sengadlit::buffer::{
@@ -132,8 +131,8 @@ pub fn of_the_planner(length: usize) -> Vec<Trial> {
             subject.planner().add_gsub_pause(Some(Pause::RecordRphf))
         }),
     ];
-    trials.extend(SHAPERS.map(|shaper| collecting(shaper, length)));
-    trials.extend(SHAPERS.map(|shaper| overriding(shaper, length)));
+    trials.extend(Shaper::ALL.map(|shaper| collecting(shaper, length)));
+    trials.extend(Shaper::ALL.map(|shaper| overriding(shaper, length)));
     trials
 }
 
