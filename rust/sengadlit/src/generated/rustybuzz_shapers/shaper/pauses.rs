@@ -89,48 +89,18 @@ pub fn run_pause<F: Font>(
 ///
 /// ```text
 /// requires { PauseFits pause plan.now }
-/// ensures changes { result ≡ may_change pause plan.now }
-/// ensures stays { result ≡ false → PauseStays pause plan.now }
+/// ensures { result ≡ false → PauseStays pause plan.now }
 /// ```
 ///
-/// - `PauseFits`, `PauseStays`, `may_change`: crates/rustybuzz_shapers/specs/Pauses.antt
+/// - `PauseFits`, `PauseStays`: crates/rustybuzz_shapers/specs/Pauses.antt
 ///
 /// </details>
 #[inline]
 pub fn pause_may_change(pause: Pause, plan: &Plan) -> bool {
-    match pause {
-        Pause::RecordStch => stretches_marks(&plan.plan_data),
-        Pause::RecordRphf => has_rphf_mask(&plan.plan_data),
-        Pause::ArabicFallbackShape => false,
-        Pause::SetupSyllablesIndic
-        | Pause::SetupSyllablesKhmer
-        | Pause::SetupSyllablesMyanmar
-        | Pause::SetupSyllablesUse
-        | Pause::InitialReordering
-        | Pause::ReorderKhmer
-        | Pause::ReorderMyanmar
-        | Pause::ReorderUse
-        | Pause::FinalReordering
-        | Pause::RecordPref
-        | Pause::SyllabicClearVar
-        | Pause::ClearSubstitutionFlags => true,
-    }
-}
-
-// Whether the font stretches marks, as Arabic keeps it in the plan.
-#[inline]
-fn stretches_marks(plan_data: &PlanData) -> bool {
-    match plan_data {
-        PlanData::Arabic(arabic_plan) => arabic_plan.has_stch,
-        _ => false,
-    }
-}
-
-// Whether the universal shaper's plan has a mask for `rphf`.
-#[inline]
-fn has_rphf_mask(plan_data: &PlanData) -> bool {
-    match plan_data {
-        PlanData::Universal(universal_plan) => universal_plan.rphf_mask != 0,
-        _ => false,
+    match (pause, &plan.plan_data) {
+        (Pause::ArabicFallbackShape, _) => false,
+        (Pause::RecordStch, PlanData::Arabic(arabic_plan)) => arabic_plan.has_stch,
+        (Pause::RecordRphf, PlanData::Universal(universal_plan)) => universal_plan.rphf_mask != 0,
+        _ => true,
     }
 }
