@@ -7,6 +7,7 @@ mod Headline
 mod HookRows
 mod PauseLaws
 mod PauseRows
+mod PauseStays
 mod RecordRows
 mod StandingRows
 mod Regrouped

@@ -1,11 +1,14 @@
 -- The pauses, computed: what they do to a small buffer.
-use Rattle.std.specs.Prelude.{◌≡◌, ℕ, ◌+◌, true, false, List, [], ◌∷◌, map, None, is_some, Result, Err, IsOk, refl}
+use Rattle.std.specs.Prelude.{◌≡◌, ◌==◌, ℕ, ◌+◌, true, false, not, List, [], ◌∷◌, map, None, is_some, Result, Err, IsOk, refl}
 use Rattle.shapers_buffer.specs.declared.buffer.category.hb_unicode_general_category_t.TheVariants.{Mn}
 use Rattle.shapers_buffer.specs.declared.buffer.glyph.hb_glyph_info_t.{hb_glyph_info_t}
 use Rattle.shapers_buffer.specs.declared.buffer.refusal.ShaperError.{ShaperError}
 use Rattle.shapers_buffer.specs.declared.buffer.refusal.ShaperError.TheVariants.{SpansDontCover, UnknownSyllable}
 use Rattle.shapers_buffer.specs.declared.buffer.syllables.Span.{Span}
+use Rattle.shapers_base.specs.declared.plan.PlanData.TheVariants.{Arabic, Universal}
+use Rattle.shapers_base.specs.declared.plan.arabic.arabic_shape_plan_t.{arabic_shape_plan_t}
 use Rattle.shapers_base.specs.declared.plan.hb_ot_shape_plan_t.{hb_ot_shape_plan_t}
+use Rattle.shapers_base.specs.declared.plan.universal.use_shape_plan_t.{use_shape_plan_t}
 use Rattle.shapers_base.specs.declared.plan.pause.Pause.{Pause}
 use Rattle.shapers_base.specs.declared.plan.pause.Pause.TheVariants.{SetupSyllablesIndic, SetupSyllablesKhmer, SetupSyllablesMyanmar, SetupSyllablesUse, InitialReordering, ReorderKhmer, ReorderMyanmar, ReorderUse, FinalReordering, RecordStch, RecordRphf, RecordPref, SyllabicClearVar, ClearSubstitutionFlags, ArabicFallbackShape}
 use Rattle.shapers_buffer.specs.Buffer.{Buffer, new_buffer}
@@ -27,7 +30,7 @@ use Rattle.shapers_syllabic.specs.Reordering.{script_circles}
 use Rattle.shapers_universal.specs.PlanData.{is_universal}
 use Rattle.shapers_universal.specs.Requests.{universal_list}
 use Rattle.shapers_universal.specs.UniversalText.{universal_circles}
-use Rattle.rustybuzz_shapers.specs.Pauses.{PauseFits, Paused, RefusesPause, circles_of, pauses_in, reordering_of}
+use Rattle.rustybuzz_shapers.specs.Pauses.{PauseFits, Paused, RefusesPause, circles_of, may_change, pauses_in, reordering_of}
 
 -- three glyphs, each with its cluster, byte and mask
 abbrev glyph : ℕ → ℕ → ℕ → hb_glyph_info_t
@@ -109,6 +112,13 @@ which_reorder plan font b = refl
 -- which circles each of them opens, where the font has a glyph for them: none but the four before substitutions
 circles_are : (plan : hb_ot_shape_plan_t) (font : Font) (b : Buffer) → map (λ pause. circles_of pause plan font b) fifteen ≡ None ∷ None ∷ None ∷ None ∷ initial_circles font b ∷ script_circles khmer_circles font b ∷ script_circles myanmar_circles font b ∷ script_circles universal_circles font b ∷ None ∷ None ∷ None ∷ None ∷ None ∷ None ∷ None ∷ []
 circles_are plan font b = refl
+
+-- which of them may change a buffer: without stretched marks and without a mask for rphf neither records anything, and the fallback of Arabic never does anything
+changes_by_arabic : (plan : hb_ot_shape_plan_t) (kept : arabic_shape_plan_t) → map (λ pause. may_change pause (let p : hb_ot_shape_plan_t = record plan { plan_data = Arabic kept } in p)) fifteen ≡ true ∷ true ∷ true ∷ true ∷ true ∷ true ∷ true ∷ true ∷ true ∷ kept.has_stch ∷ false ∷ true ∷ true ∷ true ∷ false ∷ []
+changes_by_arabic plan kept = refl
+
+changes_by_universal : (plan : hb_ot_shape_plan_t) (kept : use_shape_plan_t) → map (λ pause. may_change pause (let p : hb_ot_shape_plan_t = record plan { plan_data = Universal kept } in p)) fifteen ≡ true ∷ true ∷ true ∷ true ∷ true ∷ true ∷ true ∷ true ∷ true ∷ false ∷ not (kept.rphf_mask == 0) ∷ true ∷ true ∷ true ∷ false ∷ []
+changes_by_universal plan kept = refl
 
 -- the pauses that shapers ask for, in their order
 asked_for : map pauses_in (arabic_list true false ∷ arabic_list false true ∷ hangul_list ∷ indic_list ∷ indic_overrides ∷ khmer_list ∷ khmer_overrides ∷ myanmar_list ∷ universal_list ∷ [])

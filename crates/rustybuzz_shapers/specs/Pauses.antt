@@ -1,6 +1,6 @@
 -- What each pause does to the buffer.
 use Rattle.std.specs.Option.{option_and_then}
-use Rattle.std.specs.Prelude.{◌≡◌, Bool, true, List, [], ◌∷◌, All, map, length, Option, None, Some, unwrap_or, Result, IsOk}
+use Rattle.std.specs.Prelude.{◌≡◌, ◌==◌, Bool, true, false, not, List, [], ◌∷◌, All, map, length, Option, None, Some, unwrap_or, Result, IsOk}
 use Rattle.shapers_arabic.specs.PlanData.{IsArabic}
 use Rattle.shapers_buffer.specs.Glyph.{clusters, order_view}
 use Rattle.shapers_buffer.specs.declared.buffer.glyph.hb_glyph_info_t.{hb_glyph_info_t}
@@ -18,7 +18,7 @@ use Rattle.shapers_khmer.specs.Khmer.{khmer_circles, khmer_order, khmer_steps, o
 use Rattle.shapers_khmer.specs.KhmerMovers.{ordered_by_movers, steps_by_movers}
 use Rattle.shapers_khmer.specs.Plan.{is_khmer_data}
 use Rattle.shapers_myanmar.specs.Myanmar.{myanmar_circles, myanmar_order, myanmar_steps}
-use Rattle.shapers_stretch.specs.Recorded.{tiles_recorded}
+use Rattle.shapers_stretch.specs.Recorded.{has_stch, tiles_recorded}
 use Rattle.shapers_syllabic.specs.Borders.{SetUpCutsAtSpans, spans_set_up, unnumbered}
 use Rattle.shapers_syllabic.specs.CircleLaws.{NoNewCluster}
 use Rattle.shapers_syllabic.specs.Circles.{circled}
@@ -26,6 +26,9 @@ use Rattle.shapers_syllabic.specs.Reordering.{PauseReordered, carried, script_ci
 use Rattle.shapers_syllabic.specs.ReorderingLaws.{PauseCutsAtBorders, TextReordered, paused_clusters, paused_order}
 use Rattle.shapers_syllabic.specs.SpanCuts.{CutsAtBorders}
 use Rattle.shapers_syllabic.specs.declared.ot_shaper_syllabic.circles.DottedCircles.{DottedCircles}
+use Rattle.shapers_syllabic.specs.declared.ot_shaper_syllabic.kinds.indic_syllable.TheConstants as indic_syllable
+use Rattle.shapers_syllabic.specs.declared.ot_shaper_syllabic.kinds.khmer_syllable.TheConstants as khmer_syllable
+use Rattle.shapers_syllabic.specs.declared.ot_shaper_syllabic.kinds.myanmar_syllable.TheConstants as myanmar_syllable
 use Rattle.shapers_universal.specs.PlanData.{is_universal, rphf_of}
 use Rattle.shapers_universal.specs.Universal.{universal_order, universal_steps}
 use Rattle.shapers_universal.specs.UniversalCuts.{UniversalSetUpCutsAtSpans}
@@ -105,13 +108,6 @@ by_khmer plan font b = record {
   steps = khmer_steps;
 }
 
--- the same of Khmer, where a regular syllable is what its movers make of it
-abbrev pub by_khmer_movers : hb_ot_shape_plan_t → Font → Buffer → Reordering
-by_khmer_movers plan font b = record (by_khmer plan font b) {
-  order = ordered_by_movers (order_in plan.plan_data);
-  steps = steps_by_movers;
-}
-
 abbrev pub by_myanmar : Font → Buffer → Reordering
 by_myanmar font b = record {
   circles = script_circles myanmar_circles font b;
@@ -124,6 +120,13 @@ by_universal font b = record {
   circles = script_circles universal_circles font b;
   order = universal_order;
   steps = universal_steps;
+}
+
+-- that of Khmer again, where a regular syllable is what its movers make of it
+abbrev pub by_khmer_movers : hb_ot_shape_plan_t → Font → Buffer → Reordering
+by_khmer_movers plan font b = record (by_khmer plan font b) {
+  order = ordered_by_movers (order_in plan.plan_data);
+  steps = steps_by_movers;
 }
 
 -- what each pause goes by, if it reorders
@@ -153,12 +156,15 @@ circles_of pause plan font b = option_and_then (λ r. r.circles) (reordering_of 
 abbrev pub Reordered : Reordering → Buffer → Buffer → Type 0
 Reordered r old new = PauseReordered r.circles r.order r.steps old new
 
--- the buffer before and after the pause: broken kinds are Indic 4, Khmer 1, Myanmar 2. Where it
--- reorders, the placement list is empty, so that each place reads 0; else it is what it was
+-- the buffer before and after the pause: where it reorders, the placement list is empty, so that
+-- each place reads 0; else it is what it was
 abbrev pub Paused : Pause → hb_ot_shape_plan_t → Font → List Span → Buffer → Buffer → Type 0
-Paused SetupSyllablesIndic plan font spans old new = new ≡ spans_set_up spans 4 old
-Paused SetupSyllablesKhmer plan font spans old new = new ≡ spans_set_up spans 1 old
-Paused SetupSyllablesMyanmar plan font spans old new = new ≡ spans_set_up spans 2 old
+Paused SetupSyllablesIndic plan font spans old new =
+    new ≡ spans_set_up spans indic_syllable.BROKEN_CLUSTER old
+Paused SetupSyllablesKhmer plan font spans old new =
+    new ≡ spans_set_up spans khmer_syllable.BROKEN_CLUSTER old
+Paused SetupSyllablesMyanmar plan font spans old new =
+    new ≡ spans_set_up spans myanmar_syllable.BROKEN_CLUSTER old
 Paused SetupSyllablesUse plan font spans old new =
     new ≡ syllables_set_up plan.plan_data plan.ot_map spans old
 Paused InitialReordering plan font spans old new =
@@ -177,6 +183,15 @@ Paused SyllabicClearVar plan font spans old new =
 Paused ClearSubstitutionFlags plan font spans old new =
     new ≡ record old { glyphs = map unsubstituted old.glyphs }
 Paused ArabicFallbackShape plan font spans old new = new ≡ old
+
+-- whether the pause may change a buffer under a plan: the record of tiles only where the font
+-- stretches marks, the record of rphf only where the plan has a mask for it, the fallback of Arabic
+-- never, and each other pause under any plan
+abbrev pub may_change : Pause → hb_ot_shape_plan_t → Bool
+may_change RecordStch plan = has_stch plan.plan_data
+may_change RecordRphf plan = not (rphf_of plan.plan_data == 0)
+may_change ArabicFallbackShape plan = false
+may_change _ plan = true
 
 -- whatever the font, spans and buffer, the pause leaves the buffer as it is
 abbrev pub PauseStays : Pause → hb_ot_shape_plan_t → Type 0
@@ -212,13 +227,13 @@ ClustersStay old new = clusters new.glyphs ≡ clusters old.glyphs
 -- one by its moves. In Khmer what comes to the front of a regular syllable are its movers.
 abbrev pub PauseKeeps : Pause → hb_ot_shape_plan_t → Font → List Span → Buffer → Buffer → Type 0
 PauseKeeps SetupSyllablesIndic plan font spans old new =
-    SetUpCutsAtSpans spans 4 old new × ClustersStay old new
+    SetUpCutsAtSpans spans indic_syllable.BROKEN_CLUSTER old new × ClustersStay old new
     × OnlyFlagsAdded old.glyphs new.glyphs
 PauseKeeps SetupSyllablesKhmer plan font spans old new =
-    SetUpCutsAtSpans spans 1 old new × ClustersStay old new
+    SetUpCutsAtSpans spans khmer_syllable.BROKEN_CLUSTER old new × ClustersStay old new
     × OnlyFlagsAdded old.glyphs new.glyphs
 PauseKeeps SetupSyllablesMyanmar plan font spans old new =
-    SetUpCutsAtSpans spans 2 old new × ClustersStay old new
+    SetUpCutsAtSpans spans myanmar_syllable.BROKEN_CLUSTER old new × ClustersStay old new
     × OnlyFlagsAdded old.glyphs new.glyphs
 PauseKeeps SetupSyllablesUse plan font spans old new =
     UniversalSetUpCutsAtSpans plan.plan_data plan.ot_map spans old new × ClustersStay old new
@@ -263,10 +278,12 @@ RefusesPause InitialReordering font spans old r =
     RefusesReordering (initial_refusal old) (initial_circles font old) old r
 RefusesPause ReorderKhmer font spans old r =
     let circles = script_circles khmer_circles font old in
-    RefusesReordering (unknown_refusal 2 old.glyphs) circles old r
+    let unknown = unknown_refusal khmer_syllable.NON_KHMER_CLUSTER old.glyphs in
+    RefusesReordering unknown circles old r
 RefusesPause ReorderMyanmar font spans old r =
     let circles = script_circles myanmar_circles font old in
-    RefusesReordering (unknown_refusal 3 old.glyphs) circles old r
+    let unknown = unknown_refusal myanmar_syllable.NON_MYANMAR_CLUSTER old.glyphs in
+    RefusesReordering unknown circles old r
 RefusesPause ReorderUse font spans old r =
     RefusesReordering None (script_circles universal_circles font old) old r
 RefusesPause _ font spans old r = IsOk r

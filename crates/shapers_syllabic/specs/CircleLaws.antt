@@ -51,6 +51,7 @@ abbrev pub CirclesErased :
 CirclesErased None old new = new ≡ old
 CirclesErased (Some rule) old new = OnlyCirclesAdded rule old new
 
+-- so of every text with its circles
 abbrev pub CirclesCanBeErased : Type 0
 CirclesCanBeErased = (rule : DottedCircles) (gs : List hb_glyph_info_t) →
     OnlyCirclesAdded rule gs (with_circles rule gs)

@@ -1,6 +1,8 @@
 //! The pauses behind one dispatcher.
-ghost use Rattle.std.specs.Prelude.{◌≡◌, ◌≤◌, [], All, IfOk, OnOk, OnErr, false, is_some};
-ghost use Rattle.rustybuzz_shapers.specs.Pauses.{PauseFits, PauseKeeps, PauseStays, Paused, RefusesPause, circles_of};
+ghost use Rattle.std.specs.Prelude.{◌≡◌, ◌==◌, ◌≤◌, [], All, IfOk, OnOk, OnErr, false, is_some, not};
+ghost use Rattle.rustybuzz_shapers.specs.Pauses.{PauseFits, PauseKeeps, PauseStays, Paused, RefusesPause, circles_of, may_change};
+ghost use Rattle.shapers_stretch.specs.Recorded.{has_stch};
+ghost use Rattle.shapers_universal.specs.PlanData.{rphf_of};
 
 use shapers_base::buffer::{ShaperError, Span, hb_buffer_t};
 use shapers_base::font::hb_font_t;
@@ -75,12 +77,46 @@ pub fn run_pause<F: hb_font_t>(
 #[inline]
 pub fn pause_may_change(pause: Pause, plan: &hb_ot_shape_plan_t) -> bool
     requires { PauseFits pause plan.now }
-    ensures { result ≡ false → PauseStays pause plan.now }
+    ensures changes { result ≡ may_change pause plan.now }
+    ensures stays { result ≡ false → PauseStays pause plan.now }
 {
-    match (pause, &plan.plan_data) {
-        (Pause::ArabicFallbackShape, _) => false,
-        (Pause::RecordStch, PlanData::Arabic(arabic_plan)) => arabic_plan.has_stch,
-        (Pause::RecordRphf, PlanData::Universal(universal_plan)) => universal_plan.rphf_mask != 0,
-        _ => true,
+    match pause {
+        Pause::RecordStch => stretches_marks(&plan.plan_data),
+        Pause::RecordRphf => has_rphf_mask(&plan.plan_data),
+        Pause::ArabicFallbackShape => false,
+        Pause::SetupSyllablesIndic
+        | Pause::SetupSyllablesKhmer
+        | Pause::SetupSyllablesMyanmar
+        | Pause::SetupSyllablesUse
+        | Pause::InitialReordering
+        | Pause::ReorderKhmer
+        | Pause::ReorderMyanmar
+        | Pause::ReorderUse
+        | Pause::FinalReordering
+        | Pause::RecordPref
+        | Pause::SyllabicClearVar
+        | Pause::ClearSubstitutionFlags => true,
+    }
+}
+
+// Whether the font stretches marks, as Arabic keeps it in the plan.
+#[inline]
+fn stretches_marks(plan_data: &PlanData) -> bool
+    ensures { result ≡ has_stch plan_data.now }
+{
+    match plan_data {
+        PlanData::Arabic(arabic_plan) => arabic_plan.has_stch,
+        _ => false,
+    }
+}
+
+// Whether the universal shaper's plan has a mask for `rphf`.
+#[inline]
+fn has_rphf_mask(plan_data: &PlanData) -> bool
+    ensures { result ≡ not (rphf_of plan_data.now == 0) }
+{
+    match plan_data {
+        PlanData::Universal(universal_plan) => universal_plan.rphf_mask != 0,
+        _ => false,
     }
 }
