@@ -1,6 +1,7 @@
 -- The cut between spans, of each shaper's pauses by the words of the dispatcher.
 use Rattle.std.proofs.Common.{sym, subst}
 use Rattle.shapers_buffer.specs.Buffer.{Buffer}
+use Rattle.shapers_base.specs.declared.plan.pause.Pause.TheVariants.{SetupSyllablesIndic, SetupSyllablesKhmer, SetupSyllablesMyanmar, InitialReordering, ReorderKhmer, ReorderMyanmar}
 use Rattle.shapers_indic.specs.Plan.{indic_in}
 use Rattle.shapers_indic_final.specs.FinalCuts.{FinalCutsBetweenSpans}
 use Rattle.shapers_indic_final.specs.FinalRules as final
@@ -9,16 +10,20 @@ use Rattle.shapers_indic_initial.specs.InitialPause.{InitiallyReordered}
 use Rattle.shapers_khmer.specs.Khmer.{order_in}
 use Rattle.shapers_khmer.specs.KhmerLaws.{KhmerCutsBetweenSpans}
 use Rattle.shapers_myanmar.specs.MyanmarLaws.{MyanmarCutsBetweenSpans}
+use Rattle.shapers_syllabic.specs.Borders.{unnumbered}
+use Rattle.shapers_syllabic.specs.ReorderingLaws.{paused_clusters, paused_order}
+use Rattle.shapers_syllabic.specs.SpanCuts.{CutsBetweenSpans}
+use Rattle.shapers_syllabic.specs.Syllabic.{unsafe_spans}
 use Rattle.shapers_universal.specs.UniversalLaws.{UniversalCutsBetweenSpans}
-use Rattle.rustybuzz_shapers.specs.Cuts.{CutsAfterSetUp, IndicIsCut, IndicIsCutAfterBoth, KhmerIsCut, MyanmarIsCut, UniversalIsCut}
+use Rattle.rustybuzz_shapers.specs.Cuts.{IndicIsCutAfterBoth, IsCut, UniversalIsCut}
 use Rattle.rustybuzz_shapers.specs.Pauses.{Reordered, by_initial, by_khmer, by_myanmar, by_universal}
 
-pub khmer_is_cut : KhmerCutsBetweenSpans → KhmerIsCut
+pub khmer_is_cut : KhmerCutsBetweenSpans → IsCut SetupSyllablesKhmer ReorderKhmer by_khmer
 khmer_is_cut law plan font spans unread old mid new kinds set_up reordered =
     let r = by_khmer plan font mid in
     law (order_in plan.plan_data) r.circles spans old new kinds (subst (λ (b : Buffer). Reordered r b new) set_up reordered)
 
-pub myanmar_is_cut : MyanmarCutsBetweenSpans → MyanmarIsCut
+pub myanmar_is_cut : MyanmarCutsBetweenSpans → IsCut SetupSyllablesMyanmar ReorderMyanmar (λ plan. by_myanmar)
 myanmar_is_cut law plan font spans unread old mid new kinds set_up reordered =
     let r = by_myanmar font mid in
     law r.circles spans old new kinds (subst (λ (b : Buffer). Reordered r b new) set_up reordered)
@@ -28,11 +33,11 @@ universal_is_cut law plan font spans unread old mid new kinds set_up reordered =
     let r = by_universal font mid in
     law plan.plan_data plan.ot_map r.circles spans old new kinds (subst (λ (b : Buffer). Reordered r b new) set_up reordered)
 
-pub indic_is_cut : InitialCutsBetweenSpans → IndicIsCut
+pub indic_is_cut : InitialCutsBetweenSpans → IsCut SetupSyllablesIndic InitialReordering by_initial
 indic_is_cut law plan font spans unread old mid new kinds set_up reordered =
     let m = plan.ot_map in
     let p = indic_in plan in
-    subst (λ (b : Buffer). CutsAfterSetUp (by_initial plan font b) spans old new) (sym set_up)
+    subst (λ (b : Buffer). let r = by_initial plan font b in CutsBetweenSpans unnumbered unsafe_spans (paused_order r.circles r.order) (paused_clusters r.circles r.steps old.level) spans old.glyphs new.glyphs) (sym set_up)
     (law font m p spans old new kinds (subst (λ (b : Buffer). InitiallyReordered font m p b new) set_up reordered.1))
 
 pub indic_is_cut_after_both : OrderByFontLaws → OrderByFontReadsNoSerials → FinalCutsBetweenSpans → IndicIsCutAfterBoth

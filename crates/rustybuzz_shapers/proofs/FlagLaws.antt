@@ -10,7 +10,8 @@ use Rattle.shapers_stretch.specs.Recorded.{has_stch, recorded, tile_action, tile
 use Rattle.shapers_syllabic.specs.Syllabic.{unsubstituted}
 use Rattle.shapers_syllabic.proofs.SetUpFlags.{by_syllables, same_added}
 use Rattle.shapers_universal.specs.declared.ot_shaper_use.category.TheConstants.{R, VPre}
-use Rattle.shapers_universal.specs.UniversalSyllables.{first_recorded, has_bits, in_category, rphf_recorded, with_pref_recorded, with_rphf_recorded}
+use Rattle.shapers_universal.specs.UniversalSyllables.{first_recorded, in_category, rphf_recorded, with_pref_recorded, with_rphf_recorded}
+use Rattle.shapers_base.specs.Masks.{has_bits, masks_kept, with_numbered_mask}
 use Rattle.shapers_buffer.specs.declared.buffer.glyph.hb_glyph_info_t.{hb_glyph_info_t}
 use Rattle.shapers_buffer.specs.declared.buffer.tag.Script.{Script}
 use Rattle.shapers_buffer.specs.Buffer.{Buffer}
@@ -21,7 +22,6 @@ use Rattle.shapers_arabic.specs.PlanData.{breaks_of, masks_of}
 use Rattle.shapers_arabic.proofs.JoinedFlags.{joined_added}
 use Rattle.shapers_clusters.specs.FlagLaw.{FlagsAdded, OnlyFlagsAdded}
 use Rattle.shapers_clusters.proofs.FlagLaw.{added_same, all_added_on, changed_added}
-use Rattle.shapers_hangul.specs.Masks.{masks_in, with_jamo_mask}
 use Rattle.shapers_hangul.proofs.HangulFlags.{jamo_mask_added}
 use Rattle.shapers_syllabic.specs.Characters.{with_category, with_category_and_position}
 use Rattle.shapers_universal.specs.PlanData.{arabic_of}
@@ -46,7 +46,7 @@ universal_added (Some p) script tables old new is =
 
 pub masks_added : (shaper : hb_ot_shaper_t) (plan : hb_ot_shape_plan_t) (tables : CharacterTables) (old new : Buffer) → MasksSet shaper plan tables old new → OnlyFlagsAdded old.glyphs new.glyphs
 masks_added Arabic plan tables old new is = joined_added (breaks_of plan.plan_data) (masks_of plan.plan_data) plan.script tables.joining tables.general old new is.0
-masks_added Hangul plan tables old new is = each_changed (with_jamo_mask (masks_in plan.plan_data)) (jamo_mask_added (masks_in plan.plan_data)) old new is
+masks_added Hangul plan tables old new is = each_changed (with_numbered_mask (masks_kept plan.plan_data)) (jamo_mask_added (masks_kept plan.plan_data)) old new is
 masks_added Hebrew plan tables old new is = unchanged_added old new is.1
 masks_added Indic plan tables old new is = each_changed (with_category_and_position tables) (λ g. added_same g (with_category_and_position tables g) refl refl) old new is
 masks_added Khmer plan tables old new is = each_changed (with_category tables) (λ g. added_same g (with_category tables g) refl refl) old new is

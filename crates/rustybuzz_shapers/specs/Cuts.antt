@@ -8,7 +8,8 @@ use Rattle.shapers_buffer.specs.Buffer.{Buffer}
 use Rattle.shapers_buffer.specs.declared.buffer.syllables.Span.{Span}
 use Rattle.shapers_base.specs.Font.{Font}
 use Rattle.shapers_base.specs.declared.plan.hb_ot_shape_plan_t.{hb_ot_shape_plan_t}
-use Rattle.shapers_base.specs.declared.plan.pause.Pause.TheVariants.{SetupSyllablesIndic, SetupSyllablesKhmer, SetupSyllablesMyanmar, SetupSyllablesUse, InitialReordering, ReorderKhmer, ReorderMyanmar, ReorderUse, FinalReordering}
+use Rattle.shapers_base.specs.declared.plan.pause.Pause.{Pause}
+use Rattle.shapers_base.specs.declared.plan.pause.Pause.TheVariants.{SetupSyllablesIndic, SetupSyllablesUse, InitialReordering, ReorderUse, FinalReordering}
 use Rattle.shapers_indic.specs.Plan.{indic_in}
 use Rattle.shapers_indic_final.specs.FinalCuts.{final_after, final_clusters_after, uninitiated}
 use Rattle.shapers_indic_final.specs.FinalRules as final
@@ -17,27 +18,17 @@ use Rattle.shapers_syllabic.specs.ReorderingLaws.{paused_clusters, paused_order}
 use Rattle.shapers_syllabic.specs.SpanCuts.{CutsBetweenSpans}
 use Rattle.shapers_syllabic.specs.Syllabic.{unsafe_spans}
 use Rattle.shapers_universal.specs.UniversalLaws.{set_up_by_spans, unjoined}
-use Rattle.rustybuzz_shapers.specs.Pauses.{Paused, Reordering, by_initial, by_khmer, by_myanmar, by_universal}
+use Rattle.rustybuzz_shapers.specs.Pauses.{Paused, Reordering, by_initial, by_universal}
 
--- a set-up by spans and what a reordering makes of it
-abbrev pub CutsAfterSetUp : Reordering → List Span → Buffer → Buffer → Type 0
-CutsAfterSetUp r spans old new =
+-- a set-up by spans and the reordering that runs directly after it, with what it goes by
+abbrev pub IsCut : Pause → Pause → (hb_ot_shape_plan_t → Font → Buffer → Reordering) → Type 0
+IsCut set_up pause by = (plan : hb_ot_shape_plan_t) (font : Font) (spans unread : List Span)
+    (old mid new : Buffer) → All (λ span. span.kind ≤ 15) spans →
+    Paused set_up plan font spans old mid →
+    Paused pause plan font unread mid new →
+    let r = by plan font mid in
     CutsBetweenSpans unnumbered unsafe_spans (paused_order r.circles r.order)
     (paused_clusters r.circles r.steps old.level) spans old.glyphs new.glyphs
-
-abbrev pub KhmerIsCut : Type 0
-KhmerIsCut = (plan : hb_ot_shape_plan_t) (font : Font) (spans unread : List Span)
-    (old mid new : Buffer) → All (λ span. span.kind ≤ 15) spans →
-    Paused SetupSyllablesKhmer plan font spans old mid →
-    Paused ReorderKhmer plan font unread mid new →
-    CutsAfterSetUp (by_khmer plan font mid) spans old new
-
-abbrev pub MyanmarIsCut : Type 0
-MyanmarIsCut = (plan : hb_ot_shape_plan_t) (font : Font) (spans unread : List Span)
-    (old mid new : Buffer) → All (λ span. span.kind ≤ 15) spans →
-    Paused SetupSyllablesMyanmar plan font spans old mid →
-    Paused ReorderMyanmar plan font unread mid new →
-    CutsAfterSetUp (by_myanmar font mid) spans old new
 
 -- in the universal shaper the halves are set up with the masks of rphf and of forms
 abbrev pub UniversalIsCut : Type 0
@@ -50,14 +41,7 @@ UniversalIsCut = (plan : hb_ot_shape_plan_t) (font : Font) (spans unread : List 
     (set_up_by_spans plan.plan_data plan.ot_map) (paused_order r.circles r.order)
     (paused_clusters r.circles r.steps old.level) spans old.glyphs new.glyphs
 
--- in Indic after the initial reordering, and after both
-abbrev pub IndicIsCut : Type 0
-IndicIsCut = (plan : hb_ot_shape_plan_t) (font : Font) (spans unread : List Span)
-    (old mid new : Buffer) → All (λ span. span.kind ≤ 15) spans →
-    Paused SetupSyllablesIndic plan font spans old mid →
-    Paused InitialReordering plan font unread mid new →
-    CutsAfterSetUp (by_initial plan font mid) spans old new
-
+-- in Indic after both reorderings
 abbrev pub IndicIsCutAfterBoth : Type 0
 IndicIsCutAfterBoth = (plan : hb_ot_shape_plan_t) (font : Font) (spans unread : List Span)
     (old mid reordered new : Buffer) → All (λ span. span.kind ≤ 15) spans →

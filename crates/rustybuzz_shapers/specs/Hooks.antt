@@ -1,9 +1,10 @@
 -- What each hook does, of each shaper that has it. Of the others, which lack it by their
--- `standing`: nothing changes and the result is None.
-use Rattle.std.specs.Prelude.{ℕ, ◌+◌, ◌≤◌, ◌%◌, List, [], ◌∷◌, map, true, false, ◌≡◌, length, Option, None, Some, Result, IsOk}
+-- `has_hook`: nothing changes and the result is None.
+use Rattle.std.specs.Prelude.{ℕ, ◌+◌, ◌≤◌, ◌%◌, List, map, true, false, ◌≡◌, length, Option, None, Some, Result, IsOk}
 use Rattle.std.specs.List.{All, AllByRecursion, list_any}
 use Rattle.shapers_buffer.specs.Buffer.{Buffer}
 use Rattle.shapers_base.specs.Font.{CharacterTables, Font}
+use Rattle.shapers_base.specs.Masks.{masks_kept}
 use Rattle.shapers_buffer.specs.Glyph.{clusters, characters}
 use Rattle.shapers_buffer.specs.Refusals.{Refuses, RefusesLength}
 use Rattle.shapers_arabic.specs.Marks as arabic
@@ -30,14 +31,14 @@ use Rattle.shapers_stretch.specs.Stretch.{marks_stretched, stretch_refusal}
 use Rattle.shapers_stretch.specs.StretchLaws.{AreCopies, IsLaidOver}
 use Rattle.shapers_syllabic.specs.Characters.{composed_behind, with_category, with_category_and_position}
 use Rattle.shapers_universal.specs.PlanData.{arabic_of, is_universal, universal_plan}
-use Rattle.shapers_universal.specs.PlanMasks.{joining_masks}
 use Rattle.shapers_universal.specs.UniversalMasks.{CanJoin, MasksAreSet}
 use Rattle.shapers_text.specs.Hebrew as hebrew
 use Rattle.shapers_text.specs.Hebrew.{composed_in_hebrew, mark_step}
 use Rattle.shapers_text.specs.Thai.{is_sara_am, glyphs_in_two}
 use Rattle.shapers_text.specs.ThaiForms.{asks_for_forms, preprocessed_in_thai}
 use Rattle.shapers_text.specs.ThaiLaws.{ClustersInTwo, FlagsInTwo, KeptInTwo}
-use Rattle.rustybuzz_shapers.specs.Standing.{Lacking, standing}
+use Rattle.rustybuzz_shapers.specs.Standing.{Lacking, has_hook}
+use Rattle.rustybuzz_shapers.specs.declared.shaper.Hook.TheVariants.{PreprocessText, PostprocessGlyphs, Compose, Decompose, SetupMasks, ReorderMarks}
 use Rattle.rustybuzz_shapers.specs.declared.shaper.hb_ot_shaper_t.{hb_ot_shaper_t}
 use Rattle.rustybuzz_shapers.specs.declared.shaper.hb_ot_shaper_t.TheVariants.{Arabic, Hangul, Hebrew, Indic, Khmer, Myanmar, Thai, Universal}
 
@@ -53,15 +54,7 @@ data_created Universal plan =
     Some (data_of.Universal kept)
 data_created _ plan = None
 
--- all masks in a plan's data, and that none of them touches a glyph flag bit
-abbrev pub masks_kept : PlanData → List ℕ
-masks_kept (data_of.Arabic kept) = kept.mask_array
-masks_kept (data_of.Hangul kept) = kept.mask_array
-masks_kept (data_of.Indic kept) = kept.mask_array
-masks_kept (data_of.Khmer kept) = kept.mask_array
-masks_kept (data_of.Universal kept) = kept.rphf_mask ∷ joining_masks kept.arabic_plan
-masks_kept _ = []
-
+-- none of the masks in a plan's data touches a glyph flag bit
 abbrev pub MasksOffFlags : PlanData → Type 0
 MasksOffFlags kept = AllByRecursion (λ mask. mask % 8 ≡ 0) (masks_kept kept)
 
@@ -109,7 +102,7 @@ Preprocessed Hangul plan font old new = new ≡ hangul.rewritten font old
 Preprocessed Indic plan font old new = new ≡ old
 Preprocessed Thai plan font old new = new ≡ preprocessed_in_thai plan font old
 Preprocessed Universal plan font old new = new ≡ old
-Preprocessed shaper plan font old new = Lacking (standing shaper).preprocess_text (new ≡ old)
+Preprocessed shaper plan font old new = Lacking (has_hook shaper PreprocessText) (new ≡ old)
 
 -- the laws of its clusters and glyph flags, that no glyph is lost, and for Hangul that each unit
 -- spells what it takes
@@ -123,7 +116,7 @@ PreprocessKeeps Thai plan font old new =
     × KeptInTwo (asks_for_forms plan) old.glyphs new.glyphs
     × FlagsInTwo old.glyphs new.glyphs
 PreprocessKeeps Universal plan font old new = new ≡ old
-PreprocessKeeps shaper plan font old new = Lacking (standing shaper).preprocess_text (new ≡ old)
+PreprocessKeeps shaper plan font old new = Lacking (has_hook shaper PreprocessText) (new ≡ old)
 
 -- when it refuses: Hangul and Thai as a growth to the result's length does, Hangul never where
 -- every item stays as it is, Thai never without a SARA AM; the others never
@@ -137,12 +130,12 @@ RefusesPreprocess Thai font old r =
     RefusesLength old.max_len (length (glyphs_in_two old.glyphs)) r
     × (list_any (λ g. is_sara_am g.glyph_id) old.glyphs ≡ false → IsOk r)
 RefusesPreprocess Universal font old r = IsOk r
-RefusesPreprocess shaper font old r = Lacking (standing shaper).preprocess_text (IsOk r)
+RefusesPreprocess shaper font old r = Lacking (has_hook shaper PreprocessText) (IsOk r)
 
 -- the buffer before and after postprocessing
 abbrev pub Postprocessed : hb_ot_shaper_t → hb_ot_shape_plan_t → Font → Buffer → Buffer → Type 0
 Postprocessed Arabic plan font old new = new ≡ marks_stretched font (start_of plan.plan_data) old
-Postprocessed shaper plan font old new = Lacking (standing shaper).postprocess_glyphs (new ≡ old)
+Postprocessed shaper plan font old new = Lacking (has_hook shaper PostprocessGlyphs) (new ≡ old)
 
 -- what it keeps: for Arabic each glyph is a copy of one that the text had, with its cluster and its
 -- glyph flags, and what is laid is as wide as the law of widths says
@@ -150,7 +143,7 @@ abbrev pub PostprocessKeeps :
     hb_ot_shaper_t → hb_ot_shape_plan_t → Font → Buffer → Buffer → Type 0
 PostprocessKeeps Arabic plan font old new =
     AreCopies old.glyphs new.glyphs × IsLaidOver font (start_of plan.plan_data) old new
-PostprocessKeeps shaper plan font old new = Lacking (standing shaper).postprocess_glyphs (new ≡ old)
+PostprocessKeeps shaper plan font old new = Lacking (has_hook shaper PostprocessGlyphs) (new ≡ old)
 
 -- when it refuses: for Arabic where a number doesn't fit, and then as a growth to the result's
 -- length does, but never without a mark that stretches; the others never
@@ -161,7 +154,7 @@ RefusesPostprocess Arabic plan font old r =
     let choice = start_of plan.plan_data in
     Refuses (stretch_refusal font choice old) old.max_len
     (length (marks_stretched font choice old).glyphs) r × (old.stch ≡ false → IsOk r)
-RefusesPostprocess shaper plan font old r = Lacking (standing shaper).postprocess_glyphs (IsOk r)
+RefusesPostprocess shaper plan font old r = Lacking (has_hook shaper PostprocessGlyphs) (IsOk r)
 
 -- what two characters compose to
 abbrev pub Composed :
@@ -171,14 +164,14 @@ Composed Hebrew plan tables a b answer =
 Composed Indic plan tables a b answer = answer ≡ Some (composed_in_indic tables a b)
 Composed Khmer plan tables a b answer = answer ≡ Some (composed_behind tables a b)
 Composed Universal plan tables a b answer = answer ≡ Some (composed_behind tables a b)
-Composed shaper plan tables a b answer = Lacking (standing shaper).compose (answer ≡ None)
+Composed shaper plan tables a b answer = Lacking (has_hook shaper Compose) (answer ≡ None)
 
 -- what a character decomposes to
 abbrev pub Decomposed :
     hb_ot_shaper_t → hb_ot_shape_plan_t → CharacterTables → ℕ → Option (Option (ℕ × ℕ)) → Type 0
 Decomposed Indic plan tables ab answer = answer ≡ Some (decomposed_in_indic tables ab)
 Decomposed Khmer plan tables ab answer = answer ≡ Some (decomposed_in_khmer tables ab)
-Decomposed shaper plan tables ab answer = Lacking (standing shaper).decompose (answer ≡ None)
+Decomposed shaper plan tables ab answer = Lacking (has_hook shaper Decompose) (answer ≡ None)
 
 -- the buffer before and after masks are set
 abbrev pub MasksSet :
@@ -197,7 +190,7 @@ MasksSet Myanmar plan tables old new =
     new ≡ record old { glyphs = map (with_category tables) old.glyphs }
 MasksSet Universal plan tables old new =
     MasksAreSet (arabic_of plan.plan_data) plan.script tables old new
-MasksSet shaper plan tables old new = Lacking (standing shaper).setup_masks (new ≡ old)
+MasksSet shaper plan tables old new = Lacking (has_hook shaper SetupMasks) (new ≡ old)
 
 -- the buffer before and after the marks from start to end are reordered
 abbrev pub MarksReordered : hb_ot_shaper_t → ℕ → ℕ → Buffer → Buffer → Type 0
@@ -206,10 +199,10 @@ MarksReordered Arabic start end old new =
     { glyphs = marks_reordered start end (marks_merged old.level start end old.glyphs) }
 MarksReordered Hebrew start end old new =
     new ≡ record old { glyphs = run_step old.level (mark_step start end old.glyphs) old.glyphs }
-MarksReordered shaper start end old new = Lacking (standing shaper).reorder_marks (new ≡ old)
+MarksReordered shaper start end old new = Lacking (has_hook shaper ReorderMarks) (new ≡ old)
 
 -- that no mark is lost, exact cuts, the cluster law and the flag law
 abbrev pub MarksKeep : hb_ot_shaper_t → ℕ → ℕ → Buffer → Buffer → Type 0
 MarksKeep Arabic start end old new = arabic.MarksReordered start end old new
 MarksKeep Hebrew start end old new = hebrew.MarksReordered start end old new
-MarksKeep shaper start end old new = Lacking (standing shaper).reorder_marks (new ≡ old)
+MarksKeep shaper start end old new = Lacking (has_hook shaper ReorderMarks) (new ≡ old)

@@ -7,7 +7,8 @@ ghost use Rattle.shapers_arabic.specs.Requests.{rclt};
 ghost use Rattle.shapers_clusters.specs.FlagLaw.{OnlyFlagsAdded};
 ghost use Rattle.rustybuzz_shapers.specs.Hooks.{Composed, Decomposed, GlyphsFit, MasksOffFlags, MasksSet, MarksFit, MarksKeep, MarksReordered, PlanFits, PostprocessFits, PostprocessKeeps, Postprocessed, Preprocessed, PreprocessKeeps, data_created, preprocess_answer, RefusesPostprocess, RefusesPreprocess};
 ghost use Rattle.rustybuzz_shapers.specs.Records.{asked, collected, normalizes, overridden, places_marks, wants_gpos_script, zeroes_marks};
-ghost use Rattle.rustybuzz_shapers.specs.Standing.{has_hook, standing};
+ghost use Rattle.rustybuzz_shapers.specs.Standing.{has_hook};
+ghost use Rattle.rustybuzz_shapers.specs.declared.shaper.Hook.TheVariants.{CollectFeatures, OverrideFeatures, CreateData, PreprocessText, PostprocessGlyphs, Compose, Decompose, SetupMasks, ReorderMarks};
 
 use shapers_base::buffer::{ShaperError, hb_buffer_t, hb_tag_t};
 use shapers_base::font::{Tables, hb_font_t};
@@ -193,14 +194,14 @@ impl hb_ot_shaper_t {
         face: &F,
         planner: &mut hb_ot_shape_planner_t,
     ) -> Result<Option<()>, ShaperError>
-        ensures answer { let there = (standing self).collect_features in
+        ensures answer { let there = has_hook self CollectFeatures in
             IfOk result (λ answer. is_some answer ≡ there) }
         ensures ok { let has_rclt = (F.font face.now).offers rclt in
             let list = collected self planner.old.script has_rclt in
             OnOk result (planner.new ≡ asked list planner.old) }
         ensures refusal { IsOkUnless result Memory }
         ensures err { OnErr result (planner.new ≡ planner.old) }
-        ensures absent { (standing self).collect_features ≡ false → IsOk result }
+        ensures absent { has_hook self CollectFeatures ≡ false → IsOk result }
     {
         match self {
             Self::Arabic => Ok(Some(ot_shaper_arabic::collect_features(face, planner)?)),
@@ -219,12 +220,12 @@ impl hb_ot_shaper_t {
         self,
         planner: &mut hb_ot_shape_planner_t,
     ) -> Result<Option<()>, ShaperError>
-        ensures answer { let there = (standing self).override_features in
+        ensures answer { let there = has_hook self OverrideFeatures in
             IfOk result (λ answer. is_some answer ≡ there) }
         ensures ok { OnOk result (planner.new ≡ asked (overridden self) planner.old) }
         ensures refusal { IsOkUnless result Memory }
         ensures err { OnErr result (planner.new ≡ planner.old) }
-        ensures absent { (standing self).override_features ≡ false → IsOk result }
+        ensures absent { has_hook self OverrideFeatures ≡ false → IsOk result }
     {
         match self {
             Self::Hangul => Ok(Some(ot_shaper_hangul::override_features(planner)?)),
@@ -237,7 +238,7 @@ impl hb_ot_shaper_t {
     /// What the shaper keeps in the plan. No mask in it touches a glyph flag bit.
     pub fn create_data(self, plan: &hb_ot_shape_plan_t) -> Option<PlanData>
         ensures data { result ≡ data_created self plan.now }
-        ensures answer { is_some result ≡ (standing self).create_data }
+        ensures answer { is_some result ≡ has_hook self CreateData }
         ensures off_flags { IfSome result MasksOffFlags }
     {
         match self {
@@ -264,7 +265,7 @@ impl hb_ot_shaper_t {
     ) -> Result<Option<Preprocess>, ShaperError>
         requires without_positions { buffer.old.positions ≡ [] }
         ensures answer { IfOk result (λ answer. answer ≡ preprocess_answer self) }
-        ensures there { is_some (preprocess_answer self) ≡ (standing self).preprocess_text }
+        ensures there { is_some (preprocess_answer self) ≡ has_hook self PreprocessText }
         ensures ok { let font = F.font face.now in
             OnOk result (Preprocessed self plan.now font buffer.old buffer.new) }
         ensures laws { let font = F.font face.now in
@@ -299,7 +300,7 @@ impl hb_ot_shaper_t {
     ) -> Result<Option<()>, ShaperError>
         requires with_positions { length buffer.old.positions ≡ length buffer.old.glyphs }
         requires fits { PostprocessFits self plan.now buffer.old.glyphs }
-        ensures answer { let there = (standing self).postprocess_glyphs in
+        ensures answer { let there = has_hook self PostprocessGlyphs in
             IfOk result (λ answer. is_some answer ≡ there) }
         ensures ok { let font = F.font face.now in
             OnOk result (Postprocessed self plan.now font buffer.old buffer.new) }
@@ -338,7 +339,7 @@ impl hb_ot_shaper_t {
         b: char,
     ) -> Option<Option<char>>
         ensures pair { Composed self plan.now (T.tables tables.now) a b result }
-        ensures answer { is_some result ≡ (standing self).compose }
+        ensures answer { is_some result ≡ has_hook self Compose }
     {
         match self {
             Self::Hebrew => Some(ot_shaper_hebrew::compose(plan, tables, a, b)),
@@ -359,7 +360,7 @@ impl hb_ot_shaper_t {
         ab: char,
     ) -> Option<Option<(char, char)>>
         ensures parts { Decomposed self _plan.now (T.tables tables.now) ab result }
-        ensures answer { is_some result ≡ (standing self).decompose }
+        ensures answer { is_some result ≡ has_hook self Decompose }
     {
         match self {
             Self::Indic => Some(ot_shaper_indic::decompose(tables, ab)),
@@ -389,7 +390,7 @@ impl hb_ot_shaper_t {
         requires without_positions { buffer.old.positions ≡ [] }
         requires data { PlanFits self plan.now }
         requires glyphs { GlyphsFit self plan.now buffer.old.glyphs }
-        ensures answer { is_some result ≡ (standing self).setup_masks }
+        ensures answer { is_some result ≡ has_hook self SetupMasks }
         ensures masks { MasksSet self plan.now (T.tables tables.now) buffer.old buffer.new }
         ensures flags { OnlyFlagsAdded buffer.old.glyphs buffer.new.glyphs }
     {
@@ -420,7 +421,7 @@ impl hb_ot_shaper_t {
         requires in_order { start ≤ end }
         requires in_range { end ≤ length buffer.old.glyphs }
         requires few { MarksFit self start end }
-        ensures answer { is_some result ≡ (standing self).reorder_marks }
+        ensures answer { is_some result ≡ has_hook self ReorderMarks }
         ensures marks { MarksReordered self start end buffer.old buffer.new }
         ensures laws { MarksKeep self start end buffer.old buffer.new }
     {

@@ -20,7 +20,8 @@ use Rattle.shapers_base.specs.declared.plan.joining.hb_arabic_joining_type_t.The
 use Rattle.shapers_arabic.specs.Joining.{nearest, act, form, joins_on, joins_back, alaph_after, forms, is_selector, form_behind, selected}
 use Rattle.shapers_arabic.specs.JoiningFlags.{joining_flags}
 use Rattle.shapers_arabic.specs.JoinedText.{Text, flag_calls, is_mongolian, forms_of, stored_types, with_form, with_forms}
-use Rattle.shapers_arabic.specs.JoiningWalk.{Called, FlaggedBy, calls_added, HaveMasks, JoinsTo, copied, unformed, with_copied, with_mask, JoinsAll}
+use Rattle.shapers_arabic.specs.JoiningWalk.{Called, FlaggedBy, calls_added, HaveMasks, JoinsTo, copied, unformed, with_copied, JoinsAll}
+use Rattle.shapers_base.specs.Masks.{with_numbered_mask}
 use Rattle.shapers_arabic.proofs.FlagLists.{joining-in_order}
 use Rattle.shapers_arabic.proofs.FlaggedGlyphs.{unformed-passes, flagged-again, same-text, map-same_text}
 use Rattle.shapers_arabic.proofs.SoundOrder.{calls-in_order, added-in_order as text-in_order}
@@ -117,14 +118,14 @@ unformed-together fs gs long =
     ∙ ap (map unformed) (seconds-zip fs gs long)
 
 -- a mask is added to flags as flags are to it
-mask-passes : (masks : List ℕ) → PassesFlags (with_mask masks)
+mask-passes : (masks : List ℕ) → PassesFlags (with_numbered_mask masks)
 mask-passes masks = record {
   cluster = λ g. refl;
   put = λ bits g. ap (λ (m : ℕ). let h : hb_glyph_info_t = record g { mask = m } in h) (or_swap g.mask (get_or masks g.auxiliary 0) bits);
 }
 
 -- glyphs with these forms, after these flag calls, with the masks of their forms
-formed : (masks fs : List ℕ) (flags : BufferFlags) (calls : List FlagCall) (gs hs : List hb_glyph_info_t) → length gs ≡ length fs → AllByRecursion InOrder calls → map (λ g. g.auxiliary) hs ≡ fs → FlaggedBy flags calls gs hs → map (with_mask masks) hs ≡ flags_called (has_flag 0x40 flags) (has_flag 0x80 flags) calls (with_forms masks fs gs)
+formed : (masks fs : List ℕ) (flags : BufferFlags) (calls : List FlagCall) (gs hs : List hb_glyph_info_t) → length gs ≡ length fs → AllByRecursion InOrder calls → map (λ g. g.auxiliary) hs ≡ fs → FlaggedBy flags calls gs hs → map (with_numbered_mask masks) hs ≡ flags_called (has_flag 0x40 flags) (has_flag 0x80 flags) calls (with_forms masks fs gs)
 formed masks fs flags calls gs hs long ordered f u =
     let concat = has_flag 0x40 flags in
     let tatweel = has_flag 0x80 flags in
@@ -133,9 +134,9 @@ formed masks fs flags calls gs hs long ordered f u =
     f ∙ sym (map-flags_called (λ g. g.auxiliary) (λ bits g low. refl) concat tatweel calls placed ordered ∙ forms-together fs gs long) in
     let has_rest : map unformed hs ≡ map unformed (flags_called concat tatweel calls placed) =
     u ∙ sym (flags_called-through unformed unformed-passes concat tatweel calls placed ∙ ap (flags_called concat tatweel calls) (unformed-together fs gs long)) in
-    ap (map (with_mask masks)) (same_glyphs hs (flags_called concat tatweel calls placed) has_forms has_rest)
-    ∙ flags_called-through (with_mask masks) (mask-passes masks) concat tatweel calls placed
-    ∙ ap (flags_called concat tatweel calls) (map-map (with_mask masks) (λ (p : ℕ × hb_glyph_info_t). let g : hb_glyph_info_t = record p.1 { auxiliary = p.0 } in g) (zip fs gs))
+    ap (map (with_numbered_mask masks)) (same_glyphs hs (flags_called concat tatweel calls placed) has_forms has_rest)
+    ∙ flags_called-through (with_numbered_mask masks) (mask-passes masks) concat tatweel calls placed
+    ∙ ap (flags_called concat tatweel calls) (map-map (with_numbered_mask masks) (λ (p : ℕ × hb_glyph_info_t). let g : hb_glyph_info_t = record p.1 { auxiliary = p.0 } in g) (zip fs gs))
 
 -- the text of glyphs between two contexts
 abbrev pub text_between : List hb_arabic_joining_type_t → (ℕ → hb_arabic_joining_type_t) → List hb_glyph_info_t → List hb_arabic_joining_type_t → Text
@@ -176,7 +177,7 @@ forms-kept breaks script text hs ms c f added = ap (map (λ (g : hb_glyph_info_t
 pub joined-characters : (flags : BufferFlags) (front types behind : List hb_arabic_joining_type_t) (gs hs : List hb_glyph_info_t) → FlaggedBy flags (joining_flags front types behind) gs hs → map (λ g. g.glyph_id) hs ≡ map (λ g. g.glyph_id) gs
 joined-characters flags front types behind gs hs flagged = map-same_text (λ g. g.glyph_id) (λ g. refl) gs hs (same-text flags (joining_flags front types behind) gs hs (joining-in_order front types behind) flagged)
 
-pub joins-all : (breaks : BreakFlags) (masks : List ℕ) (flags : BufferFlags) (script : Option Script) (joining : ℕ → hb_arabic_joining_type_t) (before after : Option hb_arabic_joining_type_t) (gs hs ms ks : List hb_glyph_info_t) → JoinsTo flags joining before after gs hs → Called (calls_added breaks script hs) hs ms → ks ≡ map (with_mask masks) (cond (is_mongolian script) (with_copied None ms) ms) → JoinsAll breaks masks flags script joining before after gs ks
+pub joins-all : (breaks : BreakFlags) (masks : List ℕ) (flags : BufferFlags) (script : Option Script) (joining : ℕ → hb_arabic_joining_type_t) (before after : Option hb_arabic_joining_type_t) (gs hs ms ks : List hb_glyph_info_t) → JoinsTo flags joining before after gs hs → Called (calls_added breaks script hs) hs ms → ks ≡ map (with_numbered_mask masks) (cond (is_mongolian script) (with_copied None ms) ms) → JoinsAll breaks masks flags script joining before after gs ks
 joins-all breaks masks flags script joining before after gs hs ms ks joins added k front behind e d =
     let done = joins front behind e d in
     let text = text_between front joining gs behind in

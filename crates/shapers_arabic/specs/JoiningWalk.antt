@@ -1,6 +1,6 @@
 -- Words for the walk along the letters of a text, which the contracts of its steps cite: the
 -- table's cells and states, and what holds after some places.
-use Rattle.std.specs.Prelude.{◌≡◌, ℕ, suc, ◌+◌, ◌-◌, ◌<◌, ◌==◌, nat_le, map, bit_or, Bool, false, ◌&&◌, ◌||◌, List, [], ◌∷◌, ◌++◌, length, take, reverse, slice_set, slice_index, slice_index_or, Option, None, Some, if◌then◌else◌}
+use Rattle.std.specs.Prelude.{◌≡◌, ℕ, suc, ◌+◌, ◌-◌, ◌<◌, ◌==◌, nat_le, map, Bool, false, ◌&&◌, ◌||◌, List, [], ◌∷◌, ◌++◌, length, take, reverse, slice_set, slice_index_or, Option, None, Some, if◌then◌else◌}
 use Rattle.std.specs.List.{AllByRecursion}
 use Rattle.shapers_buffer.specs.Buffer.{flags_concat, flags_tatweel, has_flag}
 use Rattle.shapers_buffer.specs.GlyphFlags.{FlagCall, UnsafeToBreak, UnsafeToConcat, SafeToInsertTatweel, flags_called}
@@ -244,10 +244,6 @@ sound_calls_at script gs =
 abbrev pub calls_added : BreakFlags → Option Script → List hb_glyph_info_t → List FlagCall
 calls_added AsCode script gs = []
 calls_added Sound script gs = sound_calls_at script gs
-
--- the glyph with the mask of its form besides its own
-abbrev pub with_mask : List ℕ → hb_glyph_info_t → hb_glyph_info_t
-with_mask masks g = record g { mask = bit_or g.mask (slice_index masks g.auxiliary) }
 
 -- the forms of the glyphs have masks
 abbrev pub HaveMasks : List hb_glyph_info_t → Type 0

@@ -1,5 +1,6 @@
 pub mod Font
 pub mod Map
+pub mod Masks
 pub mod Numbers
 pub mod Plan
 pub mod Planner

@@ -19,7 +19,7 @@ use Rattle.shapers_clusters.proofs.FlagLaw.{all_stay_as, all_stay_on, all_stay_p
 use Rattle.shapers_hangul.specs.declared.ot_shaper_hangul.item.Item.{Item}
 use Rattle.shapers_hangul.specs.Hangul.{Fit, all_joined, is_merged, item_joined, item_stretches, items, preprocessed, rewritten, taken, unsafe_stretches, wants_circles}
 use Rattle.shapers_hangul.specs.HangulLaws.{KeepsGlyphFlags, sources, unnamed}
-use Rattle.shapers_hangul.specs.Masks.{with_jamo_mask}
+use Rattle.shapers_base.specs.Masks.{with_numbered_mask}
 use Rattle.shapers_hangul.proofs.HangulClusters.{item_ends, rewritten_holds}
 use Rattle.shapers_hangul.proofs.Items.{items_fit}
 use Rattle.shapers_hangul.proofs.Walks.{length-characters, length-item_joined, map-unsafe}
@@ -62,5 +62,5 @@ on_flags (Ok x) font old new is = subst (KeepsGlyphFlags font old) (sym is) (rew
 on_flags (Err e) font old new is = tt
 
 -- the masks of jamo
-pub jamo_mask_added : (masks : List ℕ) (g : hb_glyph_info_t) → FlagsAdded g (with_jamo_mask masks g)
+pub jamo_mask_added : (masks : List ℕ) (g : hb_glyph_info_t) → FlagsAdded g (with_numbered_mask masks g)
 jamo_mask_added masks g = record { same = refl; kept = λ k _. keeps-with_bits (slice_index masks g.auxiliary) g k }

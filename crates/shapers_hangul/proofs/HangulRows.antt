@@ -9,7 +9,8 @@ use Rattle.shapers_base.specs.Font.{Font}
 use Rattle.shapers_buffer.specs.Glyph.{default_glyph}
 use Rattle.shapers_hangul.specs.Hangul.{is_l, is_v, is_t, combines_l, combines_v, combines_t, is_s, is_lv, is_tone, with_v, with_t, lead, vowel, trail, preprocessed, items, stretches}
 use Rattle.shapers_hangul.specs.HangulLaws.{sources, full, spelled}
-use Rattle.shapers_hangul.specs.Masks.{jamo_masks, with_jamo_mask}
+use Rattle.shapers_hangul.specs.Masks.{jamo_masks}
+use Rattle.shapers_base.specs.Masks.{with_numbered_mask}
 
 -- RANGES: both ends, and what stands beside them
 leading : map is_l (0x10FF ∷ 0x1100 ∷ 0x115F ∷ 0x1160 ∷ 0xA95F ∷ 0xA960 ∷ 0xA97C ∷ 0xA97D ∷ []) ≡ false ∷ true ∷ true ∷ false ∷ false ∷ true ∷ true ∷ false ∷ []
@@ -266,10 +267,10 @@ flags_of_others = refl
 abbrev masked : (n : ℕ) → hb_glyph_info_t
 masked n = record default_glyph { mask = 3; auxiliary = n }
 
-masks : map (λ g. g.mask) (map (with_jamo_mask (0 ∷ 0x10 ∷ 0x20 ∷ 0x40 ∷ [])) (masked 0 ∷ masked 1 ∷ masked 2 ∷ masked 3 ∷ masked 4 ∷ [])) ≡ 3 ∷ 0x13 ∷ 0x23 ∷ 0x43 ∷ 3 ∷ []
+masks : map (λ g. g.mask) (map (with_numbered_mask (0 ∷ 0x10 ∷ 0x20 ∷ 0x40 ∷ [])) (masked 0 ∷ masked 1 ∷ masked 2 ∷ masked 3 ∷ masked 4 ∷ [])) ≡ 3 ∷ 0x13 ∷ 0x23 ∷ 0x43 ∷ 3 ∷ []
 masks = refl
 
-masked_whole : with_jamo_mask (0 ∷ 0x10 ∷ 0x20 ∷ []) (record (full_glyph 0x1161 3) { auxiliary = 2 }) ≡ record (full_glyph 0x1161 3) { mask = 0x3F; auxiliary = 2 }
+masked_whole : with_numbered_mask (0 ∷ 0x10 ∷ 0x20 ∷ []) (record (full_glyph 0x1161 3) { auxiliary = 2 }) ≡ record (full_glyph 0x1161 3) { mask = 0x3F; auxiliary = 2 }
 masked_whole = refl
 
 jamo_tags : jamo_masks (record { features = record { tag = record { 0 = codes "tjmo" }; mask = 0x40; stage = 0 } ∷ record { tag = record { 0 = codes "ljmo" }; mask = 0x10; stage = 0 } ∷ record { tag = record { 0 = codes "vjmo" }; mask = 0x20; stage = 0 } ∷ []; stages = []; lookups = []; global = 0; chosen = None; found = true }) ≡ 0 ∷ 0x10 ∷ 0x20 ∷ 0x40 ∷ []

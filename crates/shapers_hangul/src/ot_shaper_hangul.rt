@@ -8,7 +8,8 @@ ghost use Rattle.shapers_buffer.specs.Refusals.{RefusesLength};
 ghost use Rattle.shapers_hangul.specs.Hangul.{rewritten};
 ghost use Rattle.shapers_hangul.specs.HangulLaws.{AllKept, KeepsClusters, KeepsGlyphFlags, SpellsByUnits, SpellsSame};
 ghost use Rattle.shapers_clusters.specs.FlagLaw.{OnlyFlagsAdded};
-ghost use Rattle.shapers_hangul.specs.Masks.{jamo_masks, is_hangul_data, masks_in, with_jamo_mask, with_jamo_masks};
+ghost use Rattle.shapers_hangul.specs.Masks.{jamo_masks, is_hangul_data, with_jamo_masks};
+ghost use Rattle.shapers_base.specs.Masks.{masks_kept, with_numbered_mask};
 ghost use Rattle.shapers_hangul.specs.Requests.{hangul_list, hangul_overrides};
 
 pub use laws::{rewriting_law, spelling_law};
@@ -104,7 +105,7 @@ pub fn preprocess_text_changes<F: hb_font_t>(
 /// Keeps the masks of the features of jamo in the plan. None of them touches a glyph flag bit.
 pub fn create_data(plan: &hb_ot_shape_plan_t) -> PlanData
     ensures masks { result ≡ Hangul (record { mask_array = jamo_masks plan.now.ot_map }) }
-    ensures off_flags { All (λ mask. mask % 8 ≡ 0) (masks_in result) }
+    ensures off_flags { All (λ mask. mask % 8 ≡ 0) (masks_kept result) }
 {
     PlanData::Hangul(hangul_shape_plan_t {
         mask_array: [
@@ -126,9 +127,9 @@ impl GlyphChange for JamoMasks {
     ghost use Rattle.std.specs.Prelude.{◌≡◌};
     ghost use Rattle.shapers_buffer.specs.Refusals.{RefusesLength};
     ghost use Rattle.shapers_hangul.specs.Hangul.{rewritten};
-    ghost use Rattle.shapers_hangul.specs.Masks.{with_jamo_mask};
+    ghost use Rattle.shapers_base.specs.Masks.{with_numbered_mask};
 
-    ghost changed = { λ m g. with_jamo_mask m.masks g };
+    ghost changed = { λ m g. with_numbered_mask m.masks g };
 
     #[inline]
     fn change(&self, glyph: &mut hb_glyph_info_t) {
@@ -140,7 +141,7 @@ impl GlyphChange for JamoMasks {
 /// Gives each of these glyphs, besides its own mask, the one of the feature in its auxiliary byte.
 #[inline]
 pub fn setup_masks_in(hangul_plan: &hangul_shape_plan_t, glyphs: &mut [hb_glyph_info_t])
-    ensures { glyphs.new ≡ map (with_jamo_mask hangul_plan.now.mask_array) glyphs.old }
+    ensures { glyphs.new ≡ map (with_numbered_mask hangul_plan.now.mask_array) glyphs.old }
 {
     let masks = JamoMasks {
         masks: hangul_plan.mask_array,

@@ -115,14 +115,10 @@ indic_plan script m = record {
   mask_array = feature_masks m;
 }
 
--- whether the data are those of Indic, and the masks in them
+-- whether the data are those of Indic
 abbrev pub is_indic_data : PlanData → Bool
 is_indic_data (Indic kept) = true
 is_indic_data _ = false
-
-abbrev pub masks_in : PlanData → List ℕ
-masks_in (Indic kept) = kept.mask_array
-masks_in _ = []
 
 -- what the plan keeps for Indic; where it keeps nothing, what it would
 abbrev pub indic_data : indic_shape_plan_t → PlanData → indic_shape_plan_t

@@ -14,7 +14,8 @@ use Rattle.shapers_clusters.proofs.FlagCalls.{map-with_stretch}
 use Rattle.shapers_clusters.proofs.Through.{length-same}
 use Rattle.shapers_indic.specs.Glyphs.{greatest_place, is_joiner, is_one_of, least_place, passes}
 use Rattle.shapers_indic_final.specs.FinalBase.{along_links, as_linked, base_by_links, base_by_pref, before_halants, before_joiner, behind_halants, first_base, if_unformed, is_behind_base, is_from_base_on, is_unformed, is_unformed_below, last_link, links_from, links_written, may_be_settled, pref_place, stepped_back, unformed_pref, with_base, with_base_at, with_links, with_pref_base, with_viramas}
-use Rattle.shapers_indic_final.specs.FinalGlyphs.{has_mask, is_halant, is_lost_virama, recovered}
+use Rattle.shapers_indic_final.specs.FinalGlyphs.{is_halant, is_lost_virama, recovered}
+use Rattle.shapers_base.specs.Masks.{has_bits}
 use Rattle.shapers_indic_final.specs.FinalRules.{is_malayalam}
 use Rattle.shapers_indic_final.specs.declared.ot_shaper_indic_final.rules.Rules.{Rules}
 use Rattle.shapers_indic_final.proofs.FinalTargets.{PlaceWithin, find_passes, greatest_within, least_within, passes_within, run_within}
@@ -103,7 +104,7 @@ by_pref_from base gs (Some j) l within = elim (passes is_unformed gs j) as (λ b
 ]
 
 by_pref_within : (pref base : ℕ) (gs : List hb_glyph_info_t) → base ≤ length gs → base_by_pref pref base gs ≤ length gs
-by_pref_within pref base gs l = by_pref_from base gs (pref_place pref base gs) l (λ j found. (least_within (passes (has_mask pref) gs) (base + 1) (length gs) j found).high)
+by_pref_within pref base gs l = by_pref_from base gs (pref_place pref base gs) l (λ j found. (least_within (passes (has_bits pref) gs) (base + 1) (length gs) j found).high)
 
 or_base : (base n : ℕ) (o : Option ℕ) → base ≤ n → ((j : ℕ) → o ≡ Some j → j < n) → unwrap_or o base ≤ n
 or_base base n None l within = l

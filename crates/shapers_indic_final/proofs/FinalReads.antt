@@ -21,7 +21,8 @@ use Rattle.shapers_base.specs.declared.plan.ot_position_t.TheConstants.{POS_BASE
 use Rattle.shapers_clusters.specs.Steps.{Step}
 use Rattle.shapers_indic.specs.Glyphs.{greatest_place, has_category, has_position, is_joiner, is_matra, is_one_of, least_place, passes, places}
 use Rattle.shapers_indic_final.specs.FinalBase.{Based, along_links, as_linked, base_by_links, base_by_pref, before_halants, before_joiner, behind_halants, first_base, if_unformed, is_behind_base, is_from_base_on, is_unformed, is_unformed_below, last_link, links_from, links_written, may_be_settled, pref_place, settled_base, stepped_back, unformed_pref, with_base, with_base_at, with_links, with_pref_base, with_viramas}
-use Rattle.shapers_indic_final.specs.FinalGlyphs.{has_mask, is_formed, is_halant, is_matra_or_halant, last_goes_first, recovered}
+use Rattle.shapers_indic_final.specs.FinalGlyphs.{is_formed, is_halant, is_matra_or_halant, last_goes_first, recovered}
+use Rattle.shapers_base.specs.Masks.{has_bits}
 use Rattle.shapers_indic_final.specs.FinalMatras.{end_of_base, ends_search, has_room, is_free_halant, is_left, matra_step, matra_steps, matra_target, matras_go, merging_step, nearest_halant, parted, parting_steps, place_before, staying_steps, steps_before, with_matras}
 use Rattle.shapers_indic_final.specs.FinalPref.{formed_pref, if_formed, is_joiner_behind_halant, moved_before, place_before_base, pref_step, pref_steps, pref_target, with_pref}
 use Rattle.shapers_indic_final.specs.FinalReordering.{after_matras, after_pref, after_reph, based, final_order, final_steps, steps_of_based, steps_of_pref}
@@ -104,7 +105,7 @@ pub first_stays : (v : View) (gs : List hb_glyph_info_t) → first_base (seen_by
 first_stays v gs = same_two (λ t n. unwrap_or (least_place t 0 n) n) (passes_stays v is_from_base_on (λ g. refl) gs) (length_stays v gs)
 
 pub pref_place_stays : (v : View) (pref : ℕ) → KeepsMask v pref → (base : ℕ) (gs : List hb_glyph_info_t) → pref_place pref base (seen_by v gs) ≡ pref_place pref base gs
-pref_place_stays v pref kept base gs = same_two (λ t n. least_place t (base + 1) n) (passes_stays v (has_mask pref) (λ g. ap (λ n. not (n == 0)) (kept g.mask)) gs) (length_stays v gs)
+pref_place_stays v pref kept base gs = same_two (λ t n. least_place t (base + 1) n) (passes_stays v (has_bits pref) (λ g. ap (λ n. not (n == 0)) (kept g.mask)) gs) (length_stays v gs)
 
 pub if_unformed_stays : (v : View) (gs : List hb_glyph_info_t) (o : Option ℕ) → if_unformed (seen_by v gs) o ≡ if_unformed gs o
 if_unformed_stays v gs None = refl

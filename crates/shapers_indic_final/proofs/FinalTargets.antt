@@ -16,7 +16,8 @@ use Rattle.shapers_base.specs.declared.plan.ot_position_t.TheConstants.{POS_SMVD
 use Rattle.shapers_buffer.proofs.MappedLists.{all-range}
 use Rattle.shapers_indic.specs.Glyphs.{greatest_place, has_position, is_joiner, least_place, passes, places}
 use Rattle.shapers_indic_final.specs.FinalBase.{pref_place}
-use Rattle.shapers_indic_final.specs.FinalGlyphs.{has_mask, is_formed, is_halant, is_matra_or_halant}
+use Rattle.shapers_indic_final.specs.FinalGlyphs.{is_formed, is_halant, is_matra_or_halant}
+use Rattle.shapers_base.specs.Masks.{has_bits}
 use Rattle.shapers_indic_final.specs.FinalPref.{formed_pref, if_formed, is_joiner_behind_halant, place_before_base, pref_target}
 use Rattle.shapers_indic_final.specs.FinalReph.{at_end, behind_base, end_of_run, halant_after_start, is_with_main, is_with_sub, last_but_signs, matras_between, opens_with_reph, reph_target, with_joiner}
 use Rattle.shapers_indic_final.specs.FinalRules.{has_no_half_forms}
@@ -125,7 +126,7 @@ formed_within gs s e (Some j) within i found = elim (passes is_formed gs j) as (
 
 pub formed_pref_within : (pref base : ℕ) (gs : List hb_glyph_info_t) (i : ℕ) → formed_pref pref base gs ≡ Some i → PlaceWithin (base + 1) (length gs) i
 formed_pref_within pref base gs i found =
-    formed_within gs (base + 1) (length gs) (pref_place pref base gs) (λ j at. least_within (passes (has_mask pref) gs) (base + 1) (length gs) j at) i found
+    formed_within gs (base + 1) (length gs) (pref_place pref base gs) (λ j at. least_within (passes (has_bits pref) gs) (base + 1) (length gs) j at) i found
 
 nearest_within : (base : ℕ) (o : Option ℕ) → ((j : ℕ) → o ≡ Some j → PlaceWithin 0 base j) → option_map_or suc o 0 ≤ base
 nearest_within base None within = omega arith

@@ -11,7 +11,8 @@ use Rattle.shapers_buffer.specs.Marks.{is_substituted}
 use Rattle.shapers_base.specs.declared.plan.ot_category_t.TheConstants.{OT_H, OT_N, OT_ZWJ}
 use Rattle.shapers_base.specs.declared.plan.ot_position_t.TheConstants.{POS_BASE_C, POS_BELOW_C}
 use Rattle.shapers_indic.specs.Glyphs.{greatest_place, has_position, is_joiner, is_one_of, least_place, passes}
-use Rattle.shapers_indic_final.specs.FinalGlyphs.{has_mask, is_formed, is_halant, recovered}
+use Rattle.shapers_indic_final.specs.FinalGlyphs.{is_formed, is_halant, recovered}
+use Rattle.shapers_base.specs.Masks.{has_bits}
 use Rattle.shapers_indic_final.specs.declared.ot_shaper_indic_final.rules.Rules.{Rules}
 use Rattle.shapers_indic_final.specs.FinalRules.{is_malayalam}
 use Rattle.shapers_syllabic.specs.Consonants.{is_consonant}
@@ -25,7 +26,7 @@ first_base gs = unwrap_or (least_place (passes is_from_base_on gs) 0 (length gs)
 
 -- the first glyph after the base with the mask of pref
 abbrev pub pref_place : ℕ → ℕ → List hb_glyph_info_t → Option ℕ
-pref_place pref base gs = least_place (passes (has_mask pref) gs) (base + 1) (length gs)
+pref_place pref base gs = least_place (passes (has_bits pref) gs) (base + 1) (length gs)
 
 -- that glyph, if pref did not apply to it: it is not both substituted and formed
 abbrev pub is_unformed : hb_glyph_info_t → Bool

@@ -1,5 +1,5 @@
 -- What the final reordering reads of a glyph, and the two moves of a list.
-use Rattle.std.specs.Prelude.{ℕ, ◌==◌, Bool, ◌&&◌, false, not, List, [], ◌∷◌, bit_and, reverse, Option, None, Some, if◌then◌else◌}
+use Rattle.std.specs.Prelude.{◌==◌, Bool, ◌&&◌, false, not, List, [], ◌∷◌, reverse, Option, None, Some, if◌then◌else◌}
 use Rattle.shapers_buffer.specs.declared.buffer.glyph.hb_glyph_info_t.{hb_glyph_info_t}
 use Rattle.shapers_buffer.specs.Marks.{LIGATED, MULTIPLIED, is_ligated, is_multiplied, without_mark}
 use Rattle.shapers_buffer.specs.Lists.{first_last}
@@ -17,10 +17,6 @@ is_matra_or_halant = is_one_of (OT_M ∷ OT_MPst ∷ OT_H ∷ [])
 -- whether lookups formed one glyph of several, and did not take it apart again
 abbrev pub is_formed : hb_glyph_info_t → Bool
 is_formed g = is_ligated g.marks && not (is_multiplied g.marks)
-
--- whether the glyph has some bit of a mask
-abbrev pub has_mask : ℕ → hb_glyph_info_t → Bool
-has_mask bits g = not (bit_and g.mask bits == 0)
 
 -- a halant that lookups put in for several glyphs and then took apart: it has the virama's glyph.
 -- It becomes a halant again, without these marks

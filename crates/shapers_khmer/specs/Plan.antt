@@ -14,11 +14,7 @@ basic_features = "pref" ∷ "blwf" ∷ "abvf" ∷ "pstf" ∷ "cfar" ∷ []
 abbrev pub khmer_masks : Map → List ℕ
 khmer_masks m = map (λ tag. mask_of (record { 0 = codes tag }) m) basic_features ++ replicate 4 0
 
--- whether these are Khmer's plan data, and the masks in them
+-- whether these are Khmer's plan data
 abbrev pub is_khmer_data : PlanData → Bool
 is_khmer_data (Khmer kept) = true
 is_khmer_data _ = false
-
-abbrev pub masks_in : PlanData → List ℕ
-masks_in (Khmer kept) = kept.mask_array
-masks_in _ = []

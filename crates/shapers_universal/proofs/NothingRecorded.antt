@@ -8,7 +8,8 @@ use Rattle.shapers_buffer.specs.Syllables.{syllables}
 use Rattle.shapers_buffer.specs.declared.buffer.glyph.hb_glyph_info_t.{hb_glyph_info_t}
 use Rattle.shapers_syllabic.proofs.CircleLaws.{joined-syllables}
 use Rattle.shapers_universal.specs.declared.ot_shaper_use.category.TheConstants.{R}
-use Rattle.shapers_universal.specs.UniversalSyllables.{first_recorded, has_bits, rphf_recorded, with_rphf_recorded}
+use Rattle.shapers_universal.specs.UniversalSyllables.{first_recorded, rphf_recorded, with_rphf_recorded}
+use Rattle.shapers_base.specs.Masks.{has_bits}
 
 none_leads : (gs : List hb_glyph_info_t) → prefix_len (has_bits 0) gs ≡ 0
 none_leads [] = refl

@@ -7,7 +7,8 @@ use Rattle.shapers_buffer.specs.Syllables.{first_syllable_len, syllables, has_by
 use Rattle.shapers_buffer.proofs.SyllableLaws.{syllables_are_runs}
 use Rattle.shapers_syllabic.proofs.SyllableWalks.{changed_stretch, syllables_from}
 use Rattle.shapers_universal.specs.declared.ot_shaper_use.forms.FormMasks.{FormMasks}
-use Rattle.shapers_universal.specs.UniversalSyllables.{first_joins, first_recorded, formed, in_forms, joins_runs, has_bits, rphf_recorded}
+use Rattle.shapers_universal.specs.UniversalSyllables.{first_joins, first_recorded, formed, in_forms, joins_runs, rphf_recorded}
+use Rattle.shapers_base.specs.Masks.{has_bits}
 use Rattle.std.specs.Prelude.{◌==◌, if◌then◌else◌}
 use Rattle.std.specs.List.{flat_map, prefix_len}
 use Rattle.std.proofs.lemmas.Bool.{eqb-true, eq-eqb, eqb-false, false≢true}

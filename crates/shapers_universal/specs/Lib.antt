@@ -1,5 +1,4 @@
 pub mod PlanData
-pub mod PlanMasks
 pub mod Requests
 pub mod Universal
 pub mod UniversalCuts

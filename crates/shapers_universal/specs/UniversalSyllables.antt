@@ -5,6 +5,7 @@ use Rattle.std.specs.List.{flat_map, prefix_len}
 use Rattle.shapers_buffer.specs.declared.buffer.glyph.hb_glyph_info_t.{hb_glyph_info_t}
 use Rattle.shapers_buffer.specs.declared.buffer.syllables.Span.{Span}
 use Rattle.shapers_base.specs.Map.{Map, mask_of}
+use Rattle.shapers_base.specs.Masks.{has_bits}
 use Rattle.shapers_base.specs.declared.plan.PlanData.{PlanData}
 use Rattle.shapers_base.specs.declared.plan.arabic.arabic_shape_plan_t.{arabic_shape_plan_t}
 use Rattle.shapers_buffer.specs.Buffer.{Buffer}
@@ -115,10 +116,6 @@ abbrev pub first_recorded : ℕ → List hb_glyph_info_t → List hb_glyph_info_
 first_recorded c [] = []
 first_recorded c (g ∷ gs) =
     if is_substituted g.marks then in_category c g ∷ gs else g ∷ first_recorded c gs
-
--- whether a glyph has bits of a mask
-abbrev pub has_bits : ℕ → hb_glyph_info_t → Bool
-has_bits mask g = not (bit_and g.mask mask == 0)
 
 -- the record of rphf in a syllable: among its leading glyphs with that mask the first that a lookup
 -- put in becomes a reph

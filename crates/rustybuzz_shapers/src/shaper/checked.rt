@@ -67,7 +67,8 @@ impl hb_ot_shaper_t {
     ghost use Rattle.rustybuzz_shapers.specs.Checked.{marks_ask, masks_ask, postprocess_asks, preprocess_asks};
     ghost use Rattle.shapers_clusters.specs.FlagLaw.{OnlyFlagsAdded};
     ghost use Rattle.rustybuzz_shapers.specs.Hooks.{MarksKeep, MarksReordered, MasksSet, PostprocessKeeps, Postprocessed, Preprocessed, PreprocessKeeps, RefusesPostprocess, RefusesPreprocess, preprocess_answer};
-    ghost use Rattle.rustybuzz_shapers.specs.Standing.{standing};
+    ghost use Rattle.rustybuzz_shapers.specs.Standing.{has_hook};
+    ghost use Rattle.rustybuzz_shapers.specs.declared.shaper.Hook.TheVariants.{PostprocessGlyphs, SetupMasks, ReorderMarks};
     ghost use Rattle.rustybuzz_shapers.specs.Stretched.{glyphs_added};
 
     /// Tests the condition of `preprocess_text`, in constant time, and calls it.
@@ -102,7 +103,7 @@ impl hb_ot_shaper_t {
         buffer: &mut hb_buffer_t,
     ) -> Result<Option<()>, CallError>
         ensures conditions { StopsAt (masks_ask self plan.now buffer.old) result }
-        ensures answer { let there = (standing self).setup_masks in
+        ensures answer { let there = has_hook self SetupMasks in
             IfOk result (λ answer. is_some answer ≡ there) }
         ensures masks { let tables = T.tables tables.now in
             OnOk result (MasksSet self plan.now tables buffer.old buffer.new) }
@@ -124,7 +125,7 @@ impl hb_ot_shaper_t {
         end: usize,
     ) -> Result<Option<()>, CallError>
         ensures conditions { StopsAt (marks_ask self start end buffer.old) result }
-        ensures answer { let there = (standing self).reorder_marks in
+        ensures answer { let there = has_hook self ReorderMarks in
             IfOk result (λ answer. is_some answer ≡ there) }
         ensures marks { OnOk result (MarksReordered self start end buffer.old buffer.new) }
         ensures laws { OnOk result (MarksKeep self start end buffer.old buffer.new) }
@@ -145,7 +146,7 @@ impl hb_ot_shaper_t {
         buffer: &mut hb_buffer_t,
     ) -> Result<Option<()>, CallError>
         ensures conditions { StopsAt (postprocess_asks self plan.now buffer.old) result }
-        ensures answer { let there = (standing self).postprocess_glyphs in
+        ensures answer { let there = has_hook self PostprocessGlyphs in
             IfOk result (λ answer. is_some answer ≡ there) }
         ensures ok { let font = F.font face.now in
             OnOk result (Postprocessed self plan.now font buffer.old buffer.new) }

@@ -17,7 +17,8 @@ use shapers_universal::ot_shaper_use;
 impl hb_ot_shaper_t {
     ghost use Rattle.rustybuzz_shapers.specs.Hooks.{GlyphsFit, MarksFit, MasksOffFlags, PlanFits, PostprocessFits, data_created, with_created};
     ghost use Rattle.rustybuzz_shapers.specs.Pauses.{PausesFit};
-    ghost use Rattle.rustybuzz_shapers.specs.Standing.{standing};
+    ghost use Rattle.rustybuzz_shapers.specs.Standing.{has_hook};
+    ghost use Rattle.rustybuzz_shapers.specs.declared.shaper.Hook.TheVariants.{CreateData};
 
     /// The plan with the data that the shaper keeps, if it keeps any. So it fits the shaper's hooks
     /// and each pause in its lists. No mask in these data touches a glyph flag bit.
@@ -25,7 +26,7 @@ impl hb_ot_shaper_t {
         ensures data { result ≡ with_created (data_created self plan) plan }
         ensures fits { PlanFits self result }
         ensures pauses { PausesFit self result }
-        ensures off_flags { (standing self).create_data ≡ true → MasksOffFlags result.plan_data }
+        ensures off_flags { has_hook self CreateData ≡ true → MasksOffFlags result.plan_data }
     {
         match self {
             Self::Arabic => plan.plan_data = ot_shaper_arabic::create_data(&plan),

@@ -3,8 +3,10 @@ ghost use Rattle.rustybuzz_shapers.specs.Breaks.{TextsBreakAsFlagged};
 ghost use Rattle.shapers_arabic.specs.Breaks.{AsCodeLaw, ExactLaw};
 ghost use Rattle.shapers_arabic.specs.Concatenation.{ConcatenationLaw};
 ghost use Rattle.shapers_arabic.specs.Edits.{EditsStayNear};
-ghost use Rattle.rustybuzz_shapers.specs.Cuts.{IndicIsCut, IndicIsCutAfterBoth, KhmerIsCut, MyanmarIsCut, UniversalIsCut};
+ghost use Rattle.rustybuzz_shapers.specs.Cuts.{IndicIsCutAfterBoth, IsCut, UniversalIsCut};
 ghost use Rattle.rustybuzz_shapers.specs.Headline.{ActionsByRule};
+ghost use Rattle.rustybuzz_shapers.specs.Pauses.{by_initial, by_khmer, by_myanmar};
+ghost use Rattle.shapers_base.specs.declared.plan.pause.Pause.TheVariants.{SetupSyllablesIndic, SetupSyllablesKhmer, SetupSyllablesMyanmar, InitialReordering, ReorderKhmer, ReorderMyanmar};
 ghost use Rattle.rustybuzz_shapers.specs.Regrouped.{SyllablesRegrouped};
 ghost use Rattle.rustybuzz_shapers.specs.Stretched.{StretchesCover};
 
@@ -65,10 +67,10 @@ pub fn stretches_cover_law()
 /// halves share none. The halves' bytes may have other serials.
 #[inline]
 pub fn cuts_at_borders_law()
-    ensures khmer { KhmerIsCut }
-    ensures myanmar { MyanmarIsCut }
+    ensures khmer { IsCut SetupSyllablesKhmer ReorderKhmer by_khmer }
+    ensures myanmar { IsCut SetupSyllablesMyanmar ReorderMyanmar (λ plan. by_myanmar) }
     ensures universal { UniversalIsCut }
-    ensures initial { IndicIsCut }
+    ensures initial { IsCut SetupSyllablesIndic InitialReordering by_initial }
     ensures both { IndicIsCutAfterBoth }
 {
     khmer_cuts_between_spans();

@@ -2,7 +2,8 @@
 ghost use Rattle.std.specs.Prelude.{◌≡◌, None, map};
 ghost use Rattle.shapers_arabic.specs.JoinedText.{is_mongolian};
 ghost use Rattle.shapers_arabic.specs.Joining.{is_selector};
-ghost use Rattle.shapers_arabic.specs.JoiningWalk.{HaveMasks, copied, with_copied, with_mask};
+ghost use Rattle.shapers_arabic.specs.JoiningWalk.{HaveMasks, copied, with_copied};
+ghost use Rattle.shapers_base.specs.Masks.{with_numbered_mask};
 
 use shapers_base::buffer::{Script, hb_glyph_info_t};
 
@@ -50,7 +51,7 @@ pub(super) fn copy_to_selectors(glyphs: &mut [hb_glyph_info_t])
 #[inline]
 pub(super) fn add_masks(masks: &[u32; 8], glyphs: &mut [hb_glyph_info_t])
     requires { HaveMasks glyphs.old }
-    ensures { glyphs.new ≡ map (with_mask masks.now) glyphs.old }
+    ensures { glyphs.new ≡ map (with_numbered_mask masks.now) glyphs.old }
 {
     for glyph in glyphs.iter_mut() {
         glyph.mask |= masks[usize::from(glyph.auxiliary)];

@@ -1,7 +1,8 @@
 //! One walk over the glyphs of a buffer: joining, the flags of breaks, the selectors, and the masks.
 ghost use Rattle.std.specs.Prelude.{◌≡◌, None, map, if◌then◌else◌};
 ghost use Rattle.shapers_arabic.specs.JoinedText.{is_mongolian};
-ghost use Rattle.shapers_arabic.specs.JoiningWalk.{HaveMasks, with_copied, with_mask};
+ghost use Rattle.shapers_arabic.specs.JoiningWalk.{HaveMasks, with_copied};
+ghost use Rattle.shapers_base.specs.Masks.{with_numbered_mask};
 
 use super::breaks::flag_breaks;
 use super::joining::join;
@@ -59,7 +60,7 @@ fn finish_forms(script: Option<Script>, masks: &[u32; 8], glyphs: &mut [hb_glyph
     requires { HaveMasks glyphs.old }
     ensures { let copied = with_copied None glyphs.old in
         let formed = if is_mongolian script then copied else glyphs.old in
-        glyphs.new ≡ map (with_mask masks.now) formed }
+        glyphs.new ≡ map (with_numbered_mask masks.now) formed }
 {
     if is_mongolian(script) {
         copy_to_selectors(glyphs);

@@ -2,7 +2,8 @@
 ghost use Rattle.std.specs.Prelude.{◌≡◌, ◌%◌, find, true};
 ghost use Rattle.std.specs.List.{AllByRecursion};
 ghost use Rattle.shapers_base.specs.declared.plan.PlanData.TheVariants.{Indic};
-ghost use Rattle.shapers_indic.specs.Plan.{config_of, feature_masks, has_old_spec, indic_in, indic_plan, is_indic_data, is_old_script, is_script, masks_in, scripts, virama_glyph, zero_context};
+ghost use Rattle.shapers_indic.specs.Plan.{config_of, feature_masks, has_old_spec, indic_in, indic_plan, is_indic_data, is_old_script, is_script, scripts, virama_glyph, zero_context};
+ghost use Rattle.shapers_base.specs.Masks.{masks_kept};
 
 use BlwfMode::{PostOnly, PreAndPost};
 use RephMode::{Explicit, Implicit, LogRepha};
@@ -174,7 +175,7 @@ fn masks_of(map: &hb_ot_map_t) -> [u32; 17]
 /// can't refuse and takes no memory.
 pub fn create_data(plan: &hb_ot_shape_plan_t) -> PlanData
     ensures data { result ≡ Indic (indic_plan plan.now.script plan.now.ot_map) }
-    ensures off_flags { AllByRecursion (λ mask. mask % 8 ≡ 0) (masks_in result) }
+    ensures off_flags { AllByRecursion (λ mask. mask % 8 ≡ 0) (masks_kept result) }
 {
     let map = &plan.ot_map;
     let config = config_of(plan.script);

@@ -1,6 +1,7 @@
 //! What the final reordering reads of a glyph.
 ghost use Rattle.std.specs.Prelude.{◌≡◌};
-ghost use Rattle.shapers_indic_final.specs.FinalGlyphs.{has_mask, is_formed, is_halant, is_matra_or_halant};
+ghost use Rattle.shapers_base.specs.Masks.{has_bits};
+ghost use Rattle.shapers_indic_final.specs.FinalGlyphs.{is_formed, is_halant, is_matra_or_halant};
 
 use shapers_base::buffer::hb_glyph_info_t;
 use shapers_base::plan::ot_category_t::{OT_H, OT_M, OT_MPst};
@@ -32,7 +33,7 @@ pub(super) fn is_formed(glyph: &hb_glyph_info_t) -> bool
 // Whether a glyph has some bit of a mask.
 #[inline]
 pub(super) fn has_mask(bits: u32, glyph: &hb_glyph_info_t) -> bool
-    ensures { result ≡ has_mask bits glyph.now }
+    ensures { result ≡ has_bits bits glyph.now }
 {
     glyph.mask & bits != 0
 }

@@ -3,7 +3,7 @@ use Rattle.std.proofs.Common.{sym, subst, arith}
 use Rattle.shapers_buffer.specs.Buffer.{Buffer}
 use Rattle.shapers_clusters.specs.FlagLaw.{OnlyFlagsAdded}
 use Rattle.shapers_clusters.proofs.FlagLaw.{stretch_added}
-use Rattle.shapers_hangul.specs.Masks.{with_jamo_mask}
+use Rattle.shapers_base.specs.Masks.{with_numbered_mask}
 use Rattle.shapers_hangul.proofs.HangulFlags.{jamo_mask_added}
 use Rattle.shapers_hangul.proofs.ot_shaper_hangul.setup_masks.Goals as goal
 
@@ -11,4 +11,4 @@ pub returns-clause-flags : goal.returns-clause-flags
 returns-clause-flags c =
     let masks = c.in-Hangul.data.mask_array in
     let gs = c.args.buffer.now.glyphs in
-    subst (λ (b : Buffer). OnlyFlagsAdded gs b.glyphs) (sym c.change_each.ensures) (stretch_added 0 c.len.result (with_jamo_mask masks) (jamo_mask_added masks) gs (omega arith))
+    subst (λ (b : Buffer). OnlyFlagsAdded gs b.glyphs) (sym c.change_each.ensures) (stretch_added 0 c.len.result (with_numbered_mask masks) (jamo_mask_added masks) gs (omega arith))

@@ -233,18 +233,18 @@ impl Shaper {
     /// # Contract
     ///
     /// ```text
-    /// ensures answer { let there = (standing self).collect_features in
+    /// ensures answer { let there = has_hook self CollectFeatures in
     ///     IfOk result (λ answer. is_some answer ≡ there) }
     /// ensures ok { let has_rclt = (F.font face.now).offers rclt in
     ///     let list = collected self planner.old.script has_rclt in
     ///     OnOk result (planner.new ≡ asked list planner.old) }
     /// ensures refusal { IsOkUnless result Memory }
     /// ensures err { OnErr result (planner.new ≡ planner.old) }
-    /// ensures absent { (standing self).collect_features ≡ false → IsOk result }
+    /// ensures absent { has_hook self CollectFeatures ≡ false → IsOk result }
     /// ```
     ///
     /// - `asked`, `collected`: crates/rustybuzz_shapers/specs/Records.antt
-    /// - `standing`: crates/rustybuzz_shapers/specs/Standing.antt
+    /// - `has_hook`: crates/rustybuzz_shapers/specs/Standing.antt
     /// - `rclt`: crates/shapers_arabic/specs/Requests.antt
     ///
     /// </details>
@@ -272,16 +272,16 @@ impl Shaper {
     /// # Contract
     ///
     /// ```text
-    /// ensures answer { let there = (standing self).override_features in
+    /// ensures answer { let there = has_hook self OverrideFeatures in
     ///     IfOk result (λ answer. is_some answer ≡ there) }
     /// ensures ok { OnOk result (planner.new ≡ asked (overridden self) planner.old) }
     /// ensures refusal { IsOkUnless result Memory }
     /// ensures err { OnErr result (planner.new ≡ planner.old) }
-    /// ensures absent { (standing self).override_features ≡ false → IsOk result }
+    /// ensures absent { has_hook self OverrideFeatures ≡ false → IsOk result }
     /// ```
     ///
     /// - `asked`, `overridden`: crates/rustybuzz_shapers/specs/Records.antt
-    /// - `standing`: crates/rustybuzz_shapers/specs/Standing.antt
+    /// - `has_hook`: crates/rustybuzz_shapers/specs/Standing.antt
     ///
     /// </details>
     pub fn override_features(self, planner: &mut Planner) -> Result<Option<()>, ShaperError> {
@@ -301,12 +301,12 @@ impl Shaper {
     ///
     /// ```text
     /// ensures data { result ≡ data_created self plan.now }
-    /// ensures answer { is_some result ≡ (standing self).create_data }
+    /// ensures answer { is_some result ≡ has_hook self CreateData }
     /// ensures off_flags { IfSome result MasksOffFlags }
     /// ```
     ///
     /// - `MasksOffFlags`, `data_created`: crates/rustybuzz_shapers/specs/Hooks.antt
-    /// - `standing`: crates/rustybuzz_shapers/specs/Standing.antt
+    /// - `has_hook`: crates/rustybuzz_shapers/specs/Standing.antt
     ///
     /// </details>
     pub fn create_data(self, plan: &Plan) -> Option<PlanData> {
@@ -333,7 +333,7 @@ impl Shaper {
     /// ```text
     /// requires without_positions { buffer.old.positions ≡ [] }
     /// ensures answer { IfOk result (λ answer. answer ≡ preprocess_answer self) }
-    /// ensures there { is_some (preprocess_answer self) ≡ (standing self).preprocess_text }
+    /// ensures there { is_some (preprocess_answer self) ≡ has_hook self PreprocessText }
     /// ensures ok { let font = F.font face.now in
     ///     OnOk result (Preprocessed self plan.now font buffer.old buffer.new) }
     /// ensures laws { let font = F.font face.now in
@@ -343,7 +343,7 @@ impl Shaper {
     /// ```
     ///
     /// - `PreprocessKeeps`, `Preprocessed`, `RefusesPreprocess`, `preprocess_answer`: crates/rustybuzz_shapers/specs/Hooks.antt
-    /// - `standing`: crates/rustybuzz_shapers/specs/Standing.antt
+    /// - `has_hook`: crates/rustybuzz_shapers/specs/Standing.antt
     ///
     /// </details>
     #[inline]
@@ -379,7 +379,7 @@ impl Shaper {
     /// ```text
     /// requires with_positions { length buffer.old.positions ≡ length buffer.old.glyphs }
     /// requires fits { PostprocessFits self plan.now buffer.old.glyphs }
-    /// ensures answer { let there = (standing self).postprocess_glyphs in
+    /// ensures answer { let there = has_hook self PostprocessGlyphs in
     ///     IfOk result (λ answer. is_some answer ≡ there) }
     /// ensures ok { let font = F.font face.now in
     ///     OnOk result (Postprocessed self plan.now font buffer.old buffer.new) }
@@ -392,7 +392,7 @@ impl Shaper {
     /// ```
     ///
     /// - `PostprocessFits`, `PostprocessKeeps`, `Postprocessed`, `RefusesPostprocess`: crates/rustybuzz_shapers/specs/Hooks.antt
-    /// - `standing`: crates/rustybuzz_shapers/specs/Standing.antt
+    /// - `has_hook`: crates/rustybuzz_shapers/specs/Standing.antt
     /// - `glyphs_added`: crates/rustybuzz_shapers/specs/Stretched.antt
     ///
     /// </details>
@@ -429,11 +429,11 @@ impl Shaper {
     ///
     /// ```text
     /// ensures pair { Composed self plan.now (T.tables tables.now) a b result }
-    /// ensures answer { is_some result ≡ (standing self).compose }
+    /// ensures answer { is_some result ≡ has_hook self Compose }
     /// ```
     ///
     /// - `Composed`: crates/rustybuzz_shapers/specs/Hooks.antt
-    /// - `standing`: crates/rustybuzz_shapers/specs/Standing.antt
+    /// - `has_hook`: crates/rustybuzz_shapers/specs/Standing.antt
     ///
     /// </details>
     #[inline]
@@ -462,11 +462,11 @@ impl Shaper {
     ///
     /// ```text
     /// ensures parts { Decomposed self _plan.now (T.tables tables.now) ab result }
-    /// ensures answer { is_some result ≡ (standing self).decompose }
+    /// ensures answer { is_some result ≡ has_hook self Decompose }
     /// ```
     ///
     /// - `Decomposed`: crates/rustybuzz_shapers/specs/Hooks.antt
-    /// - `standing`: crates/rustybuzz_shapers/specs/Standing.antt
+    /// - `has_hook`: crates/rustybuzz_shapers/specs/Standing.antt
     ///
     /// </details>
     #[inline]
@@ -502,13 +502,13 @@ impl Shaper {
     /// requires without_positions { buffer.old.positions ≡ [] }
     /// requires data { PlanFits self plan.now }
     /// requires glyphs { GlyphsFit self plan.now buffer.old.glyphs }
-    /// ensures answer { is_some result ≡ (standing self).setup_masks }
+    /// ensures answer { is_some result ≡ has_hook self SetupMasks }
     /// ensures masks { MasksSet self plan.now (T.tables tables.now) buffer.old buffer.new }
     /// ensures flags { OnlyFlagsAdded buffer.old.glyphs buffer.new.glyphs }
     /// ```
     ///
     /// - `GlyphsFit`, `MasksSet`, `PlanFits`: crates/rustybuzz_shapers/specs/Hooks.antt
-    /// - `standing`: crates/rustybuzz_shapers/specs/Standing.antt
+    /// - `has_hook`: crates/rustybuzz_shapers/specs/Standing.antt
     /// - `OnlyFlagsAdded`: crates/shapers_clusters/specs/FlagLaw.antt
     ///
     /// </details>
@@ -545,13 +545,13 @@ impl Shaper {
     /// requires in_order { start ≤ end }
     /// requires in_range { end ≤ length buffer.old.glyphs }
     /// requires few { MarksFit self start end }
-    /// ensures answer { is_some result ≡ (standing self).reorder_marks }
+    /// ensures answer { is_some result ≡ has_hook self ReorderMarks }
     /// ensures marks { MarksReordered self start end buffer.old buffer.new }
     /// ensures laws { MarksKeep self start end buffer.old buffer.new }
     /// ```
     ///
     /// - `MarksFit`, `MarksKeep`, `MarksReordered`: crates/rustybuzz_shapers/specs/Hooks.antt
-    /// - `standing`: crates/rustybuzz_shapers/specs/Standing.antt
+    /// - `has_hook`: crates/rustybuzz_shapers/specs/Standing.antt
     ///
     /// </details>
     #[inline]

@@ -144,10 +144,11 @@ pub fn preprocess_text_changes<F: Font>(
 ///
 /// ```text
 /// ensures masks { result ≡ Hangul (record { mask_array = jamo_masks plan.now.ot_map }) }
-/// ensures off_flags { All (λ mask. mask % 8 ≡ 0) (masks_in result) }
+/// ensures off_flags { All (λ mask. mask % 8 ≡ 0) (masks_kept result) }
 /// ```
 ///
-/// - `jamo_masks`, `masks_in`: crates/shapers_hangul/specs/Masks.antt
+/// - `masks_kept`: crates/shapers_base/specs/Masks.antt
+/// - `jamo_masks`: crates/shapers_hangul/specs/Masks.antt
 ///
 /// </details>
 pub fn create_data(plan: &Plan) -> PlanData {
@@ -181,10 +182,10 @@ impl GlyphChange for JamoMasks {
 /// # Contract
 ///
 /// ```text
-/// ensures { glyphs.new ≡ map (with_jamo_mask hangul_plan.now.mask_array) glyphs.old }
+/// ensures { glyphs.new ≡ map (with_numbered_mask hangul_plan.now.mask_array) glyphs.old }
 /// ```
 ///
-/// - `with_jamo_mask`: crates/shapers_hangul/specs/Masks.antt
+/// - `with_numbered_mask`: crates/shapers_base/specs/Masks.antt
 ///
 /// </details>
 #[inline]

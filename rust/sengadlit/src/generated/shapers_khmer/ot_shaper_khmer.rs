@@ -91,10 +91,11 @@ pub fn override_features(planner: &mut Planner) -> Result<(), ShaperError> {
 ///
 /// ```text
 /// ensures masks { result ≡ Khmer (record { mask_array = khmer_masks plan.now.ot_map }) }
-/// ensures off_flags { All (λ mask. mask % 8 ≡ 0) (masks_in result) }
+/// ensures off_flags { All (λ mask. mask % 8 ≡ 0) (masks_kept result) }
 /// ```
 ///
-/// - `khmer_masks`, `masks_in`: crates/shapers_khmer/specs/Plan.antt
+/// - `masks_kept`: crates/shapers_base/specs/Masks.antt
+/// - `khmer_masks`: crates/shapers_khmer/specs/Plan.antt
 ///
 /// </details>
 pub fn create_data(plan: &Plan) -> PlanData {

@@ -93,7 +93,7 @@ impl Shaper {
     ///
     /// ```text
     /// ensures conditions { StopsAt (masks_ask self plan.now buffer.old) result }
-    /// ensures answer { let there = (standing self).setup_masks in
+    /// ensures answer { let there = has_hook self SetupMasks in
     ///     IfOk result (λ answer. is_some answer ≡ there) }
     /// ensures masks { let tables = T.tables tables.now in
     ///     OnOk result (MasksSet self plan.now tables buffer.old buffer.new) }
@@ -104,7 +104,7 @@ impl Shaper {
     ///
     /// - `AsRefused`, `StopsAt`, `masks_ask`: crates/rustybuzz_shapers/specs/Checked.antt
     /// - `MasksSet`: crates/rustybuzz_shapers/specs/Hooks.antt
-    /// - `standing`: crates/rustybuzz_shapers/specs/Standing.antt
+    /// - `has_hook`: crates/rustybuzz_shapers/specs/Standing.antt
     /// - `OnlyFlagsAdded`: crates/shapers_clusters/specs/FlagLaw.antt
     ///
     /// </details>
@@ -128,7 +128,7 @@ impl Shaper {
     ///
     /// ```text
     /// ensures conditions { StopsAt (marks_ask self start end buffer.old) result }
-    /// ensures answer { let there = (standing self).reorder_marks in
+    /// ensures answer { let there = has_hook self ReorderMarks in
     ///     IfOk result (λ answer. is_some answer ≡ there) }
     /// ensures marks { OnOk result (MarksReordered self start end buffer.old buffer.new) }
     /// ensures laws { OnOk result (MarksKeep self start end buffer.old buffer.new) }
@@ -138,7 +138,7 @@ impl Shaper {
     ///
     /// - `AsRefused`, `StopsAt`, `marks_ask`: crates/rustybuzz_shapers/specs/Checked.antt
     /// - `MarksKeep`, `MarksReordered`: crates/rustybuzz_shapers/specs/Hooks.antt
-    /// - `standing`: crates/rustybuzz_shapers/specs/Standing.antt
+    /// - `has_hook`: crates/rustybuzz_shapers/specs/Standing.antt
     ///
     /// </details>
     #[inline]
@@ -162,7 +162,7 @@ impl Shaper {
     ///
     /// ```text
     /// ensures conditions { StopsAt (postprocess_asks self plan.now buffer.old) result }
-    /// ensures answer { let there = (standing self).postprocess_glyphs in
+    /// ensures answer { let there = has_hook self PostprocessGlyphs in
     ///     IfOk result (λ answer. is_some answer ≡ there) }
     /// ensures ok { let font = F.font face.now in
     ///     OnOk result (Postprocessed self plan.now font buffer.old buffer.new) }
@@ -177,7 +177,7 @@ impl Shaper {
     ///
     /// - `AsRefused`, `StopsAt`, `postprocess_asks`: crates/rustybuzz_shapers/specs/Checked.antt
     /// - `PostprocessKeeps`, `Postprocessed`, `RefusesPostprocess`: crates/rustybuzz_shapers/specs/Hooks.antt
-    /// - `standing`: crates/rustybuzz_shapers/specs/Standing.antt
+    /// - `has_hook`: crates/rustybuzz_shapers/specs/Standing.antt
     /// - `glyphs_added`: crates/rustybuzz_shapers/specs/Stretched.antt
     ///
     /// </details>

@@ -23,12 +23,12 @@ impl Shaper {
     /// ensures data { result ≡ with_created (data_created self plan) plan }
     /// ensures fits { PlanFits self result }
     /// ensures pauses { PausesFit self result }
-    /// ensures off_flags { (standing self).create_data ≡ true → MasksOffFlags result.plan_data }
+    /// ensures off_flags { has_hook self CreateData ≡ true → MasksOffFlags result.plan_data }
     /// ```
     ///
     /// - `MasksOffFlags`, `PlanFits`, `data_created`, `with_created`: crates/rustybuzz_shapers/specs/Hooks.antt
     /// - `PausesFit`: crates/rustybuzz_shapers/specs/Pauses.antt
-    /// - `standing`: crates/rustybuzz_shapers/specs/Standing.antt
+    /// - `has_hook`: crates/rustybuzz_shapers/specs/Standing.antt
     ///
     /// </details>
     pub fn with_data(self, mut plan: Plan) -> Plan {

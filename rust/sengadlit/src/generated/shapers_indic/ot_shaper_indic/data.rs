@@ -168,10 +168,11 @@ fn masks_of(map: &Map) -> [u32; 17] {
 ///
 /// ```text
 /// ensures data { result ≡ Indic (indic_plan plan.now.script plan.now.ot_map) }
-/// ensures off_flags { AllByRecursion (λ mask. mask % 8 ≡ 0) (masks_in result) }
+/// ensures off_flags { AllByRecursion (λ mask. mask % 8 ≡ 0) (masks_kept result) }
 /// ```
 ///
-/// - `indic_plan`, `masks_in`: crates/shapers_indic/specs/Plan.antt
+/// - `masks_kept`: crates/shapers_base/specs/Masks.antt
+/// - `indic_plan`: crates/shapers_indic/specs/Plan.antt
 ///
 /// </details>
 pub fn create_data(plan: &Plan) -> PlanData {

@@ -34,11 +34,11 @@ const JOINING_SCRIPTS: [Script; 13] = [
 /// ensures data { let start = plan.now.stretch_start in
 ///     let breaks = plan.now.break_flags in
 ///     result ≡ Universal (universal_plan start breaks plan.now.script plan.now.ot_map) }
-/// ensures off_flags { AllByRecursion (λ mask. mask % 8 ≡ 0) (masks_in result) }
+/// ensures off_flags { AllByRecursion (λ mask. mask % 8 ≡ 0) (masks_kept result) }
 /// ```
 ///
+/// - `masks_kept`: crates/shapers_base/specs/Masks.antt
 /// - `universal_plan`: crates/shapers_universal/specs/PlanData.antt
-/// - `masks_in`: crates/shapers_universal/specs/PlanMasks.antt
 ///
 /// </details>
 pub fn create_data(plan: &Plan) -> PlanData {

@@ -1,6 +1,6 @@
 -- A glyph with the mask.
 use Rattle.std.proofs.Common.{◌≡◌, true, rules}
-use Rattle.shapers_universal.specs.UniversalSyllables.{has_bits}
+use Rattle.shapers_base.specs.Masks.{has_bits}
 use Rattle.shapers_universal.proofs.SyllableWalks.{rphf_next}
 use Rattle.shapers_universal.proofs.ot_shaper_use.records.RecordRphfFrontChange.change.Goals as goal
 
