@@ -1,9 +1,7 @@
 //! One glyph moved to the other end of a stretch, in place.
 ghost use Rattle.std.specs.Prelude.{◌≡◌, ℕ, ◌+◌, ◌-◌, ◌^◌, ◌<◌, ◌≤◌, length};
-ghost use Rattle.std.specs.List.{range_with_len};
 ghost use Rattle.shapers_buffer.specs.Lists.{first_last};
 ghost use Rattle.shapers_buffer.specs.Clusters.{with_stretch};
-ghost use Rattle.shapers_buffer.specs.Places.{listed};
 ghost use Rattle.shapers_clusters.specs.Steps.{run_step, widened};
 ghost use Rattle.shapers_indic_final.specs.FinalGlyphs.{last_goes_first};
 ghost use Rattle.shapers_indic_final.specs.FinalMatras.{matra_step};
