@@ -1,5 +1,5 @@
 -- One glyph moved to the other end of a stretch, by the placement list.
-use Rattle.std.proofs.Common.{◌≡◌, ℕ, suc, ◌+◌, ◌-◌, ◌<◌, ◌≤◌, List, [], ◌∷◌, ◌++◌, length, map, take, drop, get_or, reverse, refl, sym, ap, ◌∙◌, subst, arith, inl, inr}
+use Rattle.std.proofs.Common.{◌≡◌, ℕ, suc, ◌+◌, ◌-◌, ◌<◌, ◌≤◌, List, [], ◌∷◌, ◌++◌, length, map, take, drop, get_or, reverse, refl, sym, ap, ◌∙◌, subst, arith, inl, inr, length-drop, take-append-drop}
 use Rattle.std.specs.List.{range_with_len}
 use Rattle.std.specs.List.Sorted.{IsPermutation}
 use Rattle.std.proofs.lemmas.Bool.{cases_lt}
@@ -85,6 +85,17 @@ last_goes_first-push xs x =
     ap (λ ys. reverse (first_last ys)) (reverse-append xs (x ∷ []))
     ∙ reverse-append (reverse xs) (x ∷ [])
     ∙ ap (λ ys. x ∷ ys) (reverse-reverse xs)
+
+-- turned in place
+turned_last : {X : Type 0} (front back : List X) → length back ≡ 1 → back ++ front ≡ last_goes_first (front ++ back)
+turned_last front [] one = absurd (omega arith)
+turned_last front (x ∷ []) one = sym (last_goes_first-push front x)
+turned_last front (x ∷ (y ∷ back)) one = absurd (omega arith)
+
+pub turned_right : {X : Type 0} (gs : List X) → 0 < length gs → drop (length gs - 1) gs ++ take (length gs - 1) gs ≡ last_goes_first gs
+turned_right gs some =
+    let k = length gs - 1 in
+    turned_last (take k gs) (drop k gs) (omega (arith, length-drop k gs)) ∙ ap last_goes_first (take-append-drop k gs)
 
 pub lists_last_first : (s e : ℕ) (places : List ℕ) → s < e → ListsBefore s (e - 1) (e - 1) places → listed s e places ≡ last_goes_first (range_with_len s (e - s))
 lists_last_first s e places l so =

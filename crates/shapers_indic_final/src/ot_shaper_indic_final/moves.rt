@@ -1,16 +1,14 @@
-//! One glyph moved to the other end of a stretch, by the placement list.
+//! One glyph moved to the other end of a stretch, in place.
 ghost use Rattle.std.specs.Prelude.{◌≡◌, ℕ, ◌+◌, ◌-◌, ◌^◌, ◌<◌, ◌≤◌, length};
-ghost use Rattle.std.specs.List.{range_with_len};
 ghost use Rattle.shapers_buffer.specs.Lists.{first_last};
 ghost use Rattle.shapers_buffer.specs.Clusters.{with_stretch};
-ghost use Rattle.shapers_buffer.specs.Places.{listed};
 ghost use Rattle.shapers_clusters.specs.Steps.{run_step, widened};
 ghost use Rattle.shapers_indic_final.specs.FinalGlyphs.{last_goes_first};
 ghost use Rattle.shapers_indic_final.specs.FinalMatras.{matra_step};
 ghost use Rattle.shapers_indic_final.specs.FinalPref.{pref_move};
 ghost use Rattle.shapers_indic_final.specs.FinalReph.{reph_step};
 
-use shapers_base::buffer::hb_buffer_t;
+use shapers_base::buffer::{GlyphWalk, hb_buffer_t, hb_glyph_info_t};
 
 // Merges the syllable from `s` on up to its place `j`, and moves its first glyph, the reph, there.
 #[inline]
@@ -75,8 +73,7 @@ fn move_first_last(buffer: &mut hb_buffer_t, s: usize, e: usize)
       places = buffer.new.places;
     } }
 {
-    list_first_last(buffer, s, e);
-    buffer.apply(s, e);
+    buffer.walk(&mut FirstLast { start: s, end: e });
 }
 
 // Moves the last glyph of the stretch from `s` to `e` before the others.
@@ -89,36 +86,67 @@ fn move_last_first(buffer: &mut hb_buffer_t, s: usize, e: usize)
       places = buffer.new.places;
     } }
 {
-    list_last_first(buffer, s, e);
-    buffer.apply(s, e);
+    buffer.walk(&mut LastFirst { start: s, end: e });
 }
 
-// Lists the first place of the stretch from `s` to `e` behind the others.
-#[inline]
-fn list_first_last(buffer: &mut hb_buffer_t, s: usize, e: usize)
-    requires in_order { s < e }
-    requires in_range { e ≤ length buffer.old.glyphs }
-    ensures others { buffer.new ≡ record buffer.old { places = buffer.new.places } }
-    ensures same_length { length buffer.new.glyphs ≡ length buffer.old.glyphs }
-    ensures places { listed s e buffer.new.places ≡ first_last (range_with_len s (e - s)) }
-{
-    for i in s..e - 1 {
-        buffer.set_place(i, i + 1);
-    }
-    buffer.set_place(e - 1, s);
+// The first glyph of a stretch goes behind the others.
+#[derive(Clone, Copy)]
+struct FirstLast {
+    start: usize,
+    end: usize,
 }
 
-// Lists the last place of the stretch from `s` to `e` before the others.
-#[inline]
-fn list_last_first(buffer: &mut hb_buffer_t, s: usize, e: usize)
-    requires in_order { s < e }
-    requires in_range { e ≤ length buffer.old.glyphs }
-    ensures others { buffer.new ≡ record buffer.old { places = buffer.new.places } }
-    ensures same_length { length buffer.new.glyphs ≡ length buffer.old.glyphs }
-    ensures places { listed s e buffer.new.places ≡ last_goes_first (range_with_len s (e - s)) }
-{
-    buffer.set_place(s, e - 1);
-    for i in s..e - 1 {
-        buffer.set_place(i + 1, i);
+impl GlyphWalk for FirstLast {
+    ghost use Rattle.std.specs.Prelude.{◌≡◌, ◌<◌, ◌≤◌, length};
+    ghost use Rattle.shapers_buffer.specs.Lists.{first_last};
+    ghost use Rattle.shapers_buffer.specs.Clusters.{with_stretch};
+
+    ghost can_walk = { λ w gs. (w.start < w.end) × (w.end ≤ length gs) };
+
+    ghost walks = { λ w _ gs hs. hs ≡ with_stretch w.start w.end first_last gs };
+
+    #[inline]
+    fn walk(&mut self, glyphs: &mut [hb_glyph_info_t]) {
+        turn_left(&mut glyphs[self.start..self.end]);
     }
+}
+
+// The last glyph of a stretch goes before the others.
+#[derive(Clone, Copy)]
+struct LastFirst {
+    start: usize,
+    end: usize,
+}
+
+impl GlyphWalk for LastFirst {
+    ghost use Rattle.std.specs.Prelude.{◌≡◌, ◌<◌, ◌≤◌, length};
+    ghost use Rattle.shapers_buffer.specs.Clusters.{with_stretch};
+    ghost use Rattle.shapers_indic_final.specs.FinalGlyphs.{last_goes_first};
+
+    ghost can_walk = { λ w gs. (w.start < w.end) × (w.end ≤ length gs) };
+
+    ghost walks = { λ w _ gs hs. hs ≡ with_stretch w.start w.end last_goes_first gs };
+
+    #[inline]
+    fn walk(&mut self, glyphs: &mut [hb_glyph_info_t]) {
+        turn_right(&mut glyphs[self.start..self.end]);
+    }
+}
+
+// Moves the first glyph behind the others.
+#[inline]
+fn turn_left(glyphs: &mut [hb_glyph_info_t])
+    requires { 0 < length glyphs.old }
+    ensures { glyphs.new ≡ first_last glyphs.old }
+{
+    glyphs.rotate_left(1);
+}
+
+// Moves the last glyph before the others.
+#[inline]
+fn turn_right(glyphs: &mut [hb_glyph_info_t])
+    requires { 0 < length glyphs.old }
+    ensures { glyphs.new ≡ last_goes_first glyphs.old }
+{
+    glyphs.rotate_right(1);
 }

@@ -1,8 +1,8 @@
 //! Generated from crates/shapers_indic_final/src/ot_shaper_indic_final/moves.rt by rust/erase; edit the source.
 //!
-//! One glyph moved to the other end of a stretch, by the placement list.
+//! One glyph moved to the other end of a stretch, in place.
 
-use crate::generated::shapers_base::buffer::Buffer;
+use crate::generated::shapers_base::buffer::{Buffer, GlyphInfo, GlyphWalk};
 
 // Merges the syllable from `s` on up to its place `j`, and moves its first glyph, the reph, there.
 #[inline]
@@ -30,31 +30,51 @@ pub(super) fn move_matra(buffer: &mut Buffer, s: usize, b: usize, i: usize, j: u
 // Moves the first glyph of the stretch from `s` to `e` behind the others.
 #[inline]
 fn move_first_last(buffer: &mut Buffer, s: usize, e: usize) {
-    list_first_last(buffer, s, e);
-    buffer.apply(s, e);
+    buffer.walk(&mut FirstLast { start: s, end: e });
 }
 
 // Moves the last glyph of the stretch from `s` to `e` before the others.
 #[inline]
 fn move_last_first(buffer: &mut Buffer, s: usize, e: usize) {
-    list_last_first(buffer, s, e);
-    buffer.apply(s, e);
+    buffer.walk(&mut LastFirst { start: s, end: e });
 }
 
-// Lists the first place of the stretch from `s` to `e` behind the others.
-#[inline]
-fn list_first_last(buffer: &mut Buffer, s: usize, e: usize) {
-    for i in s..e - 1 {
-        buffer.set_place(i, i + 1);
-    }
-    buffer.set_place(e - 1, s);
+// The first glyph of a stretch goes behind the others.
+#[derive(Clone, Copy)]
+struct FirstLast {
+    start: usize,
+    end: usize,
 }
 
-// Lists the last place of the stretch from `s` to `e` before the others.
-#[inline]
-fn list_last_first(buffer: &mut Buffer, s: usize, e: usize) {
-    buffer.set_place(s, e - 1);
-    for i in s..e - 1 {
-        buffer.set_place(i + 1, i);
+impl GlyphWalk for FirstLast {
+    #[inline]
+    fn walk(&mut self, glyphs: &mut [GlyphInfo]) {
+        turn_left(&mut glyphs[self.start..self.end]);
     }
+}
+
+// The last glyph of a stretch goes before the others.
+#[derive(Clone, Copy)]
+struct LastFirst {
+    start: usize,
+    end: usize,
+}
+
+impl GlyphWalk for LastFirst {
+    #[inline]
+    fn walk(&mut self, glyphs: &mut [GlyphInfo]) {
+        turn_right(&mut glyphs[self.start..self.end]);
+    }
+}
+
+// Moves the first glyph behind the others.
+#[inline]
+fn turn_left(glyphs: &mut [GlyphInfo]) {
+    glyphs.rotate_left(1);
+}
+
+// Moves the last glyph before the others.
+#[inline]
+fn turn_right(glyphs: &mut [GlyphInfo]) {
+    glyphs.rotate_right(1);
 }
