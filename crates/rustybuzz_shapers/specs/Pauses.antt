@@ -9,7 +9,7 @@ use Rattle.shapers_clusters.specs.Laws.{ReorderedHold}
 use Rattle.shapers_clusters.specs.Steps.{Step}
 use Rattle.shapers_indic.specs.Plan.{indic_in, is_indic_data}
 use Rattle.shapers_indic_final.specs.FinalLaws.{FinallyKept}
-use Rattle.shapers_indic_final.specs.FinalOpening.{FinallyReordered}
+use Rattle.shapers_indic_final.specs.FinalWordStart.{FinallyReordered}
 use Rattle.shapers_indic_final.specs.FinalReordering.{final_order, final_steps}
 use Rattle.shapers_indic_final.specs.FinalRules as final
 use Rattle.shapers_indic_initial.specs.InitialLaws.{InitiallyMerged}

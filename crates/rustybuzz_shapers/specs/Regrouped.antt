@@ -12,7 +12,7 @@ use Rattle.shapers_base.specs.declared.plan.pause.Pause.{Pause}
 use Rattle.shapers_base.specs.declared.plan.pause.Pause.TheVariants.{FinalReordering}
 use Rattle.shapers_base.specs.Font.{Font}
 use Rattle.shapers_indic.specs.Plan.{indic_in}
-use Rattle.shapers_indic_final.specs.FinalOpening.{with_inits}
+use Rattle.shapers_indic_final.specs.FinalWordStart.{with_inits}
 use Rattle.shapers_indic_final.specs.FinalRules.{rules_of as final_rules}
 use Rattle.shapers_syllabic.specs.Circles.{circled}
 use Rattle.shapers_syllabic.specs.Reordering.{text_order}

@@ -13,7 +13,7 @@ use Rattle.shapers_buffer.specs.declared.buffer.glyph.hb_glyph_info_t.{hb_glyph_
 use Rattle.shapers_buffer.proofs.MappedLists.{map-hidden}
 use Rattle.shapers_clusters.specs.Flags.{InOrder}
 use Rattle.shapers_clusters.proofs.FlagCalls.{flags_called-append, map-flags_called}
-use Rattle.shapers_clusters.proofs.FlagsThrough.{PassesFlags, flag_called-through}
+use Rattle.shapers_clusters.proofs.ViewedFlags.{PassesFlags, flag_called-through}
 use Rattle.shapers_base.specs.declared.plan.joining.hb_arabic_joining_type_t.{hb_arabic_joining_type_t}
 use Rattle.shapers_base.specs.declared.plan.joining.hb_arabic_joining_type_t.TheVariants.{U}
 use Rattle.shapers_arabic.specs.declared.ot_shaper_arabic.arabic_action_t.TheConstants.{NONE}

@@ -12,7 +12,7 @@ use Rattle.shapers_buffer.specs.declared.buffer.tag.Script.{Script}
 use Rattle.shapers_buffer.proofs.MaskBits.{or_swap}
 use Rattle.shapers_clusters.specs.Flags.{InOrder}
 use Rattle.shapers_clusters.proofs.FlagCalls.{map-flags_called}
-use Rattle.shapers_clusters.proofs.FlagsThrough.{PassesFlags, flags_called-through}
+use Rattle.shapers_clusters.proofs.ViewedFlags.{PassesFlags, flags_called-through}
 use Rattle.shapers_base.specs.declared.plan.breaks.BreakFlags.{BreakFlags}
 use Rattle.shapers_base.specs.declared.plan.breaks.BreakFlags.TheVariants.{AsCode, Sound}
 use Rattle.shapers_base.specs.declared.plan.joining.hb_arabic_joining_type_t.{hb_arabic_joining_type_t}

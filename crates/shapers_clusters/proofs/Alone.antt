@@ -7,11 +7,11 @@ use Rattle.shapers_buffer.specs.declared.buffer.level.BufferClusterLevel.{Buffer
 use Rattle.shapers_buffer.specs.Clusters.{stretch_of}
 use Rattle.shapers_buffer.proofs.ClusterLemmas.{three_parts}
 use Rattle.shapers_clusters.specs.Cuts.{ShareNone, StandsApart}
-use Rattle.shapers_clusters.specs.Joined.{of_cluster}
+use Rattle.shapers_clusters.specs.ClusterMerges.{of_cluster}
 use Rattle.shapers_clusters.specs.Steps.{FitSteps, Step, joined_step, joined_steps, run_steps, steps_along, widened}
-use Rattle.shapers_clusters.proofs.Elsewhere.{along_elsewhere, leaves_elsewhere}
+use Rattle.shapers_clusters.proofs.StepsOutside.{along_elsewhere, leaves_elsewhere}
 use Rattle.shapers_clusters.proofs.Halves.{along-append, steps_alone}
-use Rattle.shapers_clusters.proofs.Joined.{clusters-of_clusters}
+use Rattle.shapers_clusters.proofs.ClusterMerges.{clusters-of_clusters}
 use Rattle.shapers_clusters.proofs.Moves.{all-joined_steps, clusters-run_steps}
 use Rattle.shapers_clusters.proofs.Widened.{all_fit-widened}
 use Rattle.shapers_buffer.specs.Glyph.{clusters}

@@ -9,7 +9,7 @@ use Rattle.shapers_buffer.specs.declared.buffer.level.BufferClusterLevel.{Buffer
 use Rattle.shapers_buffer.specs.Glyph.{clusters, default_glyph}
 use Rattle.shapers_buffer.specs.Clusters.{least, first_cluster, last_cluster, in_cluster, flooded, merge, merge_all, merges, stretch_of}
 use Rattle.shapers_buffer.proofs.MappedLists.{map-reverse}
-use Rattle.shapers_clusters.proofs.Joined.{opening, opening-at, opening-clusters, least-le}
+use Rattle.shapers_clusters.proofs.ClusterMerges.{opening, opening-at, opening-clusters, least-le}
 use Rattle.shapers_clusters.proofs.Merging.{length-merge}
 use Rattle.shapers_buffer.proofs.ClusterLemmas.{flood_merged, merge_is}
 

@@ -7,7 +7,7 @@ use Rattle.shapers_buffer.specs.declared.buffer.glyph.hb_glyph_info_t.{hb_glyph_
 use Rattle.shapers_buffer.specs.declared.buffer.level.BufferClusterLevel.{BufferClusterLevel}
 use Rattle.shapers_buffer.specs.Glyph.{clusters}
 use Rattle.shapers_buffer.specs.Clusters.{least, has_cluster, last_cluster, in_cluster, low, high, merged, merge, merges, stretch_of, with_stretch}
-use Rattle.shapers_clusters.proofs.Joined.{clusters-put}
+use Rattle.shapers_clusters.proofs.ClusterMerges.{clusters-put}
 use Rattle.shapers_clusters.proofs.Spread.{second_part, map-constant}
 
 low_within : (s e : ℕ) (gs : List hb_glyph_info_t) → low s e gs ≤ s

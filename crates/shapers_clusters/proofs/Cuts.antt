@@ -6,7 +6,7 @@ use Rattle.std.proofs.lemmas.Bool.{cases_lt, eqb-false}
 use Rattle.std.proofs.lemmas.Bool.Decides.{nat_tests}
 use Rattle.shapers_buffer.specs.declared.buffer.level.BufferClusterLevel.{BufferClusterLevel}
 use Rattle.shapers_buffer.specs.Clusters.{merges}
-use Rattle.shapers_clusters.specs.Joined.{joined, joined_all}
+use Rattle.shapers_clusters.specs.ClusterMerges.{joined, joined_all}
 use Rattle.shapers_clusters.proofs.Spread.{Spread, joined_cases}
 use Rattle.shapers_clusters.specs.Cuts.{EndWithin, held, linked, ShareCluster, IsRising, IsFalling, IsMonotone, SameBlock, ExactCuts}
 use Rattle.shapers_clusters.proofs.Neighbours.{length-joined, length-joined_all, joined_all-falls, joined_all-linked, joined_all-reached, end_within_joined, share_all, left_to, right_from}

@@ -9,7 +9,7 @@ use Rattle.shapers_buffer.specs.declared.buffer.glyph.hb_glyph_info_t.{hb_glyph_
 use Rattle.shapers_buffer.specs.declared.buffer.level.BufferClusterLevel.{BufferClusterLevel}
 use Rattle.shapers_buffer.specs.Glyph.{clusters, without_flags}
 use Rattle.shapers_buffer.specs.Clusters.{least, first_cluster, last_cluster, in_cluster, flooded, merge, merge_all, stretch_of}
-use Rattle.shapers_clusters.proofs.Joined.{least-le}
+use Rattle.shapers_clusters.proofs.ClusterMerges.{least-le}
 use Rattle.shapers_clusters.proofs.Merging.{merge_cases, without_flags-twice, length-merge}
 use Rattle.shapers_clusters.proofs.Appended.{least-last}
 use Rattle.shapers_clusters.specs.Flags.{FallsTo, FlagsFall}

@@ -12,7 +12,7 @@ use Rattle.shapers_buffer.specs.Glyph.{clusters}
 use Rattle.shapers_buffer.specs.Clusters.{least, stretch_of}
 use Rattle.shapers_buffer.specs.GlyphFlags.{with_bits, with_bits_off, flagged, unsafe_inside, unsafe_all}
 use Rattle.shapers_clusters.proofs.FlagCalls.{map-flagged}
-use Rattle.shapers_clusters.proofs.Joined.{least-le, least-among}
+use Rattle.shapers_clusters.proofs.ClusterMerges.{least-le, least-among}
 use Rattle.shapers_buffer.proofs.ClusterLemmas.{three_parts}
 
 -- a stretch of one place, or none, has no flags

@@ -4,7 +4,7 @@ use Rattle.std.proofs.lemmas.Bool.{cases_Bool, cases_lt, eqb-false}
 use Rattle.shapers_buffer.specs.declared.buffer.level.BufferClusterLevel.{BufferClusterLevel}
 use Rattle.shapers_buffer.specs.Clusters.{merges}
 use Rattle.shapers_clusters.specs.Cuts.{AllDifferent, EndWithin, ExactCuts, held, linked}
-use Rattle.shapers_clusters.specs.Joined.{joined, joined_all}
+use Rattle.shapers_clusters.specs.ClusterMerges.{joined, joined_all}
 use Rattle.shapers_clusters.proofs.Cuts.{block_shares, not_in, or_none}
 use Rattle.shapers_clusters.proofs.Neighbours.{end_within_joined, joined_all-falls, joined_all-linked, joined_all-reached, left_to, length-joined, length-joined_all, right_from}
 use Rattle.shapers_clusters.proofs.Spread.{Spread, joined_cases}

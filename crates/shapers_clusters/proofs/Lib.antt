@@ -5,20 +5,20 @@ mod BorderRows
 pub mod Bounds
 pub mod ClearPlaces
 pub mod Cuts
-pub mod Elsewhere
+pub mod StepsOutside
 pub mod Falls
 pub mod FlagCalls
 pub mod FlagLaw
 pub mod Flagging
-pub mod FlagsThrough
+pub mod ViewedFlags
 pub mod GatheredCuts
 pub mod Halves
-pub mod Joined
+pub mod ClusterMerges
 pub mod KeptPlaces
 pub mod Labels
 pub mod LabelsAsMerged
 mod LawRows
-pub mod Made
+pub mod MadeGlyphs
 pub mod Merging
 mod MonotoneRows
 pub mod Moves
@@ -34,6 +34,6 @@ pub mod Spread
 pub mod StaysAlong
 pub mod StaysMerged
 pub mod Swaps
-pub mod Through
+pub mod ViewedSteps
 pub mod Views
 pub mod Widened

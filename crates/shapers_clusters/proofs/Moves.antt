@@ -11,8 +11,8 @@ use Rattle.shapers_buffer.specs.declared.buffer.glyph.hb_glyph_info_t.{hb_glyph_
 use Rattle.shapers_buffer.specs.declared.buffer.level.BufferClusterLevel.{BufferClusterLevel}
 use Rattle.shapers_buffer.specs.Glyph.{clusters, order_view, plain}
 use Rattle.shapers_buffer.specs.Clusters.{merge, merged, merge_all, merges}
-use Rattle.shapers_clusters.specs.Joined.{of_cluster, joined, joined_all}
-use Rattle.shapers_clusters.proofs.Joined.{clusters-merge, clusters-of_clusters}
+use Rattle.shapers_clusters.specs.ClusterMerges.{of_cluster, joined, joined_all}
+use Rattle.shapers_clusters.proofs.ClusterMerges.{clusters-merge, clusters-of_clusters}
 use Rattle.shapers_clusters.proofs.Merging.{order_view-merge_all, length-merge_all}
 use Rattle.shapers_clusters.specs.Cuts.{EndWithin, held, ShareCluster}
 use Rattle.shapers_clusters.proofs.Neighbours.{length-joined_all, joined_all-linked, joined_all-reached, share_all}

@@ -13,7 +13,7 @@ use Rattle.shapers_buffer.specs.GlyphFlags.{FlagCall, UnsafeToBreak, UnsafeToCon
 use Rattle.shapers_buffer.specs.declared.buffer.glyph.hb_glyph_info_t.{hb_glyph_info_t}
 use Rattle.shapers_clusters.specs.Flags.{bit_at, InOrder}
 use Rattle.shapers_clusters.proofs.FlagCalls.{flag_called-alone, flags_called-alone}
-use Rattle.shapers_clusters.proofs.Joined.{least-le, least-among}
+use Rattle.shapers_clusters.proofs.ClusterMerges.{least-le, least-among}
 use Rattle.shapers_clusters.specs.Breaks.{forbids, IsClear, IsFree, IsStrictlyMonotone, is_unsafe, greater, NeedlessLaw}
 use Rattle.shapers_clusters.proofs.ClearPlaces.{held, unsafe_bits, in-stretch, length-same}
 

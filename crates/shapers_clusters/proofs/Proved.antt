@@ -9,8 +9,8 @@ use Rattle.shapers_buffer.specs.declared.buffer.glyph.hb_glyph_info_t.{hb_glyph_
 use Rattle.shapers_buffer.specs.declared.buffer.level.BufferClusterLevel.{BufferClusterLevel}
 use Rattle.shapers_buffer.specs.Glyph.{clusters}
 use Rattle.shapers_buffer.specs.Clusters.{merge, merge_all, merges}
-use Rattle.shapers_clusters.specs.Joined.{joined, joined_all}
-use Rattle.shapers_clusters.proofs.Joined.{clusters-merge}
+use Rattle.shapers_clusters.specs.ClusterMerges.{joined, joined_all}
+use Rattle.shapers_clusters.proofs.ClusterMerges.{clusters-merge}
 use Rattle.shapers_clusters.proofs.Merging.{length-merge, length-merge_all, order_view-merge}
 use Rattle.shapers_clusters.specs.Cuts.{EndWithin, ShareCluster, IsMonotone, ExactCuts}
 use Rattle.shapers_clusters.proofs.Neighbours.{share_all, joined_all-share, length-joined_all}
@@ -22,7 +22,7 @@ use Rattle.shapers_clusters.proofs.Falls.{merge-falls, all_flags_on, all_flags_f
 use Rattle.shapers_clusters.specs.Flags.{ShowsClusters, whole, seen}
 use Rattle.shapers_clusters.proofs.Bounds.{merge-before, merge-behind, merge-inside}
 use Rattle.shapers_clusters.proofs.Views.{whole_hides, seen-same, seen-run_steps, seen-permuted}
-use Rattle.shapers_clusters.proofs.Made.{Made, AreMade, are_made, same_clusters, held_in_stretch}
+use Rattle.shapers_clusters.proofs.MadeGlyphs.{Made, AreMade, are_made, same_clusters, held_in_stretch}
 use Rattle.shapers_clusters.proofs.Moves.{clusters-merge_all, clusters-run_steps, order_view-run_steps, falls-run_steps, joined-merged_steps, share-moved, merge-unmerged, merge_all-unmerged, joined_all-unmerged, run_steps-unmerged, joined_steps-unmerged, end_within-all_first, merged_fits, all-joined, all-picked, all-joined_steps}
 use Rattle.shapers_clusters.specs.Labels.{IsLabelled}
 use Rattle.shapers_clusters.proofs.Labels.{joined-labelled, joined_steps-labels}

@@ -6,7 +6,7 @@ use Rattle.shapers_buffer.specs.declared.buffer.glyph.hb_glyph_info_t.{hb_glyph_
 use Rattle.shapers_buffer.specs.Glyph.{default_glyph, without_flags}
 use Rattle.shapers_clusters.specs.Cuts.{held, linked}
 use Rattle.shapers_clusters.specs.Flags.{HidesFields, bit_at, seen, whole}
-use Rattle.shapers_clusters.specs.Joined.{joined, joined_all}
+use Rattle.shapers_clusters.specs.ClusterMerges.{joined, joined_all}
 use Rattle.shapers_buffer.specs.Places.{pick}
 use Rattle.shapers_clusters.specs.Steps.{Step, joined_steps, old_places, MovesMerged, all_first, all_merged, shifted, widened, still_step, swap_step, steps_along, reordered_along}
 use Rattle.shapers_clusters.proofs.Merging.{without_flags-twice}

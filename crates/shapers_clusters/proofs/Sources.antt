@@ -5,7 +5,7 @@ use Rattle.shapers_buffer.specs.declared.buffer.glyph.hb_glyph_info_t.{hb_glyph_
 use Rattle.shapers_buffer.specs.declared.buffer.level.BufferClusterLevel.{BufferClusterLevel}
 use Rattle.shapers_buffer.specs.Glyph.{clusters}
 use Rattle.shapers_buffer.specs.Clusters.{merge_all, merges}
-use Rattle.shapers_clusters.specs.Joined.{joined_all}
+use Rattle.shapers_clusters.specs.ClusterMerges.{joined_all}
 use Rattle.shapers_clusters.specs.Cuts.{EndWithin, ShareCluster, IsMonotone}
 use Rattle.shapers_clusters.proofs.Neighbours.{length-joined_all, share_all}
 use Rattle.shapers_clusters.proofs.Cuts.{exact_cuts, block_shares, between_equal}
@@ -14,7 +14,7 @@ use Rattle.shapers_clusters.proofs.Picks.{length-pick, get_or-pick, pick-map, pi
 use Rattle.shapers_clusters.specs.Flags.{FallsTo}
 use Rattle.shapers_clusters.proofs.Falls.{merge_all-falls}
 use Rattle.shapers_clusters.proofs.Moves.{clusters-merge_all, clusters_stay, held_share}
-use Rattle.shapers_clusters.specs.Made.{ExactCutsBy, HeldAlong, MovesInsideOf}
+use Rattle.shapers_clusters.specs.SourceCuts.{ExactCutsBy, HeldAlong, MovesInsideOf}
 
 pub exact_cuts_by : (level : BufferClusterLevel) → merges level ≡ true → (sts : List (ℕ × ℕ)) (cs sources : List ℕ) → EndWithin (length cs) sts → IsMonotone cs → AllByRecursion (λ p. p < length cs) sources → ExactCutsBy cs sts sources (pick sources (joined_all level sts cs))
 exact_cuts_by level m sts cs sources w mono s =

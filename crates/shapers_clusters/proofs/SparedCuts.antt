@@ -13,7 +13,7 @@ use Rattle.shapers_buffer.specs.declared.buffer.level.BufferClusterLevel.{Buffer
 use Rattle.shapers_buffer.specs.Clusters.{merges}
 use Rattle.shapers_buffer.specs.Places.{pick}
 use Rattle.shapers_clusters.specs.Cuts.{AllDifferent, EndWithin, ExactCuts, OneAlong, held, linked}
-use Rattle.shapers_clusters.specs.Joined.{joined_all}
+use Rattle.shapers_clusters.specs.ClusterMerges.{joined_all}
 use Rattle.shapers_clusters.specs.Labels.{IsLabelled}
 use Rattle.shapers_clusters.specs.Steps.{FitSteps, FitsStep, Permutes, SpareMerged, Step, all_merged, joined_step, joined_steps, moved_on, old_places}
 use Rattle.shapers_clusters.proofs.Labels.{Labelled, joined_steps-labels}

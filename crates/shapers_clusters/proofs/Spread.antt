@@ -5,8 +5,8 @@ use Rattle.std.proofs.lemmas.Bool.{cases_lt}
 use Rattle.std.proofs.lemmas.Bool.Decides.{nat_tests}
 use Rattle.shapers_buffer.specs.declared.buffer.level.BufferClusterLevel.{BufferClusterLevel}
 use Rattle.shapers_buffer.specs.Clusters.{least, merges, stretch_of}
-use Rattle.shapers_clusters.specs.Joined.{joined}
-use Rattle.shapers_clusters.proofs.Joined.{opening, flood, spreading, joined_is, opening-at, flood-is, least-le, least-among}
+use Rattle.shapers_clusters.specs.ClusterMerges.{joined}
+use Rattle.shapers_clusters.proofs.ClusterMerges.{opening, flood, spreading, joined_is, opening-at, flood-is, least-le, least-among}
 
 -- A merge of s..e: all of low..high gets the least cluster m of s..e, of which `at` is a place, and the rest stays.
 -- low..high reaches as far as the clusters of the stretch's ends do.

@@ -6,7 +6,7 @@ use Rattle.shapers_buffer.specs.Clusters.{merges}
 use Rattle.shapers_buffer.specs.Places.{pick}
 use Rattle.shapers_buffer.proofs.MappedLists.{all-append}
 use Rattle.shapers_clusters.specs.Cuts.{EndWithin, OneAlong}
-use Rattle.shapers_clusters.specs.Joined.{joined, joined_all}
+use Rattle.shapers_clusters.specs.ClusterMerges.{joined, joined_all}
 use Rattle.shapers_clusters.specs.Labels.{MergedStay}
 use Rattle.shapers_clusters.specs.Steps.{FitSteps, FitsStep, MovesMerged, SpareMerged, Spares, Step, all_merged, joined_step, joined_steps}
 use Rattle.shapers_clusters.proofs.Moves.{joined-merged_steps, stepped}

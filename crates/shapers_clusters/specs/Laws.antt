@@ -7,12 +7,12 @@ use Rattle.shapers_buffer.specs.declared.buffer.level.BufferClusterLevel.{Buffer
 use Rattle.shapers_buffer.specs.Glyph.{clusters, order_view}
 use Rattle.shapers_buffer.specs.Clusters.{least, low, high, merge, merge_all, merges, stretch_of}
 use Rattle.shapers_buffer.specs.GlyphFlags.{unsafe_inside, unsafe_to_concat_in, tatweel_inside, FlagCall, flags_called}
-use Rattle.shapers_clusters.specs.Joined.{joined_all}
+use Rattle.shapers_clusters.specs.ClusterMerges.{joined_all}
 use Rattle.shapers_clusters.specs.Cuts.{AllDifferent, EndWithin, ExactCuts, IsMonotone, OneAlong, ShareCluster, ShareNone, StandsApart}
 use Rattle.shapers_buffer.specs.Places.{pick}
 use Rattle.shapers_clusters.specs.Steps.{Step, run_steps, joined_steps, old_places, FitSteps, MovesMerged, all_first, all_merged, SpareMerged, widened, steps_along, reordered_along, Permutes}
 use Rattle.shapers_clusters.specs.Flags.{FallsTo, FlagsFall, FlagsAlone, InOrder, ShowsClusters, HidesFields, seen}
-use Rattle.shapers_clusters.specs.Made.{ExactCutsBy, HeldAlong, MovesInsideOf}
+use Rattle.shapers_clusters.specs.SourceCuts.{ExactCutsBy, HeldAlong, MovesInsideOf}
 use Rattle.shapers_clusters.specs.Labels.{IsLabelled, OfOldPlaces, OneLabelEach}
 
 -- Merges of any stretch at any level leave the order view of the glyphs gs; the three flag calls,

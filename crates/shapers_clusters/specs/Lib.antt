@@ -1,10 +1,10 @@
-pub mod Joined
+pub mod ClusterMerges
 pub mod Cuts
 pub mod Steps
 pub mod Flags
 pub mod FlagLaw
 pub mod Labels
-pub mod Made
+pub mod SourceCuts
 pub mod Laws
 pub mod Breaks
 pub mod Borders

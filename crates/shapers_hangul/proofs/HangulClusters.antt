@@ -19,7 +19,7 @@ use Rattle.shapers_buffer.proofs.MappedLists.{all-append, all-flat_map, drop-ran
 use Rattle.shapers_clusters.specs.Cuts.{EndWithin, ShareCluster}
 use Rattle.shapers_clusters.specs.Laws.{ClustersMade}
 use Rattle.shapers_clusters.specs.Flags.{FlagsFall}
-use Rattle.shapers_clusters.proofs.Made.{Made, AreMade, are_made, all_standing, glyphs-standing, numbered-standing}
+use Rattle.shapers_clusters.proofs.MadeGlyphs.{Made, AreMade, are_made, all_standing, glyphs-standing, numbered-standing}
 use Rattle.shapers_clusters.proofs.Merging.{length-merge_all}
 use Rattle.shapers_clusters.proofs.Proved.{made_hold_by, part_shares}
 use Rattle.shapers_hangul.specs.declared.ot_shaper_hangul.item.Item.{Item}

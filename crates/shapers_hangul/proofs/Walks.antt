@@ -9,7 +9,7 @@ use Rattle.shapers_buffer.specs.declared.buffer.level.BufferClusterLevel.{Buffer
 use Rattle.shapers_buffer.specs.Clusters.{merge, merge_all}
 use Rattle.shapers_buffer.specs.Glyph.{clusters, characters}
 use Rattle.shapers_buffer.specs.GlyphFlags.{with_bits, unsafe_inside, unsafe_all}
-use Rattle.shapers_clusters.specs.Joined.{joined_all}
+use Rattle.shapers_clusters.specs.ClusterMerges.{joined_all}
 use Rattle.shapers_clusters.proofs.FlagCalls.{map-unsafe_inside}
 use Rattle.shapers_clusters.proofs.Flagging.{unsafe_few}
 use Rattle.shapers_clusters.proofs.Moves.{clusters-merge_all}

@@ -1,6 +1,6 @@
 -- What the steps of a syllable merge stays in one cluster.
 use Rattle.shapers_buffer.specs.Lists.{first_last}
-use Rattle.shapers_clusters.proofs.Through.{length-same}
+use Rattle.shapers_clusters.proofs.ViewedSteps.{length-same}
 use Rattle.shapers_syllabic.specs.Reordering.{carried}
 use Rattle.std.proofs.Common.{List, None, Option, Some, [], ap, arith, drop, false, get_or, if◌then◌else◌, inl, inr, length, length-drop, refl, subst, suc, sym, take, true, zero, ℕ, ◌++◌, ◌+◌, ◌-◌, ◌<◌, ◌∙◌, ◌∷◌, ◌≡◌, ◌≤◌}
 use Rattle.std.specs.List.{All, AllByRecursion, range_with_len}
@@ -40,7 +40,7 @@ use Rattle.shapers_clusters.proofs.SparedCuts.{exact_spared}
 use Rattle.shapers_indic_final.specs.FinalGlyphs.{last_goes_first}
 use Rattle.shapers_indic_final.specs.FinalMatras.{end_of_base, has_room, is_left, matra_step, matra_steps, matra_target, matras_go, merging_step}
 use Rattle.shapers_indic_final.proofs.FinalMoves.{permutes_first_last, permutes_last_first, picks_first_last, picks_last_first}
-use Rattle.shapers_indic_final.proofs.FinalParting.{lefts, lefts_no, lefts_yes, steps_of}
+use Rattle.shapers_indic_final.proofs.LeftMatraMoves.{lefts, lefts_no, lefts_yes, steps_of}
 use Rattle.shapers_clusters.specs.Steps.{SpareMerged, Spares, StaysAt}
 use Rattle.shapers_clusters.proofs.StaysMerged.{merged_stay, spare_moves, spare_then}
 use Rattle.std.specs.Prelude.{nat_lt}

@@ -17,10 +17,10 @@ use Rattle.shapers_clusters.specs.Cuts.{ShareNone}
 use Rattle.shapers_clusters.specs.Flags.{seen}
 use Rattle.shapers_clusters.specs.Steps.{FitSteps, FitsStep, Step, joined_steps, steps_along}
 use Rattle.shapers_clusters.proofs.Proved.{along_holds, clusters_hold}
-use Rattle.shapers_clusters.proofs.Through.{clusters-through}
+use Rattle.shapers_clusters.proofs.ViewedSteps.{clusters-through}
 use Rattle.shapers_indic_final.specs.FinalCuts.{FinalCutsBetweenSpans, final_clusters_after, uninitiated}
 use Rattle.shapers_indic_final.specs.FinalLaws.{final_clusters}
-use Rattle.shapers_indic_final.specs.FinalOpening.{FinallyReordered, final_text}
+use Rattle.shapers_indic_final.specs.FinalWordStart.{FinallyReordered, final_text}
 use Rattle.shapers_indic_final.specs.FinalReordering.{final_order, final_steps}
 use Rattle.shapers_indic_final.specs.declared.ot_shaper_indic_final.rules.Rules.{Rules}
 use Rattle.shapers_indic_final.proofs.FinalSerials.{final_reads_no_serials, final_text_reads_no_serials}

@@ -20,7 +20,7 @@ use Rattle.shapers_clusters.proofs.Moves.{within-old_places}
 use Rattle.shapers_clusters.proofs.Picks.{AllZip-pick, pick-all, pick-pick}
 use Rattle.shapers_clusters.proofs.Proved.{steps_hold}
 use Rattle.shapers_indic_final.specs.FinalLaws.{FlagsFallButBreaks}
-use Rattle.shapers_indic_final.specs.FinalOpening.{bound_at, is_bound, last_or, syllable_run, text_run}
+use Rattle.shapers_indic_final.specs.FinalWordStart.{bound_at, is_bound, last_or, syllable_run, text_run}
 use Rattle.shapers_indic_final.specs.FinalReordering.{final_order}
 use Rattle.shapers_indic_final.specs.declared.ot_shaper_indic_final.rules.Rules.{Rules}
 use Rattle.shapers_indic_final.proofs.FinalText.{length-syllable, steps_from, syllable_fits, syllable_steps}

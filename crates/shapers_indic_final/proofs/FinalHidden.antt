@@ -11,7 +11,7 @@ use Rattle.shapers_base.specs.declared.font.GlyphId.{GlyphId}
 use Rattle.shapers_base.specs.declared.plan.ot_category_t.TheConstants.{OT_H, OT_ZWJ}
 use Rattle.shapers_base.specs.declared.plan.ot_position_t.TheConstants.{POS_BASE_C}
 use Rattle.shapers_clusters.proofs.FlagCalls.{map-with_stretch}
-use Rattle.shapers_clusters.proofs.Through.{length-same}
+use Rattle.shapers_clusters.proofs.ViewedSteps.{length-same}
 use Rattle.shapers_indic.specs.Glyphs.{greatest_place, is_joiner, is_one_of, least_place, passes}
 use Rattle.shapers_indic_final.specs.FinalBase.{along_links, as_linked, base_by_links, base_by_pref, before_halants, before_joiner, behind_halants, first_base, if_unformed, is_behind_base, is_from_base_on, is_unformed, is_unformed_below, last_link, links_from, links_written, may_be_settled, pref_place, stepped_back, unformed_pref, with_base, with_base_at, with_links, with_pref_base, with_viramas}
 use Rattle.shapers_indic_final.specs.FinalGlyphs.{is_halant, is_lost_virama, recovered}

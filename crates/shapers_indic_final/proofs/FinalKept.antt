@@ -19,10 +19,10 @@ use Rattle.shapers_clusters.proofs.Picks.{pick-map}
 use Rattle.shapers_clusters.proofs.Proved.{clusters_hold, seen_steps_hold, steps_hold}
 use Rattle.shapers_clusters.proofs.Views.{seen-order_view, seen-same}
 use Rattle.shapers_indic_final.specs.FinalLaws.{FlagsFallButBreaks, FinalTextLaws, final_clusters, final_text_steps}
-use Rattle.shapers_indic_final.specs.FinalOpening.{text_run}
+use Rattle.shapers_indic_final.specs.FinalWordStart.{text_run}
 use Rattle.shapers_indic_final.specs.FinalReordering.{final_order, final_steps}
 use Rattle.shapers_indic_final.proofs.FinalCuts.{final_cuts_with_serials}
-use Rattle.shapers_indic_final.proofs.FinalElsewhere.{elsewhere, elsewhere-whole}
+use Rattle.shapers_indic_final.proofs.FinalFlagsOutside.{elsewhere, elsewhere-whole}
 use Rattle.shapers_indic_final.proofs.FinalFlags.{flags-text, flags-whole}
 use Rattle.shapers_indic_final.proofs.FinalLaws.{final_laws}
 use Rattle.shapers_syllabic.specs.Reordering.{carried, text_order}

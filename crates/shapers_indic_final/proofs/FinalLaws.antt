@@ -15,7 +15,7 @@ use Rattle.shapers_buffer.specs.Glyph.{default_glyph}
 use Rattle.shapers_buffer.specs.Places.{pick}
 use Rattle.shapers_base.specs.declared.plan.indic.RephPosition.{RephPosition}
 use Rattle.shapers_clusters.proofs.Picks.{pick-all}
-use Rattle.shapers_clusters.proofs.Through.{length-same}
+use Rattle.shapers_clusters.proofs.ViewedSteps.{length-same}
 use Rattle.shapers_clusters.specs.Steps.{FitSteps, Permutes}
 use Rattle.shapers_syllabic.specs.Reordering.{carried}
 use Rattle.shapers_indic.specs.Glyphs.{greatest_place, least_place, passes, places}
@@ -31,7 +31,7 @@ use Rattle.shapers_indic_final.specs.declared.ot_shaper_indic_final.rules.Rules.
 use Rattle.shapers_indic_final.proofs.FinalHidden.{base_within, hidden-based, hidden-viramas}
 use Rattle.shapers_indic_final.proofs.FinalLawsAt.{LawsAt, agrees_at, same_at, step_at, stretch_at, then_at}
 use Rattle.shapers_indic_final.proofs.FinalMoves.{permutes_first_last, permutes_last_first, picks_first_last, picks_last_first}
-use Rattle.shapers_indic_final.proofs.FinalParting.{all_at, is_other}
+use Rattle.shapers_indic_final.proofs.LeftMatraMoves.{all_at, is_other}
 use Rattle.shapers_indic_final.proofs.FinalPlaces.{passes_there}
 use Rattle.shapers_indic_final.proofs.FinalTargets.{PlaceWithin, formed_pref_within, greatest_within, opens_some, pref_target_within, reph_target_within}
 

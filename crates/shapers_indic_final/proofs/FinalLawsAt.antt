@@ -14,7 +14,7 @@ use Rattle.shapers_clusters.specs.Flags.{seen}
 use Rattle.shapers_clusters.specs.Steps.{FitSteps, FitsStep, Permutes, Step, old_places}
 use Rattle.shapers_clusters.proofs.Moves.{length-old_places, within-old_places}
 use Rattle.shapers_clusters.proofs.Picks.{length-pick, pick-all, pick-map, pick-pick}
-use Rattle.shapers_clusters.proofs.Through.{length-same}
+use Rattle.shapers_clusters.proofs.ViewedSteps.{length-same}
 use Rattle.shapers_clusters.proofs.Views.{seen-same}
 use Rattle.shapers_indic.specs.Glyphs.{places}
 use Rattle.shapers_indic_final.proofs.FinalSteps.{Picks, all_within, stretch_permutes, stretch_picks}

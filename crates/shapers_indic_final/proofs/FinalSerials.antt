@@ -7,7 +7,7 @@ use Rattle.shapers_buffer.specs.GlyphFlags.{with_bits}
 use Rattle.shapers_buffer.specs.Syllables.{syllables}
 use Rattle.shapers_indic_final.specs.FinalLaws.{FinalReadsNoSerials, FinalTextReadsNoSerials}
 use Rattle.shapers_indic_final.specs.FinalMatras.{is_left}
-use Rattle.shapers_indic_final.specs.FinalOpening.{in_word, last_or, with_init, with_inits}
+use Rattle.shapers_indic_final.specs.FinalWordStart.{in_word, last_or, with_init, with_inits}
 use Rattle.shapers_indic_final.specs.FinalReordering.{final_order, final_steps}
 use Rattle.shapers_indic_final.proofs.FinalReads.{final_steps_stay, order_stays}
 use Rattle.shapers_syllabic.specs.Borders.{unnumbered}

@@ -12,7 +12,7 @@ use Rattle.shapers_buffer.specs.Places.{pick}
 use Rattle.shapers_buffer.proofs.ClusterLemmas.{length-stretch, map-stretch}
 use Rattle.shapers_base.specs.declared.plan.ot_category_t.TheConstants.{OT_H}
 use Rattle.shapers_clusters.specs.Steps.{FitSteps, Step, old_places, run_steps, widened}
-use Rattle.shapers_clusters.proofs.Through.{length-same}
+use Rattle.shapers_clusters.proofs.ViewedSteps.{length-same}
 use Rattle.shapers_clusters.proofs.Widened.{order_view-widened}
 use Rattle.shapers_indic_final.specs.FinalBase.{Based, with_base, with_viramas}
 use Rattle.shapers_indic_final.specs.FinalGlyphs.{is_lost_virama, recovered}

@@ -24,7 +24,7 @@ use Rattle.shapers_clusters.proofs.Views.{seen-run_steps}
 use Rattle.shapers_clusters.proofs.Widened.{all_fit-widened}
 use Rattle.shapers_indic_final.specs.FinalLaws.{BreaksNowhere, FinallyOfHalves, SameButFirstBits, final_clusters, final_text_behind, final_text_steps, with_first_bits}
 use Rattle.shapers_indic_final.specs.FinalMatras.{is_left}
-use Rattle.shapers_indic_final.specs.FinalOpening.{bound_at, final_text, in_word, is_bound, last_or, syllable_run, text_run, with_init, with_inits}
+use Rattle.shapers_indic_final.specs.FinalWordStart.{bound_at, final_text, in_word, is_bound, last_or, syllable_run, text_run, with_init, with_inits}
 use Rattle.shapers_indic_final.specs.FinalReordering.{final_order, final_steps}
 use Rattle.shapers_indic_final.specs.declared.ot_shaper_indic_final.rules.Rules.{Rules}
 use Rattle.shapers_indic_final.proofs.FinalLaws.{final_laws}

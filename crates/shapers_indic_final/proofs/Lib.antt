@@ -2,7 +2,7 @@ mod FinalBaseRows
 mod FinalClusterRows
 pub mod FinalClusters
 pub mod FinalCuts
-pub mod FinalElsewhere
+pub mod FinalFlagsOutside
 pub mod FinalFlags
 pub mod FinalHidden
 pub mod FinalKept
@@ -12,9 +12,9 @@ pub mod FinalLinks
 mod FinalMatraRows
 pub mod FinalMoves
 mod FinalNoMask
-pub mod FinalOpened
-mod FinalOpeningRows
-pub mod FinalParting
+pub mod FinalWordStartCases
+mod FinalWordStartRows
+pub mod LeftMatraMoves
 pub mod FinalPlaces
 pub mod FinalPlacing
 pub mod FinalPlain
@@ -30,11 +30,11 @@ pub mod FinalTargets
 pub mod FinalText
 pub mod FinalTextWalk
 pub mod FinalWords
-pub mod PartingFloods
-pub mod PartingListing
-pub mod PartingFurther
-pub mod PartingMoves
-pub mod PartingPlaces
-pub mod PartingSplit
-pub mod PartingSteps
-pub mod PartingWalks
+pub mod LeftMatraFloods
+pub mod LeftMatraListing
+pub mod LeftMatrasAtOnce
+pub mod LeftMatrasListed
+pub mod LeftMatraPlaces
+pub mod LeftMatraSplit
+pub mod LeftMatraSteps
+pub mod LeftMatraWalks

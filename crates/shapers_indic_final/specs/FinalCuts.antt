@@ -8,7 +8,7 @@ use Rattle.shapers_buffer.specs.declared.buffer.tag.Script.{Script}
 use Rattle.shapers_buffer.specs.Buffer.{Buffer}
 use Rattle.shapers_buffer.specs.GlyphFlags.{with_bits}
 use Rattle.shapers_clusters.specs.Steps.{Step, joined_steps}
-use Rattle.shapers_indic_final.specs.FinalOpening.{FinallyReordered, final_text}
+use Rattle.shapers_indic_final.specs.FinalWordStart.{FinallyReordered, final_text}
 use Rattle.shapers_indic_final.specs.FinalReordering.{final_steps}
 use Rattle.shapers_indic_final.specs.declared.ot_shaper_indic_final.rules.Rules.{Rules}
 use Rattle.shapers_syllabic.specs.declared.ot_shaper_syllabic.circles.DottedCircles.{DottedCircles}

@@ -17,7 +17,7 @@ use Rattle.shapers_indic_final.specs.FinalClusters.{EachSyllableCuts}
 use Rattle.shapers_clusters.specs.Laws.{ClustersHold, SeenStepsHold}
 use Rattle.shapers_clusters.specs.Steps.{Step, all_merged, joined_steps, old_places}
 use Rattle.shapers_indic_final.specs.FinalCuts.{uninitiated}
-use Rattle.shapers_indic_final.specs.FinalOpening.{FinallyReordered, final_text, is_bound, last_or, with_inits}
+use Rattle.shapers_indic_final.specs.FinalWordStart.{FinallyReordered, final_text, is_bound, last_or, with_inits}
 use Rattle.shapers_indic_final.specs.FinalReordering.{final_order, final_steps}
 use Rattle.shapers_indic_final.specs.declared.ot_shaper_indic_final.rules.Rules.{Rules}
 use Rattle.shapers_syllabic.specs.Borders.{MeetAtBorder, SameButSerials, unnumbered}

@@ -4,10 +4,10 @@ pub mod FinalCuts
 pub mod FinalGlyphs
 pub mod FinalLaws
 pub mod FinalMatras
-pub mod FinalOpening
 pub mod FinalPref
 pub mod FinalReordering
 pub mod FinalReph
 pub mod FinalRules
 pub mod FinalWalk
-pub mod PartingWalk
+pub mod FinalWordStart
+pub mod LeftMatraWalk

@@ -4,10 +4,9 @@
 mod base;
 mod glyphs;
 pub mod laws;
+mod left_matras;
 mod matras;
 mod moves;
-mod opening;
-mod parting;
 mod pause;
 mod placing;
 mod pref;
@@ -15,5 +14,6 @@ mod reordering;
 mod reph;
 pub mod rules;
 mod viramas;
+mod word_start;
 
 pub use pause::final_reordering;

@@ -7,7 +7,7 @@ use Rattle.shapers_buffer.specs.Places.{pick}
 use Rattle.shapers_buffer.specs.Buffer.{Buffer}
 use Rattle.shapers_clusters.specs.Steps.{FitsStep, Permutes, Step}
 use Rattle.shapers_clusters.proofs.Picks.{pick-map}
-use Rattle.shapers_clusters.proofs.Through.{length-same}
+use Rattle.shapers_clusters.proofs.ViewedSteps.{length-same}
 use Rattle.shapers_indic_initial.specs.InitialBase.{base_place, has_reph}
 use Rattle.shapers_indic.specs.declared.ot_shaper_indic.indic_feature.TheConstants.{HALF}
 use Rattle.shapers_indic_initial.specs.InitialMasks.{bits_of}

@@ -13,7 +13,7 @@ use Rattle.shapers_indic_initial.specs.InitialReordering.{in_order, initial_orde
 use Rattle.shapers_indic_initial.specs.InitialRules.{Rules}
 use Rattle.shapers_indic_initial.proofs.InitialLaws.{halant_laws, halant_order, halant_step_of, joiner_laws}
 use Rattle.shapers_indic_initial.proofs.InitialSteps.{order_fits}
-use Rattle.shapers_indic_initial.proofs.Opening.{seen_long}
+use Rattle.shapers_indic_initial.proofs.Prepared.{seen_long}
 use Rattle.shapers_syllabic.specs.Reordering.{SyllableReordered}
 use Rattle.shapers_syllabic.specs.ReorderingLaws.{ReorderLaws}
 use Rattle.shapers_syllabic.proofs.LawsThen.{laws_then}

@@ -26,7 +26,7 @@ mod MaskViews
 mod MaskWalks
 mod MarksAttached
 pub mod Moves
-mod Opening
+mod Prepared
 pub mod OrderClusters
 pub mod OrderListing
 pub mod OrderShifted

@@ -10,7 +10,7 @@ use Rattle.shapers_buffer.specs.Clusters.{merges}
 use Rattle.shapers_buffer.specs.Places.{pick}
 use Rattle.shapers_buffer.proofs.MappedLists.{all-mapped, all-range}
 use Rattle.shapers_clusters.specs.Cuts.{AllDifferent, EndWithin, ExactCuts, OneAlong, held, linked}
-use Rattle.shapers_clusters.specs.Joined.{joined_all}
+use Rattle.shapers_clusters.specs.ClusterMerges.{joined_all}
 use Rattle.shapers_clusters.proofs.Moves.{HeldIn, all_held}
 use Rattle.shapers_clusters.proofs.Neighbours.{joined_all-linked, share_all}
 use Rattle.shapers_clusters.proofs.Permuted.{picked-permuted}

@@ -12,7 +12,7 @@ use Rattle.shapers_buffer.specs.Places.{pick}
 use Rattle.shapers_buffer.specs.Syllables.{syllables}
 use Rattle.shapers_buffer.proofs.MappedLists.{all-append, all-mapped}
 use Rattle.shapers_clusters.specs.Cuts.{EndWithin, OneAlong, StandsApart, held}
-use Rattle.shapers_clusters.specs.Joined.{joined_all}
+use Rattle.shapers_clusters.specs.ClusterMerges.{joined_all}
 use Rattle.shapers_clusters.specs.Steps.{FitSteps, FitsStep, joined_step, joined_steps, shifted, steps_along, widened}
 use Rattle.shapers_clusters.proofs.Halves.{along-append}
 use Rattle.shapers_clusters.proofs.Neighbours.{share_all}
@@ -29,7 +29,7 @@ use Rattle.shapers_indic_initial.specs.InitialRules.{Rules, rules_of}
 use Rattle.shapers_indic_initial.proofs.InitialLaws.{halant_laws, halant_order, halant_step_of, initial_laws, initial_text_reordered, joiner_laws, three_laws}
 use Rattle.shapers_indic_initial.proofs.InitialSteps.{length_permuted, order_fits}
 use Rattle.shapers_clusters.proofs.Alone.{apart_own, same_stretch, stretch_own}
-use Rattle.shapers_clusters.proofs.Elsewhere.{Leaves, along_elsewhere, leaves_elsewhere}
+use Rattle.shapers_clusters.proofs.StepsOutside.{Leaves, along_elsewhere, leaves_elsewhere}
 use Rattle.shapers_clusters.proofs.Spread.{length-stretch}
 use Rattle.shapers_clusters.proofs.Moves.{HeldIn, all_held}
 use Rattle.shapers_syllabic.proofs.SyllableAlone.{glyphs_cut, pieces_cut}

@@ -13,7 +13,7 @@ pub mod Flagging
 pub mod LaidText
 pub mod LastParts
 pub mod LayBounds
-pub mod Laying
+pub mod LaidCopies
 pub mod Lengths
 pub mod RunLaying
 pub mod Steps

@@ -13,7 +13,7 @@ use Rattle.shapers_buffer.specs.Clusters.{least, stretch_of}
 use Rattle.shapers_buffer.specs.Glyph.{clusters}
 use Rattle.shapers_base.specs.Font.{Font}
 use Rattle.shapers_base.specs.declared.plan.arabic.StretchStart.{StretchStart}
-use Rattle.shapers_stretch.specs.declared.ot_shaper_arabic_stretch.laying.Pen.{Pen}
+use Rattle.shapers_stretch.specs.declared.ot_shaper_arabic_stretch.tiles.Pen.{Pen}
 use Rattle.shapers_stretch.specs.declared.ot_shaper_arabic_stretch.measuring.Lay.{Lay}
 use Rattle.shapers_stretch.specs.declared.ot_shaper_arabic_stretch.measuring.Run.{Run}
 use Rattle.shapers_stretch.specs.Cells.{Cell, glyphs_of, positions_of}
@@ -24,7 +24,7 @@ use Rattle.shapers_stretch.specs.Measure.{added, fits_i32, numbers, start}
 use Rattle.shapers_stretch.specs.Stretch.{Copy, Laying, copies, laid_run, measured, unbroken}
 use Rattle.shapers_stretch.proofs.Flagging.{flag_copies, flag_copy, flag_offsets, stretch_glyphs, stretch_positions, tiles_are}
 use Rattle.shapers_stretch.proofs.LayBounds.{found_lay, no_lay}
-use Rattle.shapers_stretch.proofs.Laying.{near_fits}
+use Rattle.shapers_stretch.proofs.LaidCopies.{near_fits}
 use Rattle.shapers_stretch.proofs.Pen.{laid_is}
 
 -- the tiles of a run, flagged with its word

@@ -8,13 +8,13 @@ use Rattle.shapers_buffer.specs.declared.buffer.glyph.GlyphPosition.{GlyphPositi
 use Rattle.shapers_buffer.specs.declared.buffer.glyph.hb_glyph_info_t.{hb_glyph_info_t}
 use Rattle.shapers_buffer.specs.Clusters.{stretch_of}
 use Rattle.shapers_base.specs.Font.{Font}
-use Rattle.shapers_stretch.specs.declared.ot_shaper_arabic_stretch.laying.Pen.{Pen}
+use Rattle.shapers_stretch.specs.declared.ot_shaper_arabic_stretch.tiles.Pen.{Pen}
 use Rattle.shapers_stretch.specs.declared.ot_shaper_arabic_stretch.measuring.Lay.{Lay}
 use Rattle.shapers_stretch.specs.declared.ot_shaper_arabic_stretch.measuring.Run.{Run}
 use Rattle.shapers_stretch.specs.Cells.{Cell}
 use Rattle.shapers_stretch.specs.LayingWalk.{CanLay, Lays, copies_by, run_copies}
 use Rattle.shapers_stretch.specs.Stretch.{Copy, copies, copies_of}
-use Rattle.shapers_stretch.proofs.Laying.{can_first, can_rest, lays_then, none_laid}
+use Rattle.shapers_stretch.proofs.LaidCopies.{can_first, can_rest, lays_then, none_laid}
 use Rattle.shapers_stretch.proofs.Zips.{length-zipped}
 
 -- The tiles from i to the end are laid, and those from the first to i can be, which stand yet.

@@ -3,11 +3,11 @@
 
 mod counting;
 mod laws;
-mod laying;
 mod measuring;
 mod parts;
 mod postprocessing;
 mod recording;
+mod tiles;
 
 pub use laws::widths_law;
 pub use postprocessing::postprocess_glyphs;

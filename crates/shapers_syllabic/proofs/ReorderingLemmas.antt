@@ -15,7 +15,7 @@ use Rattle.shapers_clusters.specs.Flags.{HidesFields, seen}
 use Rattle.shapers_clusters.specs.Steps.{FitsStep, Step, run_steps, old_places, shifted, still_step, widened}
 use Rattle.shapers_clusters.proofs.Merging.{length-merge_all}
 use Rattle.shapers_clusters.proofs.Picks.{length-pick, pick-append, pick-map, pick-range, pick-all, pick-within}
-use Rattle.shapers_clusters.proofs.Through.{PassesMerges, merge-same, merge_all-same, pick-same, run_steps-same, length-same}
+use Rattle.shapers_clusters.proofs.ViewedSteps.{PassesMerges, merge-same, merge_all-same, pick-same, run_steps-same, length-same}
 use Rattle.shapers_clusters.proofs.Widened.{fits-widened, pick-parts, range-three}
 use Rattle.shapers_clusters.proofs.Swaps.{still_moves_merged}
 use Rattle.shapers_syllabic.specs.Reordering.{SyllableReordered, carried}

@@ -9,7 +9,7 @@ use Rattle.shapers_buffer.specs.Glyph.{clusters, order_view, plain, without_flag
 use Rattle.shapers_buffer.specs.GlyphFlags.{flagged, with_bits, with_bits_off}
 use Rattle.shapers_buffer.specs.Syllables.{kind_of, syllables}
 use Rattle.shapers_clusters.specs.Steps.{Step, run_steps, steps_along}
-use Rattle.shapers_clusters.proofs.Through.{PassesMerges, clusters-through, run_steps-same}
+use Rattle.shapers_clusters.proofs.ViewedSteps.{PassesMerges, clusters-through, run_steps-same}
 use Rattle.shapers_syllabic.specs.declared.ot_shaper_syllabic.circles.DottedCircles.{DottedCircles}
 use Rattle.shapers_syllabic.specs.Borders.{SameButSerials, unnumbered}
 use Rattle.shapers_syllabic.specs.Circles.{circle_in, circled, circled_syllable, is_of_kind, rephas_len, with_circle}

@@ -16,7 +16,7 @@ use Rattle.shapers_buffer.specs.Lists.{before_last_run, each_after}
 use Rattle.shapers_buffer.proofs.MarkLemmas.{cleared_after_set}
 use Rattle.shapers_buffer.proofs.MappedLists.{all-range, Contains-flat_map, Contains-each_after}
 use Rattle.shapers_clusters.specs.Cuts.{ShareCluster}
-use Rattle.shapers_clusters.proofs.Made.{Made, all_standing, glyphs-standing, numbered-standing}
+use Rattle.shapers_clusters.proofs.MadeGlyphs.{Made, all_standing, glyphs-standing, numbered-standing}
 use Rattle.shapers_clusters.specs.Laws.{ClustersMade}
 use Rattle.shapers_clusters.proofs.Proved.{made_hold_by, part_shares}
 use Rattle.shapers_text.specs.Thai.{is_sara_am, is_above_base, SaraAmRule, in_two, glyph_rule, place_rule, nikhahit, sara_aa, glyphs_in_two, sources, sara_am_stretches, stretches_at}

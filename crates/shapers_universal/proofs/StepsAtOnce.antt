@@ -10,7 +10,7 @@ use Rattle.shapers_buffer.specs.Glyph.{clusters}
 use Rattle.shapers_buffer.specs.Places.{pick}
 use Rattle.shapers_clusters.specs.Cuts.{ShareCluster}
 use Rattle.shapers_clusters.specs.Flags.{FallsTo}
-use Rattle.shapers_clusters.specs.Joined.{joined_all}
+use Rattle.shapers_clusters.specs.ClusterMerges.{joined_all}
 use Rattle.shapers_clusters.specs.Steps.{MovesMerged, Step, all_first, old_places, run_steps}
 use Rattle.shapers_clusters.proofs.Falls.{merge_all-falls}
 use Rattle.shapers_clusters.proofs.Moves.{clusters-merge_all, clusters-run_steps, clusters_stay, end_within-all_first, falls-run_steps, joined-merged_steps, length-old_places, merge_all-unmerged, merged_fits, run_steps-unmerged, share-moved, within-old_places}

@@ -2,7 +2,7 @@
 ghost use Rattle.std.specs.Prelude.{◌≡◌, true};
 ghost use Rattle.shapers_indic.specs.Plan.{indic_in, is_indic_data};
 ghost use Rattle.shapers_indic_final.specs.FinalLaws.{FinallyKept};
-ghost use Rattle.shapers_indic_final.specs.FinalOpening.{FinallyReordered};
+ghost use Rattle.shapers_indic_final.specs.FinalWordStart.{FinallyReordered};
 ghost use Rattle.shapers_indic_final.specs.FinalRules.{rules_of};
 ghost use Rattle.shapers_syllabic.specs.CircleLaws.{NoNewCluster};
 

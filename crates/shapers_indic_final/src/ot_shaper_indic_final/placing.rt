@@ -6,9 +6,9 @@ ghost use Rattle.shapers_indic_final.specs.FinalMatras.{end_of_base, matra_steps
 ghost use Rattle.shapers_indic_final.specs.FinalPref.{pref_steps};
 ghost use Rattle.shapers_indic_final.specs.FinalReph.{base_after_reph, reph_steps};
 
+use super::left_matras::part_matras;
 use super::matras::{end_of_base, first_left, has_room, matra_target, matras_go};
 use super::moves::{move_pref, move_reph};
-use super::parting::part_matras;
 use super::pref::{formed_pref, pref_target};
 use super::reph::{base_after_reph, opens_with_reph, reph_target};
 use shapers_base::buffer::{Script, hb_buffer_t};

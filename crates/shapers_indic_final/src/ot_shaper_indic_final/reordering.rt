@@ -1,14 +1,14 @@
 //! The final reordering of one syllable, and of a text.
 ghost use Rattle.std.specs.Prelude.{◌%◌, ◌≡◌, ◌≤◌, length};
-ghost use Rattle.shapers_indic_final.specs.FinalOpening.{FinallyReordered};
+ghost use Rattle.shapers_indic_final.specs.FinalWordStart.{FinallyReordered};
 ghost use Rattle.shapers_indic_final.specs.FinalReordering.{final_order, final_steps};
 ghost use Rattle.shapers_syllabic.specs.Reordering.{SyllableReordered};
 
 use super::base::settle_base;
-use super::opening::open_syllable;
 use super::placing::{place_matras, place_pref, place_reph};
 use super::rules::Rules;
 use super::viramas::recover_viramas;
+use super::word_start::open_syllable;
 use shapers_base::buffer::{Script, hb_buffer_t};
 use shapers_indic::ot_shaper_indic::glyphs::is_plain_consonant;
 

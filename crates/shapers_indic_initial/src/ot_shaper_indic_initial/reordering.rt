@@ -5,9 +5,9 @@ ghost use Rattle.shapers_indic_initial.specs.InitialRules.{rules_of};
 ghost use Rattle.shapers_syllabic.specs.Reordering.{SyllableReordered};
 
 use super::masks::set_masks;
-use super::opening::prepare_for_order;
 use super::order::order_syllable;
 use super::ordered_base::ordered_base;
+use super::preparing::prepare_for_order;
 use super::rules::Rules;
 use shapers_base::buffer::{GlyphWalk, Script, ShaperError, hb_buffer_t, hb_glyph_info_t};
 use shapers_base::font::hb_font_t;

@@ -10,7 +10,7 @@ ghost use Rattle.shapers_stretch.specs.Stretch.{cells, copies_in, marks_stretche
 ghost use Rattle.shapers_stretch.specs.StretchLaws.{AreCopies, IsLaidOver};
 
 use super::counting::count_added;
-use super::laying::TileLaying;
+use super::tiles::TileLaying;
 use shapers_base::buffer::{Direction, ShaperError, hb_buffer_t};
 use shapers_base::font::hb_font_t;
 use shapers_base::plan::{PlanData, StretchStart, hb_ot_shape_plan_t};

@@ -1,0 +1,33 @@
+-- One place back: a left matra goes, anything else stays.
+use Rattle.std.proofs.Common.{◌+◌, ◌-◌, sym, ◌∙◌, refl, arith}
+use Rattle.shapers_indic_final.proofs.LeftMatraSteps.{lies_on}
+use Rattle.shapers_indic_final.proofs.LeftMatraWalks.{walk_end, walk_no, walk_start, walk_yes}
+use Rattle.shapers_indic_final.proofs.ot_shaper_indic_final.left_matras.merged_runs.Goals as goal
+
+pub loop-i-init : goal.loop-i-init
+loop-i-init c =
+    let a = c.args in
+    let r = c.requires in
+    (omega arith, walk_start a.s a.top a.p a.b _ a.glyphs.now r.behind r.before r.in_range refl refl refl refl)
+
+pub loop-i-preserved-then-is_left : goal.loop-i-preserved-then-is_left
+loop-i-preserved-then-is_left c =
+    let a = c.args in
+    let l = c.loop-i in
+    let r = c.requires in
+    let w = c.with_matra-runs in
+    let lies = lies_on (a.s + (l.i - 1)) (a.s + a.top) (a.s + a.p) (a.s + a.b) l.runs w.result a.glyphs.now w.ensures.merged w.ensures.end l.invariant.1.lies in
+    (omega (arith, l.invariant.0), walk_yes a.s l.i (l.i - 1) a.top a.p a.b l.runs w.result a.glyphs.now (omega (arith, c.loop-i-test.true)) l.invariant.0 r.behind r.before r.in_range (sym c.is_left.ensures ∙ c.if-is_left.true) w.ensures.merged w.ensures.end lies l.invariant.1)
+
+pub loop-i-preserved : goal.loop-i-preserved
+loop-i-preserved c =
+    let a = c.args in
+    let l = c.loop-i in
+    let r = c.requires in
+    (omega (arith, l.invariant.0), walk_no a.s l.i (l.i - 1) a.top a.p a.b l.runs a.glyphs.now (omega (arith, c.loop-i-test.true)) l.invariant.0 r.behind r.before r.in_range (sym c.is_left.ensures ∙ c.if-is_left.false) l.invariant.1)
+
+pub returns-clause-parted : goal.returns-clause-parted
+returns-clause-parted c =
+    let a = c.args in
+    let l = c.loop-i in
+    walk_end a.s l.i a.top a.p a.b l.runs a.glyphs.now (omega (arith, c.loop-i-test.false)) l.invariant.1

@@ -1,0 +1,76 @@
+//! The opening of a syllable: a left matra gets the mask of `init` at the start of a word, and inside a
+//! word a break before it is unsafe.
+ghost use Rattle.std.specs.Prelude.{◌≡◌, ◌<◌, ◌≤◌, length};
+ghost use Rattle.shapers_indic_final.specs.FinalWordStart.{before_place, continues_word, in_word, opened};
+
+use super::matras::is_left;
+use shapers_base::buffer::{
+    GlyphChange, hb_buffer_t, hb_glyph_info_t, hb_unicode_general_category_t,
+};
+
+// Opens the syllable at place `s`.
+#[inline]
+pub(super) fn open_syllable(init: u32, buffer: &mut hb_buffer_t, s: usize)
+    requires { s < length buffer.old.glyphs }
+    ensures { buffer.new ≡ record buffer.old { glyphs = opened init s buffer.old.glyphs } }
+{
+    if !is_left(&buffer.glyphs()[s]) {
+        return;
+    }
+    if goes_on(buffer.glyphs(), s) {
+        buffer.unsafe_to_break(s.saturating_sub(1), s + 1);
+        return;
+    }
+    buffer.change_each(s, s + 1, &AddInit { init });
+}
+
+// Whether a word goes on behind what stands before a place.
+#[inline]
+fn goes_on(glyphs: &[hb_glyph_info_t], s: usize) -> bool
+    requires { s ≤ length glyphs.now }
+    ensures { result ≡ in_word (before_place s glyphs.now) }
+{
+    if s == 0 {
+        return false;
+    }
+    continues_word(glyphs[s - 1].general_category)
+}
+
+// The mask of `init` to be added.
+#[derive(Clone, Copy)]
+struct AddInit {
+    init: u32,
+}
+
+impl GlyphChange for AddInit {
+    ghost use Rattle.shapers_buffer.specs.GlyphFlags.{with_bits};
+
+    ghost changed = { λ change glyph. with_bits change.init glyph };
+
+    #[inline]
+    fn change(&self, glyph: &mut hb_glyph_info_t) {
+        glyph.mask |= self.init;
+    }
+}
+
+// Whether a word goes on behind a glyph of this category.
+#[inline]
+fn continues_word(category: hb_unicode_general_category_t) -> bool
+    ensures { result ≡ continues_word category }
+{
+    matches!(
+        category,
+        hb_unicode_general_category_t::Cf
+            | hb_unicode_general_category_t::Cn
+            | hb_unicode_general_category_t::Co
+            | hb_unicode_general_category_t::Cs
+            | hb_unicode_general_category_t::Ll
+            | hb_unicode_general_category_t::Lm
+            | hb_unicode_general_category_t::Lo
+            | hb_unicode_general_category_t::Lt
+            | hb_unicode_general_category_t::Lu
+            | hb_unicode_general_category_t::Mc
+            | hb_unicode_general_category_t::Me
+            | hb_unicode_general_category_t::Mn
+    )
+}
