@@ -12,7 +12,7 @@ use Rattle.shapers_base.specs.declared.plan.hb_ot_shape_plan_t.{hb_ot_shape_plan
 use Rattle.shapers_clusters.specs.Breaks.{IsStrictlyMonotone, is_unsafe}
 use Rattle.shapers_arabic.specs.Breaks.{IsSpared, back_at, front_at}
 use Rattle.shapers_arabic.specs.Fresh.{IsFresh, SelectorsAreTransparent}
-use Rattle.shapers_arabic.specs.JoinedText.{joined}
+use Rattle.shapers_arabic.specs.JoinedText.{buffer_joined}
 use Rattle.shapers_arabic.specs.PlanData.{breaks_of, masks_of}
 use Rattle.shapers_arabic.proofs.BrokenGlyphs.{breaks-where_clear, none-needless}
 use Rattle.shapers_arabic.proofs.FirstPieces.{first-as_flagged}
@@ -39,8 +39,8 @@ arabic_breaks plan tables n old new one two set =
     let script = plan.script in
     let joining = tables.joining in
     let general = tables.general in
-    let front = joined breaks masks script joining general (front_at n old) in
-    let same = same_views one two front (joined breaks masks script joining general (back_at n old)) set.first.0 set.second.0 in
+    let front = buffer_joined breaks masks script joining general (front_at n old) in
+    let same = same_views one two front (buffer_joined breaks masks script joining general (back_at n old)) set.first.0 set.second.0 in
     let same_first = same_view one front set.first.0 in
     let keeps = first-as_flagged breaks masks script joining general old new set.whole.0 n set.inside.0 set.inside.1 in
     record {
@@ -80,10 +80,10 @@ universal_breaks plan tables n old new one two joins is set =
     let second : MasksAreSet (Some joins) script tables (back_at n old) two = subst (λ o. MasksAreSet o script tables (back_at n old) two) is set.second in
     let before = with_categories tables old in
     let inside : n < length before.glyphs = omega (arith, length-map old.glyphs (categorized tables.universal), set.inside.1) in
-    let front = first.0 ∙ ap (joined breaks masks script joining general) (categories-front tables n old) in
-    let back = second.0 ∙ ap (joined breaks masks script joining general) (categories-back tables n old) in
-    let same = same_views one two (joined breaks masks script joining general (front_at n before)) (joined breaks masks script joining general (back_at n before)) front back in
-    let same_first = same_view one (joined breaks masks script joining general (front_at n before)) front in
+    let front = first.0 ∙ ap (buffer_joined breaks masks script joining general) (categories-front tables n old) in
+    let back = second.0 ∙ ap (buffer_joined breaks masks script joining general) (categories-back tables n old) in
+    let same = same_views one two (buffer_joined breaks masks script joining general (front_at n before)) (buffer_joined breaks masks script joining general (back_at n before)) front back in
+    let same_first = same_view one (buffer_joined breaks masks script joining general (front_at n before)) front in
     let still = fresh_stays tables masks old in
     let text = sym (text_stays tables joining general old) in
     let silent_stays = subst (SelectorsAreTransparent script) text in

@@ -45,5 +45,5 @@ indic_is_cut_after_both laws reads law plan font spans unread old mid reordered 
     let m = plan.ot_map in
     let p = indic_in plan in
     let r = by_initial plan font mid in
-    law (final.rules_of font p) r.order r.steps r.circles spans old reordered new
+    law (final.final_rules font p) r.order r.steps r.circles spans old reordered new
     (laws font m p mid.script) (reads font m p mid.script) kinds (subst (λ (b : Buffer). Reordered r b reordered) set_up first.0) last

@@ -10,7 +10,7 @@ use Rattle.shapers_base.specs.Font.{CharacterTables}
 use Rattle.shapers_base.specs.declared.plan.breaks.BreakFlags.{BreakFlags}
 use Rattle.shapers_base.specs.declared.plan.joining.hb_arabic_joining_type_t.{hb_arabic_joining_type_t}
 use Rattle.shapers_arabic.specs.Edited.{StayBefore, StayBehind, StayNear, edited}
-use Rattle.shapers_arabic.specs.JoinedText.{joined, stored_types}
+use Rattle.shapers_arabic.specs.JoinedText.{buffer_joined, stored_types}
 use Rattle.shapers_arabic.specs.PlanData.{breaks_of, masks_of}
 use Rattle.shapers_arabic.proofs.Edited.{glyphs-stay_near}
 use Rattle.shapers_universal.specs.PlanData.{arabic_of}
@@ -20,9 +20,9 @@ use Rattle.rustybuzz_shapers.specs.declared.shaper.hb_ot_shaper_t.TheVariants.{A
 use Rattle.rustybuzz_shapers.proofs.Together.{some-of, types-categorized}
 
 -- joined buffers, edited
-edited_by : (breaks : BreakFlags) (masks : List ℕ) (script : Option Script) (tables : CharacterTables) (s e : ℕ) (gs : List hb_glyph_info_t) (old new other : Buffer) → let after = joined breaks masks script tables.joining tables.general in new ≡ after old → other ≡ after (edited s e gs old) → (s ≤ e) × (e ≤ length old.glyphs) → StayNear script tables.joining s e (length gs) old.glyphs new.glyphs other.glyphs
+edited_by : (breaks : BreakFlags) (masks : List ℕ) (script : Option Script) (tables : CharacterTables) (s e : ℕ) (gs : List hb_glyph_info_t) (old new other : Buffer) → let after = buffer_joined breaks masks script tables.joining tables.general in new ≡ after old → other ≡ after (edited s e gs old) → (s ≤ e) × (e ≤ length old.glyphs) → StayNear script tables.joining s e (length gs) old.glyphs new.glyphs other.glyphs
 edited_by breaks masks script tables s e gs old new other first second inside =
-    let after = joined breaks masks script tables.joining tables.general in
+    let after = buffer_joined breaks masks script tables.joining tables.general in
     let near = glyphs-stay_near breaks masks script tables.joining tables.general s e gs old inside.0 inside.1 in
     subst (λ (b : Buffer). StayNear script tables.joining s e (length gs) old.glyphs new.glyphs b.glyphs) (sym second)
     (subst (λ (b : Buffer). StayNear script tables.joining s e (length gs) old.glyphs b.glyphs (after (edited s e gs old)).glyphs) (sym first) near)
@@ -66,7 +66,7 @@ texts_stay_near Universal plan tables s e gs old new other joins set =
     let change = categorized tables.universal in
     let first : MasksAreSet (Some own) script tables old new = subst (λ o. MasksAreSet o script tables old new) is set.first in
     let second : MasksAreSet (Some own) script tables (edited s e gs old) other = subst (λ o. MasksAreSet o script tables (edited s e gs old) other) is set.second in
-    let both = second.0 ∙ ap (joined own.break_flags own.mask_array script tables.joining tables.general) (categories-edited tables s e gs old) in
+    let both = second.0 ∙ ap (buffer_joined own.break_flags own.mask_array script tables.joining tables.general) (categories-edited tables s e gs old) in
     let places = set.inside in
     let within : e ≤ length (map change old.glyphs) = omega (arith, length-map old.glyphs change, places.1) in
     let near = edited_by own.break_flags own.mask_array script tables s e (map change gs) (with_categories tables old) new other first.0 both (places.0, within) in

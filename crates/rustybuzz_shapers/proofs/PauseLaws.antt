@@ -11,8 +11,8 @@ use Rattle.shapers_syllabic.proofs.ReorderingCuts.{cuts_at_borders}
 use Rattle.shapers_syllabic.proofs.ReorderingLaws.{text_reordered}
 use Rattle.rustybuzz_shapers.specs.Pauses.{Reordered, Reordering, ReorderingKeeps}
 
-keeps : (r : Reordering) (old new : Buffer) → ReorderLaws r.order r.steps → ReadsNoSerials r.order r.steps → Reordered r old new → ReorderingKeeps r old new
-keeps r old new laws reads done =
+reordering_keeps : (r : Reordering) (old new : Buffer) → ReorderLaws r.order r.steps → ReadsNoSerials r.order r.steps → Reordered r old new → ReorderingKeeps r old new
+reordering_keeps r old new laws reads done =
     let opened : Buffer = record old { glyphs = circled r.circles old.glyphs } in
     let text = text_reordered r.order r.steps opened new laws done in
     record {
@@ -24,7 +24,7 @@ keeps r old new laws reads done =
 
 -- so of a pause that may refuse, with what else it keeps
 pub on_kept : (P : Type 0) (result : Result Bool ShaperError) (r : Reordering) (old new : Buffer) → ReorderLaws r.order r.steps → ReadsNoSerials r.order r.steps → OnOk result (Reordered r old new) → OnOk result P → OnOk result (ReorderingKeeps r old new × P)
-on_kept P (Ok _) r old new laws reads done more = (keeps r old new laws reads done, more)
+on_kept P (Ok _) r old new laws reads done more = (reordering_keeps r old new laws reads done, more)
 on_kept P (Err _) r old new laws reads done more = tt
 
 -- and where two more things are kept

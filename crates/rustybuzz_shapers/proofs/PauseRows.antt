@@ -30,7 +30,7 @@ use Rattle.shapers_syllabic.specs.Reordering.{script_circles}
 use Rattle.shapers_universal.specs.PlanData.{is_universal}
 use Rattle.shapers_universal.specs.Requests.{universal_list}
 use Rattle.shapers_universal.specs.UniversalText.{universal_circles}
-use Rattle.rustybuzz_shapers.specs.Pauses.{PauseFits, Paused, RefusesPause, circles_of, may_change, pauses_in, reordering_of}
+use Rattle.rustybuzz_shapers.specs.Pauses.{PauseFits, Paused, RefusesPause, pause_circles, may_change, pauses_in, reordering_of}
 
 -- three glyphs, each with its cluster, byte and mask
 abbrev glyph : ℕ → ℕ → ℕ → hb_glyph_info_t
@@ -110,7 +110,7 @@ which_reorder : (plan : hb_ot_shape_plan_t) (font : Font) (b : Buffer) → map (
 which_reorder plan font b = refl
 
 -- which circles each of them opens, where the font has a glyph for them: none but the four before substitutions
-circles_are : (plan : hb_ot_shape_plan_t) (font : Font) (b : Buffer) → map (λ pause. circles_of pause plan font b) fifteen ≡ None ∷ None ∷ None ∷ None ∷ initial_circles font b ∷ script_circles khmer_circles font b ∷ script_circles myanmar_circles font b ∷ script_circles universal_circles font b ∷ None ∷ None ∷ None ∷ None ∷ None ∷ None ∷ None ∷ []
+circles_are : (plan : hb_ot_shape_plan_t) (font : Font) (b : Buffer) → map (λ pause. pause_circles pause plan font b) fifteen ≡ None ∷ None ∷ None ∷ None ∷ initial_circles font b ∷ script_circles khmer_circles font b ∷ script_circles myanmar_circles font b ∷ script_circles universal_circles font b ∷ None ∷ None ∷ None ∷ None ∷ None ∷ None ∷ None ∷ []
 circles_are plan font b = refl
 
 -- which of them may change a buffer: without stretched marks and without a mask for rphf neither records anything, and the fallback of Arabic never does anything

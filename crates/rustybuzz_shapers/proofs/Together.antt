@@ -13,7 +13,7 @@ use Rattle.shapers_base.specs.declared.plan.joining.hb_arabic_joining_type_t.{hb
 use Rattle.shapers_clusters.specs.Borders.{IsBare}
 use Rattle.shapers_clusters.specs.Breaks.{IsClear}
 use Rattle.shapers_arabic.specs.Joining.{nearest, resolved}
-use Rattle.shapers_arabic.specs.JoinedText.{joined, stored_types}
+use Rattle.shapers_arabic.specs.JoinedText.{buffer_joined, stored_types}
 use Rattle.shapers_arabic.specs.PlanData.{breaks_of, masks_of}
 use Rattle.shapers_arabic.specs.Together.{HasOwnLetter, KeepsParts, together_at}
 use Rattle.shapers_arabic.proofs.Together.{glyphs-concatenate}
@@ -23,9 +23,9 @@ use Rattle.rustybuzz_shapers.specs.Together.{TextsConcatenate}
 use Rattle.rustybuzz_shapers.specs.declared.shaper.hb_ot_shaper_t.TheVariants.{Arabic, Universal}
 
 -- joined buffers put together
-together_by : (breaks : BreakFlags) (masks : List ℕ) (script : Option Script) (tables : CharacterTables) (n m : ℕ) (one two one_new two_new new : Buffer) → let after = joined breaks masks script tables.joining tables.general in one_new ≡ after one → two_new ≡ after two → new ≡ after (together_at n m one two) → has_flag 0x40 two.flags ≡ true → ((0 < n) × (n < length one.glyphs)) × ((0 < m) × (m < length two.glyphs)) → HasOwnLetter tables.joining tables.general m two → IsClear one_new.glyphs n → IsBare two_new.glyphs m → KeepsParts script n m one_new.glyphs two_new.glyphs new.glyphs
+together_by : (breaks : BreakFlags) (masks : List ℕ) (script : Option Script) (tables : CharacterTables) (n m : ℕ) (one two one_new two_new new : Buffer) → let after = buffer_joined breaks masks script tables.joining tables.general in one_new ≡ after one → two_new ≡ after two → new ≡ after (together_at n m one two) → has_flag 0x40 two.flags ≡ true → ((0 < n) × (n < length one.glyphs)) × ((0 < m) × (m < length two.glyphs)) → HasOwnLetter tables.joining tables.general m two → IsClear one_new.glyphs n → IsBare two_new.glyphs m → KeepsParts script n m one_new.glyphs two_new.glyphs new.glyphs
 together_by breaks masks script tables n m one two one_new two_new new first second whole wants inside letter clear bare =
-    let after = joined breaks masks script tables.joining tables.general in
+    let after = buffer_joined breaks masks script tables.joining tables.general in
     let both = after (together_at n m one two) in
     let is_clear = subst (λ (b : Buffer). IsClear b.glyphs n) first clear in
     let is_bare = subst (λ (b : Buffer). IsBare b.glyphs m) second bare in
@@ -63,7 +63,7 @@ texts_concatenate Universal plan tables n m one two one_new two_new new joins se
     let first : MasksAreSet (Some own) script tables one one_new = subst (λ o. MasksAreSet o script tables one one_new) is set.first in
     let second : MasksAreSet (Some own) script tables two two_new = subst (λ o. MasksAreSet o script tables two two_new) is set.second in
     let whole : MasksAreSet (Some own) script tables (together_at n m one two) new = subst (λ o. MasksAreSet o script tables (together_at n m one two) new) is set.whole in
-    let both = whole.0 ∙ ap (joined own.break_flags own.mask_array script tables.joining tables.general) (categories-together tables n m one two) in
+    let both = whole.0 ∙ ap (buffer_joined own.break_flags own.mask_array script tables.joining tables.general) (categories-together tables n m one two) in
     let change = categorized tables.universal in
     let places = set.inside in
     let inside_one : n < length (map change one.glyphs) = omega (arith, length-map one.glyphs change, places.0.1) in

@@ -17,7 +17,7 @@ use Rattle.shapers_syllabic.specs.Borders.{unnumbered}
 use Rattle.shapers_syllabic.specs.ReorderingLaws.{paused_clusters, paused_order}
 use Rattle.shapers_syllabic.specs.SpanCuts.{CutsBetweenSpans}
 use Rattle.shapers_syllabic.specs.Syllabic.{unsafe_spans}
-use Rattle.shapers_universal.specs.UniversalLaws.{set_up_by_spans, unjoined}
+use Rattle.shapers_universal.specs.UniversalLaws.{set_up_by_spans, without_serial_or_forms}
 use Rattle.rustybuzz_shapers.specs.Pauses.{Paused, Reordering, by_initial, by_universal}
 
 -- a set-up by spans and the reordering that runs directly after it, with what it goes by
@@ -37,7 +37,7 @@ UniversalIsCut = (plan : hb_ot_shape_plan_t) (font : Font) (spans unread : List 
     Paused SetupSyllablesUse plan font spans old mid →
     Paused ReorderUse plan font unread mid new →
     let r = by_universal font mid in
-    CutsBetweenSpans (unjoined plan.plan_data plan.ot_map)
+    CutsBetweenSpans (without_serial_or_forms plan.plan_data plan.ot_map)
     (set_up_by_spans plan.plan_data plan.ot_map) (paused_order r.circles r.order)
     (paused_clusters r.circles r.steps old.level) spans old.glyphs new.glyphs
 
@@ -49,7 +49,7 @@ IndicIsCutAfterBoth = (plan : hb_ot_shape_plan_t) (font : Font) (spans unread : 
     Paused InitialReordering plan font unread mid reordered →
     Paused FinalReordering plan font unread reordered new →
     let r = by_initial plan font mid in
-    let rules = final.rules_of font (indic_in plan) in
+    let rules = final.final_rules font (indic_in plan) in
     CutsBetweenSpans (uninitiated rules) unsafe_spans
     (final_after rules old.script r.circles r.order)
     (final_clusters_after rules old.script old.level r.circles r.order r.steps)

@@ -9,7 +9,7 @@ use Rattle.shapers_buffer.specs.Glyph.{clusters, characters}
 use Rattle.shapers_buffer.specs.Refusals.{Refuses, RefusesLength}
 use Rattle.shapers_arabic.specs.Marks as arabic
 use Rattle.shapers_arabic.specs.Marks.{marks_merged, marks_reordered}
-use Rattle.shapers_arabic.specs.JoinedText.{AreCharacters, CutsAsHalves, joined}
+use Rattle.shapers_arabic.specs.JoinedText.{AreCharacters, CutsAsHalves, buffer_joined}
 use Rattle.shapers_arabic.specs.PlanData.{arabic_plan, breaks_of, IsArabic, masks_of}
 use Rattle.shapers_buffer.specs.declared.buffer.glyph.hb_glyph_info_t.{hb_glyph_info_t}
 use Rattle.shapers_buffer.specs.declared.buffer.refusal.ShaperError.{ShaperError}
@@ -33,7 +33,7 @@ use Rattle.shapers_syllabic.specs.Characters.{composed_behind, with_category, wi
 use Rattle.shapers_universal.specs.PlanData.{arabic_of, is_universal, universal_plan}
 use Rattle.shapers_universal.specs.UniversalMasks.{CanJoin, MasksAreSet}
 use Rattle.shapers_text.specs.Hebrew as hebrew
-use Rattle.shapers_text.specs.Hebrew.{composed_in_hebrew, mark_step}
+use Rattle.shapers_text.specs.Hebrew.{composed_in_hebrew, hebrew_mark_step}
 use Rattle.shapers_text.specs.Thai.{is_sara_am, glyphs_in_two}
 use Rattle.shapers_text.specs.ThaiForms.{asks_for_forms, preprocessed_in_thai}
 use Rattle.shapers_text.specs.ThaiLaws.{ClustersInTwo, FlagsInTwo, KeptInTwo}
@@ -179,7 +179,7 @@ abbrev pub MasksSet :
 MasksSet Arabic plan tables old new =
     let breaks = breaks_of plan.plan_data in
     let masks = masks_of plan.plan_data in
-    (new ≡ joined breaks masks plan.script tables.joining tables.general old)
+    (new ≡ buffer_joined breaks masks plan.script tables.joining tables.general old)
     × CutsAsHalves plan.script tables.joining tables.general old new
 MasksSet Hangul plan tables old new = new ≡ with_jamo_masks plan.plan_data old
 MasksSet Indic plan tables old new =
@@ -198,11 +198,12 @@ MarksReordered Arabic start end old new =
     new ≡ record old
     { glyphs = marks_reordered start end (marks_merged old.level start end old.glyphs) }
 MarksReordered Hebrew start end old new =
-    new ≡ record old { glyphs = run_step old.level (mark_step start end old.glyphs) old.glyphs }
+    new ≡ record old
+    { glyphs = run_step old.level (hebrew_mark_step start end old.glyphs) old.glyphs }
 MarksReordered shaper start end old new = Lacking (has_hook shaper ReorderMarks) (new ≡ old)
 
 -- that no mark is lost, exact cuts, the cluster law and the flag law
 abbrev pub MarksKeep : hb_ot_shaper_t → ℕ → ℕ → Buffer → Buffer → Type 0
-MarksKeep Arabic start end old new = arabic.MarksReordered start end old new
-MarksKeep Hebrew start end old new = hebrew.MarksReordered start end old new
+MarksKeep Arabic start end old new = arabic.ArabicMarksReordered start end old new
+MarksKeep Hebrew start end old new = hebrew.HebrewMarksReordered start end old new
 MarksKeep shaper start end old new = Lacking (has_hook shaper ReorderMarks) (new ≡ old)

@@ -96,8 +96,8 @@ by_initial plan font b = record {
 abbrev pub by_final : hb_ot_shape_plan_t → Font → Buffer → Reordering
 by_final plan font b = record {
   circles = None;
-  order = final_order (final.rules_of font (indic_in plan)) b.script;
-  steps = final_steps (final.rules_of font (indic_in plan)) b.script;
+  order = final_order (final.final_rules font (indic_in plan)) b.script;
+  steps = final_steps (final.final_rules font (indic_in plan)) b.script;
 }
 
 -- those of Khmer, Myanmar and the universal shaper
@@ -148,8 +148,8 @@ reordering_of ClearSubstitutionFlags plan font b = None
 reordering_of ArabicFallbackShape plan font b = None
 
 -- the dotted circles that it opens, if any: true is returned exactly where circles are wanted
-abbrev pub circles_of : Pause → hb_ot_shape_plan_t → Font → Buffer → Option DottedCircles
-circles_of pause plan font b = option_and_then (λ r. r.circles) (reordering_of pause plan font b)
+abbrev pub pause_circles : Pause → hb_ot_shape_plan_t → Font → Buffer → Option DottedCircles
+pause_circles pause plan font b = option_and_then (λ r. r.circles) (reordering_of pause plan font b)
 
 -- the buffer before and after a reordering: circles come into the text, and each syllable becomes
 -- what it goes by
@@ -174,7 +174,7 @@ Paused ReorderKhmer plan font spans old new = Reordered (by_khmer plan font old)
 Paused ReorderMyanmar plan font spans old new = Reordered (by_myanmar font old) old new
 Paused ReorderUse plan font spans old new = Reordered (by_universal font old) old new
 Paused FinalReordering plan font spans old new =
-    FinallyReordered (final.rules_of font (indic_in plan)) old new
+    FinallyReordered (final.final_rules font (indic_in plan)) old new
 Paused RecordStch plan font spans old new = new ≡ tiles_recorded plan.plan_data old
 Paused RecordRphf plan font spans old new = new ≡ with_rphf_recorded (rphf_of plan.plan_data) old
 Paused RecordPref plan font spans old new = new ≡ with_pref_recorded old
@@ -250,7 +250,8 @@ PauseKeeps ReorderMyanmar plan font spans old new =
 PauseKeeps ReorderUse plan font spans old new =
     ReorderingKeeps (by_universal font old) old new × MergedFirst (by_universal font old) old new
 PauseKeeps FinalReordering plan font spans old new =
-    FinallyKept (final.rules_of font (indic_in plan)) old new × NoNewCluster old.glyphs new.glyphs
+    FinallyKept (final.final_rules font (indic_in plan)) old new
+    × NoNewCluster old.glyphs new.glyphs
 PauseKeeps RecordStch plan font spans old new = OnlyFlagsAdded old.glyphs new.glyphs
 PauseKeeps RecordRphf plan font spans old new = OnlyFlagsAdded old.glyphs new.glyphs
 PauseKeeps RecordPref plan font spans old new = OnlyFlagsAdded old.glyphs new.glyphs

@@ -13,7 +13,7 @@ use Rattle.shapers_base.specs.declared.plan.pause.Pause.TheVariants.{FinalReorde
 use Rattle.shapers_base.specs.Font.{Font}
 use Rattle.shapers_indic.specs.Plan.{indic_in}
 use Rattle.shapers_indic_final.specs.FinalWordStart.{with_inits}
-use Rattle.shapers_indic_final.specs.FinalRules.{rules_of as final_rules}
+use Rattle.shapers_indic_final.specs.FinalRules.{final_rules}
 use Rattle.shapers_syllabic.specs.Circles.{circled}
 use Rattle.shapers_syllabic.specs.Reordering.{text_order}
 use Rattle.rustybuzz_shapers.specs.Pauses.{Paused, Reordering, reordering_of}

@@ -7,7 +7,7 @@ use Rattle.shapers_buffer.specs.declared.buffer.glyph.hb_glyph_info_t.{hb_glyph_
 use Rattle.shapers_base.specs.declared.plan.joining.hb_arabic_joining_type_t.TheVariants.{U, R, D, GroupAlaph, GroupDalathRish, T}
 use Rattle.shapers_arabic.specs.declared.ot_shaper_arabic.arabic_action_t.TheConstants.{ISOL, FIN2, FINA, FIN3, INIT, NONE}
 use Rattle.shapers_arabic.specs.Joining.{forms, selected}
-use Rattle.shapers_arabic.specs.JoinedText.{with_forms}
+use Rattle.shapers_arabic.specs.JoinedText.{with_joining_forms}
 use Rattle.shapers_arabic.specs.JoiningFlags.{joining_flags}
 use Rattle.shapers_clusters.specs.Breaks.{forbids}
 use Rattle.shapers_arabic.specs.Breaks.{sound_flags}
@@ -114,6 +114,6 @@ odd_halves : selected [] ((0x1820, ISOL) ∷ []) ++ selected [] ((0x180B, ISOL) 
 odd_halves = refl
 
 -- a form's mask with bit 1 flags a glyph that joining doesn't
-masks_of_forms : map (λ g. g.mask) (with_forms (1 ∷ []) (ISOL ∷ ISOL ∷ []) two) ≡ 1 ∷ 1 ∷ []
+masks_of_forms : map (λ g. g.mask) (with_joining_forms (1 ∷ []) (ISOL ∷ ISOL ∷ []) two) ≡ 1 ∷ 1 ∷ []
 unfolding two
 masks_of_forms = refl

@@ -19,14 +19,14 @@ use Rattle.shapers_base.specs.declared.plan.breaks.BreakFlags.TheVariants.{AsCod
 use Rattle.shapers_base.specs.declared.plan.joining.hb_arabic_joining_type_t.{hb_arabic_joining_type_t}
 use Rattle.shapers_clusters.specs.Breaks.{forbids, IsFree, IsClear, IsStrictlyMonotone, is_unsafe}
 use Rattle.shapers_clusters.specs.Flags.{bit_at}
-use Rattle.shapers_clusters.proofs.ClearPlaces.{held, clear-places}
+use Rattle.shapers_clusters.proofs.ClearPlaces.{held_by_calls, clear-places}
 use Rattle.shapers_clusters.proofs.FlagCalls.{map-flags_called, plain-with_bits}
 use Rattle.shapers_clusters.proofs.Needless.{needless, none-unsafe, unsafe-none}
 use Rattle.shapers_arabic.specs.Breaks.{sound_flags, front_at, back_at, IsSpared, BreaksWhereClear, NoneNeedless}
 use Rattle.shapers_arabic.specs.Fresh.{IsFresh, SelectorsAreTransparent}
 use Rattle.shapers_arabic.specs.Joining.{resolved, forms, selected}
 use Rattle.shapers_arabic.specs.JoiningFlags.{joining_flags}
-use Rattle.shapers_arabic.specs.JoinedText.{Text, is_mongolian, added_calls, flag_calls, forms_of, first_half, second_half, with_form, with_forms, joined_glyphs, joined, text_of, stored_types, context_types}
+use Rattle.shapers_arabic.specs.JoinedText.{Text, is_mongolian, added_calls, flag_calls, forms_of, first_half, second_half, with_form, with_joining_forms, joined_glyphs, buffer_joined, text_of, stored_types, context_types}
 use Rattle.shapers_arabic.specs.SoundFlags.{form_flags_along, selector_flags}
 use Rattle.shapers_arabic.proofs.BreakLists.{exact}
 use Rattle.shapers_arabic.proofs.FreePlaces.{free-halves}
@@ -37,11 +37,11 @@ use Rattle.shapers_arabic.proofs.Selectors.{selected-halves}
 use Rattle.shapers_arabic.proofs.SoundOrder.{calls-in_order}
 
 -- flags don't show in the order view
-pub view-joined : (breaks : BreakFlags) (masks : List ℕ) (flags : BufferFlags) (script : Option Script) (text : Text) (gs : List hb_glyph_info_t) → order_view (joined_glyphs breaks masks flags script text gs) ≡ order_view (with_forms masks (forms_of script text) gs)
+pub view-joined : (breaks : BreakFlags) (masks : List ℕ) (flags : BufferFlags) (script : Option Script) (text : Text) (gs : List hb_glyph_info_t) → order_view (joined_glyphs breaks masks flags script text gs) ≡ order_view (with_joining_forms masks (forms_of script text) gs)
 view-joined breaks masks flags script text gs =
-    map-flags_called plain (λ bits g low. plain-with_bits bits g low) (has_flag flags_concat flags) (has_flag flags_tatweel flags) (flag_calls breaks script text) (with_forms masks (forms_of script text) gs) (calls-in_order breaks script text)
+    map-flags_called plain (λ bits g low. plain-with_bits bits g low) (has_flag flags_concat flags) (has_flag flags_tatweel flags) (flag_calls breaks script text) (with_joining_forms masks (forms_of script text) gs) (calls-in_order breaks script text)
 
-pub with_forms-parts : (masks fs hs : List ℕ) (xs ys : List hb_glyph_info_t) → length fs ≡ length xs → with_forms masks (fs ++ hs) (xs ++ ys) ≡ with_forms masks fs xs ++ with_forms masks hs ys
+pub with_forms-parts : (masks fs hs : List ℕ) (xs ys : List hb_glyph_info_t) → length fs ≡ length xs → with_joining_forms masks (fs ++ hs) (xs ++ ys) ≡ with_joining_forms masks fs xs ++ with_joining_forms masks hs ys
 with_forms-parts masks [] hs [] ys e = refl
 with_forms-parts masks [] hs (x ∷ xs) ys e = absurd (omega arith)
 with_forms-parts masks (f ∷ fs) hs [] ys e = absurd (omega arith)
@@ -62,17 +62,17 @@ forms-break script text n same pos within free =
     let c_at : length cs ≡ n = length-take-le n text.characters (omega arith) in
     let first = sound_flags text.before text.types text.after in
     let rest = λ (b : Bool) (xs : List ℕ) (ys : List ℕ). cond b (selector_flags [] (zip xs ys)) [] in
-    let split = or_parts (held n first) (held n (rest (is_mongolian script) text.characters rule)) (sym (ap (held n) (sym (append_assoc (joining_flags text.before text.types text.after) (form_flags_along text.before [] text.types text.after) (rest (is_mongolian script) text.characters rule))) ∙ list_any-append (forbids n) first (rest (is_mongolian script) text.characters rule)) ∙ free) in
+    let split = or_parts (held_by_calls n first) (held_by_calls n (rest (is_mongolian script) text.characters rule)) (sym (ap (held_by_calls n) (sym (append_assoc (joining_flags text.before text.types text.after) (form_flags_along text.before [] text.types text.after) (rest (is_mongolian script) text.characters rule))) ∙ list_any-append (forbids n) first (rest (is_mongolian script) text.characters rule)) ∙ free) in
     let Q : ℕ → Type 0 = λ m. IsFree first m in
     let R : List hb_arabic_joining_type_t → Type 0 = λ xs. IsFree (sound_flags text.before xs text.after) (length ts) in
     let may = (exact text.before ts us text.after (omega arith) (omega (arith, length-drop n text.types))).0 (subst R (sym whole) (subst Q (sym at) split.0)) in
     let by_rule : rule ≡ fs ++ hs = ap (λ xs. forms text.before xs text.after) (sym whole) ∙ may in
-    elim (is_mongolian script) as (λ b. held n (rest b text.characters rule) ≡ false → cond b (selected [] (zip text.characters rule)) rule ≡ cond b (selected [] (zip cs fs)) fs ++ cond b (selected [] (zip ds hs)) hs) [
+    elim (is_mongolian script) as (λ b. held_by_calls n (rest b text.characters rule) ≡ false → cond b (selected [] (zip text.characters rule)) rule ≡ cond b (selected [] (zip cs fs)) fs ++ cond b (selected [] (zip ds hs)) hs) [
       | false ↦ λ f. by_rule
       | true ↦ λ f.
           let parts : zip text.characters rule ≡ zip (cs ++ ds) (fs ++ hs) = ap (λ xs. zip xs rule) (sym (take-append-drop n text.characters)) ∙ ap (zip (cs ++ ds)) by_rule in
           ap (selected []) parts
-          ∙ selected-halves cs ds fs hs (length-forms text.before ts [] ∙ at ∙ sym c_at) (omega arith) (ap (λ m. held m (selector_flags [] (zip (cs ++ ds) (fs ++ hs)))) c_at ∙ ap (λ ps. held n (selector_flags [] ps)) (sym parts) ∙ f)
+          ∙ selected-halves cs ds fs hs (length-forms text.before ts [] ∙ at ∙ sym c_at) (omega arith) (ap (λ m. held_by_calls m (selector_flags [] (zip (cs ++ ds) (fs ++ hs)))) c_at ∙ ap (λ ps. held_by_calls n (selector_flags [] ps)) (sym parts) ∙ f)
     ] split.1
 
 -- the glyphs are then those of the halves
@@ -85,24 +85,24 @@ halves-free breaks masks flags script text gs n characters long pos within free 
     let half : length one.characters ≡ length one.types = length-take-le n text.characters (omega arith) ∙ sym (length-take-le n text.types (omega arith)) in
     let first : length (forms_of script one) ≡ length (take n gs) = length-forms_of script one half ∙ length-take-le n text.types (omega arith) ∙ sym (length-take-le n gs (omega arith)) in
     view-joined breaks masks flags script text gs
-    ∙ ap (λ xs. order_view (with_forms masks xs gs)) halves
-    ∙ ap (λ xs. order_view (with_forms masks (forms_of script one ++ forms_of script two) xs)) (sym (take-append-drop n gs))
+    ∙ ap (λ xs. order_view (with_joining_forms masks xs gs)) halves
+    ∙ ap (λ xs. order_view (with_joining_forms masks (forms_of script one ++ forms_of script two) xs)) (sym (take-append-drop n gs))
     ∙ ap order_view (with_forms-parts masks (forms_of script one) (forms_of script two) (take n gs) (drop n gs) first)
-    ∙ map-append plain (with_forms masks (forms_of script one) (take n gs)) (with_forms masks (forms_of script two) (drop n gs))
-    ∙ ap (λ xs. xs ++ order_view (with_forms masks (forms_of script two) (drop n gs))) (sym (view-joined breaks masks flags script one (take n gs)))
+    ∙ map-append plain (with_joining_forms masks (forms_of script one) (take n gs)) (with_joining_forms masks (forms_of script two) (drop n gs))
+    ∙ ap (λ xs. xs ++ order_view (with_joining_forms masks (forms_of script two) (drop n gs))) (sym (view-joined breaks masks flags script one (take n gs)))
     ∙ ap (λ xs. order_view (joined_glyphs breaks masks flags script one (take n gs)) ++ xs) (sym (view-joined breaks masks flags script two (drop n gs)))
 
 -- a clear place that is spared is free
 pub free-clear : (breaks : BreakFlags) (masks : List ℕ) (flags : BufferFlags) (script : Option Script) (text : Text) (gs : List hb_glyph_info_t) (n : ℕ) → length text.characters ≡ length gs → length text.types ≡ length gs → 0 < n → n < length gs → IsClear (joined_glyphs breaks masks flags script text gs) n → IsFree (flag_calls breaks script text) n
 free-clear breaks masks flags script text gs n characters long pos within clear =
-    let formed = with_forms masks (forms_of script text) gs in
+    let formed = with_joining_forms masks (forms_of script text) gs in
     let all_long : length (forms_of script text) ≡ length text.types = length-forms_of script text (characters ∙ sym long) in
     let formed_long : length formed ≡ length gs = length-map (zip (forms_of script text) gs) (λ p. with_form masks p.0 p.1) ∙ omega (arith, length-zip (forms_of script text) gs) in
     clear-places (has_flag flags_concat flags) (has_flag flags_tatweel flags) (flag_calls breaks script text) formed n (calls-in_order breaks script text) pos (omega arith) clear
 
 spared-free : (breaks : BreakFlags) (script : Option Script) (text : Text) (n : ℕ) → IsFree (flag_calls breaks script text) n → IsSpared breaks script text n → IsFree (flag_calls Sound script text) n
 spared-free AsCode script text n free spared =
-    list_any-append (forbids n) (joining_flags text.before text.types text.after) (added_calls script text) ∙ or_from (held n (joining_flags text.before text.types text.after)) (held n (added_calls script text)) free spared
+    list_any-append (forbids n) (joining_flags text.before text.types text.after) (added_calls script text) ∙ or_from (held_by_calls n (joining_flags text.before text.types text.after)) (held_by_calls n (added_calls script text)) free spared
 spared-free Sound script text n free spared = free
 
 -- the texts of the halves of a buffer
@@ -122,12 +122,12 @@ pub types_long : (joining : ℕ → hb_arabic_joining_type_t) (gs : List hb_glyp
 types_long joining gs = length-map gs (λ g. resolved (joining g.glyph_id) g.general_category)
 
 -- the halves of a buffer, joined by themselves
-halves-are : (breaks : BreakFlags) (masks : List ℕ) (script : Option Script) (joining : ℕ → hb_arabic_joining_type_t) (general : ℕ → hb_unicode_general_category_t) (n : ℕ) (b : Buffer) → let text = text_of joining general b in order_view (joined breaks masks script joining general (front_at n b)).glyphs ++ order_view (joined breaks masks script joining general (back_at n b)).glyphs ≡ order_view (joined_glyphs breaks masks b.flags script (first_half n [] text) (take n b.glyphs)) ++ order_view (joined_glyphs breaks masks b.flags script (second_half n [] text) (drop n b.glyphs))
+halves-are : (breaks : BreakFlags) (masks : List ℕ) (script : Option Script) (joining : ℕ → hb_arabic_joining_type_t) (general : ℕ → hb_unicode_general_category_t) (n : ℕ) (b : Buffer) → let text = text_of joining general b in order_view (buffer_joined breaks masks script joining general (front_at n b)).glyphs ++ order_view (buffer_joined breaks masks script joining general (back_at n b)).glyphs ≡ order_view (joined_glyphs breaks masks b.flags script (first_half n [] text) (take n b.glyphs)) ++ order_view (joined_glyphs breaks masks b.flags script (second_half n [] text) (drop n b.glyphs))
 halves-are breaks masks script joining general n b =
-    ap (λ t. order_view (joined_glyphs breaks masks b.flags script t (take n b.glyphs)) ++ order_view (joined breaks masks script joining general (back_at n b)).glyphs) (text-front joining general n b)
+    ap (λ t. order_view (joined_glyphs breaks masks b.flags script t (take n b.glyphs)) ++ order_view (buffer_joined breaks masks script joining general (back_at n b)).glyphs) (text-front joining general n b)
     ∙ ap (λ t. order_view (joined_glyphs breaks masks b.flags script (first_half n [] (text_of joining general b)) (take n b.glyphs)) ++ order_view (joined_glyphs breaks masks b.flags script t (drop n b.glyphs))) (text-back joining general n b)
 
-pub breaks-where_clear : (breaks : BreakFlags) (masks : List ℕ) (script : Option Script) (joining : ℕ → hb_arabic_joining_type_t) (general : ℕ → hb_unicode_general_category_t) (old new : Buffer) → new ≡ joined breaks masks script joining general old → BreaksWhereClear breaks masks script joining general old new
+pub breaks-where_clear : (breaks : BreakFlags) (masks : List ℕ) (script : Option Script) (joining : ℕ → hb_arabic_joining_type_t) (general : ℕ → hb_unicode_general_category_t) (old new : Buffer) → new ≡ buffer_joined breaks masks script joining general old → BreaksWhereClear breaks masks script joining general old new
 breaks-where_clear breaks masks script joining general old new is n pos within clear spared =
     let text = text_of joining general old in
     let gs = old.glyphs in
@@ -140,7 +140,7 @@ breaks-where_clear breaks masks script joining general old new is n pos within c
     ∙ sym (halves-are breaks masks script joining general n old)
 
 -- forms and their masks leave clusters, and set no bit of a break where no mask has a glyph flag bit
-clusters-formed : (masks fs : List ℕ) (gs : List hb_glyph_info_t) → length fs ≡ length gs → clusters (with_forms masks fs gs) ≡ clusters gs
+clusters-formed : (masks fs : List ℕ) (gs : List hb_glyph_info_t) → length fs ≡ length gs → clusters (with_joining_forms masks fs gs) ≡ clusters gs
 clusters-formed masks [] [] e = refl
 clusters-formed masks [] (g ∷ gs) e = absurd (omega arith)
 clusters-formed masks (f ∷ fs) [] e = absurd (omega arith)
@@ -158,7 +158,7 @@ unflagged-one g form m e low =
     let third : bit_at 2 m ≡ 0 = omega arith in
     unsafe-none (record g { auxiliary = form; mask = bit_or g.mask m }) (omega (arith, bit_at_or g.mask m 0, bit_at_or g.mask m 2, first, third, before))
 
-unflagged-formed : (masks fs : List ℕ) (gs : List hb_glyph_info_t) → AllByRecursion (λ m. m % 8 ≡ 0) masks → AllByRecursion (λ g. is_unsafe g ≡ false) gs → AllByRecursion (λ g. is_unsafe g ≡ false) (with_forms masks fs gs)
+unflagged-formed : (masks fs : List ℕ) (gs : List hb_glyph_info_t) → AllByRecursion (λ m. m % 8 ≡ 0) masks → AllByRecursion (λ g. is_unsafe g ≡ false) gs → AllByRecursion (λ g. is_unsafe g ≡ false) (with_joining_forms masks fs gs)
 unflagged-formed masks [] gs m all = tt
 unflagged-formed masks (f ∷ fs) [] m all = tt
 unflagged-formed masks (f ∷ fs) (g ∷ gs) m all = (unflagged-one g f (get_or masks f 0) all.0 (mask-at masks f m), unflagged-formed masks fs gs m all.1)
@@ -173,7 +173,7 @@ forms-shown breaks masks flags script text gs characters long =
 pub clear-fresh : (breaks : BreakFlags) (masks : List ℕ) (flags : BufferFlags) (script : Option Script) (text : Text) (gs : List hb_glyph_info_t) (n : ℕ) → length text.characters ≡ length gs → length text.types ≡ length gs → IsFresh masks gs → 0 < n → n < length gs → IsFree (flag_calls breaks script text) n → IsClear (joined_glyphs breaks masks flags script text gs) n
 clear-fresh breaks masks flags script text gs n characters long fresh pos within free =
     let all = forms_of script text in
-    let formed = with_forms masks all gs in
+    let formed = with_joining_forms masks all gs in
     let all_long : length all ≡ length gs = length-forms_of script text (characters ∙ sym long) ∙ long in
     let same = clusters-formed masks all gs all_long in
     let formed_long : length formed ≡ length gs = sym (length-map formed (λ (g : hb_glyph_info_t). g.cluster)) ∙ ap length same ∙ length-map gs (λ (g : hb_glyph_info_t). g.cluster) in
@@ -199,7 +199,7 @@ clear-broken masks flags script text gs n characters long fresh silent pos withi
     ∙ ap (λ xs. forms_of script one ++ xs) (forms-shown Sound masks flags script two (drop n gs) two_same two_long) in
     clear-fresh Sound masks flags script text gs n characters long fresh pos within (free-halves script text n (characters ∙ sym long) pos (omega arith) silent forms_fall)
 
-pub none-needless : (breaks : BreakFlags) (masks : List ℕ) (script : Option Script) (joining : ℕ → hb_arabic_joining_type_t) (general : ℕ → hb_unicode_general_category_t) (old new : Buffer) → new ≡ joined breaks masks script joining general old → NoneNeedless breaks masks script joining general old new
+pub none-needless : (breaks : BreakFlags) (masks : List ℕ) (script : Option Script) (joining : ℕ → hb_arabic_joining_type_t) (general : ℕ → hb_unicode_general_category_t) (old new : Buffer) → new ≡ buffer_joined breaks masks script joining general old → NoneNeedless breaks masks script joining general old new
 none-needless AsCode masks script joining general old new is e fresh silent n pos within may = cc
 none-needless Sound masks script joining general old new is e fresh silent n pos within may =
     let text = text_of joining general old in

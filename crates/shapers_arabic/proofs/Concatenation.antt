@@ -8,11 +8,11 @@ use Rattle.shapers_buffer.specs.GlyphFlags.{FlagCall, UnsafeToBreak, UnsafeToCon
 use Rattle.shapers_base.specs.declared.plan.joining.hb_arabic_joining_type_t.{hb_arabic_joining_type_t}
 use Rattle.shapers_base.specs.declared.plan.joining.hb_arabic_joining_type_t.TheVariants.{U, L, T, X}
 use Rattle.shapers_arabic.specs.Joining.{nearest, joins_back, act, forms}
-use Rattle.shapers_arabic.specs.JoiningFlags.{Letter, nearest_letter, changes, can_change, letter_flags, end_flags, flags_along, joining_flags}
+use Rattle.shapers_arabic.specs.JoiningFlags.{Letter, nearest_letter, changes_form, can_change, letter_flags, end_flags, flags_along, joining_flags}
 use Rattle.shapers_arabic.proofs.FlagLists.{flags_along-append}
 use Rattle.shapers_arabic.proofs.JoiningLists.{forms-append}
 use Rattle.shapers_clusters.specs.Breaks.{forbids, IsFree}
-use Rattle.shapers_clusters.proofs.ClearPlaces.{held}
+use Rattle.shapers_clusters.proofs.ClearPlaces.{held_by_calls}
 use Rattle.shapers_clusters.specs.Borders.{forbids_border, IsOpen}
 use Rattle.shapers_arabic.specs.Concatenation.{ConcatenationLaw}
 use Rattle.shapers_arabic.proofs.FlaggedPlaces.{StandsBefore, stands-before, changed}
@@ -29,13 +29,13 @@ open-free : (calls : List FlagCall) (p : ℕ) → IsOpen calls p → IsFree call
 open-free [] p f = refl
 open-free (call ∷ calls) p f =
     let both = or_parts (forbids_border p call) (list_any (forbids_border p) calls) f in
-    or_from (forbids p call) (held p calls) (free-call call p both.0) (open-free calls p both.1)
+    or_from (forbids p call) (held_by_calls p calls) (free-call call p both.0) (open-free calls p both.1)
 
 -- whether the first letter joins back
-first_joins : List hb_arabic_joining_type_t → Bool
-first_joins [] = false
-first_joins (T ∷ ts) = first_joins ts
-first_joins (t ∷ ts) = joins_back (Some t)
+first_letter_joins : List hb_arabic_joining_type_t → Bool
+first_letter_joins [] = false
+first_letter_joins (T ∷ ts) = first_letter_joins ts
+first_letter_joins (t ∷ ts) = joins_back (Some t)
 
 none_or : (x : Bool) → x ≡ true → (x || false) ≡ true
 none_or x e = or_left x false e
@@ -48,11 +48,11 @@ letter-joined : (context : List hb_arabic_joining_type_t) (o : Option Letter) (t
 letter-joined context None t e p j h i =
     ap (λ b. list_any (forbids_border p) (cond b (UnsafeToConcat 0 e ∷ []) [])) j ∙ none_or _ (and_from (leb 0 p) (ltb p e) (le-leb 0 p (omega arith)) (lt-ltb p e i))
 letter-joined context (Some k) t e p j h i =
-    ap (λ b. list_any (forbids_border p) (cond (changes context k t) (SafeToInsertTatweel (length k.before) e ∷ []) (cond (b || can_change context k) (UnsafeToConcat (length k.before) e ∷ []) []))) j
-    ∙ pair-joined (changes context k t) (can_change context k) (length k.before) e p h i
+    ap (λ b. list_any (forbids_border p) (cond (changes_form context k t) (SafeToInsertTatweel (length k.before) e ∷ []) (cond (b || can_change context k) (UnsafeToConcat (length k.before) e ∷ []) []))) j
+    ∙ pair-joined (changes_form context k t) (can_change context k) (length k.before) e p h i
 
-along-joined : (context passed ts : List hb_arabic_joining_type_t) (p : ℕ) → p ≤ length passed → StandsBefore (nearest_letter passed) p → first_joins ts ≡ true → list_any (forbids_border p) (flags_along context passed ts) ≡ true
-unfolding first_joins
+along-joined : (context passed ts : List hb_arabic_joining_type_t) (p : ℕ) → p ≤ length passed → StandsBefore (nearest_letter passed) p → first_letter_joins ts ≡ true → list_any (forbids_border p) (flags_along context passed ts) ≡ true
+unfolding first_letter_joins
 along-joined context passed [] p h b j = absurd (false≢true j)
 along-joined context passed (T ∷ ts) p h b j = along-joined context (T ∷ passed) ts p (omega arith) b j
 along-joined context passed (t ∷ ts) p h b j =
@@ -60,7 +60,7 @@ along-joined context passed (t ∷ ts) p h b j =
     list_any-append (forbids_border p) calls (flags_along context (t ∷ passed) ts)
     ∙ or_left _ (list_any (forbids_border p) (flags_along context (t ∷ passed) ts)) (letter-joined context (nearest_letter passed) t (suc (length passed)) p j b (omega arith))
 
-open-stands : (context cs ds after : List hb_arabic_joining_type_t) → IsOpen (joining_flags context (cs ++ ds) after) (length cs) → first_joins ds ≡ false
+open-stands : (context cs ds after : List hb_arabic_joining_type_t) → IsOpen (joining_flags context (cs ++ ds) after) (length cs) → first_letter_joins ds ≡ false
 open-stands context cs ds after f =
     let p = length cs in
     let passed = reverse cs in
@@ -70,11 +70,11 @@ open-stands context cs ds after f =
     let along = (or_parts (list_any (forbids_border p) all) (list_any (forbids_border p) end) (sym (list_any-append (forbids_border p) all end) ∙ f)).0 in
     let parts : all ≡ first ++ flags_along context passed ds = flags_along-append context [] cs ds ∙ ap (λ r. first ++ flags_along context r ds) (append-nil passed) in
     let rest = (or_parts (list_any (forbids_border p) first) (list_any (forbids_border p) (flags_along context passed ds)) (sym (ap (list_any (forbids_border p)) parts ∙ list_any-append (forbids_border p) first (flags_along context passed ds)) ∙ along)).1 in
-    false_from_ne_true (first_joins ds) (λ j. both_ways _ rest (along-joined context passed ds p (omega (arith, length-reverse cs)) (stands-before passed p (omega (arith, length-reverse cs))) j))
+    false_from_ne_true (first_letter_joins ds) (λ j. both_ways _ rest (along-joined context passed ds p (omega (arith, length-reverse cs)) (stands-before passed p (omega (arith, length-reverse cs))) j))
 
 -- such a letter changes none before it, and takes no form from what stands before
-stands-alone : (context ds behind : List hb_arabic_joining_type_t) (o : Option Letter) → first_joins ds ≡ false → (nearest ds ≡ None → nearest behind ≡ None) → changed context o (nearest (ds ++ behind)) ≡ false
-unfolding first_joins
+stands-alone : (context ds behind : List hb_arabic_joining_type_t) (o : Option Letter) → first_letter_joins ds ≡ false → (nearest ds ≡ None → nearest behind ≡ None) → changed context o (nearest (ds ++ behind)) ≡ false
+unfolding first_letter_joins
 stands-alone context [] behind None f n = refl
 stands-alone context [] behind (Some k) f n = ap (changed context (Some k)) (n refl)
 stands-alone context (T ∷ ds) behind o f n = stands-alone context ds behind o f n
@@ -90,8 +90,8 @@ same-form before after T f = refl
 same-form before after X f = refl
 same-form before after t f = absurd (false≢true (sym f))
 
-loses-none : (before : Option hb_arabic_joining_type_t) (ds behind : List hb_arabic_joining_type_t) → first_joins ds ≡ false → lost before ds behind ≡ false
-unfolding first_joins
+loses-none : (before : Option hb_arabic_joining_type_t) (ds behind : List hb_arabic_joining_type_t) → first_letter_joins ds ≡ false → lost before ds behind ≡ false
+unfolding first_letter_joins
 loses-none before [] behind f = refl
 loses-none before (T ∷ ds) behind f = loses-none before ds behind f
 loses-none before (t ∷ ds) behind f = not_apart _ _ (same-form before (nearest (ds ++ behind)) t f)

@@ -12,7 +12,7 @@ use Rattle.shapers_base.specs.declared.plan.joining.hb_arabic_joining_type_t.{hb
 use Rattle.shapers_arabic.specs.declared.ot_shaper_arabic.arabic_action_t.TheConstants.{NONE}
 use Rattle.shapers_arabic.specs.Edited.{GlyphsStayNear, SameBut, StayBefore, StayBehind, edited}
 use Rattle.shapers_arabic.specs.Joining.{act, form_behind, forms, is_selector, is_transparent, nearest, selected}
-use Rattle.shapers_arabic.specs.JoinedText.{context_types, forms_of, is_mongolian, joined_glyphs, opening, stored_types, text_of, with_forms}
+use Rattle.shapers_arabic.specs.JoinedText.{context_types, forms_of, is_mongolian, joined_glyphs, opening, stored_types, text_of, with_joining_forms}
 use Rattle.shapers_arabic.proofs.BrokenGlyphs.{types_long}
 use Rattle.shapers_arabic.proofs.FormedParts.{drop-shown, drop-view, take-shown, take-view, text-parts}
 use Rattle.shapers_arabic.proofs.JoiningLaws.{in-parts, selected-opening}
@@ -127,12 +127,12 @@ but-behind script j cs fs hs us vs f h same =
     (within fs us f ∙ ap (drop k) same.0 ∙ sym (within hs vs h), past fs us f ∙ same.1 ∙ sym (past hs vs h))
 
 -- glyphs in such forms
-but-shown : (script : Option Script) (k j : ℕ) (cs masks fs hs : List ℕ) (gs : List hb_glyph_info_t) → SameBut script k j cs fs hs → SameBut script k j cs (order_view (with_forms masks fs gs)) (order_view (with_forms masks hs gs))
+but-shown : (script : Option Script) (k j : ℕ) (cs masks fs hs : List ℕ) (gs : List hb_glyph_info_t) → SameBut script k j cs fs hs → SameBut script k j cs (order_view (with_joining_forms masks fs gs)) (order_view (with_joining_forms masks hs gs))
 but-shown script k j cs masks fs hs gs same =
     let l = suc j + opening script (drop (suc j) cs) in
     let inner = λ (xs : List ℕ). ap (drop k) (take-shown masks j xs gs) ∙ drop-shown masks k (take j xs) (take j gs) in (
-      inner fs ∙ ap (λ xs. order_view (with_forms masks xs (drop k (take j gs)))) same.0 ∙ sym (inner hs),
-      drop-shown masks l fs gs ∙ ap (λ xs. order_view (with_forms masks xs (drop l gs))) same.1 ∙ sym (drop-shown masks l hs gs),
+      inner fs ∙ ap (λ xs. order_view (with_joining_forms masks xs (drop k (take j gs)))) same.0 ∙ sym (inner hs),
+      drop-shown masks l fs gs ∙ ap (λ xs. order_view (with_joining_forms masks xs (drop l gs))) same.1 ∙ sym (drop-shown masks l hs gs),
     )
 
 -- the forms of a buffer of two parts
@@ -166,7 +166,7 @@ stay-before breaks masks script joining general one two xs ys zs n long e f fron
     let before = context_types joining general two.before in
     let near = stored_types joining ys ++ context_types joining general one.after in
     let other = stored_types joining zs ++ context_types joining general two.after in
-    let shown = λ (fs : List ℕ). order_view (with_forms masks fs xs) in
+    let shown = λ (fs : List ℕ). order_view (with_joining_forms masks fs xs) in
     let first_text = text_of joining general one in
     let second_text = text_of joining general two in
     let fs = of_script script cs (forms before ts near) in
@@ -175,12 +175,12 @@ stay-before breaks masks script joining general one two xs ys zs n long e f fron
     let second_forms : take n (forms_of script second_text) ≡ hs = ap (λ i. take i (forms_of script second_text)) (sym long) ∙ (of-parts script joining general two xs zs f).first in
     let first_view : order_view (take n (joined_glyphs breaks masks one.flags script first_text one.glyphs)) ≡ shown fs =
     take-view breaks masks one.flags script first_text one.glyphs n
-    ∙ ap (λ us. order_view (with_forms masks us (take n one.glyphs))) first_forms
-    ∙ ap (λ gs. order_view (with_forms masks fs gs)) (ap (take n) e ∙ take_at xs ys n long) in
+    ∙ ap (λ us. order_view (with_joining_forms masks us (take n one.glyphs))) first_forms
+    ∙ ap (λ gs. order_view (with_joining_forms masks fs gs)) (ap (take n) e ∙ take_at xs ys n long) in
     let second_view : order_view (take n (joined_glyphs breaks masks two.flags script second_text two.glyphs)) ≡ shown hs =
     take-view breaks masks two.flags script second_text two.glyphs n
-    ∙ ap (λ us. order_view (with_forms masks us (take n two.glyphs))) second_forms
-    ∙ ap (λ gs. order_view (with_forms masks hs gs)) (ap (take n) f ∙ take_at xs zs n long) in
+    ∙ ap (λ us. order_view (with_joining_forms masks us (take n two.glyphs))) second_forms
+    ∙ ap (λ gs. order_view (with_joining_forms masks hs gs)) (ap (take n) f ∙ take_at xs zs n long) in
     let now : StayBefore script ts cs (shown fs) (shown hs) = record {
       none = λ none. ap shown (before-none script cs before ts near other none);
       last = λ front tail t is letter rest. but-shown script 0 (length front) cs masks fs hs xs (subst (λ us. SameBut script 0 (length front) cs (of_script script cs (forms before us near)) (of_script script cs (forms before us other))) (sym is) (before-last script cs before front tail near other t letter rest));
@@ -203,17 +203,17 @@ stay-behind breaks masks script joining general one two xs ys zs n m long more e
     let hs = drop m (forms_of script second_text) in
     let us = of_script script cs (forms seen ts after) in
     let vs = of_script script cs (forms other ts after) in
-    let shown = λ (ws : List ℕ). order_view (with_forms masks ws zs) in
+    let shown = λ (ws : List ℕ). order_view (with_joining_forms masks ws zs) in
     let first_forms : drop k fs ≡ drop k us = drop-drop k n (forms_of script first_text) ∙ ap (λ i. drop (i + k) (forms_of script first_text)) (sym long) ∙ (of-parts script joining general one xs zs e).second ∙ ap (λ c. drop k (of_script script cs (forms seen ts (context_types joining general c)))) ends in
     let second_forms : drop k hs ≡ drop k vs = drop-drop k m (forms_of script second_text) ∙ ap (λ i. drop (i + k) (forms_of script second_text)) (sym more) ∙ (of-parts script joining general two ys zs f).second in
     let first_view : order_view (drop n (joined_glyphs breaks masks one.flags script first_text one.glyphs)) ≡ shown fs =
-    drop-view breaks masks one.flags script first_text one.glyphs n ∙ ap (λ gs. order_view (with_forms masks fs gs)) (ap (drop n) e ∙ drop_at xs zs n long) in
+    drop-view breaks masks one.flags script first_text one.glyphs n ∙ ap (λ gs. order_view (with_joining_forms masks fs gs)) (ap (drop n) e ∙ drop_at xs zs n long) in
     let second_view : order_view (drop m (joined_glyphs breaks masks two.flags script second_text two.glyphs)) ≡ shown hs =
-    drop-view breaks masks two.flags script second_text two.glyphs m ∙ ap (λ gs. order_view (with_forms masks hs gs)) (ap (drop m) f ∙ drop_at ys zs m more) in
+    drop-view breaks masks two.flags script second_text two.glyphs m ∙ ap (λ gs. order_view (with_joining_forms masks hs gs)) (ap (drop m) f ∙ drop_at ys zs m more) in
     let now : StayBehind script ts cs (shown fs) (shown hs) = record {
       none = λ none.
           let same = first_forms ∙ ap (λ ws. drop k (of_script script cs ws)) (forms-transparent seen ts after none ∙ sym (forms-transparent other ts after none)) ∙ sym second_forms in
-          drop-shown masks k fs zs ∙ ap (λ ws. order_view (with_forms masks ws (drop k zs))) same ∙ sym (drop-shown masks k hs zs);
+          drop-shown masks k fs zs ∙ ap (λ ws. order_view (with_joining_forms masks ws (drop k zs))) same ∙ sym (drop-shown masks k hs zs);
       first = λ front tail t is none letter.
           let j = length front in
           let same = subst (λ rs. SameBut script 0 j cs (of_script script cs (forms seen rs after)) (of_script script cs (forms other rs after))) (sym is) (behind-first script cs seen other front tail after t none letter) in

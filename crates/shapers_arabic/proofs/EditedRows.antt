@@ -13,7 +13,7 @@ use Rattle.shapers_base.specs.declared.plan.joining.hb_arabic_joining_type_t.{hb
 use Rattle.shapers_base.specs.declared.plan.joining.hb_arabic_joining_type_t.TheVariants.{U, R, D, T}
 use Rattle.shapers_arabic.specs.declared.ot_shaper_arabic.arabic_action_t.TheConstants.{FINA, INIT, ISOL, MEDI, NONE}
 use Rattle.shapers_arabic.specs.Edited.{SameBut, StayBefore, StayBehind, StayNear, edited}
-use Rattle.shapers_arabic.specs.JoinedText.{joined}
+use Rattle.shapers_arabic.specs.JoinedText.{buffer_joined}
 
 -- a made table: D for 1, R for 2, T for 3 and 180B, U for others
 abbrev joining_of : ℕ → hb_arabic_joining_type_t
@@ -112,7 +112,7 @@ row_part_behind near = eqb-false 7 0 refl (form_at 0 _ _ (near.behind.none refl)
 
 -- what an edit reaches: D for U between two D, and taken out again; marks don't shield
 abbrev forms_after : Option Script → Buffer → List ℕ
-forms_after script b = map (λ g. g.auxiliary) (joined AsCode [] script joining_of letters b).glyphs
+forms_after script b = map (λ g. g.auxiliary) (buffer_joined AsCode [] script joining_of letters b).glyphs
 
 row_apart : forms_after None (buffer_of (1 ∷ 1 ∷ 3 ∷ 9 ∷ 3 ∷ 1 ∷ 1 ∷ [])) ≡ INIT ∷ FINA ∷ NONE ∷ NONE ∷ NONE ∷ INIT ∷ FINA ∷ []
 row_apart = refl

@@ -15,7 +15,7 @@ use Rattle.shapers_base.specs.declared.plan.joining.hb_arabic_joining_type_t.The
 use Rattle.shapers_clusters.specs.Breaks.{IsClear}
 use Rattle.shapers_arabic.specs.FirstPiece.{FirstKeepsAt}
 use Rattle.shapers_arabic.specs.Fresh.{IsFresh, SelectorsAreTransparent}
-use Rattle.shapers_arabic.specs.JoinedText.{Text, joined}
+use Rattle.shapers_arabic.specs.JoinedText.{Text, buffer_joined}
 
 -- the types of these letters: 1 stands for D, 2 for R, and the selector 180C has the type of an Alaph
 abbrev type_of : ℕ → hb_arabic_joining_type_t
@@ -46,7 +46,7 @@ abbrev falling : ℕ → ℕ → Buffer
 falling a b = let t : Buffer = record (new_buffer 2) { glyphs = glyph a 1 ∷ glyph b 0 ∷ [] } in t
 
 abbrev after : BreakFlags → Option Script → Buffer → Buffer
-after breaks script b = joined breaks masks script type_of letter b
+after breaks script b = buffer_joined breaks masks script type_of letter b
 
 abbrev left : BreakFlags → Option Script → Buffer → List ℕ
 left breaks script b = map (λ g. g.mask) (after breaks script b).glyphs

@@ -15,12 +15,12 @@ use Rattle.shapers_base.specs.declared.plan.breaks.BreakFlags.{BreakFlags}
 use Rattle.shapers_base.specs.declared.plan.breaks.BreakFlags.TheVariants.{AsCode, Sound}
 use Rattle.shapers_base.specs.declared.plan.joining.hb_arabic_joining_type_t.{hb_arabic_joining_type_t}
 use Rattle.shapers_clusters.specs.Breaks.{forbids, IsFree, IsClear}
-use Rattle.shapers_clusters.proofs.ClearPlaces.{held}
+use Rattle.shapers_clusters.proofs.ClearPlaces.{held_by_calls}
 use Rattle.shapers_arabic.specs.Breaks.{front_at}
 use Rattle.shapers_arabic.specs.FirstPiece.{FirstKeepsAt, FirstKeepsAsFlagged}
 use Rattle.shapers_arabic.specs.Fresh.{IsFresh, SelectorsAreTransparent}
 use Rattle.shapers_arabic.specs.JoiningFlags.{joining_flags}
-use Rattle.shapers_arabic.specs.JoinedText.{Text, added_calls, flag_calls, forms_of, first_half, with_form, with_forms, joined_glyphs, joined, text_of}
+use Rattle.shapers_arabic.specs.JoinedText.{Text, added_calls, flag_calls, forms_of, first_half, with_form, with_joining_forms, joined_glyphs, buffer_joined, text_of}
 use Rattle.shapers_arabic.proofs.BrokenGlyphs.{view-joined, with_forms-parts, free-clear, text-front, types_long, forms-shown, clear-fresh}
 use Rattle.shapers_arabic.proofs.FreePlaces.{first-free, free-first}
 use Rattle.shapers_arabic.proofs.JoiningLaws.{length-forms_of}
@@ -29,20 +29,20 @@ use Rattle.shapers_arabic.proofs.JoiningLaws.{length-forms_of}
 joining-free : (breaks : BreakFlags) (script : Option Script) (text : Text) (n : ℕ) → IsFree (flag_calls breaks script text) n → IsFree (joining_flags text.before text.types text.after) n
 joining-free AsCode script text n free = free
 joining-free Sound script text n free =
-    (or_parts (held n (joining_flags text.before text.types text.after)) (held n (added_calls script text)) (sym (list_any-append (forbids n) (joining_flags text.before text.types text.after) (added_calls script text)) ∙ free)).0
+    (or_parts (held_by_calls n (joining_flags text.before text.types text.after)) (held_by_calls n (added_calls script text)) (sym (list_any-append (forbids n) (joining_flags text.before text.types text.after) (added_calls script text)) ∙ free)).0
 
 -- the front of glyphs in their forms
-take-formed : (masks fs : List ℕ) (gs : List hb_glyph_info_t) (n : ℕ) → length fs ≡ length gs → n < length gs → take n (with_forms masks fs gs) ≡ with_forms masks (take n fs) (take n gs)
+take-formed : (masks fs : List ℕ) (gs : List hb_glyph_info_t) (n : ℕ) → length fs ≡ length gs → n < length gs → take n (with_joining_forms masks fs gs) ≡ with_joining_forms masks (take n fs) (take n gs)
 take-formed masks fs gs n same within =
     let xs = take n fs in
     let ys = take n gs in
     let x_long : length xs ≡ n = length-take-le n fs (omega arith) in
     let y_long : length ys ≡ n = length-take-le n gs (omega arith) in
-    let long : length (with_forms masks xs ys) ≡ n = length-map (zip xs ys) (λ p. with_form masks p.0 p.1) ∙ omega (arith, length-zip xs ys) in
-    ap (λ ps. take n (with_forms masks ps gs)) (sym (take-append-drop n fs))
-    ∙ ap (λ ps. take n (with_forms masks (xs ++ drop n fs) ps)) (sym (take-append-drop n gs))
+    let long : length (with_joining_forms masks xs ys) ≡ n = length-map (zip xs ys) (λ p. with_form masks p.0 p.1) ∙ omega (arith, length-zip xs ys) in
+    ap (λ ps. take n (with_joining_forms masks ps gs)) (sym (take-append-drop n fs))
+    ∙ ap (λ ps. take n (with_joining_forms masks (xs ++ drop n fs) ps)) (sym (take-append-drop n gs))
     ∙ ap (take n) (with_forms-parts masks xs (drop n fs) ys (drop n gs) (x_long ∙ sym y_long))
-    ∙ take_at (with_forms masks xs ys) (with_forms masks (drop n fs) (drop n gs)) n long
+    ∙ take_at (with_joining_forms masks xs ys) (with_joining_forms masks (drop n fs) (drop n gs)) n long
 
 -- the first half in the order view
 front-joined : (breaks : BreakFlags) (masks : List ℕ) (flags : BufferFlags) (script : Option Script) (text : Text) (gs : List hb_glyph_info_t) (n : ℕ) → length text.characters ≡ length gs → length text.types ≡ length gs → n < length gs → IsFree (flag_calls breaks script text) n → order_view (take n (joined_glyphs breaks masks flags script text gs)) ≡ order_view (joined_glyphs breaks masks flags script (first_half n [] text) (take n gs))
@@ -50,12 +50,12 @@ front-joined breaks masks flags script text gs n characters long within free =
     let same : length text.characters ≡ length text.types = characters ∙ sym long in
     let all = forms_of script text in
     let one = first_half n [] text in
-    let formed = with_forms masks all gs in
+    let formed = with_joining_forms masks all gs in
     sym (take-map plain n (joined_glyphs breaks masks flags script text gs))
     ∙ ap (take n) (view-joined breaks masks flags script text gs)
     ∙ take-map plain n formed
     ∙ ap order_view (take-formed masks all gs n (length-forms_of script text same ∙ long) within)
-    ∙ ap (λ fs. order_view (with_forms masks fs (take n gs))) (first-free script text n same (omega arith) (joining-free breaks script text n free))
+    ∙ ap (λ fs. order_view (with_joining_forms masks fs (take n gs))) (first-free script text n same (omega arith) (joining-free breaks script text n free))
     ∙ sym (view-joined breaks masks flags script one (take n gs))
 
 -- and the forms in it
@@ -72,10 +72,10 @@ front-forms masks flags script text gs n characters long within kept =
     ∙ forms-shown AsCode masks flags script one (take n gs) one_same one_long
 
 -- the front of a buffer, joined by itself
-front-is : (breaks : BreakFlags) (masks : List ℕ) (script : Option Script) (joining : ℕ → hb_arabic_joining_type_t) (general : ℕ → hb_unicode_general_category_t) (n : ℕ) (b : Buffer) → order_view (joined breaks masks script joining general (front_at n b)).glyphs ≡ order_view (joined_glyphs breaks masks b.flags script (first_half n [] (text_of joining general b)) (take n b.glyphs))
+front-is : (breaks : BreakFlags) (masks : List ℕ) (script : Option Script) (joining : ℕ → hb_arabic_joining_type_t) (general : ℕ → hb_unicode_general_category_t) (n : ℕ) (b : Buffer) → order_view (buffer_joined breaks masks script joining general (front_at n b)).glyphs ≡ order_view (joined_glyphs breaks masks b.flags script (first_half n [] (text_of joining general b)) (take n b.glyphs))
 front-is breaks masks script joining general n b = ap (λ t. order_view (joined_glyphs breaks masks b.flags script t (take n b.glyphs))) (text-front joining general n b)
 
-first-kept_where : (breaks : BreakFlags) (masks : List ℕ) (script : Option Script) (joining : ℕ → hb_arabic_joining_type_t) (general : ℕ → hb_unicode_general_category_t) (old new : Buffer) (n : ℕ) → new ≡ joined breaks masks script joining general old → 0 < n → n < length old.glyphs → IsClear new.glyphs n → FirstKeepsAt breaks masks script joining general old new n
+first-kept_where : (breaks : BreakFlags) (masks : List ℕ) (script : Option Script) (joining : ℕ → hb_arabic_joining_type_t) (general : ℕ → hb_unicode_general_category_t) (old new : Buffer) (n : ℕ) → new ≡ buffer_joined breaks masks script joining general old → 0 < n → n < length old.glyphs → IsClear new.glyphs n → FirstKeepsAt breaks masks script joining general old new n
 first-kept_where breaks masks script joining general old new n is pos within clear =
     let text = text_of joining general old in
     let gs = old.glyphs in
@@ -87,7 +87,7 @@ first-kept_where breaks masks script joining general old new n is pos within cle
     ∙ front-joined breaks masks old.flags script text gs n characters long within free
     ∙ sym (front-is breaks masks script joining general n old)
 
-clear-kept : (breaks : BreakFlags) (masks : List ℕ) (script : Option Script) (joining : ℕ → hb_arabic_joining_type_t) (general : ℕ → hb_unicode_general_category_t) (old new : Buffer) (n : ℕ) → new ≡ joined breaks masks script joining general old → 0 < n → n < length old.glyphs → breaks ≡ AsCode → IsFresh masks old.glyphs → SelectorsAreTransparent script (text_of joining general old) → FirstKeepsAt breaks masks script joining general old new n → IsClear new.glyphs n
+clear-kept : (breaks : BreakFlags) (masks : List ℕ) (script : Option Script) (joining : ℕ → hb_arabic_joining_type_t) (general : ℕ → hb_unicode_general_category_t) (old new : Buffer) (n : ℕ) → new ≡ buffer_joined breaks masks script joining general old → 0 < n → n < length old.glyphs → breaks ≡ AsCode → IsFresh masks old.glyphs → SelectorsAreTransparent script (text_of joining general old) → FirstKeepsAt breaks masks script joining general old new n → IsClear new.glyphs n
 clear-kept Sound masks script joining general old new n is pos within e fresh silent kept = cc
 clear-kept AsCode masks script joining general old new n is pos within e fresh silent kept =
     let text = text_of joining general old in
@@ -98,5 +98,5 @@ clear-kept AsCode masks script joining general old new n is pos within e fresh s
     let forms_kept = front-forms masks old.flags script text gs n characters long within (ap (λ hs. order_view (take n hs)) (sym whole) ∙ kept ∙ front-is AsCode masks script joining general n old) in
     subst (λ hs. IsClear hs n) (sym whole) (clear-fresh AsCode masks old.flags script text gs n characters long fresh pos within (free-first script text n (characters ∙ sym long) (omega arith) silent forms_kept))
 
-pub first-as_flagged : (breaks : BreakFlags) (masks : List ℕ) (script : Option Script) (joining : ℕ → hb_arabic_joining_type_t) (general : ℕ → hb_unicode_general_category_t) (old new : Buffer) → new ≡ joined breaks masks script joining general old → FirstKeepsAsFlagged breaks masks script joining general old new
+pub first-as_flagged : (breaks : BreakFlags) (masks : List ℕ) (script : Option Script) (joining : ℕ → hb_arabic_joining_type_t) (general : ℕ → hb_unicode_general_category_t) (old new : Buffer) → new ≡ buffer_joined breaks masks script joining general old → FirstKeepsAsFlagged breaks masks script joining general old new
 first-as_flagged breaks masks script joining general old new is n pos within = (first-kept_where breaks masks script joining general old new n is pos within, clear-kept breaks masks script joining general old new n is pos within)

@@ -8,7 +8,7 @@ use Rattle.shapers_clusters.specs.Flags.{InOrder}
 use Rattle.shapers_base.specs.declared.plan.joining.hb_arabic_joining_type_t.{hb_arabic_joining_type_t}
 use Rattle.shapers_base.specs.declared.plan.joining.hb_arabic_joining_type_t.TheVariants.{T}
 use Rattle.shapers_arabic.specs.Joining.{is_transparent, nearest, joins_back}
-use Rattle.shapers_arabic.specs.JoiningFlags.{Letter, nearest_letter, changes, can_change, letter_flags, end_flags, flags_along, joining_flags}
+use Rattle.shapers_arabic.specs.JoiningFlags.{Letter, nearest_letter, changes_form, can_change, letter_flags, end_flags, flags_along, joining_flags}
 use Rattle.shapers_arabic.proofs.JoiningLists.{transparent}
 
 -- behind transparent types the nearest letter is that of the rest
@@ -65,12 +65,12 @@ one_or-in_order false false s e h = tt
 
 letter-in_order : (context : List hb_arabic_joining_type_t) (k : Option Letter) (t : hb_arabic_joining_type_t) (end : ℕ) → Before k end → AllByRecursion InOrder (letter_flags context k t end)
 letter-in_order context None t end h = one_or-in_order false (joins_back (Some t)) 0 end (omega arith)
-letter-in_order context (Some k) t end h = one_or-in_order (changes context k t) (joins_back (Some t) || can_change context k) (length k.before) end h
+letter-in_order context (Some k) t end h = one_or-in_order (changes_form context k t) (joins_back (Some t) || can_change context k) (length k.before) end h
 
 end-in_order : (context : List hb_arabic_joining_type_t) (k : Option Letter) (o : Option hb_arabic_joining_type_t) (end : ℕ) → Before k end → AllByRecursion InOrder (end_flags context k o end)
 end-in_order context None o end h = tt
 end-in_order context (Some k) None end h = tt
-end-in_order context (Some k) (Some t) end h = one_or-in_order (changes context k t) (can_change context k) (length k.before) end h
+end-in_order context (Some k) (Some t) end h = one_or-in_order (changes_form context k t) (can_change context k) (length k.before) end h
 
 along-in_order : (context passed ts : List hb_arabic_joining_type_t) → AllByRecursion InOrder (flags_along context passed ts)
 along-in_order context passed [] = tt

@@ -8,8 +8,8 @@ use Rattle.shapers_buffer.specs.declared.buffer.glyph.hb_glyph_info_t.{hb_glyph_
 use Rattle.shapers_base.specs.declared.plan.breaks.BreakFlags.TheVariants.{AsCode}
 use Rattle.shapers_base.specs.declared.plan.joining.hb_arabic_joining_type_t.{hb_arabic_joining_type_t}
 use Rattle.shapers_base.specs.declared.plan.joining.hb_arabic_joining_type_t.TheVariants.{U, L, R, D, GroupAlaph, GroupDalathRish, T}
-use Rattle.shapers_arabic.specs.JoiningFlags.{Letter, nearest_letter, changes, can_change, letter_flags, end_flags, joining_flags}
-use Rattle.shapers_arabic.specs.JoinedText.{joined, with_form}
+use Rattle.shapers_arabic.specs.JoiningFlags.{Letter, nearest_letter, changes_form, can_change, letter_flags, end_flags, joining_flags}
+use Rattle.shapers_arabic.specs.JoinedText.{buffer_joined, with_form}
 use Rattle.shapers_arabic.specs.JoiningWalk.{waits}
 
 -- the types of letters, and what can stand before one: nothing, or each of them
@@ -25,7 +25,7 @@ letter own before = record { own = own; before = before }
 -- the letter of a type behind each of these, and whether each type behind it changes its form
 changed : hb_arabic_joining_type_t → List (List Bool)
 unfolding befores letters
-changed own = map (λ b. map (changes [] (letter own b)) letters) befores
+changed own = map (λ b. map (changes_form [] (letter own b)) letters) befores
 
 abbrev never : List Bool
 never = false ∷ false ∷ false ∷ false ∷ false ∷ false ∷ []
@@ -68,10 +68,10 @@ waiting : map waits (0 ∷ 1 ∷ 2 ∷ 3 ∷ 4 ∷ 5 ∷ 6 ∷ []) ≡ false ∷
 waiting = refl
 
 -- what stands before a letter: the text's own nearest letter, else the context's
-by_context : map (λ k. changes (D ∷ []) k R) (letter GroupAlaph [] ∷ letter GroupAlaph (T ∷ []) ∷ letter GroupAlaph (U ∷ D ∷ []) ∷ []) ≡ true ∷ true ∷ false ∷ []
+by_context : map (λ k. changes_form (D ∷ []) k R) (letter GroupAlaph [] ∷ letter GroupAlaph (T ∷ []) ∷ letter GroupAlaph (U ∷ D ∷ []) ∷ []) ≡ true ∷ true ∷ false ∷ []
 by_context = refl
 
-by_text : changes (U ∷ []) (letter GroupAlaph (T ∷ D ∷ [])) R ≡ true
+by_text : changes_form (U ∷ []) (letter GroupAlaph (T ∷ D ∷ [])) R ≡ true
 by_text = refl
 
 -- the nearest letter, and its place
@@ -178,7 +178,7 @@ abbrev text_with : ℕ → List ℕ → List (ℕ × ℕ) → List ℕ → Buffe
 text_with flags before gs after = let b : Buffer = record (new_buffer 9) { glyphs = map (λ p. let g : hb_glyph_info_t = record default_glyph { glyph_id = p.0; cluster = p.1 } in g) gs; before = before; after = after; flags = record { 0 = flags } } in b
 
 abbrev masks_after : Buffer → List ℕ
-masks_after b = map (λ g. g.mask) (joined AsCode (0 ∷ 0x20 ∷ 0 ∷ 0 ∷ 0x80 ∷ 0 ∷ 0x10 ∷ 0 ∷ []) None joining_of (λ c. Lo) b).glyphs
+masks_after b = map (λ g. g.mask) (buffer_joined AsCode (0 ∷ 0x20 ∷ 0 ∷ 0 ∷ 0x80 ∷ 0 ∷ 0x10 ∷ 0 ∷ []) None joining_of (λ c. Lo) b).glyphs
 
 by_buffer_flags : map (λ flags. masks_after (text_with flags [] ((1, 0) ∷ (1, 1) ∷ (1, 2) ∷ []) [])) (0 ∷ 0x40 ∷ 0x80 ∷ 0xC0 ∷ []) ≡ (0x10 ∷ 0x83 ∷ 0x23 ∷ []) ∷ (0x12 ∷ 0x83 ∷ 0x23 ∷ []) ∷ (0x10 ∷ 0x84 ∷ 0x24 ∷ []) ∷ (0x12 ∷ 0x84 ∷ 0x24 ∷ []) ∷ []
 by_buffer_flags = refl

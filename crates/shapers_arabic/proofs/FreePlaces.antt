@@ -8,7 +8,7 @@ use Rattle.shapers_buffer.specs.declared.buffer.tag.Script.{Script}
 use Rattle.shapers_base.specs.declared.plan.breaks.BreakFlags.TheVariants.{Sound}
 use Rattle.shapers_base.specs.declared.plan.joining.hb_arabic_joining_type_t.{hb_arabic_joining_type_t}
 use Rattle.shapers_clusters.specs.Breaks.{forbids, IsFree}
-use Rattle.shapers_clusters.proofs.ClearPlaces.{held}
+use Rattle.shapers_clusters.proofs.ClearPlaces.{held_by_calls}
 use Rattle.shapers_arabic.specs.Breaks.{sound_flags}
 use Rattle.shapers_arabic.specs.Fresh.{SelectorsAreTransparent}
 use Rattle.shapers_arabic.specs.Joining.{forms, selected}
@@ -82,10 +82,10 @@ free-halves script text n same pos within silent kept =
     let free_first : IsFree first n = subst Q at (subst R types ((exact text.before ts us text.after (omega arith) (omega (arith, length-drop n text.types))).1 may)) in
     let rest = cond b (selector_flags [] (zip text.characters rule)) [] in
     let free_rest : IsFree rest n =
-    ap (λ m. held m rest) (sym c_at)
-    ∙ ap (λ xs. held (length cs) (cond b (selector_flags [] (zip xs rule)) [])) (sym chars)
-    ∙ ap (λ ys. held (length cs) (cond b (selector_flags [] (zip (cs ++ ds) ys)) [])) by_rule
+    ap (λ m. held_by_calls m rest) (sym c_at)
+    ∙ ap (λ xs. held_by_calls (length cs) (cond b (selector_flags [] (zip xs rule)) [])) (sym chars)
+    ∙ ap (λ ys. held_by_calls (length cs) (cond b (selector_flags [] (zip (cs ++ ds) ys)) [])) by_rule
     ∙ own.free in
-    ap (held n) (sym (append_assoc (joining_flags text.before text.types text.after) (form_flags_along text.before [] text.types text.after) rest))
+    ap (held_by_calls n) (sym (append_assoc (joining_flags text.before text.types text.after) (form_flags_along text.before [] text.types text.after) rest))
     ∙ list_any-append (forbids n) first rest
-    ∙ or_from (held n first) (held n rest) free_first free_rest
+    ∙ or_from (held_by_calls n first) (held_by_calls n rest) free_first free_rest

@@ -19,7 +19,7 @@ use Rattle.shapers_base.specs.declared.plan.joining.hb_arabic_joining_type_t.{hb
 use Rattle.shapers_base.specs.declared.plan.joining.hb_arabic_joining_type_t.TheVariants.{L, R, D, GroupAlaph, GroupDalathRish}
 use Rattle.shapers_arabic.specs.Joining.{nearest, act, form, joins_on, joins_back, alaph_after, forms, is_selector, form_behind, selected}
 use Rattle.shapers_arabic.specs.JoiningFlags.{joining_flags}
-use Rattle.shapers_arabic.specs.JoinedText.{Text, flag_calls, is_mongolian, forms_of, stored_types, with_form, with_forms}
+use Rattle.shapers_arabic.specs.JoinedText.{Text, flag_calls, is_mongolian, forms_of, stored_types, with_form, with_joining_forms}
 use Rattle.shapers_arabic.specs.JoiningWalk.{Called, FlaggedBy, calls_added, HaveMasks, JoinsTo, copied, unformed, with_copied, JoinsAll}
 use Rattle.shapers_base.specs.Masks.{with_numbered_mask}
 use Rattle.shapers_arabic.proofs.FlagLists.{joining-in_order}
@@ -105,8 +105,8 @@ together-again : (gs : List hb_glyph_info_t) → put_together (map (λ g. g.auxi
 together-again [] = refl
 together-again (g ∷ gs) = ap (λ hs. g ∷ hs) (together-again gs)
 
-same_glyphs : (gs hs : List hb_glyph_info_t) → map (λ g. g.auxiliary) gs ≡ map (λ g. g.auxiliary) hs → map unformed gs ≡ map unformed hs → gs ≡ hs
-same_glyphs gs hs f u = sym (together-again gs) ∙ ap (λ fs. put_together fs (map unformed gs)) f ∙ ap (put_together (map (λ g. g.auxiliary) hs)) u ∙ together-again hs
+glyphs_same : (gs hs : List hb_glyph_info_t) → map (λ g. g.auxiliary) gs ≡ map (λ g. g.auxiliary) hs → map unformed gs ≡ map unformed hs → gs ≡ hs
+glyphs_same gs hs f u = sym (together-again gs) ∙ ap (λ fs. put_together fs (map unformed gs)) f ∙ ap (put_together (map (λ g. g.auxiliary) hs)) u ∙ together-again hs
 
 forms-together : (fs : List ℕ) (gs : List hb_glyph_info_t) → length gs ≡ length fs → map (λ g. g.auxiliary) (put_together fs gs) ≡ fs
 forms-together fs gs long = map-map (λ (g : hb_glyph_info_t). g.auxiliary) (λ (p : ℕ × hb_glyph_info_t). let g : hb_glyph_info_t = record p.1 { auxiliary = p.0 } in g) (zip fs gs) ∙ firsts-zip fs gs long
@@ -125,8 +125,8 @@ mask-passes masks = record {
 }
 
 -- glyphs with these forms, after these flag calls, with the masks of their forms
-formed : (masks fs : List ℕ) (flags : BufferFlags) (calls : List FlagCall) (gs hs : List hb_glyph_info_t) → length gs ≡ length fs → AllByRecursion InOrder calls → map (λ g. g.auxiliary) hs ≡ fs → FlaggedBy flags calls gs hs → map (with_numbered_mask masks) hs ≡ flags_called (has_flag 0x40 flags) (has_flag 0x80 flags) calls (with_forms masks fs gs)
-formed masks fs flags calls gs hs long ordered f u =
+glyphs_formed : (masks fs : List ℕ) (flags : BufferFlags) (calls : List FlagCall) (gs hs : List hb_glyph_info_t) → length gs ≡ length fs → AllByRecursion InOrder calls → map (λ g. g.auxiliary) hs ≡ fs → FlaggedBy flags calls gs hs → map (with_numbered_mask masks) hs ≡ flags_called (has_flag 0x40 flags) (has_flag 0x80 flags) calls (with_joining_forms masks fs gs)
+glyphs_formed masks fs flags calls gs hs long ordered f u =
     let concat = has_flag 0x40 flags in
     let tatweel = has_flag 0x80 flags in
     let placed = put_together fs gs in
@@ -134,7 +134,7 @@ formed masks fs flags calls gs hs long ordered f u =
     f ∙ sym (map-flags_called (λ g. g.auxiliary) (λ bits g low. refl) concat tatweel calls placed ordered ∙ forms-together fs gs long) in
     let has_rest : map unformed hs ≡ map unformed (flags_called concat tatweel calls placed) =
     u ∙ sym (flags_called-through unformed unformed-passes concat tatweel calls placed ∙ ap (flags_called concat tatweel calls) (unformed-together fs gs long)) in
-    ap (map (with_numbered_mask masks)) (same_glyphs hs (flags_called concat tatweel calls placed) has_forms has_rest)
+    ap (map (with_numbered_mask masks)) (glyphs_same hs (flags_called concat tatweel calls placed) has_forms has_rest)
     ∙ flags_called-through (with_numbered_mask masks) (mask-passes masks) concat tatweel calls placed
     ∙ ap (flags_called concat tatweel calls) (map-map (with_numbered_mask masks) (λ (p : ℕ × hb_glyph_info_t). let g : hb_glyph_info_t = record p.1 { auxiliary = p.0 } in g) (zip fs gs))
 
@@ -203,11 +203,11 @@ joins-all breaks masks flags script joining before after gs hs ms ks joins added
     ∙ length-map chosen unformed
     ∙ sym (length-map chosen (λ g. g.auxiliary))
     ∙ ap length has_forms in
-    k ∙ formed masks (forms_of script (text_between front joining gs behind)) flags calls gs chosen long (calls-in_order breaks script text) has_forms (has_rest ∙ flagged)
+    k ∙ glyphs_formed masks (forms_of script (text_between front joining gs behind)) flags calls gs chosen long (calls-in_order breaks script text) has_forms (has_rest ∙ flagged)
 
 -- the auxiliary bytes are the forms
-pub forms-joined : (masks fs : List ℕ) (flags : BufferFlags) (calls : List FlagCall) (gs : List hb_glyph_info_t) → length gs ≡ length fs → AllByRecursion InOrder calls → map (λ g. g.auxiliary) (flags_called (has_flag 0x40 flags) (has_flag 0x80 flags) calls (with_forms masks fs gs)) ≡ fs
+pub forms-joined : (masks fs : List ℕ) (flags : BufferFlags) (calls : List FlagCall) (gs : List hb_glyph_info_t) → length gs ≡ length fs → AllByRecursion InOrder calls → map (λ g. g.auxiliary) (flags_called (has_flag 0x40 flags) (has_flag 0x80 flags) calls (with_joining_forms masks fs gs)) ≡ fs
 forms-joined masks fs flags calls gs long ordered =
-    map-flags_called (λ g. g.auxiliary) (λ bits g low. refl) (has_flag 0x40 flags) (has_flag 0x80 flags) calls (with_forms masks fs gs) ordered
+    map-flags_called (λ g. g.auxiliary) (λ bits g low. refl) (has_flag 0x40 flags) (has_flag 0x80 flags) calls (with_joining_forms masks fs gs) ordered
     ∙ map-map (λ (g : hb_glyph_info_t). g.auxiliary) (λ (p : ℕ × hb_glyph_info_t). with_form masks p.0 p.1) (zip fs gs)
     ∙ firsts-zip fs gs long

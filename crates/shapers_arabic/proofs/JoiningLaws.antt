@@ -11,7 +11,7 @@ use Rattle.shapers_buffer.specs.declared.buffer.glyph.hb_glyph_info_t.{hb_glyph_
 use Rattle.shapers_buffer.specs.declared.buffer.tag.Script.{Script}
 use Rattle.shapers_base.specs.declared.plan.joining.hb_arabic_joining_type_t.{hb_arabic_joining_type_t}
 use Rattle.shapers_arabic.specs.Joining.{resolved, nearest, is_transparent, forms, is_selector, form_behind, selected}
-use Rattle.shapers_arabic.specs.JoinedText.{Text, flag_calls, is_mongolian, forms_of, first_half, second_half, opening, HoldsCut, stored_types, context_types, text_of, joined, CutsAsHalves, Shows, AgreesWithTable, first_of, second_of, CopiedContextsShow, CopiedContextsCut}
+use Rattle.shapers_arabic.specs.JoinedText.{Text, flag_calls, is_mongolian, forms_of, first_half, second_half, opening, HoldsCut, stored_types, context_types, text_of, buffer_joined, CutsAsHalves, Shows, AgreesWithTable, first_of, second_of, CopiedContextsShow, CopiedContextsCut}
 use Rattle.shapers_base.specs.declared.plan.breaks.BreakFlags.{BreakFlags}
 use Rattle.shapers_arabic.proofs.SoundOrder.{calls-in_order}
 use Rattle.shapers_arabic.proofs.JoinedGlyphs.{forms-joined}
@@ -85,7 +85,7 @@ length-forms_of script text long =
 pub text_long : (joining : ℕ → hb_arabic_joining_type_t) (general : ℕ → hb_unicode_general_category_t) (old : Buffer) → let text = text_of joining general old in length text.characters ≡ length text.types
 text_long joining general old = length-map old.glyphs (λ g. g.glyph_id) ∙ sym (length-map old.glyphs (λ g. resolved (joining g.glyph_id) g.general_category))
 
-pub forms_left : (breaks : BreakFlags) (masks : List ℕ) (script : Option Script) (joining : ℕ → hb_arabic_joining_type_t) (general : ℕ → hb_unicode_general_category_t) (old new : Buffer) → new ≡ joined breaks masks script joining general old → map (λ g. g.auxiliary) new.glyphs ≡ forms_of script (text_of joining general old)
+pub forms_left : (breaks : BreakFlags) (masks : List ℕ) (script : Option Script) (joining : ℕ → hb_arabic_joining_type_t) (general : ℕ → hb_unicode_general_category_t) (old new : Buffer) → new ≡ buffer_joined breaks masks script joining general old → map (λ g. g.auxiliary) new.glyphs ≡ forms_of script (text_of joining general old)
 forms_left breaks masks script joining general old new is =
     let text = text_of joining general old in
     let calls = flag_calls breaks script text in
@@ -94,7 +94,7 @@ forms_left breaks masks script joining general old new is =
     ap (λ (b : Buffer). map (λ g. g.auxiliary) b.glyphs) is ∙ forms-joined masks (forms_of script text) old.flags calls old.glyphs fs_long (calls-in_order breaks script text)
 
 -- what joining left is cut as the forms are
-pub cut-joined : (breaks : BreakFlags) (masks : List ℕ) (script : Option Script) (joining : ℕ → hb_arabic_joining_type_t) (general : ℕ → hb_unicode_general_category_t) (old new : Buffer) → new ≡ joined breaks masks script joining general old → CutsAsHalves script joining general old new
+pub cut-joined : (breaks : BreakFlags) (masks : List ℕ) (script : Option Script) (joining : ℕ → hb_arabic_joining_type_t) (general : ℕ → hb_unicode_general_category_t) (old new : Buffer) → new ≡ buffer_joined breaks masks script joining general old → CutsAsHalves script joining general old new
 cut-joined breaks masks script joining general old new is =
     let text = text_of joining general old in
     subst (λ fs. HoldsCut script text fs) (sym (forms_left breaks masks script joining general old new is)) (holds-cut script text (text_long joining general old))

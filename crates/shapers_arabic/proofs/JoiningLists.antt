@@ -56,10 +56,10 @@ forms-transparent before (t ∷ ts) after e =
     ap (λ x. act (nearest before) x (nearest (ts ++ after)) ∷ forms (t ∷ before) ts after) first ∙ ap (λ fs. NONE ∷ fs) (forms-transparent (t ∷ before) ts after rest)
 
 -- a text up to its last letter, that letter, and what is transparent behind it: only the letter's form depends on what follows
-abbrev pub in_parts : List hb_arabic_joining_type_t → List hb_arabic_joining_type_t → hb_arabic_joining_type_t → List hb_arabic_joining_type_t → Option hb_arabic_joining_type_t → List ℕ
-in_parts before front own tail after = forms before front (own ∷ []) ++ act (nearest (reverse front ++ before)) own after ∷ replicate (length tail) NONE
+abbrev pub forms_in_parts : List hb_arabic_joining_type_t → List hb_arabic_joining_type_t → hb_arabic_joining_type_t → List hb_arabic_joining_type_t → Option hb_arabic_joining_type_t → List ℕ
+forms_in_parts before front own tail after = forms before front (own ∷ []) ++ act (nearest (reverse front ++ before)) own after ∷ replicate (length tail) NONE
 
-pub forms-parts : (before front : List hb_arabic_joining_type_t) (own : hb_arabic_joining_type_t) (tail after : List hb_arabic_joining_type_t) → is_transparent own ≡ false → nearest tail ≡ None → forms before (front ++ own ∷ tail) after ≡ in_parts before front own tail (nearest after)
+pub forms-parts : (before front : List hb_arabic_joining_type_t) (own : hb_arabic_joining_type_t) (tail after : List hb_arabic_joining_type_t) → is_transparent own ≡ false → nearest tail ≡ None → forms before (front ++ own ∷ tail) after ≡ forms_in_parts before front own tail (nearest after)
 forms-parts before front own tail after letter rest =
     let seen = reverse front ++ before in
     forms-append before front (own ∷ tail) after

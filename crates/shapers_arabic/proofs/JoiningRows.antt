@@ -11,7 +11,7 @@ use Rattle.shapers_base.specs.declared.plan.joining.hb_arabic_joining_type_t.The
 use Rattle.shapers_arabic.specs.declared.ot_shaper_arabic.arabic_action_t.TheConstants.{ISOL, FINA, FIN2, FIN3, MEDI, MED2, INIT, NONE, STRETCHING_FIXED, STRETCHING_REPEATING}
 use Rattle.shapers_arabic.specs.declared.ot_shaper_arabic.joining.TheConstants.{STATE_TABLE}
 use Rattle.shapers_arabic.specs.Joining.{resolved, act, forms, is_selector}
-use Rattle.shapers_arabic.specs.JoinedText.{Text, is_mongolian, forms_of, seen, look_ups, opening, text_of, first_of, second_of}
+use Rattle.shapers_arabic.specs.JoinedText.{Text, is_mongolian, forms_of, context_look_ups, look_ups, opening, text_of, first_of, second_of}
 
 -- the numbers of the forms
 numbers : ISOL ∷ FINA ∷ FIN2 ∷ FIN3 ∷ MEDI ∷ MED2 ∷ INIT ∷ NONE ∷ STRETCHING_FIXED ∷ STRETCHING_REPEATING ∷ [] ≡ 0 ∷ 1 ∷ 2 ∷ 3 ∷ 4 ∷ 5 ∷ 6 ∷ 7 ∷ 8 ∷ 9 ∷ []
@@ -146,7 +146,7 @@ u_before : forms (U ∷ D ∷ []) (D ∷ []) [] ≡ ISOL ∷ []
 u_before = refl
 
 -- how much of a context is looked up
-seen_to_the_first_letter : map seen ([] ∷ (D ∷ R ∷ []) ∷ (T ∷ T ∷ D ∷ R ∷ []) ∷ (T ∷ T ∷ T ∷ T ∷ T ∷ []) ∷ (U ∷ D ∷ []) ∷ []) ≡ 0 ∷ 1 ∷ 3 ∷ 5 ∷ 1 ∷ []
+seen_to_the_first_letter : map context_look_ups ([] ∷ (D ∷ R ∷ []) ∷ (T ∷ T ∷ D ∷ R ∷ []) ∷ (T ∷ T ∷ T ∷ T ∷ T ∷ []) ∷ (U ∷ D ∷ []) ∷ []) ≡ 0 ∷ 1 ∷ 3 ∷ 5 ∷ 1 ∷ []
 seen_to_the_first_letter = refl
 
 -- a made table: D for 1, X for 3, T for 180B, U for others; its own categories are Mn

@@ -7,8 +7,8 @@ use Rattle.shapers_base.specs.declared.plan.joining.hb_arabic_joining_type_t.{hb
 use Rattle.shapers_base.specs.declared.plan.joining.hb_arabic_joining_type_t.TheVariants.{U, T}
 use Rattle.shapers_arabic.specs.declared.ot_shaper_arabic.arabic_action_t.TheConstants.{NONE}
 use Rattle.shapers_arabic.specs.Joining.{is_transparent, nearest, act, forms}
-use Rattle.shapers_arabic.specs.JoiningWalk.{cell, state_of, kept_or, state_at_start, LastLetter, LastIs, Walked, IsWithin, given_last, given_by}
-use Rattle.shapers_arabic.proofs.JoiningLists.{transparent, nearest-transparent, nearest-letter, forms-contexts, length-forms, forms-append, forms-transparent, in_parts, forms-parts}
+use Rattle.shapers_arabic.specs.JoiningWalk.{cell, state_of, kept_or, state_at_start, LastLetter, LastIs, WalkedInJoining, IsWithin, given_last, given_by}
+use Rattle.shapers_arabic.proofs.JoiningLists.{transparent, nearest-transparent, nearest-letter, forms-contexts, length-forms, forms-append, forms-transparent, forms_in_parts, forms-parts}
 use Rattle.shapers_arabic.proofs.JoiningTable.{gives_previous, gives_own, gives_first, gives_state, gives_first_state}
 
 -- the last letter is given its form by the next one
@@ -30,7 +30,7 @@ given-forms before ts state (Some k) t after l e =
     ∙ ap (given_last (Some k) given) (forms-parts before l.front l.own l.tail [] l.letter l.rest)
     ∙ given_middle part (act seen l.own None) given (replicate (length l.tail) NONE) k (length-forms before l.front (l.own ∷ []) ∙ l.place)
     ∙ ap (λ a. part ++ a ∷ replicate (length l.tail) NONE) form
-    ∙ ap (λ o. in_parts before l.front l.own l.tail o) (sym e)
+    ∙ ap (λ o. forms_in_parts before l.front l.own l.tail o) (sym e)
     ∙ sym (ap (λ us. forms before us after) l.split ∙ forms-parts before l.front l.own l.tail after l.letter l.rest)
 
 -- the nearest type at the end of a text is its last letter, or what is nearest before it
@@ -121,10 +121,10 @@ end-at before types after state (Some k) l None e = forms-contexts before before
 end-at before types after state last l (Some t) e = given-forms before types state last t after l e
 
 -- the walk begins, goes on over a transparent place, goes on over a letter, and ends
-pub walk-start : (before types : List hb_arabic_joining_type_t) (state : ℕ) (fs : List ℕ) → state ≡ state_at_start (nearest before) → length fs ≡ length types → Walked before types 0 state None fs
+pub walk-start : (before types : List hb_arabic_joining_type_t) (state : ℕ) (fs : List ℕ) → state ≡ state_at_start (nearest before) → length fs ≡ length types → WalkedInJoining before types 0 state None fs
 walk-start before types state fs s long = record { last_is = record { rest = refl; state_is = s }; forms_are = refl; long = long }
 
-pub walk-transparent : (before types : List hb_arabic_joining_type_t) (i state : ℕ) (last : Option ℕ) (fs : List ℕ) (t : hb_arabic_joining_type_t) → i < length types → get_or types i U ≡ t → is_transparent t ≡ true → Walked before types i state last fs → Walked before types (i + 1) state last (set fs i NONE)
+pub walk-transparent : (before types : List hb_arabic_joining_type_t) (i state : ℕ) (last : Option ℕ) (fs : List ℕ) (t : hb_arabic_joining_type_t) → i < length types → get_or types i U ≡ t → is_transparent t ≡ true → WalkedInJoining before types i state last fs → WalkedInJoining before types (i + 1) state last (set fs i NONE)
 walk-transparent before types i state last fs t h at e w =
     let ts = take i types in
     let own : get_or types i U ≡ T = at ∙ transparent-is t e in
@@ -137,7 +137,7 @@ walk-transparent before types i state last fs t h at e w =
       long = length-set fs i NONE ∙ w.long;
     }
 
-pub walk-letter : (before types : List hb_arabic_joining_type_t) (i state : ℕ) (last : Option ℕ) (fs : List ℕ) (t : hb_arabic_joining_type_t) → i < length types → get_or types i U ≡ t → is_transparent t ≡ false → Walked before types i state last fs → Walked before types (i + 1) (cell state t).2 (Some i) (set (given_last last (cell state t).0 fs) i (cell state t).1)
+pub walk-letter : (before types : List hb_arabic_joining_type_t) (i state : ℕ) (last : Option ℕ) (fs : List ℕ) (t : hb_arabic_joining_type_t) → i < length types → get_or types i U ≡ t → is_transparent t ≡ false → WalkedInJoining before types i state last fs → WalkedInJoining before types (i + 1) (cell state t).2 (Some i) (set (given_last last (cell state t).0 fs) i (cell state t).1)
 walk-letter before types i state last fs t h at e w =
     let ts = take i types in
     let given = (cell state t).0 in
@@ -161,7 +161,7 @@ walk-letter before types i state last fs t h at e w =
       long = length-set (given_last last given fs) i (cell state t).1 ∙ length-given last given fs ∙ w.long;
     }
 
-pub walk-end : (before types after : List hb_arabic_joining_type_t) (i state : ℕ) (last : Option ℕ) (fs : List ℕ) → i ≡ length types → Walked before types i state last fs → given_last last (given_by state (nearest after)) fs ≡ forms before types after
+pub walk-end : (before types after : List hb_arabic_joining_type_t) (i state : ℕ) (last : Option ℕ) (fs : List ℕ) → i ≡ length types → WalkedInJoining before types i state last fs → given_last last (given_by state (nearest after)) fs ≡ forms before types after
 walk-end before types after i state last fs at w =
     let all : take i types ≡ types = take_all i types (omega arith) in
     let done : fs ≡ forms before types [] = sym (take_all i fs (omega (arith, w.long))) ∙ w.forms_are ∙ ap (λ us. forms before us []) all in
@@ -177,6 +177,6 @@ not-transparent T n = absurd (n refl)
 not-transparent U n = refl
 not-transparent _ n = refl
 
-pub walked-at : (before types : List hb_arabic_joining_type_t) (i state other : ℕ) (last behind : Option ℕ) (fs gs : List ℕ) → Walked before types i state last fs → other ≡ state → behind ≡ last → gs ≡ fs → Walked before types i other behind gs
+pub walked-at : (before types : List hb_arabic_joining_type_t) (i state other : ℕ) (last behind : Option ℕ) (fs gs : List ℕ) → WalkedInJoining before types i state last fs → other ≡ state → behind ≡ last → gs ≡ fs → WalkedInJoining before types i other behind gs
 walked-at before types i state other last behind fs gs w s l f =
-    subst (λ hs. Walked before types i other behind hs) (sym f) (subst (λ k. Walked before types i other k fs) (sym l) (subst (λ n. Walked before types i n last fs) (sym s) w))
+    subst (λ hs. WalkedInJoining before types i other behind hs) (sym f) (subst (λ k. WalkedInJoining before types i other k fs) (sym l) (subst (λ n. WalkedInJoining before types i n last fs) (sym s) w))

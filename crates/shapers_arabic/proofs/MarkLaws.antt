@@ -19,7 +19,7 @@ use Rattle.shapers_clusters.proofs.Proved.{reordered_hold}
 use Rattle.shapers_clusters.proofs.Widened.{moves-widened, fits-widened, pick-widened}
 use Rattle.shapers_arabic.specs.declared.ot_shaper_arabic.marks.Parts.{Parts}
 use Rattle.shapers_arabic.specs.MarkParts.{lengths_of}
-use Rattle.shapers_arabic.specs.Marks.{Marks, split_marks, front_of, behind, is_below, is_modifier_of, in_class, with_modifiers_first, marks_reordered, merged_for, passed, mark_step, text_step, marks_merged, without_class}
+use Rattle.shapers_arabic.specs.Marks.{Marks, split_marks, front_of, behind, has_lower_class, is_modifier_of, in_class, with_modifiers_first, marks_reordered, merged_for, passed, arabic_mark_step, text_step, marks_merged, without_class}
 use Rattle.shapers_arabic.proofs.MarkLists.{joined_parts, parts_moved, split-joined, pick-moved}
 use Rattle.shapers_arabic.proofs.MarkMoves.{step_of, moves-merged, moves-permute}
 
@@ -39,9 +39,9 @@ parts_plain s = marks_of (order_view s.low) (order_view s.modifiers_below) (orde
 
 split-plain : (gs : List hb_glyph_info_t) → split_marks (order_view gs) ≡ parts_plain (split_marks gs)
 split-plain gs =
-    let t0 = is_below 220 in
+    let t0 = has_lower_class 220 in
     let t1 = is_modifier_of 220 in
-    let t2 = is_below 230 in
+    let t2 = has_lower_class 230 in
     let t3 = is_modifier_of 230 in
     let second = behind t0 gs in
     let third = behind t1 second in
@@ -93,7 +93,7 @@ lengths-same s t h =
     ∙ ap (λ b. parts_with (length t.low) (length t.modifiers_below) b (length s.modifiers_above)) h.middle
     ∙ ap (λ n. parts_with (length t.low) (length t.modifiers_below) (length t.middle) n) h.modifiers_above
 
-step-same : (s t : Marks) → SameLengths s t → mark_step s ≡ mark_step t
+step-same : (s t : Marks) → SameLengths s t → arabic_mark_step s ≡ arabic_mark_step t
 step-same s t h =
     ap (λ a. step_of a (length s.modifiers_below) (length s.middle) (length s.modifiers_above) (length s.rest)) h.low
     ∙ ap (λ m. step_of (length t.low) m (length s.middle) (length s.modifiers_above) (length s.rest)) h.modifiers_below
@@ -192,27 +192,27 @@ length-parts s e gs h l =
     let all : length marks ≡ length (joined_parts t) = ap length (sym (split-joined marks)) in
     omega (arith, length-append t.low (t.modifiers_below ++ (t.middle ++ (t.modifiers_above ++ t.rest))), length-append t.modifiers_below (t.middle ++ (t.modifiers_above ++ t.rest)), length-append t.middle (t.modifiers_above ++ t.rest), length-append t.modifiers_above t.rest)
 
-step_moves : (s e : ℕ) (gs : List hb_glyph_info_t) → s ≤ e → e ≤ length gs → MovesMerged (e - s) (mark_step (split_marks (stretch_of s e gs)))
+step_moves : (s e : ℕ) (gs : List hb_glyph_info_t) → s ≤ e → e ≤ length gs → MovesMerged (e - s) (arabic_mark_step (split_marks (stretch_of s e gs)))
 step_moves s e gs h l =
     let t = split_marks (stretch_of s e gs) in
-    subst (λ n. MovesMerged n (mark_step t)) (length-parts s e gs h l) (moves-merged (length t.low) (length t.modifiers_below) (length t.middle) (length t.modifiers_above) (length t.rest))
+    subst (λ n. MovesMerged n (arabic_mark_step t)) (length-parts s e gs h l) (moves-merged (length t.low) (length t.modifiers_below) (length t.middle) (length t.modifiers_above) (length t.rest))
 
-step_permutes : (s e : ℕ) (gs : List hb_glyph_info_t) → s ≤ e → e ≤ length gs → Permutes (e - s) (mark_step (split_marks (stretch_of s e gs)))
+step_permutes : (s e : ℕ) (gs : List hb_glyph_info_t) → s ≤ e → e ≤ length gs → Permutes (e - s) (arabic_mark_step (split_marks (stretch_of s e gs)))
 step_permutes s e gs h l =
     let t = split_marks (stretch_of s e gs) in
-    subst (λ n. Permutes n (mark_step t)) (length-parts s e gs h l) (moves-permute (length t.low) (length t.modifiers_below) (length t.middle) (length t.modifiers_above) (length t.rest))
+    subst (λ n. Permutes n (arabic_mark_step t)) (length-parts s e gs h l) (moves-permute (length t.low) (length t.modifiers_below) (length t.middle) (length t.modifiers_above) (length t.rest))
 
 -- but for the classes the step gives the reordered marks
 step_gives : (level : BufferClusterLevel) (s e : ℕ) (gs : List hb_glyph_info_t) → s ≤ e → e ≤ length gs → map without_class (marks_reordered s e (marks_merged level s e gs)) ≡ map without_class (run_step level (text_step s e gs) gs)
 step_gives level s e gs h l =
-    let step = mark_step (split_marks (stretch_of s e gs)) in
+    let step = arabic_mark_step (split_marks (stretch_of s e gs)) in
     let ms = marks_merged level s e gs in
     let fits = (step_moves s e gs h l).fits in
     let wide = fits-widened s e (length gs) step h l fits in
     let long : length ms ≡ length gs = length-merge_all level (shifted s step.merged_first) gs wide.first_within in
     let marks = stretch_of s e ms in
     let new = split_marks marks in
-    let same : mark_step new ≡ step = step-same new (split_marks (stretch_of s e gs)) (same_lengths marks (stretch_of s e gs) (view-merged_stretch level (shifted s step.merged_first) s e gs)) in
+    let same : arabic_mark_step new ≡ step = step-same new (split_marks (stretch_of s e gs)) (same_lengths marks (stretch_of s e gs) (view-merged_stretch level (shifted s step.merged_first) s e gs)) in
     let picked : pick step.places marks ≡ parts_moved new = ap (λ t. pick t.places marks) (sym same) ∙ pick-moved new marks (sym (split-joined marks)) in
     let ran : run_step level (text_step s e gs) gs ≡ take s ms ++ (parts_moved new ++ drop e ms) =
     ap (λ n. pick (widened s e n step).places ms) (sym long)
@@ -226,7 +226,7 @@ step_gives level s e gs h l =
 -- what the reordering leaves, by the laws
 pub mark_laws : (level : BufferClusterLevel) (s e : ℕ) (gs : List hb_glyph_info_t) → s ≤ e → e ≤ length gs → ReorderedHold without_class level (text_step s e gs ∷ []) gs (marks_reordered s e (marks_merged level s e gs))
 mark_laws level s e gs h l =
-    let step = mark_step (split_marks (stretch_of s e gs)) in
+    let step = arabic_mark_step (split_marks (stretch_of s e gs)) in
     reordered_hold without_class class_hidden level (text_step s e gs ∷ []) gs (marks_reordered s e (marks_merged level s e gs))
     (moves-widened s e (length gs) step h l (step_moves s e gs h l), tt)
     (permutes-widened s e (length gs) step h l (step_permutes s e gs h l), tt)

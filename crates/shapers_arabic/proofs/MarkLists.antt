@@ -7,8 +7,8 @@ use Rattle.shapers_buffer.specs.declared.buffer.glyph.hb_glyph_info_t.{hb_glyph_
 use Rattle.shapers_buffer.specs.declared.buffer.modified_combining_class.TheConstants.{CCC22, CCC26}
 use Rattle.shapers_buffer.specs.Places.{pick}
 use Rattle.shapers_clusters.proofs.Picks.{pick-append, pick-range}
-use Rattle.shapers_arabic.specs.MarkParts.{last_first, is_modifier}
-use Rattle.shapers_arabic.specs.Marks.{Marks, split_marks, front_of, behind, is_below, is_modifier_of, in_class, with_modifiers_first, places_moved, passed, marks_merged, marks_reordered}
+use Rattle.shapers_arabic.specs.MarkParts.{last_marks_first, is_modifier}
+use Rattle.shapers_arabic.specs.Marks.{Marks, split_marks, front_of, behind, has_lower_class, is_modifier_of, in_class, with_modifiers_first, places_moved, passed, marks_merged, marks_reordered}
 use Rattle.std.specs.Prelude.{◌||◌}
 use Rattle.std.proofs.lemmas.Bool.{false≢true}
 use Rattle.shapers_buffer.specs.declared.buffer.level.BufferClusterLevel.{BufferClusterLevel}
@@ -25,28 +25,28 @@ parts_moved s = s.modifiers_below ++ (s.modifiers_above ++ (s.low ++ (s.middle +
 -- the parts are the marks
 pub split-joined : (gs : List hb_glyph_info_t) → joined_parts (split_marks gs) ≡ gs
 split-joined gs =
-    let second = behind (is_below 220) gs in
+    let second = behind (has_lower_class 220) gs in
     let third = behind (is_modifier_of 220) second in
-    let fourth = behind (is_below 230) third in
-    let a = front_of (is_below 220) gs in
+    let fourth = behind (has_lower_class 230) third in
+    let a = front_of (has_lower_class 220) gs in
     let m = front_of (is_modifier_of 220) second in
-    let b = front_of (is_below 230) third in
+    let b = front_of (has_lower_class 230) third in
     let fourth_is = take-append-drop (prefix_len (is_modifier_of 230) fourth) fourth in
-    let third_is = take-append-drop (prefix_len (is_below 230) third) third in
+    let third_is = take-append-drop (prefix_len (has_lower_class 230) third) third in
     let second_is = take-append-drop (prefix_len (is_modifier_of 220) second) second in
     ap (λ xs. a ++ (m ++ (b ++ xs))) fourth_is
     ∙ ap (λ xs. a ++ (m ++ xs)) third_is
     ∙ ap (λ xs. a ++ xs) second_is
-    ∙ take-append-drop (prefix_len (is_below 220) gs) gs
+    ∙ take-append-drop (prefix_len (has_lower_class 220) gs) gs
 
-last_first-parts : (k class : ℕ) (front back : List hb_glyph_info_t) → length back ≡ k → last_first k class (front ++ back) ≡ map (in_class class) back ++ front
+last_first-parts : (k class : ℕ) (front back : List hb_glyph_info_t) → length back ≡ k → last_marks_first k class (front ++ back) ≡ map (in_class class) back ++ front
 last_first-parts k class front back h =
     let n : length front ≡ length (front ++ back) - k = omega (arith, length-append front back) in
     ap (λ xs. map (in_class class) xs ++ take (length (front ++ back) - k) (front ++ back)) (drop_at front back (length (front ++ back) - k) n)
     ∙ ap (λ xs. map (in_class class) back ++ xs) (take_at front back (length (front ++ back) - k) n)
 
 -- two moves, of the second part over the first, and of the fourth over the first and third
-pub two_moves : (s : Marks) (xs one two : List hb_glyph_info_t) (a m b n : ℕ) → a ≡ length s.low → m ≡ length s.modifiers_below → b ≡ length s.middle → n ≡ length s.modifiers_above → xs ≡ joined_parts s → one ≡ last_first m CCC22 (take (a + m) xs) → two ≡ last_first n CCC26 (take (a + m + b + n - m) (drop m (one ++ drop (a + m) xs))) → put_mid m (a + m + b + n - m) (one ++ drop (a + m) xs) two ≡ with_modifiers_first s
+pub two_moves : (s : Marks) (xs one two : List hb_glyph_info_t) (a m b n : ℕ) → a ≡ length s.low → m ≡ length s.modifiers_below → b ≡ length s.middle → n ≡ length s.modifiers_above → xs ≡ joined_parts s → one ≡ last_marks_first m CCC22 (take (a + m) xs) → two ≡ last_marks_first n CCC26 (take (a + m + b + n - m) (drop m (one ++ drop (a + m) xs))) → put_mid m (a + m + b + n - m) (one ++ drop (a + m) xs) two ≡ with_modifiers_first s
 two_moves s xs one two a m b n ea em eb en h first second =
     let low = s.low in
     let below = s.modifiers_below in
@@ -64,7 +64,7 @@ two_moves s xs one two a m b n ea em eb en h first second =
     let is : xs ≡ (low ++ below) ++ behind = h ∙ sym (append_assoc low below behind) in
     let taken : take (a + m) xs ≡ low ++ below = ap (take (a + m)) is ∙ take_at (low ++ below) behind (a + m) an in
     let left : drop (a + m) xs ≡ behind = ap (drop (a + m)) is ∙ drop_at (low ++ below) behind (a + m) an in
-    let one_is : one ≡ below' ++ low = first ∙ ap (last_first m CCC22) taken ∙ last_first-parts m CCC22 low below (sym em) in
+    let one_is : one ≡ below' ++ low = first ∙ ap (last_marks_first m CCC22) taken ∙ last_first-parts m CCC22 low below (sym em) in
     let turned : low ++ behind ≡ passed ++ rest = sym (append_assoc low (middle ++ above) rest ∙ ap (λ zs. low ++ zs) (append_assoc middle above rest)) in
     let ys = one ++ drop (a + m) xs in
     let ys_is : ys ≡ below' ++ (passed ++ rest) =
@@ -72,7 +72,7 @@ two_moves s xs one two a m b n ea em eb en h first second =
     let front : take m ys ≡ below' = ap (take m) ys_is ∙ take_at below' (passed ++ rest) m bn in
     let back : drop m ys ≡ passed ++ rest = ap (drop m) ys_is ∙ drop_at below' (passed ++ rest) m bn in
     let inner : take k (drop m ys) ≡ (low ++ middle) ++ above = ap (take k) back ∙ take_at passed rest k cn ∙ sym (append_assoc low middle above) in
-    let two_is : two ≡ above' ++ (low ++ middle) = second ∙ ap (last_first n CCC26) inner ∙ last_first-parts n CCC26 (low ++ middle) above (sym en) in
+    let two_is : two ≡ above' ++ (low ++ middle) = second ∙ ap (last_marks_first n CCC26) inner ∙ last_first-parts n CCC26 (low ++ middle) above (sym en) in
     let last : drop k (drop m ys) ≡ rest = ap (drop k) back ∙ drop_at passed rest k cn in
     ap (λ zs. zs ++ (two ++ drop k (drop m ys))) front
     ∙ ap (λ zs. below' ++ (zs ++ drop k (drop m ys))) two_is
@@ -147,19 +147,19 @@ not_above g h = (or-false (is_modifier_of 220 g) (is_modifier_of 230 g) h).1
 
 -- so the second and the fourth part are empty
 record NoModifiers (gs : List hb_glyph_info_t) : Type 0 where
-  below : prefix_len (is_modifier_of 220) (behind (is_below 220) gs) ≡ 0
-  above : prefix_len (is_modifier_of 230) (behind (is_below 230) (behind (is_modifier_of 220) (behind (is_below 220) gs))) ≡ 0
+  below : prefix_len (is_modifier_of 220) (behind (has_lower_class 220) gs) ≡ 0
+  above : prefix_len (is_modifier_of 230) (behind (has_lower_class 230) (behind (is_modifier_of 220) (behind (has_lower_class 220) gs))) ≡ 0
 
 no_modifiers : (gs : List hb_glyph_info_t) → list_any is_modifier gs ≡ false → NoModifiers gs
 no_modifiers gs h =
-    let second = behind (is_below 220) gs in
+    let second = behind (has_lower_class 220) gs in
     let third = behind (is_modifier_of 220) second in
-    let in_second = none-behind (prefix_len (is_below 220) gs) gs h in
+    let in_second = none-behind (prefix_len (has_lower_class 220) gs) gs h in
     let in_third = none-behind (prefix_len (is_modifier_of 220) second) second in_second in
-    let in_fourth = none-behind (prefix_len (is_below 230) third) third in_third in
+    let in_fourth = none-behind (prefix_len (has_lower_class 230) third) third in_third in
     record {
       below = front-none (is_modifier_of 220) second not_below in_second;
-      above = front-none (is_modifier_of 230) (behind (is_below 230) third) not_above in_fourth;
+      above = front-none (is_modifier_of 230) (behind (has_lower_class 230) third) not_above in_fourth;
     }
 
 -- and the marks stay, given how long the parts are
@@ -168,7 +168,7 @@ parts-still a m b n gs none_below none_above =
     rw (none_below, none_above, take-append-drop b (drop a gs), take-append-drop a gs) refl
 
 marks-still : (gs : List hb_glyph_info_t) → NoModifiers gs → with_modifiers_first (split_marks gs) ≡ gs
-marks-still gs h = parts-still (prefix_len (is_below 220) gs) (prefix_len (is_modifier_of 220) (behind (is_below 220) gs)) (prefix_len (is_below 230) (behind (is_modifier_of 220) (behind (is_below 220) gs))) (prefix_len (is_modifier_of 230) (behind (is_below 230) (behind (is_modifier_of 220) (behind (is_below 220) gs)))) gs h.below h.above
+marks-still gs h = parts-still (prefix_len (has_lower_class 220) gs) (prefix_len (is_modifier_of 220) (behind (has_lower_class 220) gs)) (prefix_len (has_lower_class 230) (behind (is_modifier_of 220) (behind (has_lower_class 220) gs))) (prefix_len (is_modifier_of 230) (behind (has_lower_class 230) (behind (is_modifier_of 220) (behind (has_lower_class 220) gs)))) gs h.below h.above
 
 nothing-merged : (level : BufferClusterLevel) (s a m b n : ℕ) (gs : List hb_glyph_info_t) → m ≡ 0 → n ≡ 0 → merge_all level (shifted s (passed a m b n)) gs ≡ gs
 nothing-merged level s a m b n gs none_below none_above = rw (none_below, none_above) refl
@@ -187,8 +187,8 @@ unmodified level s e gs in_order h =
     let marks = stretch_of s e gs in
     let none = no_modifiers marks h in
     let parts = split_marks marks in
-    let second = behind (is_below 220) marks in
-    let fourth = behind (is_below 230) (behind (is_modifier_of 220) second) in
+    let second = behind (has_lower_class 220) marks in
+    let fourth = behind (has_lower_class 230) (behind (is_modifier_of 220) second) in
     let below : length parts.modifiers_below ≡ 0 = ap (λ n. length (take n second)) none.below in
     let above : length parts.modifiers_above ≡ 0 = ap (λ n. length (take n fourth)) none.above in
     let merged : marks_merged level s e gs ≡ gs = nothing-merged level s (length parts.low) (length parts.modifiers_below) (length parts.middle) (length parts.modifiers_above) gs below above in

@@ -9,8 +9,8 @@ use Rattle.shapers_buffer.specs.declared.buffer.level.BufferClusterLevel.TheVari
 use Rattle.shapers_buffer.specs.declared.buffer.modified_combining_class.TheConstants.{CCC22, CCC26}
 use Rattle.shapers_clusters.specs.Steps.{run_step}
 use Rattle.shapers_arabic.specs.declared.ot_shaper_arabic.marks.TheConstants.{ABOVE}
-use Rattle.shapers_arabic.specs.MarkParts.{lengths_of, passed_by, last_first}
-use Rattle.shapers_arabic.specs.Marks.{modifiers, is_below, is_modifier_of, split_marks, with_modifiers_first, marks_reordered, marks_merged, merged_for, passed, places_moved, mark_step, text_step, without_class}
+use Rattle.shapers_arabic.specs.MarkParts.{lengths_of, passed_by, last_marks_first}
+use Rattle.shapers_arabic.specs.Marks.{modifiers, has_lower_class, is_modifier_of, split_marks, with_modifiers_first, marks_reordered, marks_merged, merged_for, passed, places_moved, arabic_mark_step, text_step, without_class}
 
 abbrev mark : ℕ × ℕ × ℕ → hb_glyph_info_t
 mark p = record default_glyph { glyph_id = p.0; modified_combining_class = p.1; cluster = p.2 }
@@ -36,13 +36,13 @@ five = map mark ((0x064E, 31, 0) ∷ (0x0655, 220, 1) ∷ (0x065C, 220, 2) ∷ (
 both_hamzas : view (with_modifiers_first (split_marks five)) ≡ (0x0655, 25) ∷ (0x0654, 26) ∷ (0x064E, 31) ∷ (0x065C, 220) ∷ (0x0653, 230) ∷ []
 both_hamzas = refl
 
-their_clusters : clusters (run_step MonotoneGraphemes (mark_step (split_marks five)) five) ≡ 0 ∷ 0 ∷ 0 ∷ 0 ∷ 4 ∷ []
+their_clusters : clusters (run_step MonotoneGraphemes (arabic_mark_step (split_marks five)) five) ≡ 0 ∷ 0 ∷ 0 ∷ 0 ∷ 4 ∷ []
 their_clusters = refl
 
-their_places : map (λ g. g.glyph_id) (run_step MonotoneGraphemes (mark_step (split_marks five)) five) ≡ 0x0655 ∷ 0x0654 ∷ 0x064E ∷ 0x065C ∷ 0x0653 ∷ []
+their_places : map (λ g. g.glyph_id) (run_step MonotoneGraphemes (arabic_mark_step (split_marks five)) five) ≡ 0x0655 ∷ 0x0654 ∷ 0x064E ∷ 0x065C ∷ 0x0653 ∷ []
 their_places = refl
 
-clusters_at_characters : clusters (run_step Characters (mark_step (split_marks five)) five) ≡ 1 ∷ 3 ∷ 0 ∷ 2 ∷ 4 ∷ []
+clusters_at_characters : clusters (run_step Characters (arabic_mark_step (split_marks five)) five) ≡ 1 ∷ 3 ∷ 0 ∷ 2 ∷ 4 ∷ []
 clusters_at_characters = refl
 
 -- the class decides, and the list
@@ -57,7 +57,7 @@ above : ABOVE ≡ 230
 above = refl
 
 -- a bound is no class below it
-bounds : map (is_below 220) (map mark ((0x064E, 219, 0) ∷ (0x064E, 220, 0) ∷ (0x064E, 0, 0) ∷ [])) ≡ true ∷ false ∷ true ∷ []
+bounds : map (has_lower_class 220) (map mark ((0x064E, 219, 0) ∷ (0x064E, 220, 0) ∷ (0x064E, 0, 0) ∷ [])) ≡ true ∷ false ∷ true ∷ []
 bounds = refl
 
 -- the five parts
@@ -93,7 +93,7 @@ merged_for_rows = refl
 places_row : places_moved 1 2 3 1 2 ≡ 1 ∷ 2 ∷ 6 ∷ 0 ∷ 3 ∷ 4 ∷ 5 ∷ 7 ∷ 8 ∷ []
 places_row = refl
 
-step_row : mark_step (split_marks five) ≡ record { merged_first = (0, 2) ∷ (1, 4) ∷ []; places = 1 ∷ 3 ∷ 0 ∷ 2 ∷ 4 ∷ []; merged_then = [] }
+step_row : arabic_mark_step (split_marks five) ≡ record { merged_first = (0, 2) ∷ (1, 4) ∷ []; places = 1 ∷ 3 ∷ 0 ∷ 2 ∷ 4 ∷ []; merged_then = [] }
 step_row = refl
 
 -- with a base before and a letter behind: the step over all places, and the whole text
@@ -188,7 +188,7 @@ many_unmerged = refl
 passed_by_row : passed_by (record { low = 1; modifiers_below = 2; middle = 3; modifiers_above = 4 }) ≡ (0, 3) ∷ (2, 10) ∷ []
 passed_by_row = refl
 
-last_first_row : view (last_first 2 25 five) ≡ (0x0654, 25) ∷ (0x0653, 25) ∷ (0x064E, 31) ∷ (0x0655, 220) ∷ (0x065C, 220) ∷ []
+last_first_row : view (last_marks_first 2 25 five) ≡ (0x0654, 25) ∷ (0x0653, 25) ∷ (0x064E, 31) ∷ (0x0655, 220) ∷ (0x065C, 220) ∷ []
 last_first_row = refl
 
 hidden_class : without_class full ≡ record full { modified_combining_class = 0 }

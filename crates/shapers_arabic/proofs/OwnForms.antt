@@ -5,7 +5,7 @@ use Rattle.std.proofs.lemmas.List.{take_at, drop_at}
 use Rattle.std.proofs.lemmas.Slice.Zip.{length-zip}
 use Rattle.shapers_base.specs.declared.plan.joining.hb_arabic_joining_type_t.{hb_arabic_joining_type_t}
 use Rattle.shapers_base.specs.declared.plan.joining.hb_arabic_joining_type_t.TheVariants.{T}
-use Rattle.shapers_clusters.proofs.ClearPlaces.{held}
+use Rattle.shapers_clusters.proofs.ClearPlaces.{held_by_calls}
 use Rattle.shapers_arabic.specs.declared.ot_shaper_arabic.arabic_action_t.TheConstants.{NONE}
 use Rattle.shapers_arabic.specs.Joining.{is_transparent, nearest, act, forms, is_selector, form_behind, selected}
 use Rattle.shapers_arabic.specs.SoundFlags.{selector_flags}
@@ -72,7 +72,7 @@ first-own true cs before ts after behind long silent e =
 pub record OwnForms (b : Bool) (cs ds fs gs hs ks : List ℕ) : Type 0 where
   pub first : fs ≡ hs
   pub second : gs ≡ ks
-  pub free : held (length cs) (cond b (selector_flags [] (zip (cs ++ ds) (fs ++ gs))) []) ≡ false
+  pub free : held_by_calls (length cs) (cond b (selector_flags [] (zip (cs ++ ds) (fs ++ gs))) []) ≡ false
 
 pub halves-own : (b : Bool) (cs ds : List ℕ) (before ts us after behind inner : List hb_arabic_joining_type_t) → 0 < length cs → length ts ≡ length cs → length us ≡ length ds → (b ≡ true → Silent (cs ++ ds) (ts ++ us)) → let fs = forms before ts behind in let gs = forms inner us after in let hs = forms before ts [] in let ks = forms [] us after in cond b (selected [] (zip (cs ++ ds) (fs ++ gs))) (fs ++ gs) ≡ cond b (selected [] (zip cs hs)) hs ++ cond b (selected [] (zip ds ks)) ks → OwnForms b cs ds fs gs hs ks
 halves-own false cs ds before ts us after behind inner some long more silent e =
@@ -100,7 +100,7 @@ halves-own true cs ds before ts us after behind inner some long more silent e =
       first = one;
       second = two;
       free =
-          ap (λ ps. held (length cs) (selector_flags [] ps)) zipped
-          ∙ ap (λ n. held n (selector_flags [] (zip cs fs ++ zip ds gs))) (sym at)
+          ap (λ ps. held_by_calls (length cs) (selector_flags [] ps)) zipped
+          ∙ ap (λ n. held_by_calls n (selector_flags [] (zip cs fs ++ zip ds gs))) (sym at)
           ∙ selectors-free (zip cs fs) (zip ds gs) (omega arith) (parts.1 ∙ ap (λ xs. selected [] (zip ds xs)) (sym two));
     }

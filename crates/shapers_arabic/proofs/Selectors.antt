@@ -10,7 +10,7 @@ use Rattle.shapers_buffer.proofs.MappedLists.{all-append}
 use Rattle.shapers_clusters.specs.Flags.{InOrder}
 use Rattle.shapers_arabic.specs.Joining.{is_selector, form_behind, selected}
 use Rattle.shapers_clusters.specs.Breaks.{forbids, IsFree}
-use Rattle.shapers_clusters.proofs.ClearPlaces.{held}
+use Rattle.shapers_clusters.proofs.ClearPlaces.{held_by_calls}
 use Rattle.shapers_arabic.specs.SoundFlags.{selector_flags}
 use Rattle.shapers_arabic.proofs.SelectedLists.{selected-append, selected-same, zip-append}
 use Rattle.shapers_arabic.proofs.FlaggedPlaces.{break_held, and_true, and_false, inside, past, ahead, or_with}
@@ -22,22 +22,22 @@ copies before c a = is_selector c && not (eqb (form_behind before a) a)
 abbrev call : List (ℕ × ℕ) → ℕ → ℕ → List FlagCall
 call before c a = cond (copies before c a) (UnsafeToBreak (length before - 1) (suc (length before)) ∷ []) []
 
-selectors-past : (before places : List (ℕ × ℕ)) (p : ℕ) → length before + length places ≤ p → held p (selector_flags before places) ≡ false
+selectors-past : (before places : List (ℕ × ℕ)) (p : ℕ) → length before + length places ≤ p → held_by_calls p (selector_flags before places) ≡ false
 selectors-past before [] p h = refl
 selectors-past before ((c, a) ∷ places) p h =
     list_any-append (forbids p) (call before c a) (selector_flags ((c, a) ∷ before) places)
-    ∙ or_with (held p (call before c a)) (held p (selector_flags ((c, a) ∷ before) places)) false (break_held (copies before c a) (length before - 1) (suc (length before)) p ∙ and_false (copies before c a) _ (past (length before - 1) p (suc (length before)) (omega arith))) (selectors-past ((c, a) ∷ before) places p (omega arith))
+    ∙ or_with (held_by_calls p (call before c a)) (held_by_calls p (selector_flags ((c, a) ∷ before) places)) false (break_held (copies before c a) (length before - 1) (suc (length before)) p ∙ and_false (copies before c a) _ (past (length before - 1) p (suc (length before)) (omega arith))) (selectors-past ((c, a) ∷ before) places p (omega arith))
 
-selectors-from : (before places : List (ℕ × ℕ)) (p : ℕ) → p < length before → held p (selector_flags before places) ≡ false
+selectors-from : (before places : List (ℕ × ℕ)) (p : ℕ) → p < length before → held_by_calls p (selector_flags before places) ≡ false
 selectors-from before [] p h = refl
 selectors-from before ((c, a) ∷ places) p h =
     list_any-append (forbids p) (call before c a) (selector_flags ((c, a) ∷ before) places)
-    ∙ or_with (held p (call before c a)) (held p (selector_flags ((c, a) ∷ before) places)) false (break_held (copies before c a) (length before - 1) (suc (length before)) p ∙ and_false (copies before c a) _ (ahead (length before - 1) p (suc (length before)) (omega arith))) (selectors-from ((c, a) ∷ before) places p (omega arith))
+    ∙ or_with (held_by_calls p (call before c a)) (held_by_calls p (selector_flags ((c, a) ∷ before) places)) false (break_held (copies before c a) (length before - 1) (suc (length before)) p ∙ and_false (copies before c a) _ (ahead (length before - 1) p (suc (length before)) (omega arith))) (selectors-from ((c, a) ∷ before) places p (omega arith))
 
-selectors-here : (before places : List (ℕ × ℕ)) (c a p : ℕ) → 0 < p → p ≡ length before → held p (selector_flags before ((c, a) ∷ places)) ≡ copies before c a
+selectors-here : (before places : List (ℕ × ℕ)) (c a p : ℕ) → 0 < p → p ≡ length before → held_by_calls p (selector_flags before ((c, a) ∷ places)) ≡ copies before c a
 selectors-here before places c a p pos at =
     list_any-append (forbids p) (call before c a) (selector_flags ((c, a) ∷ before) places)
-    ∙ or_with (held p (call before c a)) (held p (selector_flags ((c, a) ∷ before) places)) (copies before c a) (break_held (copies before c a) (length before - 1) (suc (length before)) p ∙ and_true (copies before c a) _ (inside (length before - 1) p (suc (length before)) (omega arith) (omega arith))) (selectors-from ((c, a) ∷ before) places p (omega arith))
+    ∙ or_with (held_by_calls p (call before c a)) (held_by_calls p (selector_flags ((c, a) ∷ before) places)) (copies before c a) (break_held (copies before c a) (length before - 1) (suc (length before)) p ∙ and_true (copies before c a) _ (inside (length before - 1) p (suc (length before)) (omega arith) (omega arith))) (selectors-from ((c, a) ∷ before) places p (omega arith))
 
 turned_places : (x : ℕ × ℕ) (xs before : List (ℕ × ℕ)) → reverse xs ++ (x ∷ before) ≡ reverse (x ∷ xs) ++ before
 turned_places x xs before = sym (ap (λ r. r ++ before) (reverse-append (x ∷ []) xs) ∙ append_assoc (reverse xs) (x ∷ []) before)
@@ -80,9 +80,9 @@ in-halves xs ((c, a) ∷ ys) pos free =
     let here : copies before c a ≡ false =
     sym (selectors-here before ys c a p pos (sym (length-reverse xs)))
     ∙ sym (
-    ap (held p) (selectors-append [] xs ((c, a) ∷ ys) ∙ ap (λ r. selector_flags [] xs ++ selector_flags r ((c, a) ∷ ys)) (append-nil before))
+    ap (held_by_calls p) (selectors-append [] xs ((c, a) ∷ ys) ∙ ap (λ r. selector_flags [] xs ++ selector_flags r ((c, a) ∷ ys)) (append-nil before))
     ∙ list_any-append (forbids p) (selector_flags [] xs) (selector_flags before ((c, a) ∷ ys))
-    ∙ ap (λ b. b || held p (selector_flags before ((c, a) ∷ ys))) (selectors-past [] xs p (omega arith)))
+    ∙ ap (λ b. b || held_by_calls p (selector_flags before ((c, a) ∷ ys))) (selectors-past [] xs p (omega arith)))
     ∙ free in
     selected-append [] xs ((c, a) ∷ ys)
     ∙ ap (λ r. selected [] xs ++ selected r ((c, a) ∷ ys)) (append-nil before)
@@ -95,7 +95,7 @@ selected-halves cs ds fs gs same some free =
     let parts = zip-append cs ds fs gs same in
     let long : length xs ≡ length cs = omega (arith, length-zip cs fs) in
     ap (selected []) parts
-    ∙ in-halves xs (zip ds gs) (omega arith) (ap (λ n. held n (selector_flags [] (xs ++ zip ds gs))) long ∙ ap (λ ps. held (length cs) (selector_flags [] ps)) (sym parts) ∙ free)
+    ∙ in-halves xs (zip ds gs) (omega arith) (ap (λ n. held_by_calls n (selector_flags [] (xs ++ zip ds gs))) long ∙ ap (λ ps. held_by_calls (length cs) (selector_flags [] ps)) (sym parts) ∙ free)
 
 -- the other way round: where the second half copies nothing from the first, no flag stands between the two
 no-copy : (before : List (ℕ × ℕ)) (c a : ℕ) → cond (is_selector c) (form_behind before a) a ≡ cond (is_selector c) a a → copies before c a ≡ false
@@ -105,13 +105,13 @@ no-copy before c a e = elim (is_selector c) as (λ b. cond b (form_behind before
 ] e
 
 pub selectors-free : (xs ys : List (ℕ × ℕ)) → 0 < length xs → selected (reverse xs ++ []) ys ≡ selected [] ys → IsFree (selector_flags [] (xs ++ ys)) (length xs)
-selectors-free xs [] pos e = ap (λ ps. held (length xs) (selector_flags [] ps)) (append-nil xs) ∙ selectors-past [] xs (length xs) (omega arith)
+selectors-free xs [] pos e = ap (λ ps. held_by_calls (length xs) (selector_flags [] ps)) (append-nil xs) ∙ selectors-past [] xs (length xs) (omega arith)
 selectors-free xs ((c, a) ∷ ys) pos e =
     let before = reverse xs ++ [] in
     let p = length xs in
     let at : p ≡ length before = sym (ap length (append-nil (reverse xs)) ∙ length-reverse xs) in
-    ap (held p) (selectors-append [] xs ((c, a) ∷ ys))
+    ap (held_by_calls p) (selectors-append [] xs ((c, a) ∷ ys))
     ∙ list_any-append (forbids p) (selector_flags [] xs) (selector_flags before ((c, a) ∷ ys))
-    ∙ ap (λ b. b || held p (selector_flags before ((c, a) ∷ ys))) (selectors-past [] xs p (omega arith))
+    ∙ ap (λ b. b || held_by_calls p (selector_flags before ((c, a) ∷ ys))) (selectors-past [] xs p (omega arith))
     ∙ selectors-here before ys c a p pos at
     ∙ no-copy before c a (ap (λ fs. get_or fs 0 0) e)

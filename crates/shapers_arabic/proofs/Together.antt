@@ -17,10 +17,10 @@ use Rattle.shapers_base.specs.declared.plan.joining.hb_arabic_joining_type_t.{hb
 use Rattle.shapers_clusters.specs.Borders.{forbids_border, IsOpen, IsBare}
 use Rattle.shapers_clusters.specs.Breaks.{forbids, IsFree}
 use Rattle.shapers_clusters.proofs.Borders.{bare-borders}
-use Rattle.shapers_clusters.proofs.ClearPlaces.{held}
+use Rattle.shapers_clusters.proofs.ClearPlaces.{held_by_calls}
 use Rattle.shapers_arabic.specs.Joining.{nearest, forms}
 use Rattle.shapers_arabic.specs.JoiningFlags.{joining_flags}
-use Rattle.shapers_arabic.specs.JoinedText.{Text, added_calls, context_types, flag_calls, forms_of, is_mongolian, joined_glyphs, opening, stored_types, text_of, with_form, with_forms}
+use Rattle.shapers_arabic.specs.JoinedText.{Text, added_calls, context_types, flag_calls, forms_of, is_mongolian, joined_glyphs, opening, stored_types, text_of, with_form, with_joining_forms}
 use Rattle.shapers_arabic.specs.Together.{GlyphsConcatenate, together_at}
 use Rattle.shapers_arabic.proofs.BrokenGlyphs.{free-clear, types_long}
 use Rattle.shapers_arabic.proofs.Concatenation.{concatenation-free}
@@ -35,7 +35,7 @@ own-free AsCode script text n free = free
 own-free Sound script text n free =
     let own = joining_flags text.before text.types text.after in
     let more = added_calls script text in
-    (or_parts (held n own) (held n more) (sym (list_any-append (forbids n) own more) ∙ free)).0
+    (or_parts (held_by_calls n own) (held_by_calls n more) (sym (list_any-append (forbids n) own more) ∙ free)).0
 
 own-open : (breaks : BreakFlags) (script : Option Script) (text : Text) (n : ℕ) → IsOpen (flag_calls breaks script text) n → IsOpen (joining_flags text.before text.types text.after) n
 own-open AsCode script text n free = free
@@ -69,7 +69,7 @@ open-bare breaks masks script joining general m b wants pos within bare =
     let calls = flag_calls breaks script text in
     let tatweel = has_flag flags_tatweel b.flags in
     let fs = forms_of script text in
-    let formed = with_forms masks fs b.glyphs in
+    let formed = with_joining_forms masks fs b.glyphs in
     let all_long : length fs ≡ length b.glyphs = length-forms_of script text (text_long joining general b) ∙ types_long joining b.glyphs in
     let formed_long : length formed ≡ length b.glyphs = length-map (zip fs b.glyphs) (λ p. with_form masks p.0 p.1) ∙ omega (arith, length-zip fs b.glyphs) in
     bare-borders tatweel calls formed m (calls-in_order breaks script text) pos (omega arith) (subst (λ c. IsBare (flags_called c tatweel calls formed) m) wants bare)
@@ -128,14 +128,14 @@ glyphs-concatenate breaks masks script joining general n m one two wants pos wit
     let same_k : cd ≡ map id (drop m all_two) = sym (drop-map id m two.glyphs) ∙ ap (drop m) (sym (characters-joined breaks masks script joining general two)) ∙ drop-map id m all_two in
     let second : order_view (drop (n + k) all) ≡ order_view (drop (m + k) all_two) =
     drop-view breaks masks both.flags script both_text both.glyphs (n + k)
-    ∙ ap (λ xs. order_view (with_forms masks xs (drop (n + k) (ga ++ gd)))) second_forms
-    ∙ ap (λ gs. order_view (with_forms masks (drop (m + k) (fs second_text)) gs)) (sym (drop-drop k n (ga ++ gd)) ∙ ap (drop k) (drop_at ga gd n a_long) ∙ drop-drop k m two.glyphs)
+    ∙ ap (λ xs. order_view (with_joining_forms masks xs (drop (n + k) (ga ++ gd)))) second_forms
+    ∙ ap (λ gs. order_view (with_joining_forms masks (drop (m + k) (fs second_text)) gs)) (sym (drop-drop k n (ga ++ gd)) ∙ ap (drop k) (drop_at ga gd n a_long) ∙ drop-drop k m two.glyphs)
     ∙ sym (drop-view breaks masks two.flags script second_text two.glyphs (m + k)) in
     record {
       first =
           take-view breaks masks both.flags script both_text both.glyphs n
-          ∙ ap (λ xs. order_view (with_forms masks xs (take n (ga ++ gd)))) first_forms
-          ∙ ap (λ gs. order_view (with_forms masks (take n (fs first_text)) gs)) (take_at ga gd n a_long)
+          ∙ ap (λ xs. order_view (with_joining_forms masks xs (take n (ga ++ gd)))) first_forms
+          ∙ ap (λ gs. order_view (with_joining_forms masks (take n (fs first_text)) gs)) (take_at ga gd n a_long)
           ∙ sym (take-view breaks masks one.flags script first_text one.glyphs n);
       second = subst (λ (xs : List ℕ). order_view (drop (n + opening script xs) all) ≡ order_view (drop (m + opening script xs) all_two)) same_k second;
     }

@@ -13,7 +13,7 @@ use Rattle.shapers_base.specs.declared.plan.joining.hb_arabic_joining_type_t.{hb
 use Rattle.shapers_base.specs.declared.plan.joining.hb_arabic_joining_type_t.TheVariants.{U, R, D, T}
 use Rattle.shapers_clusters.specs.Borders.{IsBare}
 use Rattle.shapers_arabic.specs.declared.ot_shaper_arabic.arabic_action_t.TheConstants.{FINA, INIT, ISOL, NONE}
-use Rattle.shapers_arabic.specs.JoinedText.{joined}
+use Rattle.shapers_arabic.specs.JoinedText.{buffer_joined}
 use Rattle.shapers_arabic.specs.Together.{HasOwnLetter, KeepsParts, together_at}
 
 -- a made table: D for 1, R for 2, T for 3, U for others
@@ -86,7 +86,7 @@ row_later_selector kept = eqb-false 0 7 refl (other_forms 1 _ _ kept.second)
 
 -- forms, and masks, after joining with no masks of forms
 abbrev after : Buffer → Buffer
-after b = joined AsCode [] None joining_of letters b
+after b = buffer_joined AsCode [] None joining_of letters b
 
 abbrev forms_after : Buffer → List ℕ
 forms_after b = map (λ g. g.auxiliary) (after b).glyphs

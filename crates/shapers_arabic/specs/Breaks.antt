@@ -13,7 +13,7 @@ use Rattle.shapers_arabic.specs.Fresh.{IsFresh, SelectorsAreTransparent}
 use Rattle.shapers_arabic.specs.Joining.{forms}
 use Rattle.shapers_arabic.specs.JoiningFlags.{joining_flags}
 use Rattle.shapers_arabic.specs.SoundFlags.{form_flags_along}
-use Rattle.shapers_arabic.specs.JoinedText.{Text, text_of, added_calls, joined}
+use Rattle.shapers_arabic.specs.JoinedText.{Text, text_of, added_calls, buffer_joined}
 
 -- all flags of a text of these types with Sound, selectors apart
 abbrev pub sound_flags : List hb_arabic_joining_type_t → List hb_arabic_joining_type_t →
@@ -52,8 +52,8 @@ abbrev pub BreaksAt : BreakFlags → List ℕ → Option Script → (ℕ → hb_
     (ℕ → hb_unicode_general_category_t) → Buffer → Buffer → ℕ → Type 0
 BreaksAt breaks masks script joining general old new n =
     order_view new.glyphs
-    ≡ order_view (joined breaks masks script joining general (front_at n old)).glyphs
-    ++ order_view (joined breaks masks script joining general (back_at n old)).glyphs
+    ≡ order_view (buffer_joined breaks masks script joining general (front_at n old)).glyphs
+    ++ order_view (buffer_joined breaks masks script joining general (back_at n old)).glyphs
 
 -- what has to be free besides: with AsCode none of the calls that Sound adds reaches over the place
 abbrev pub IsSpared : BreakFlags → Option Script → Text → ℕ → Type 0

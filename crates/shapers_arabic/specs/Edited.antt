@@ -9,7 +9,7 @@ use Rattle.shapers_buffer.specs.declared.buffer.tag.Script.{Script}
 use Rattle.shapers_base.specs.declared.plan.breaks.BreakFlags.{BreakFlags}
 use Rattle.shapers_base.specs.declared.plan.joining.hb_arabic_joining_type_t.{hb_arabic_joining_type_t}
 use Rattle.shapers_arabic.specs.Joining.{is_transparent, nearest}
-use Rattle.shapers_arabic.specs.JoinedText.{joined, opening, stored_types}
+use Rattle.shapers_arabic.specs.JoinedText.{buffer_joined, opening, stored_types}
 
 -- the buffer with these glyphs in place of those from s to e
 abbrev pub edited : ℕ → ℕ → List hb_glyph_info_t → Buffer → Buffer
@@ -56,6 +56,6 @@ abbrev pub GlyphsStayNear : Type 0
 GlyphsStayNear = (breaks : BreakFlags) (masks : List ℕ) (script : Option Script)
     (joining : ℕ → hb_arabic_joining_type_t) (general : ℕ → hb_unicode_general_category_t)
     (s e : ℕ) (gs : List hb_glyph_info_t) (b : Buffer) → s ≤ e → e ≤ length b.glyphs →
-    let after = joined breaks masks script joining general in
+    let after = buffer_joined breaks masks script joining general in
     StayNear script joining s e (length gs) b.glyphs (after b).glyphs
     (after (edited s e gs b)).glyphs

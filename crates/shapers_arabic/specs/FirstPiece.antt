@@ -11,7 +11,7 @@ use Rattle.shapers_base.specs.declared.plan.joining.hb_arabic_joining_type_t.{hb
 use Rattle.shapers_clusters.specs.Breaks.{IsClear}
 use Rattle.shapers_arabic.specs.Breaks.{front_at}
 use Rattle.shapers_arabic.specs.Fresh.{IsFresh, SelectorsAreTransparent}
-use Rattle.shapers_arabic.specs.JoinedText.{joined, text_of}
+use Rattle.shapers_arabic.specs.JoinedText.{buffer_joined, text_of}
 
 -- the buffer after joining has before place n what its first half has, joined by itself: all but
 -- clusters and glyph flags
@@ -19,7 +19,7 @@ abbrev pub FirstKeepsAt : BreakFlags → List ℕ → Option Script → (ℕ →
     (ℕ → hb_unicode_general_category_t) → Buffer → Buffer → ℕ → Type 0
 FirstKeepsAt breaks masks script joining general old new n =
     order_view (take n new.glyphs)
-    ≡ order_view (joined breaks masks script joining general (front_at n old)).glyphs
+    ≡ order_view (buffer_joined breaks masks script joining general (front_at n old)).glyphs
 
 -- The first half keeps its forms and masks at each clear place, whichever flags are chosen. With
 -- those of the code a place of a fresh text is clear only there: no flag of theirs is needless for

@@ -63,8 +63,8 @@ with_form masks form g =
     record g { auxiliary = form; mask = bit_or g.mask (slice_index masks form) }
 
 -- each glyph in its form
-abbrev pub with_forms : List ℕ → List ℕ → List hb_glyph_info_t → List hb_glyph_info_t
-with_forms masks forms gs = map (λ p. with_form masks p.0 p.1) (zip forms gs)
+abbrev pub with_joining_forms : List ℕ → List ℕ → List hb_glyph_info_t → List hb_glyph_info_t
+with_joining_forms masks forms gs = map (λ p. with_form masks p.0 p.1) (zip forms gs)
 
 -- what Sound flags besides: forms that the text's pieces would lose, and with the script Mongolian
 -- copied forms
@@ -87,25 +87,25 @@ abbrev pub joined_glyphs : BreakFlags → List ℕ → BufferFlags → Option Sc
     List hb_glyph_info_t → List hb_glyph_info_t
 joined_glyphs breaks masks flags script text gs =
     let calls = flag_calls breaks script text in
-    let formed = with_forms masks (forms_of script text) gs in
+    let formed = with_joining_forms masks (forms_of script text) gs in
     flags_called (has_flag flags_concat flags) (has_flag flags_tatweel flags) calls formed
 
 -- the buffer after joining: nothing but its glyphs changes
-abbrev pub joined : BreakFlags → List ℕ → Option Script → (ℕ → hb_arabic_joining_type_t) →
+abbrev pub buffer_joined : BreakFlags → List ℕ → Option Script → (ℕ → hb_arabic_joining_type_t) →
     (ℕ → hb_unicode_general_category_t) → Buffer → Buffer
-joined breaks masks script joining general b =
+buffer_joined breaks masks script joining general b =
     let text = text_of joining general b in
     record b { glyphs = joined_glyphs breaks masks b.flags script text b.glyphs }
 
 -- how many characters of a context are looked up: up to the first that isn't transparent, and that
 -- one
-abbrev pub seen : List hb_arabic_joining_type_t → ℕ
-seen [] = 0
-seen (t ∷ ts) = if is_transparent t then suc (seen ts) else 1
+abbrev pub context_look_ups : List hb_arabic_joining_type_t → ℕ
+context_look_ups [] = 0
+context_look_ups (t ∷ ts) = if is_transparent t then suc (context_look_ups ts) else 1
 
 -- how many joining types are looked up: one for each glyph, and those of the contexts
 abbrev pub look_ups : Text → ℕ
-look_ups text = length text.types + (seen text.before + seen text.after)
+look_ups text = length text.types + (context_look_ups text.before + context_look_ups text.after)
 
 -- the glyphs are characters
 abbrev pub AreCharacters : List hb_glyph_info_t → Type 0

@@ -26,13 +26,13 @@ abbrev pub form_with :
 form_with context k after = act (nearest (k.before ++ context)) k.own after
 
 -- whether a letter of type t behind it changes its form: that it has with nothing behind it
-abbrev pub changes : List hb_arabic_joining_type_t → Letter → hb_arabic_joining_type_t → Bool
-changes context k t = not (form_with context k (Some t) == form_with context k None)
+abbrev pub changes_form : List hb_arabic_joining_type_t → Letter → hb_arabic_joining_type_t → Bool
+changes_form context k t = not (form_with context k (Some t) == form_with context k None)
 
 -- whether some letter behind it changes its form
 abbrev pub can_change : List hb_arabic_joining_type_t → Letter → Bool
 can_change context k =
-    list_any (changes context k) (U ∷ L ∷ R ∷ D ∷ GroupAlaph ∷ GroupDalathRish ∷ [])
+    list_any (changes_form context k) (U ∷ L ∷ R ∷ D ∷ GroupAlaph ∷ GroupDalathRish ∷ [])
 
 -- the flags of letter k with a letter of type t behind it, on all places from k to the place end:
 -- where t changes the form of k, no break, or that a tatweel is safe there; else, where that joins
@@ -40,7 +40,7 @@ can_change context k =
 abbrev pub pair_flags :
     List hb_arabic_joining_type_t → Letter → hb_arabic_joining_type_t → Bool → ℕ → List FlagCall
 pair_flags context k t joins end =
-    if changes context k t then SafeToInsertTatweel (length k.before) end ∷ []
+    if changes_form context k t then SafeToInsertTatweel (length k.before) end ∷ []
     else if joins || can_change context k then UnsafeToConcat (length k.before) end ∷ []
     else []
 

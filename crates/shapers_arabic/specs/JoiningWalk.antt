@@ -97,8 +97,8 @@ abbrev pub written : List hb_glyph_info_t → List ℕ
 written gs = map (λ g. g.auxiliary) gs
 
 -- what holds after i places
-pub record Walked (before types : List hb_arabic_joining_type_t) (i state : ℕ) (last : Option ℕ) (fs
-    : List ℕ) : Type 0 where
+pub record WalkedInJoining (before types : List hb_arabic_joining_type_t) (i state : ℕ)
+    (last : Option ℕ) (fs : List ℕ) : Type 0 where
   pub last_is : LastIs before (take i types) state last
   pub forms_are : take i fs ≡ forms before (take i types) []
   pub long : length fs ≡ length types
@@ -143,7 +143,7 @@ SameText gs hs = map unjoined hs ≡ map unjoined gs
 pub record WalkedTo (flags : BufferFlags) (before types : List hb_arabic_joining_type_t)
     (first : List hb_glyph_info_t) (i state : ℕ) (last : Option ℕ)
     (gs : List hb_glyph_info_t) : Type 0 where
-  pub walked : Walked before types i state last (written gs)
+  pub walked : WalkedInJoining before types i state last (written gs)
   pub flagged : FlaggedBy flags (flags_along before [] (take i types)) first gs
 
 -- a step over the glyph at place i, which has this type: what held before it holds after it

@@ -26,5 +26,6 @@ abbrev pub is_modifier : hb_glyph_info_t → Bool
 is_modifier g = is_modifier_of 220 g || is_modifier_of 230 g
 
 -- the last k glyphs in front of the others, in this class
-abbrev pub last_first : ℕ → ℕ → List hb_glyph_info_t → List hb_glyph_info_t
-last_first k class gs = map (in_class class) (drop (length gs - k) gs) ++ take (length gs - k) gs
+abbrev pub last_marks_first : ℕ → ℕ → List hb_glyph_info_t → List hb_glyph_info_t
+last_marks_first k class gs =
+    map (in_class class) (drop (length gs - k) gs) ++ take (length gs - k) gs

@@ -16,8 +16,8 @@ modifiers = 0x0654 ∷ 0x0655 ∷ 0x0658 ∷ 0x06DC ∷ 0x06E3 ∷ 0x06E7 ∷ 0x
     ∷ 0x08CE ∷ 0x08CF ∷ 0x08D3 ∷ 0x08F3 ∷ []
 
 -- whether a mark is of a class below this one
-abbrev pub is_below : ℕ → hb_glyph_info_t → Bool
-is_below class g = nat_lt g.modified_combining_class class
+abbrev pub has_lower_class : ℕ → hb_glyph_info_t → Bool
+has_lower_class class g = nat_lt g.modified_combining_class class
 
 -- whether a mark is of this class and modifies a letter
 abbrev pub is_modifier_of : ℕ → hb_glyph_info_t → Bool
@@ -42,13 +42,13 @@ pub record Marks : Type 0 where
 
 abbrev pub split_marks : List hb_glyph_info_t → Marks
 split_marks gs =
-    let second = behind (is_below 220) gs in
+    let second = behind (has_lower_class 220) gs in
     let third = behind (is_modifier_of 220) second in
-    let fourth = behind (is_below 230) third in
+    let fourth = behind (has_lower_class 230) third in
     record {
-      low = front_of (is_below 220) gs;
+      low = front_of (has_lower_class 220) gs;
       modifiers_below = front_of (is_modifier_of 220) second;
-      middle = front_of (is_below 230) third;
+      middle = front_of (has_lower_class 230) third;
       modifiers_above = front_of (is_modifier_of 230) fourth;
       rest = behind (is_modifier_of 230) fourth;
     }
@@ -85,8 +85,8 @@ places_moved a m b n c =
     ++ (range_with_len 0 a ++ (range_with_len (a + m) b ++ range_with_len (a + m + b + n) c)))
 
 -- the same as a step over the places of the marks, from 0 on
-abbrev pub mark_step : Marks → Step
-mark_step s =
+abbrev pub arabic_mark_step : Marks → Step
+arabic_mark_step s =
     let a = length s.low in
     let m = length s.modifiers_below in
     let b = length s.middle in
@@ -100,7 +100,7 @@ mark_step s =
 -- and over all places of a text, of which the marks stand from start to end
 abbrev pub text_step : ℕ → ℕ → List hb_glyph_info_t → Step
 text_step start end gs =
-    widened start end (length gs) (mark_step (split_marks (stretch_of start end gs)))
+    widened start end (length gs) (arabic_mark_step (split_marks (stretch_of start end gs)))
 
 -- what merges of a text: the step's stretches, one after another
 abbrev pub marks_merged : BufferClusterLevel → ℕ → ℕ → List hb_glyph_info_t → List hb_glyph_info_t
@@ -112,7 +112,7 @@ without_class g = record g { modified_combining_class = 0 }
 
 -- what the reordering promises of the buffer before and after it, through that view: no glyph is
 -- lost, and the laws of clusters and flags hold
-abbrev pub MarksReordered : ℕ → ℕ → Buffer → Buffer → Type 0
-MarksReordered start end old new =
+abbrev pub ArabicMarksReordered : ℕ → ℕ → Buffer → Buffer → Type 0
+ArabicMarksReordered start end old new =
     ReorderedHold without_class old.level (text_step start end old.glyphs ∷ []) old.glyphs
     new.glyphs

@@ -10,7 +10,7 @@ use Rattle.shapers_base.specs.declared.plan.joining.hb_arabic_joining_type_t.{hb
 use Rattle.shapers_clusters.specs.Borders.{IsBare}
 use Rattle.shapers_clusters.specs.Breaks.{IsClear}
 use Rattle.shapers_arabic.specs.Joining.{nearest}
-use Rattle.shapers_arabic.specs.JoinedText.{context_types, joined, opening, stored_types}
+use Rattle.shapers_arabic.specs.JoinedText.{context_types, buffer_joined, opening, stored_types}
 
 -- the first n glyphs of one buffer and, behind them, those of another from place m on, between what
 -- stood before the first and what follows the second
@@ -41,7 +41,7 @@ GlyphsConcatenate = (breaks : BreakFlags) (masks : List ℕ) (script : Option Sc
     (joining : ℕ → hb_arabic_joining_type_t) (general : ℕ → hb_unicode_general_category_t)
     (n m : ℕ) (one two : Buffer) → has_flag flags_concat two.flags ≡ true → 0 < n →
     n < length one.glyphs → 0 < m → m < length two.glyphs → HasOwnLetter joining general m two →
-    let after = joined breaks masks script joining general in
+    let after = buffer_joined breaks masks script joining general in
     IsClear (after one).glyphs n → IsBare (after two).glyphs m →
     KeepsParts script n m (after one).glyphs (after two).glyphs
     (after (together_at n m one two)).glyphs

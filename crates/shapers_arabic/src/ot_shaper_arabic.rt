@@ -5,7 +5,7 @@ ghost use Rattle.shapers_base.specs.Planner.{with_requests};
 ghost use Rattle.shapers_arabic.specs.Requests.{arabic_list, is_arabic, joining_list, rclt};
 ghost use Rattle.shapers_arabic.specs.Breaks.{BreaksWhereClear, NoneNeedless};
 ghost use Rattle.shapers_arabic.specs.FirstPiece.{FirstKeepsAsFlagged};
-ghost use Rattle.shapers_arabic.specs.JoinedText.{AreCharacters, CutsAsHalves, joined, look_ups, text_of};
+ghost use Rattle.shapers_arabic.specs.JoinedText.{AreCharacters, CutsAsHalves, buffer_joined, look_ups, text_of};
 ghost use Rattle.shapers_arabic.specs.PlanData.{IsArabic, breaks_of, masks_of};
 ghost use Rattle.shapers_clusters.specs.FlagLaw.{OnlyFlagsAdded};
 
@@ -137,7 +137,7 @@ pub fn setup_masks_counted<T: Tables, L: Ledger>(
     requires { AreCharacters buffer.old.glyphs }
     ensures joined { let table = T.tables tables.now in
         let masks = arabic_plan.now.mask_array in let breaks = arabic_plan.now.break_flags in
-        buffer.new ≡ joined breaks masks script table.joining table.general buffer.old }
+        buffer.new ≡ buffer_joined breaks masks script table.joining table.general buffer.old }
     ensures counted { let table = T.tables tables.now in
         count.new ≡ count.old + look_ups (text_of table.joining table.general buffer.old) }
     ensures cut { let table = T.tables tables.now in
@@ -185,7 +185,7 @@ pub fn setup_masks_inner<T: Tables>(
     requires { AreCharacters buffer.old.glyphs }
     ensures joined { let table = T.tables tables.now in
         let masks = arabic_plan.now.mask_array in let breaks = arabic_plan.now.break_flags in
-        buffer.new ≡ joined breaks masks script table.joining table.general buffer.old }
+        buffer.new ≡ buffer_joined breaks masks script table.joining table.general buffer.old }
     ensures cut { let table = T.tables tables.now in
         CutsAsHalves script table.joining table.general buffer.old buffer.new }
     ensures breaks { let table = T.tables tables.now in
@@ -220,7 +220,7 @@ fn setup_masks_with<T: Tables, L: Ledger>(
     requires characters { AreCharacters buffer.old.glyphs }
     ensures joined { let table = T.tables tables.now in
         let masks = arabic_plan.now.mask_array in let breaks = arabic_plan.now.break_flags in
-        buffer.new ≡ joined breaks masks script table.joining table.general buffer.old }
+        buffer.new ≡ buffer_joined breaks masks script table.joining table.general buffer.old }
     ensures cut { let table = T.tables tables.now in
         CutsAsHalves script table.joining table.general buffer.old buffer.new }
     ensures breaks { let table = T.tables tables.now in
@@ -249,7 +249,7 @@ pub fn setup_masks<T: Tables>(plan: &hb_ot_shape_plan_t, tables: &T, buffer: &mu
     requires characters { AreCharacters buffer.old.glyphs }
     ensures joined { let table = T.tables tables.now in let masks = masks_of plan.now.plan_data in
         let breaks = breaks_of plan.now.plan_data in
-        buffer.new ≡ joined breaks masks plan.now.script table.joining table.general buffer.old }
+        buffer.new ≡ buffer_joined breaks masks plan.now.script table.joining table.general buffer.old }
     ensures cut { let table = T.tables tables.now in
         CutsAsHalves plan.now.script table.joining table.general buffer.old buffer.new }
     ensures breaks { let table = T.tables tables.now in let script = plan.now.script in

@@ -9,7 +9,7 @@ use Rattle.shapers_buffer.specs.declared.buffer.level.BufferClusterLevel.{Buffer
 use Rattle.shapers_buffer.specs.Glyph.{clusters, default_glyph}
 use Rattle.shapers_buffer.specs.Clusters.{least, first_cluster, last_cluster, in_cluster, flooded, merge, merge_all, merges, stretch_of}
 use Rattle.shapers_buffer.proofs.MappedLists.{map-reverse}
-use Rattle.shapers_clusters.proofs.ClusterMerges.{opening, opening-at, opening-clusters, least-le}
+use Rattle.shapers_clusters.proofs.ClusterMerges.{opening_run, opening-at, opening-clusters, least-le}
 use Rattle.shapers_clusters.proofs.Merging.{length-merge}
 use Rattle.shapers_buffer.proofs.ClusterLemmas.{flood_merged, merge_is}
 
@@ -33,7 +33,7 @@ flooded-defaults c m n gs h = elim (cases_eq c m) [
 -- the least cluster is at most the last one
 pub least-last : (gs : List hb_glyph_info_t) → 0 < length gs → least (clusters gs) ≤ last_cluster gs
 least-last gs h =
-    let e : last_cluster gs ≡ get_or (reverse (clusters gs)) 0 0 = opening-clusters (reverse gs) ∙ ap opening (map-reverse (λ g. g.cluster) gs) ∙ opening-at (reverse (clusters gs)) in
+    let e : last_cluster gs ≡ get_or (reverse (clusters gs)) 0 0 = opening-clusters (reverse gs) ∙ ap opening_run (map-reverse (λ g. g.cluster) gs) ∙ opening-at (reverse (clusters gs)) in
     let n : length (clusters gs) ≡ length gs = length-map gs (λ g. g.cluster) in
     let f = get_or-reverse (clusters gs) 0 0 (omega arith) in
     let l = least-le (clusters gs) (length (clusters gs) - 1 - 0) (omega arith) in

@@ -13,7 +13,7 @@ use Rattle.shapers_buffer.specs.declared.buffer.glyph.hb_glyph_info_t.{hb_glyph_
 use Rattle.shapers_clusters.specs.Borders.{forbids_border, IsOpen, is_unsafe_to_concat, BareLaw}
 use Rattle.shapers_clusters.specs.Breaks.{forbids, IsFree}
 use Rattle.shapers_clusters.specs.Flags.{bit_at, InOrder, KeepsBits}
-use Rattle.shapers_clusters.proofs.ClearPlaces.{held, clear-places, in-stretch, length-same}
+use Rattle.shapers_clusters.proofs.ClearPlaces.{held_by_calls, clear-places, in-stretch, length-same}
 use Rattle.shapers_clusters.proofs.FlagCalls.{flag_called-alone, flags_called-alone}
 
 -- whether the call forbids a concatenation before place p
@@ -58,7 +58,7 @@ neither-call (SafeToInsertTatweel s e) p f c = f
 neither-open : (calls : List FlagCall) (p : ℕ) → IsFree calls p → list_any (forbids_concat p) calls ≡ false → IsOpen calls p
 neither-open [] p f c = refl
 neither-open (call ∷ calls) p f c =
-    let x = or_parts (forbids p call) (held p calls) f in
+    let x = or_parts (forbids p call) (held_by_calls p calls) f in
     let y = or_parts (forbids_concat p call) (list_any (forbids_concat p) calls) c in
     or_from (forbids_border p call) (list_any (forbids_border p) calls) (neither-call call p x.0 y.0) (neither-open calls p x.1 y.1)
 

@@ -53,9 +53,9 @@ either : (n : ℕ) (a : Bool) {X : Type 0} (P : X → Type 0) (x y : X) → P y 
 either n true P x y here there = grind (arith, nat_tests)
 either n false P x y here there = here
 
-taken : (n : ℕ) (a : Bool) {X : Type 0} (x y : X) → a ≡ true → 1 < n → (if a && not (nat_lt n 2) then x else y) ≡ x
-taken n true x y m h = grind (arith, nat_tests)
-taken n false x y m h = absurd cc
+merge_taken : (n : ℕ) (a : Bool) {X : Type 0} (x y : X) → a ≡ true → 1 < n → (if a && not (nat_lt n 2) then x else y) ≡ x
+merge_taken n true x y m h = grind (arith, nat_tests)
+merge_taken n false x y m h = absurd cc
 
 pub merge-before : (level : BufferClusterLevel) (s e : ℕ) (gs : List hb_glyph_info_t) → e ≤ length gs → take (low s e gs) (merge level s e gs) ≡ take (low s e gs) gs
 merge-before level s e gs l = either (e - s) (merges level) (λ ms. take (low s e gs) ms ≡ take (low s e gs) gs) (merged s e gs) gs refl
@@ -67,5 +67,5 @@ merge-behind level s e gs l = either (e - s) (merges level) (λ ms. drop (high s
 
 pub merge-inside : (level : BufferClusterLevel) (s e : ℕ) (gs : List hb_glyph_info_t) → e ≤ length gs → merges level ≡ true → 1 < e - s → (p : ℕ) → low s e gs ≤ p → p < high s e gs → get_or (clusters (merge level s e gs)) p 0 ≡ least (clusters (stretch_of s e gs))
 merge-inside level s e gs l m h p from to =
-    ap (λ ms. get_or (clusters ms) p 0) (taken (e - s) (merges level) (merged s e gs) gs m h)
+    ap (λ ms. get_or (clusters ms) p 0) (merge_taken (e - s) (merges level) (merged s e gs) gs m h)
     ∙ stretched-cluster (low s e gs) (high s e gs) (least (clusters (stretch_of s e gs))) gs (omega (arith, low_within s e gs, high_behind s e gs)) (high_within s e gs l) p from to

@@ -17,8 +17,8 @@ use Rattle.shapers_clusters.proofs.ClusterMerges.{least-le}
 use Rattle.shapers_clusters.specs.Breaks.{forbids, is_unsafe, greater, ClearLaw}
 
 -- whether the calls forbid a break before place p
-abbrev pub held : ℕ → List FlagCall → Bool
-held p calls = list_any (forbids p) calls
+abbrev pub held_by_calls : ℕ → List FlagCall → Bool
+held_by_calls p calls = list_any (forbids p) calls
 
 -- the two bits that forbid one, as a number
 abbrev pub unsafe_bits : ℕ → ℕ
@@ -129,7 +129,7 @@ call-puts_at concat true (SafeToInsertTatweel s e) gs k j p pos m f = break-puts
 call-puts_at concat false (SafeToInsertTatweel s e) gs k j p pos m f = break-puts_at 3 put-three s e gs k j p pos m f
 
 -- any calls
-calls-put_at : (concat tatweel : Bool) (calls : List FlagCall) (gs : List hb_glyph_info_t) (k j p : ℕ) → AllByRecursion InOrder calls → 0 < p → Meet k j p gs → held p calls ≡ true → 0 < unsafe_bits (at (flags_called concat tatweel calls gs) k).mask
+calls-put_at : (concat tatweel : Bool) (calls : List FlagCall) (gs : List hb_glyph_info_t) (k j p : ℕ) → AllByRecursion InOrder calls → 0 < p → Meet k j p gs → held_by_calls p calls ≡ true → 0 < unsafe_bits (at (flags_called concat tatweel calls gs) k).mask
 unfolding at
 calls-put_at concat tatweel [] gs k j p all pos m f = absurd (false≢true f)
 calls-put_at concat tatweel (call ∷ calls) gs k j p all pos m f =
@@ -137,7 +137,7 @@ calls-put_at concat tatweel (call ∷ calls) gs k j p all pos m f =
     let alone = flag_called-alone concat tatweel call gs all.0 in
     let same = alone.same_clusters in
     let long = length-same gs once same in
-    elim (or_cases (forbids p call) (held p calls) f) [
+    elim (or_cases (forbids p call) (held_by_calls p calls) f) [
       | inl here ↦
           let rest = flags_called-alone concat tatweel calls once all.1 in
           let kt = m.k_to in
@@ -170,7 +170,7 @@ clear-places concat tatweel calls gs p all pos within clear =
     let long = length-same gs new same in
     let b = get_or (clusters new) (p - 1) 0 in
     let c = get_or (clusters new) p 0 in
-    false_from_ne_true (held p calls) (λ f. elim (cases_order b c) [
+    false_from_ne_true (held_by_calls p calls) (λ f. elim (cases_order b c) [
       | inl e ↦ clear.differ e
       | inr (inl less) ↦
           let P : List ℕ → Type 0 = λ cs. get_or cs (p - 1) 0 < get_or cs p 0 in

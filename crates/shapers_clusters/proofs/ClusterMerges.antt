@@ -12,9 +12,9 @@ use Rattle.shapers_buffer.proofs.ClusterLemmas.{flood_merged, merge_is}
 use Rattle.shapers_clusters.specs.ClusterMerges.{of_cluster, joined}
 
 -- the first of a list of numbers, 0 where there is none
-abbrev pub opening : List ℕ → ℕ
-opening [] = 0
-opening (c ∷ cs) = c
+abbrev pub opening_run : List ℕ → ℕ
+opening_run [] = 0
+opening_run (c ∷ cs) = c
 
 -- the numbers c that open the list, made m
 abbrev pub flood : ℕ → ℕ → List ℕ → List ℕ
@@ -26,7 +26,7 @@ abbrev pub spreading : ℕ → ℕ → List ℕ → List ℕ
 spreading s e cs =
     let middle = stretch_of s e cs in
     let m = least middle in
-    reverse (flood (opening middle) m (reverse (take s cs))) ++ (map (λ _. m) middle ++ flood (opening (reverse middle)) m (drop e cs))
+    reverse (flood (opening_run middle) m (reverse (take s cs))) ++ (map (λ _. m) middle ++ flood (opening_run (reverse middle)) m (drop e cs))
 
 -- the least of a list is at most each of it, and is one of it
 fold_min-start : (c : ℕ) (cs : List ℕ) → fold min c cs ≤ c
@@ -53,11 +53,11 @@ pub least-among : (cs : List ℕ) → 0 < length cs → (k : ℕ) × (k < length
 least-among [] h = absurd (omega arith)
 least-among (c ∷ cs) h = fold_min-among c cs
 
-pub opening-at : (cs : List ℕ) → opening cs ≡ get_or cs 0 0
+pub opening-at : (cs : List ℕ) → opening_run cs ≡ get_or cs 0 0
 opening-at [] = refl
 opening-at (c ∷ cs) = refl
 
-pub opening-clusters : (gs : List hb_glyph_info_t) → first_cluster gs ≡ opening (clusters gs)
+pub opening-clusters : (gs : List hb_glyph_info_t) → first_cluster gs ≡ opening_run (clusters gs)
 opening-clusters [] = refl
 opening-clusters (g ∷ gs) = refl
 
@@ -76,7 +76,7 @@ map-if : {X Y : Type 0} (f : X → Y) (b : Bool) (x y : X) (z w : Y) → f x ≡
 map-if f true x y z w h i = h
 map-if f false x y z w h i = i
 
-clusters-merged : (s e : ℕ) (gs : List hb_glyph_info_t) → clusters (flood_merged s e gs) ≡ (let middle = stretch_of s e (clusters gs) in let m = least middle in reverse (flood (opening middle) m (reverse (take s (clusters gs)))) ++ (map (λ _. m) middle ++ flood (opening (reverse middle)) m (drop e (clusters gs))))
+clusters-merged : (s e : ℕ) (gs : List hb_glyph_info_t) → clusters (flood_merged s e gs) ≡ (let middle = stretch_of s e (clusters gs) in let m = least middle in reverse (flood (opening_run middle) m (reverse (take s (clusters gs)))) ++ (map (λ _. m) middle ++ flood (opening_run (reverse middle)) m (drop e (clusters gs))))
 clusters-merged s e gs = simp (map-append, map-reverse, clusters-flooded, clusters-put, take-map, drop-map, opening-clusters)
 
 clusters-flood : (level : BufferClusterLevel) (s e : ℕ) (gs : List hb_glyph_info_t) → clusters (merge level s e gs) ≡ (if merges level && not (nat_lt (e - s) 2) then spreading s e (clusters gs) else clusters gs)

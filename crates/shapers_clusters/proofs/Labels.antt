@@ -29,8 +29,8 @@ spread-label_of s e cs js ls f h i o p l c =
     i.agree p f.at l (omega (arith, f.at_to, f.high_within, f.high_end)) (c ∙ sym f.at_is) ∙ o f.at s f.at_from f.at_to (omega arith) (omega arith)
 
 -- a place either was reached or keeps its cluster
-reach : (s e : ℕ) (cs js : List ℕ) (f : Spread s e cs js) (p : ℕ) → ((f.low ≤ p) × (p < f.high) × (get_or js p 0 ≡ f.m)) ⊎ (get_or js p 0 ≡ get_or cs p 0)
-reach s e cs js f p = elim (cases_lt p f.low) [
+label_reach : (s e : ℕ) (cs js : List ℕ) (f : Spread s e cs js) (p : ℕ) → ((f.low ≤ p) × (p < f.high) × (get_or js p 0 ≡ f.m)) ⊎ (get_or js p 0 ≡ get_or cs p 0)
+label_reach s e cs js f p = elim (cases_lt p f.low) [
   | inl a ↦ inr (f.before p a)
   | inr a ↦ elim (cases_lt p f.high) [ inl b ↦ inl (a, b, f.inside p a b) | inr b ↦ inr (f.behind p b) ]
 ]
@@ -40,12 +40,12 @@ spread-labelled s e cs js ls f h i o = record {
   as_many = i.as_many ∙ sym f.same_length;
   agree = λ p q pl ql eq.
       let n = f.same_length in
-      elim (reach s e cs js f p) [
-        | inl x ↦ elim (reach s e cs js f q) [
+      elim (label_reach s e cs js f p) [
+        | inl x ↦ elim (label_reach s e cs js f q) [
           | inl y ↦ spread-label s e cs js ls f h i o p x.0 x.1 ∙ sym (spread-label s e cs js ls f h i o q y.0 y.1)
           | inr y ↦ spread-label s e cs js ls f h i o p x.0 x.1 ∙ sym (spread-label_of s e cs js ls f h i o q (omega arith) (sym y ∙ sym eq ∙ x.2))
         ]
-        | inr x ↦ elim (reach s e cs js f q) [
+        | inr x ↦ elim (label_reach s e cs js f q) [
           | inl y ↦ spread-label_of s e cs js ls f h i o p (omega arith) (sym x ∙ eq ∙ y.2) ∙ sym (spread-label s e cs js ls f h i o q y.0 y.1)
           | inr y ↦ i.agree p q (omega arith) (omega arith) (sym x ∙ eq ∙ y)
         ]
@@ -59,7 +59,7 @@ joined-labelled level s e cs ls w i o = joined_cases (λ js. IsLabelled js ls) l
 spread-of_old : (s e : ℕ) (ds ks cs js ls : List ℕ) → Spread s e cs js → s + 1 < e → IsLabelled cs ls → OneAlong ls (s, e) → OfOldPlaces ds ks cs ls → OfOldPlaces ds ks js ls
 spread-of_old s e ds ks cs js ls f h i o old p l =
     let n = f.same_length in
-    elim (reach s e cs js f p) [
+    elim (label_reach s e cs js f p) [
       | inl x ↦ (
           let (q, ql, c, m) = old f.at (omega (arith, f.at_to, f.high_within, f.high_end)) in
           (q, ql, x.2 ∙ sym f.at_is ∙ c, spread-label s e cs js ls f h i o p x.0 x.1 ∙ o s f.at (omega arith) (omega arith) f.at_from f.at_to ∙ m))

@@ -15,7 +15,7 @@ use Rattle.shapers_clusters.specs.Flags.{bit_at, InOrder}
 use Rattle.shapers_clusters.proofs.FlagCalls.{flag_called-alone, flags_called-alone}
 use Rattle.shapers_clusters.proofs.ClusterMerges.{least-le, least-among}
 use Rattle.shapers_clusters.specs.Breaks.{forbids, IsClear, IsFree, IsStrictlyMonotone, is_unsafe, greater, NeedlessLaw}
-use Rattle.shapers_clusters.proofs.ClearPlaces.{held, unsafe_bits, in-stretch, length-same}
+use Rattle.shapers_clusters.proofs.ClearPlaces.{held_by_calls, unsafe_bits, in-stretch, length-same}
 
 -- glyphs without either bit
 pub none-unsafe : (g : hb_glyph_info_t) → is_unsafe g ≡ false → unsafe_bits g.mask ≡ 0
@@ -165,7 +165,7 @@ calls-spare concat tatweel (call ∷ calls) p k gs d all top pos within free =
     let once = flag_called concat tatweel call gs in
     let same = (flag_called-alone concat tatweel call gs all.0).same_clusters in
     let long = length-same gs once same in
-    let both = or_parts (forbids p call) (held p calls) free in
+    let both = or_parts (forbids p call) (held_by_calls p calls) free in
     let P : List ℕ → Type 0 = λ cs. Tops p k cs in
     calls-spare concat tatweel calls p k once d all.1 (subst P (sym same) top) pos (omega arith) both.1
     ∙ call-spares concat tatweel call p k gs d all.0 top pos within both.0

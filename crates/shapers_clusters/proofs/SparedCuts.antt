@@ -132,19 +132,19 @@ one_number sts p (suc k) h =
     let i : p + suc k ≡ suc (p + k) = omega arith in
     ap (number_of sts) i ∙ number_held sts (p + k) (h (suc (p + k)) (omega arith) (omega arith)) ∙ one_number sts p k (λ r a b. h r a (omega arith))
 
-numbers : List (ℕ × ℕ) → ℕ → List ℕ
-numbers sts n = map (number_of sts) (range_with_len 0 n)
+stretch_numbers : List (ℕ × ℕ) → ℕ → List ℕ
+stretch_numbers sts n = map (number_of sts) (range_with_len 0 n)
 
-number_at : (sts : List (ℕ × ℕ)) (n p : ℕ) → p < n → get_or (numbers sts n) p 0 ≡ number_of sts p
-unfolding numbers
+number_at : (sts : List (ℕ × ℕ)) (n p : ℕ) → p < n → get_or (stretch_numbers sts n) p 0 ≡ number_of sts p
+unfolding stretch_numbers
 number_at sts n p l = get_or-map (number_of sts) (range_with_len 0 n) p 0 0 (omega (arith, length-range_with_len 0 n)) ∙ ap (number_of sts) (get_or-range_with_len 0 n p 0 l ∙ omega arith)
 
-length-numbers : (sts : List (ℕ × ℕ)) (n : ℕ) → length (numbers sts n) ≡ n
-unfolding numbers
+length-numbers : (sts : List (ℕ × ℕ)) (n : ℕ) → length (stretch_numbers sts n) ≡ n
+unfolding stretch_numbers
 length-numbers sts n = length-map (range_with_len 0 n) (number_of sts) ∙ length-range_with_len 0 n
 
 -- each stretch has one number
-one_in_stretch : (sts : List (ℕ × ℕ)) (n : ℕ) (st : ℕ × ℕ) → st.1 ≤ n → HeldIn sts st → OneAlong (numbers sts n) st
+one_in_stretch : (sts : List (ℕ × ℕ)) (n : ℕ) (st : ℕ × ℕ) → st.1 ≤ n → HeldIn sts st → OneAlong (stretch_numbers sts n) st
 one_in_stretch sts n st end inside p q pl ph ql qh =
     let least = min p q in
     let first : (k : ℕ) → least + k < st.1 → number_of sts (least + k) ≡ number_of sts least = λ k l. one_number sts least k (λ r a b. inside r (omega arith) (omega arith)) in
@@ -152,7 +152,7 @@ one_in_stretch sts n st end inside p q pl ph ql qh =
     let j : least + (q - least) ≡ q = omega arith in
     number_at sts n p (omega arith) ∙ ap (number_of sts) (sym i) ∙ first (p - least) (omega arith) ∙ sym (first (q - least) (omega arith)) ∙ ap (number_of sts) j ∙ sym (number_at sts n q (omega arith))
 
-one_each : (sts : List (ℕ × ℕ)) (n : ℕ) (xs : List (ℕ × ℕ)) → EndWithin n xs → AllByRecursion (HeldIn sts) xs → AllByRecursion (OneAlong (numbers sts n)) xs
+one_each : (sts : List (ℕ × ℕ)) (n : ℕ) (xs : List (ℕ × ℕ)) → EndWithin n xs → AllByRecursion (HeldIn sts) xs → AllByRecursion (OneAlong (stretch_numbers sts n)) xs
 one_each sts n [] ends inside = tt
 one_each sts n (x ∷ xs) ends inside = (one_in_stretch sts n x ends.0 inside.0, one_each sts n xs ends.1 inside.1)
 
@@ -197,7 +197,7 @@ record Numbered (sts : List (ℕ × ℕ)) (n : ℕ) (ds js : List ℕ) : Type 0 
   pub of_block : (p : ℕ) → p < n → (q : ℕ) × (q < n) × (number_of sts p ≡ number_of sts q) × (get_or js p 0 ≡ get_or ds q 0)
   pub falls : (p : ℕ) → p < n → get_or js p 0 ≤ get_or ds p 0
 
-numbered_by : (sts : List (ℕ × ℕ)) (n : ℕ) (olds cs ls js : List ℕ) → length cs ≡ n → length olds ≡ n → length ls ≡ n → IsPermutation (range_with_len 0 n) olds → AllByRecursion (λ p. p < n) olds → AllDifferent cs → pick olds ls ≡ numbers sts n → Labelled cs ls js (pick olds ls) → ((p : ℕ) → 0 < p → p < n → held sts p ≡ true → get_or js (p - 1) 0 ≡ get_or js p 0) → ((p : ℕ) → p < n → get_or js p 0 ≤ get_or (pick olds cs) p 0) → Numbered sts n (pick olds cs) js
+numbered_by : (sts : List (ℕ × ℕ)) (n : ℕ) (olds cs ls js : List ℕ) → length cs ≡ n → length olds ≡ n → length ls ≡ n → IsPermutation (range_with_len 0 n) olds → AllByRecursion (λ p. p < n) olds → AllDifferent cs → pick olds ls ≡ stretch_numbers sts n → Labelled cs ls js (pick olds ls) → ((p : ℕ) → 0 < p → p < n → held sts p ≡ true → get_or js (p - 1) 0 ≡ get_or js p 0) → ((p : ℕ) → p < n → get_or js p 0 ≤ get_or (pick olds cs) p 0) → Numbered sts n (pick olds cs) js
 numbered_by sts n olds cs ls js long ol ll order within different picked result shared falls =
     let ds = pick olds cs in
     let here : AllByRecursion (λ p. p < length cs) olds = subst (λ k. AllByRecursion (λ p. p < k) olds) (sym long) within in
@@ -220,9 +220,9 @@ numbered_by sts n olds cs ls js long ol ll order within different picked result 
     }
 
 -- the labels of old places that lead to the numbers
-numbers_before : (sts : List (ℕ × ℕ)) (n : ℕ) (olds : List ℕ) → length olds ≡ n → AllDifferent olds → AllByRecursion (λ p. p < n) olds → pick olds (labels_before n olds (numbers sts n)) ≡ numbers sts n
+numbers_before : (sts : List (ℕ × ℕ)) (n : ℕ) (olds : List ℕ) → length olds ≡ n → AllDifferent olds → AllByRecursion (λ p. p < n) olds → pick olds (labels_before n olds (stretch_numbers sts n)) ≡ stretch_numbers sts n
 numbers_before sts n olds ol different within =
-    let ms = numbers sts n in
+    let ms = stretch_numbers sts n in
     let ls = labels_before n olds ms in
     let there : AllByRecursion (λ p. p < length ls) olds = subst (λ k. AllByRecursion (λ p. p < k) olds) (sym (length-labels_before n olds ms)) within in
     ext_get_or 0 (pick olds ls) ms (length-pick olds ls there ∙ ol ∙ sym (length-numbers sts n)) (λ p l.
@@ -243,7 +243,7 @@ numbered level m n steps cs long fits perm spare different =
     let olds = old_places n steps in
     let sts = all_merged steps in
     let js = joined_steps level steps cs in
-    let ms = numbers sts n in
+    let ms = stretch_numbers sts n in
     let ls = labels_before n olds ms in
     let ll = length-labels_before n olds ms in
     let ol = length-old_places n steps fits in

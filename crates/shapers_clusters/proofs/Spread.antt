@@ -6,7 +6,7 @@ use Rattle.std.proofs.lemmas.Bool.Decides.{nat_tests}
 use Rattle.shapers_buffer.specs.declared.buffer.level.BufferClusterLevel.{BufferClusterLevel}
 use Rattle.shapers_buffer.specs.Clusters.{least, merges, stretch_of}
 use Rattle.shapers_clusters.specs.ClusterMerges.{joined}
-use Rattle.shapers_clusters.proofs.ClusterMerges.{opening, flood, spreading, joined_is, opening-at, flood-is, least-le, least-among}
+use Rattle.shapers_clusters.proofs.ClusterMerges.{opening_run, flood, spreading, joined_is, opening-at, flood-is, least-le, least-among}
 
 -- A merge of s..e: all of low..high gets the least cluster m of s..e, of which `at` is a place, and the rest stays.
 -- low..high reaches as far as the clusters of the stretch's ends do.
@@ -161,13 +161,13 @@ spread s e cs h w =
     let m = least middle in
     let n : length middle ≡ e - s = length-stretch s e cs w in
     let (k, kn, ke) = least-among middle (omega arith) in
-    let first : opening middle ≡ get_or cs s 0 = opening-at middle ∙ stretch-at s e cs 0 (omega arith) ∙ (let i : s + 0 ≡ s = omega arith in ap (λ k. get_or cs k 0) i) in
-    let last : opening (reverse middle) ≡ get_or cs (e - 1) 0 =
+    let first : opening_run middle ≡ get_or cs s 0 = opening-at middle ∙ stretch-at s e cs 0 (omega arith) ∙ (let i : s + 0 ≡ s = omega arith in ap (λ k. get_or cs k 0) i) in
+    let last : opening_run (reverse middle) ≡ get_or cs (e - 1) 0 =
     opening-at (reverse middle) ∙ reversed-at middle (e - s) 0 n (omega arith) ∙ stretch-at s e cs (e - s - 1 - 0) (omega arith) ∙ (let i : s + (e - s - 1 - 0) ≡ e - 1 = omega arith in ap (λ k. get_or cs k 0) i) in
     spread_from m s e cs middle _ _ (s + k) (omega arith) w n (omega arith) (omega arith) (sym (stretch-at s e cs k (omega arith)) ∙ ke)
     (λ p a b. let i : s + (p - s) ≡ p = omega arith in let q = stretch-at s e cs (p - s) (omega arith) ∙ ap (λ k. get_or cs k 0) i in let z = least-le middle (p - s) (omega arith) in omega arith)
-    (let P : ℕ → Type 0 = λ c. Left c m s cs (reverse (flood (opening middle) m (reverse (take s cs)))) in subst P first (left-is (opening middle) m s cs (omega arith)))
-    (let P : ℕ → Type 0 = λ c. Right c m e cs (flood (opening (reverse middle)) m (drop e cs)) in subst P last (right-is (opening (reverse middle)) m e cs w))
+    (let P : ℕ → Type 0 = λ c. Left c m s cs (reverse (flood (opening_run middle) m (reverse (take s cs)))) in subst P first (left-is (opening_run middle) m s cs (omega arith)))
+    (let P : ℕ → Type 0 = λ c. Right c m e cs (flood (opening_run (reverse middle)) m (drop e cs)) in subst P last (right-is (opening_run (reverse middle)) m e cs w))
 
 two_cases : (n : ℕ) (a : Bool) {X : Type 0} (P : X → Type 0) (x y : X) → ((a ≡ false) ⊎ (n < 2) → P y) → (a ≡ true → 1 < n → P x) → P (if a && not (nat_lt n 2) then x else y)
 two_cases n true P x y here there = grind (arith, nat_tests)

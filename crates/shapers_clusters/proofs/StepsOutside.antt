@@ -75,8 +75,8 @@ inside_or_not s e p = elim (cases_lt p s) [
   | inr a ↦ elim (cases_lt p e) [ inl b ↦ inl (a, b) | inr b ↦ inr (inr b) ]
 ]
 
-marked : (s e : ℕ) (cs : List ℕ) → StandsApart s e cs → IsLabelled cs (marks s e cs)
-marked s e cs apart = record {
+marks_labelled : (s e : ℕ) (cs : List ℕ) → StandsApart s e cs → IsLabelled cs (marks s e cs)
+marks_labelled s e cs apart = record {
   as_many = length-marks s e cs;
   agree = λ p q pl ql same. mark_at s e cs p pl ∙ elim (inside_or_not s e p) [
     | inl a ↦ elim (inside_or_not s e q) [
@@ -157,7 +157,7 @@ leaves_apart s e level steps cs end h apart =
     let ms = marks s e cs in
     let fits = fits_elsewhere s e n steps h in
     let stay : pick (old_places n steps) ms ≡ ms = sym (moved_by_old_places n steps ms (length-marks s e cs)) ∙ marks_stay_all s e cs steps h in
-    let done : Labelled cs ms js ms = subst (Labelled cs ms js) stay (joined_steps-labels level steps cs ms fits (marked s e cs apart) (marked_each s e cs steps h)) in
+    let done : Labelled cs ms js ms = subst (Labelled cs ms js) stay (joined_steps-labels level steps cs ms fits (marks_labelled s e cs apart) (marked_each s e cs steps h)) in
     let jl : length js ≡ n = sym done.respected.as_many ∙ length-marks s e cs in (
       jl,
       λ p a b.

@@ -11,7 +11,7 @@ use Rattle.shapers_buffer.specs.declared.buffer.level.BufferClusterLevel.{Buffer
 use Rattle.shapers_base.specs.Font.{Font}
 use Rattle.shapers_hangul.specs.declared.ot_shaper_hangul.item.Item.{Item}
 use Rattle.shapers_hangul.specs.Hangul.{item_len, is_kept, first_item, items_from, items_at, Fit, item_output, outputs, item_joined, all_joined, glyph_copies, preprocessed, KeptBefore}
-use Rattle.shapers_hangul.specs.RewritingWalk.{changes, InTurn, changed_from}
+use Rattle.shapers_hangul.specs.RewritingWalk.{rewritten_items, InTurn, changed_from}
 use Rattle.shapers_hangul.proofs.Items.{taken_some, first_item-within}
 use Rattle.shapers_hangul.proofs.Outputs.{preprocessed-kept}
 use Rattle.shapers_hangul.proofs.Walks.{kept_stays, glyphs_next, glyphs_end, length-characters, length-all_joined}
@@ -21,43 +21,43 @@ by_kept : (P : List (ℕ × Item) → Type 0) (item : Item) (a b : List (ℕ × 
 by_kept P item a b stays goes = elim (is_kept item) as (λ k. is_kept item ≡ k → P (cond k a b)) [ true ↦ stays | false ↦ goes ] refl
 
 -- RECORDING
-pub changes_next : (p : ℕ × Item) (cut : List (ℕ × Item)) → changes (p ∷ cut) ≡ changes (p ∷ []) ++ changes cut
-changes_next p cut = elim (is_kept p.1) as (λ k. cond k (changes cut) (p ∷ changes cut) ≡ cond k [] (p ∷ []) ++ changes cut) [ true ↦ refl | false ↦ refl ]
+pub changes_next : (p : ℕ × Item) (cut : List (ℕ × Item)) → rewritten_items (p ∷ cut) ≡ rewritten_items (p ∷ []) ++ rewritten_items cut
+changes_next p cut = elim (is_kept p.1) as (λ k. cond k (rewritten_items cut) (p ∷ rewritten_items cut) ≡ cond k [] (p ∷ []) ++ rewritten_items cut) [ true ↦ refl | false ↦ refl ]
 
-pub recording_next : (font : Font) (circles : Bool) (gs : List hb_glyph_info_t) (list longer start : List (ℕ × Item)) (place : ℕ) (item : Item) → place < length gs → item ≡ first_item font circles (characters (drop place gs)) → list ++ changes (items_at font circles (characters gs) place) ≡ start → longer ≡ list ++ changes ((place, item) ∷ []) → longer ++ changes (items_at font circles (characters gs) (place + item_len item)) ≡ start
+pub recording_next : (font : Font) (circles : Bool) (gs : List hb_glyph_info_t) (list longer start : List (ℕ × Item)) (place : ℕ) (item : Item) → place < length gs → item ≡ first_item font circles (characters (drop place gs)) → list ++ rewritten_items (items_at font circles (characters gs) place) ≡ start → longer ≡ list ++ rewritten_items ((place, item) ∷ []) → longer ++ rewritten_items (items_at font circles (characters gs) (place + item_len item)) ≡ start
 recording_next font circles gs list longer start place item inside is so_far added =
     let rest = items_at font circles (characters gs) (place + item_len item) in
-    ap (λ l. l ++ changes rest) added
-    ∙ append_assoc list (changes ((place, item) ∷ [])) (changes rest)
-    ∙ ap (λ cut. list ++ cut) (sym (changes_next (place, item) rest) ∙ ap changes (sym (glyphs_next font circles gs (characters gs) place item refl inside is)))
+    ap (λ l. l ++ rewritten_items rest) added
+    ∙ append_assoc list (rewritten_items ((place, item) ∷ [])) (rewritten_items rest)
+    ∙ ap (λ cut. list ++ cut) (sym (changes_next (place, item) rest) ∙ ap rewritten_items (sym (glyphs_next font circles gs (characters gs) place item refl inside is)))
     ∙ so_far
 
-pub recording_all : (font : Font) (circles : Bool) (gs : List hb_glyph_info_t) (list start : List (ℕ × Item)) (place : ℕ) → length gs ≤ place → list ++ changes (items_at font circles (characters gs) place) ≡ start → list ≡ start
-recording_all font circles gs list start place past so_far = sym (append-nil list) ∙ ap (λ cut. list ++ changes cut) (sym (glyphs_end font circles gs (characters gs) place refl past)) ∙ so_far
+pub recording_all : (font : Font) (circles : Bool) (gs : List hb_glyph_info_t) (list start : List (ℕ × Item)) (place : ℕ) → length gs ≤ place → list ++ rewritten_items (items_at font circles (characters gs) place) ≡ start → list ≡ start
+recording_all font circles gs list start place past so_far = sym (append-nil list) ∙ ap (λ cut. list ++ rewritten_items cut) (sym (glyphs_end font circles gs (characters gs) place refl past)) ∙ so_far
 
 -- what is kept joins nothing
-pub joined_changes : (level : BufferClusterLevel) (cut : List (ℕ × Item)) (gs : List hb_glyph_info_t) → all_joined level (changes cut) gs ≡ all_joined level cut gs
+pub joined_changes : (level : BufferClusterLevel) (cut : List (ℕ × Item)) (gs : List hb_glyph_info_t) → all_joined level (rewritten_items cut) gs ≡ all_joined level cut gs
 joined_changes level [] gs = refl
 joined_changes level (p ∷ cut) gs =
-    by_kept (λ l. all_joined level l gs ≡ all_joined level cut (item_joined level p.0 p.1 gs)) p.1 (changes cut) (p ∷ changes cut)
+    by_kept (λ l. all_joined level l gs ≡ all_joined level cut (item_joined level p.0 p.1 gs)) p.1 (rewritten_items cut) (p ∷ rewritten_items cut)
     (λ stays. joined_changes level cut gs ∙ ap (all_joined level cut) (sym ((kept_stays p.1 stays).unjoined level p.0 gs)))
     (λ _. joined_changes level cut (item_joined level p.0 p.1 gs))
 
 -- what fits, and stands in turn
-pub changes_fit : (n : ℕ) (cut : List (ℕ × Item)) → Fit n cut → Fit n (changes cut)
+pub changes_fit : (n : ℕ) (cut : List (ℕ × Item)) → Fit n cut → Fit n (rewritten_items cut)
 changes_fit n [] fit = fit
-changes_fit n (p ∷ cut) fit = by_kept (Fit n) p.1 (changes cut) (p ∷ changes cut) (λ _. changes_fit n cut fit.1) (λ _. (fit.0, changes_fit n cut fit.1))
+changes_fit n (p ∷ cut) fit = by_kept (Fit n) p.1 (rewritten_items cut) (p ∷ rewritten_items cut) (λ _. changes_fit n cut fit.1) (λ _. (fit.0, changes_fit n cut fit.1))
 
 sooner : (n a b : ℕ) (cut : List (ℕ × Item)) → a ≤ b → InTurn n b cut → InTurn n a cut
 sooner n a b [] less turn = omega (arith, turn)
 sooner n a b (p ∷ cut) less turn = (omega (arith, turn.0), turn.1)
 
-turn_from : (font : Font) (circles : Bool) (place skip : ℕ) (us : List ℕ) → skip ≤ length us → InTurn (place + length us) (place + skip) (changes (items_from (first_item font circles) place skip us))
+turn_from : (font : Font) (circles : Bool) (place skip : ℕ) (us : List ℕ) → skip ≤ length us → InTurn (place + length us) (place + skip) (rewritten_items (items_from (first_item font circles) place skip us))
 turn_from font circles place skip [] inside = omega arith
 turn_from font circles place zero (u ∷ us) inside =
     let item = first_item font circles (u ∷ us) in
     let n = place + length (u ∷ us) in
-    let rest = changes (items_from (first_item font circles) (place + 1) (item_len item - 1) us) in
+    let rest = rewritten_items (items_from (first_item font circles) (place + 1) (item_len item - 1) us) in
     let some : 1 ≤ item_len item = omega (arith, taken_some item.unit) in
     let within : item_len item ≤ length (u ∷ us) = first_item-within font circles (u ∷ us) (omega arith) in
     let on : place + 1 + (item_len item - 1) ≡ place + item_len item = omega arith in
@@ -66,7 +66,7 @@ turn_from font circles place zero (u ∷ us) inside =
     subst (λ m. InTurn n m rest) on (subst (λ m. InTurn m (place + 1 + (item_len item - 1)) rest) same (turn_from font circles (place + 1) (item_len item - 1) us (omega arith))) in
     by_kept (InTurn n (place + 0)) item rest ((place, item) ∷ rest) (λ _. sooner n (place + 0) (place + item_len item) rest (omega arith) next) (λ _. (omega arith, next))
 turn_from font circles place (suc skip) (u ∷ us) inside =
-    let cut = changes (items_from (first_item font circles) (place + 1) skip us) in
+    let cut = rewritten_items (items_from (first_item font circles) (place + 1) skip us) in
     let on : place + 1 + skip ≡ place + suc skip = omega arith in
     let same : place + 1 + length us ≡ place + length (u ∷ us) = omega arith in
     subst (λ m. InTurn (place + length (u ∷ us)) m cut) on (subst (λ m. InTurn m (place + 1 + skip) cut) same (turn_from font circles (place + 1) skip us (omega arith)))
@@ -87,7 +87,7 @@ one_stays n place (p ∷ cut) gs turn =
     ∙ ap (λ l. l ++ rest) (append_assoc first between output)
     ∙ append_assoc first (between ++ output) rest
 
-changed_all : (font : Font) (circles : Bool) (place skip : ℕ) (us : List ℕ) (gs : List hb_glyph_info_t) → skip ≤ length us → length gs ≡ place + length us → changed_from (place + skip) (changes (items_from (first_item font circles) place skip us)) gs ≡ outputs glyph_copies (items_from (first_item font circles) place skip us) gs
+changed_all : (font : Font) (circles : Bool) (place skip : ℕ) (us : List ℕ) (gs : List hb_glyph_info_t) → skip ≤ length us → length gs ≡ place + length us → changed_from (place + skip) (rewritten_items (items_from (first_item font circles) place skip us)) gs ≡ outputs glyph_copies (items_from (first_item font circles) place skip us) gs
 changed_all font circles place skip [] gs inside long = drop_all (place + skip) gs (omega (arith, long))
 changed_all font circles place zero (u ∷ us) gs inside long =
     let item = first_item font circles (u ∷ us) in
@@ -97,31 +97,31 @@ changed_all font circles place zero (u ∷ us) gs inside long =
     let on : place + 1 + (item_len item - 1) ≡ place + item_len item = omega arith in
     let here : place + 0 ≡ place = omega arith in
     let output = item_output glyph_copies item (drop place gs) in
-    let rest : changed_from (place + item_len item) (changes cut) gs ≡ outputs glyph_copies cut gs =
-    ap (λ m. changed_from m (changes cut) gs) (sym on) ∙ changed_all font circles (place + 1) (item_len item - 1) us gs (omega arith) (omega (arith, long)) in
-    let turn : InTurn (place + 1 + length us) (place + 1 + (item_len item - 1)) (changes cut) = turn_from font circles (place + 1) (item_len item - 1) us (omega arith) in
-    ap (λ m. changed_from m (changes ((place, item) ∷ cut)) gs) here
-    ∙ by_kept (λ l. changed_from place l gs ≡ output ++ outputs glyph_copies cut gs) item (changes cut) ((place, item) ∷ changes cut)
+    let rest : changed_from (place + item_len item) (rewritten_items cut) gs ≡ outputs glyph_copies cut gs =
+    ap (λ m. changed_from m (rewritten_items cut) gs) (sym on) ∙ changed_all font circles (place + 1) (item_len item - 1) us gs (omega arith) (omega (arith, long)) in
+    let turn : InTurn (place + 1 + length us) (place + 1 + (item_len item - 1)) (rewritten_items cut) = turn_from font circles (place + 1) (item_len item - 1) us (omega arith) in
+    ap (λ m. changed_from m (rewritten_items ((place, item) ∷ cut)) gs) here
+    ∙ by_kept (λ l. changed_from place l gs ≡ output ++ outputs glyph_copies cut gs) item (rewritten_items cut) ((place, item) ∷ rewritten_items cut)
     (λ stays.
     let keeps = kept_stays item stays in
     let one : place + item_len item ≡ place + 1 = ap (λ m. place + m) keeps.one in
-    one_stays (place + 1 + length us) place (changes cut) gs (subst (λ m. InTurn (place + 1 + length us) m (changes cut)) (on ∙ one) turn)
-    ∙ ap (λ l. l ++ changed_from (place + 1) (changes cut) gs) (sym (keeps.itself (drop place gs)))
-    ∙ ap (λ m. output ++ changed_from m (changes cut) gs) (sym one)
+    one_stays (place + 1 + length us) place (rewritten_items cut) gs (subst (λ m. InTurn (place + 1 + length us) m (rewritten_items cut)) (on ∙ one) turn)
+    ∙ ap (λ l. l ++ changed_from (place + 1) (rewritten_items cut) gs) (sym (keeps.itself (drop place gs)))
+    ∙ ap (λ m. output ++ changed_from m (rewritten_items cut) gs) (sym one)
     ∙ ap (λ l. output ++ l) rest)
     (λ _.
     let none : place - place ≡ 0 = omega arith in
-    ap (λ m. (take m (drop place gs) ++ output) ++ changed_from (place + item_len item) (changes cut) gs) none
+    ap (λ m. (take m (drop place gs) ++ output) ++ changed_from (place + item_len item) (rewritten_items cut) gs) none
     ∙ ap (λ l. output ++ l) rest)
 changed_all font circles place (suc skip) (u ∷ us) gs inside long =
     let cut = items_from (first_item font circles) (place + 1) skip us in
     let on : place + suc skip ≡ place + 1 + skip = omega arith in
-    ap (λ m. changed_from m (changes cut) gs) on ∙ changed_all font circles (place + 1) skip us gs (omega arith) (omega (arith, long))
+    ap (λ m. changed_from m (rewritten_items cut) gs) on ∙ changed_all font circles (place + 1) skip us gs (omega arith) (omega (arith, long))
 
-pub items_at_turn : (font : Font) (circles : Bool) (gs : List hb_glyph_info_t) (place : ℕ) → place ≤ length gs → InTurn (length gs) place (changes (items_at font circles (characters gs) place))
+pub items_at_turn : (font : Font) (circles : Bool) (gs : List hb_glyph_info_t) (place : ℕ) → place ≤ length gs → InTurn (length gs) place (rewritten_items (items_at font circles (characters gs) place))
 items_at_turn font circles gs place within =
     let us = characters gs in
-    let cut = changes (items_at font circles us place) in
+    let cut = rewritten_items (items_at font circles us place) in
     let long : place + length (drop place us) ≡ length gs = omega (arith, length-drop place us, length-characters gs, within) in
     let here : place + 0 ≡ place = omega arith in
     subst (λ n. InTurn n place cut) long (subst (λ m. InTurn (place + length (drop place us)) m cut) here (turn_from font circles place 0 (drop place us) (omega arith)))
@@ -137,18 +137,18 @@ turn-at n place (q ∷ cut) zero p inside turn = turn_within n (q.0 + item_len q
 turn-at n place (q ∷ cut) (suc k) p inside turn = turn-at n (q.0 + item_len q.1) cut k p (omega arith) turn.1
 
 -- THE WHOLE
-pub changed_text : (font : Font) (circles : Bool) (level : BufferClusterLevel) (gs : List hb_glyph_info_t) (place : ℕ) (cut : List (ℕ × Item)) (list : List hb_glyph_info_t) → KeptBefore font circles gs place → cut ≡ changes (items_at font circles (characters gs) place) → list ≡ take place (all_joined level cut gs) ++ changed_from place cut (all_joined level cut gs) → list ≡ preprocessed font circles level gs
+pub changed_text : (font : Font) (circles : Bool) (level : BufferClusterLevel) (gs : List hb_glyph_info_t) (place : ℕ) (cut : List (ℕ × Item)) (list : List hb_glyph_info_t) → KeptBefore font circles gs place → cut ≡ rewritten_items (items_at font circles (characters gs) place) → list ≡ take place (all_joined level cut gs) ++ changed_from place cut (all_joined level cut gs) → list ≡ preprocessed font circles level gs
 changed_text font circles level gs place cut list kept same is =
     let us = characters gs in
     let whole = items_at font circles us place in
     let joined = all_joined level whole gs in
     let here : place + 0 ≡ place = omega arith in
     let long : length joined ≡ place + length (drop place us) = omega (arith, length-all_joined level whole gs, length-drop place us, length-characters gs, kept.within) in
-    let all : changed_from place (changes whole) joined ≡ outputs glyph_copies whole joined =
-    ap (λ m. changed_from m (changes whole) joined) (sym here) ∙ changed_all font circles place 0 (drop place us) joined (omega arith) long in
+    let all : changed_from place (rewritten_items whole) joined ≡ outputs glyph_copies whole joined =
+    ap (λ m. changed_from m (rewritten_items whole) joined) (sym here) ∙ changed_all font circles place 0 (drop place us) joined (omega arith) long in
     is
     ∙ ap (λ (l : List (ℕ × Item)). take place (all_joined level l gs) ++ changed_from place l (all_joined level l gs)) same
-    ∙ ap (λ (j : List hb_glyph_info_t). take place j ++ changed_from place (changes whole) j) (joined_changes level whole gs)
+    ∙ ap (λ (j : List hb_glyph_info_t). take place j ++ changed_from place (rewritten_items whole) j) (joined_changes level whole gs)
     ∙ ap (λ l. take place joined ++ l) all
     ∙ sym (preprocessed-kept font circles level gs place kept)
 

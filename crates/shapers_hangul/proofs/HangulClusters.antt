@@ -27,8 +27,8 @@ use Rattle.shapers_hangul.specs.declared.ot_shaper_hangul.item.JoinedTone.{Joine
 use Rattle.shapers_hangul.specs.declared.ot_shaper_hangul.item.JoinedTone.TheVariants.{Absent, Before, Behind}
 use Rattle.shapers_hangul.specs.declared.ot_shaper_hangul.item.Unit.{Unit}
 use Rattle.shapers_hangul.specs.declared.ot_shaper_hangul.item.Unit.TheVariants.{ComposedTwo, ComposedThree, JamoTwo, JamoThree, PartsTwo, PartsThree, PartsBeforeT, Syllable, ToneCircle, CircleTone, Other}
-use Rattle.shapers_hangul.specs.Hangul.{taken, output_len, tone_len, item_len, items, Fit, Copying, unit_output, with_tone, item_output, outputs, is_merged, unit_stretch, tone_stretch, item_stretches, stretches, all_joined, glyph_copies, rewritten, wants_circles}
-use Rattle.shapers_hangul.specs.HangulLaws.{place_copies, sources, KeepsClusters, unnamed, RewrittenLaw}
+use Rattle.shapers_hangul.specs.Hangul.{taken, output_len, tone_len, item_len, items, Fit, Copying, unit_output, with_tone, item_output, outputs, is_merged, unit_stretch, tone_stretch, item_stretches, stretches, all_joined, glyph_copies, rewritten, allows_circles}
+use Rattle.shapers_hangul.specs.HangulLaws.{place_copies, hangul_sources, KeepsClusters, unnamed, RewrittenLaw}
 use Rattle.shapers_hangul.proofs.Items.{items_fit}
 use Rattle.shapers_hangul.proofs.Outputs.{Leads, outputs-map}
 use Rattle.shapers_hangul.proofs.Walks.{length-characters, length-item_output, length-all_joined, clusters-all_joined}
@@ -114,7 +114,7 @@ tone_stands level unit tone s moves =
     subst (λ t. Contains (unit_stretch level unit s ++ tone_stretch t s (s + taken unit)) (s, s + taken unit + 1)) (sym moves)
     (Contains-append_right (unit_stretch level unit s) ((s, s + taken unit + 1) ∷ []) (s, s + taken unit + 1) (0, omega arith, refl))
 
-shares : (font : Font) (circles : Bool) (level : BufferClusterLevel) (us cs js : List ℕ) → ClustersMade level (stretches level (items font circles us)) (sources (items font circles us) (length us)) cs js → merges level ≡ true → (before : List (ℕ × Item)) (place : ℕ) (item : Item) (after : List (ℕ × Item)) → items font circles us ≡ before ++ (place, item) ∷ after → item.tone ≡ Before → ShareCluster js (length (sources before (length us))) (length (sources before (length us)) + output_len item.unit)
+shares : (font : Font) (circles : Bool) (level : BufferClusterLevel) (us cs js : List ℕ) → ClustersMade level (stretches level (items font circles us)) (hangul_sources (items font circles us) (length us)) cs js → merges level ≡ true → (before : List (ℕ × Item)) (place : ℕ) (item : Item) (after : List (ℕ × Item)) → items font circles us ≡ before ++ (place, item) ∷ after → item.tone ≡ Before → ShareCluster js (length (hangul_sources before (length us))) (length (hangul_sources before (length us)) + output_len item.unit)
 shares font circles level us cs js made m before place item after split moves =
     let n = length us in
     let cut = items font circles us in
@@ -123,11 +123,11 @@ shares font circles level us cs js made m before place item after split moves =
     let within : place + item_len item ≤ n = (all-at (λ p. (p.0 + item_len p.1 ≤ n) × (p.0 + p.1.unsafe_len ≤ n)) before (place, item) after (subst (Fit n) split (items_fit font circles us))).0 in
     let one : tone_len item.tone ≡ 1 = ap tone_len moves in
     let many = length-item_output place_copies item (drop place (range_with_len 0 n)) (omega (arith, within, length-drop place (range_with_len 0 n), length-range_with_len 0 n)) in
-    part_shares made m st (sources before n) inside (sources after n)
+    part_shares made m st (hangul_sources before n) inside (hangul_sources after n)
     (λ some. Contains-flat_map (λ p. item_stretches level p.1 p.0) cut (place, item) st (subst (λ (l : List (ℕ × Item)). Contains l (place, item)) (sym split) (contains-at before (place, item) after)) (tone_stands level item.unit item.tone place moves))
-    (ap (λ l. sources l n) split ∙ flat_map-append (λ p. item_output place_copies p.1 (drop p.0 (range_with_len 0 n))) before ((place, item) ∷ after))
+    (ap (λ l. hangul_sources l n) split ∙ flat_map-append (λ p. item_output place_copies p.1 (drop p.0 (range_with_len 0 n))) before ((place, item) ∷ after))
     (All-from_recursion (λ p. (st.0 ≤ p) × (p < st.1)) inside (item_sources item place n))
-    (length (sources before n)) (length (sources before n) + output_len item.unit) refl (omega (arith, many, one))
+    (length (hangul_sources before n)) (length (hangul_sources before n) + output_len item.unit) refl (omega (arith, many, one))
 
 -- the rule on made glyphs: a copy comes of the place of what it copies
 abbrev made_copies : (gs : List hb_glyph_info_t) → Copying (Made unnamed gs)
@@ -152,7 +152,7 @@ clusters-outputs cut gs = let leads : Leads (λ g. g.cluster) glyph_copies place
 -- what is written from these glyphs, with the places that it comes of
 record Written (cut : List (ℕ × Item)) (ms : List hb_glyph_info_t) : Type 0 where
   pub made : List (Made unnamed ms)
-  pub from : map (λ m. m.place) made ≡ sources cut (length ms)
+  pub from : map (λ m. m.place) made ≡ hangul_sources cut (length ms)
   pub glyphs : map (λ m. m.glyph) made ≡ outputs glyph_copies cut ms
 
 written_from : (cut : List (ℕ × Item)) (ms : List hb_glyph_info_t) → Written cut ms
@@ -181,20 +181,20 @@ rewritten_holds font circles level gs =
     let rs = outputs glyph_copies cut ns in
     let within = subst (λ n. EndWithin n sts) (length-characters gs) (stretches_within font circles level us) in
     let merged = written_from cut ms in
-    let (same, h) = made_hold_by unnamed (record { cluster = λ g. refl; flags = λ g. refl }) level sts (sources cut (length gs)) gs (outputs glyph_copies cut ms) within merged.made (merged.from ∙ ap (sources cut) (length-merge_all level sts gs within)) merged.glyphs in
+    let (same, h) = made_hold_by unnamed (record { cluster = λ g. refl; flags = λ g. refl }) level sts (hangul_sources cut (length gs)) gs (outputs glyph_copies cut ms) within merged.made (merged.from ∙ ap (hangul_sources cut) (length-merge_all level sts gs within)) merged.glyphs in
     let joined = written_from cut ns in
-    let a = subst (λ ps. AreMade unnamed ns ps rs) (joined.from ∙ ap (sources cut) (length-all_joined level cut gs)) (subst (AreMade unnamed ns (map (λ m. m.place) joined.made)) joined.glyphs (are_made unnamed ns joined.made)) in
+    let a = subst (λ ps. AreMade unnamed ns ps rs) (joined.from ∙ ap (hangul_sources cut) (length-all_joined level cut gs)) (subst (AreMade unnamed ns (map (λ m. m.place) joined.made)) joined.glyphs (are_made unnamed ns joined.made)) in
     let as_merged : clusters (outputs glyph_copies cut ms) ≡ clusters rs =
     clusters-outputs cut ms ∙ ap (outputs place_copies cut) (sym (clusters-all_joined level cut gs)) ∙ sym (clusters-outputs cut ns) in
-    let made = subst (ClustersMade level sts (sources cut (length gs)) (clusters gs)) as_merged h.clusters_made in
-    let by_characters = subst (λ n. ClustersMade level sts (sources cut n) (clusters gs) (clusters rs)) (sym (length-characters gs)) made in
+    let made = subst (ClustersMade level sts (hangul_sources cut (length gs)) (clusters gs)) as_merged h.clusters_made in
+    let by_characters = subst (λ n. ClustersMade level sts (hangul_sources cut n) (clusters gs) (clusters rs)) (sym (length-characters gs)) made in
     record {
       made = a.same;
       in_clusters = record { made = by_characters; cluster_law = shares font circles level us (clusters gs) (clusters rs) by_characters };
-      none_rises = none_rises (pick (sources cut (length gs)) gs) (outputs glyph_copies cut ms) rs h.falls as_merged;
+      none_rises = none_rises (pick (hangul_sources cut (length gs)) gs) (outputs glyph_copies cut ms) rs h.falls as_merged;
     }
 
 -- the whole hook
 pub on_rewritten : {T : Type 0} (r : Result T ShaperError) (font : Font) (old new : Buffer) → OnOk r (new ≡ rewritten font old) → OnOk r (KeepsClusters font old new)
-on_rewritten (Ok x) font old new is = subst (KeepsClusters font old) (sym is) (rewritten_holds font (wants_circles old) old.level old.glyphs).in_clusters
+on_rewritten (Ok x) font old new is = subst (KeepsClusters font old) (sym is) (rewritten_holds font (allows_circles old) old.level old.glyphs).in_clusters
 on_rewritten (Err e) font old new is = tt

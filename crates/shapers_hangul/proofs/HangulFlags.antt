@@ -17,8 +17,8 @@ use Rattle.shapers_clusters.specs.FlagLaw.{AllFlagsStay, FlagsAdded}
 use Rattle.shapers_clusters.proofs.FlagCalls.{keeps-with_bits}
 use Rattle.shapers_clusters.proofs.FlagLaw.{all_stay_as, all_stay_on, all_stay_picked, all_stay_same, merge_all_stays, unsafe_all_stays}
 use Rattle.shapers_hangul.specs.declared.ot_shaper_hangul.item.Item.{Item}
-use Rattle.shapers_hangul.specs.Hangul.{Fit, all_joined, is_merged, item_joined, item_stretches, items, preprocessed, rewritten, taken, unsafe_stretches, wants_circles}
-use Rattle.shapers_hangul.specs.HangulLaws.{KeepsGlyphFlags, sources, unnamed}
+use Rattle.shapers_hangul.specs.Hangul.{Fit, all_joined, is_merged, item_joined, item_stretches, items, preprocessed, rewritten, taken, unsafe_stretches, allows_circles}
+use Rattle.shapers_hangul.specs.HangulLaws.{KeepsGlyphFlags, hangul_sources, unnamed}
 use Rattle.shapers_base.specs.Masks.{with_numbered_mask}
 use Rattle.shapers_hangul.proofs.HangulClusters.{item_ends, rewritten_holds}
 use Rattle.shapers_hangul.proofs.Items.{items_fit}
@@ -44,11 +44,11 @@ all_joined_stays level (p ∷ cut) gs fit =
     let once = item_joined level p.0 p.1 gs in
     all_stay_on gs once (all_joined level cut once) (item_joined_stays level p.0 p.1 gs (item_ends level p.1.unit p.1.tone p.0 (length gs) fit.0.0)) (all_joined_stays level cut once (subst (λ n. Fit n cut) (sym (length-item_joined level p.0 p.1 gs)) fit.1))
 
-rewritten_flags : (font : Font) (circles : Bool) (level : BufferClusterLevel) (gs : List hb_glyph_info_t) → AllFlagsStay (pick (sources (items font circles (characters gs)) (length gs)) gs) (preprocessed font circles level gs)
+rewritten_flags : (font : Font) (circles : Bool) (level : BufferClusterLevel) (gs : List hb_glyph_info_t) → AllFlagsStay (pick (hangul_sources (items font circles (characters gs)) (length gs)) gs) (preprocessed font circles level gs)
 rewritten_flags font circles level gs =
     let cut = items font circles (characters gs) in
     let ns = all_joined level cut gs in
-    let places = sources cut (length gs) in
+    let places = hangul_sources cut (length gs) in
     let rs = preprocessed font circles level gs in
     let made = (rewritten_holds font circles level gs).made in
     all_stay_as (pick places gs) (pick places ns) rs
@@ -58,7 +58,7 @@ rewritten_flags font circles level gs =
 
 -- the whole hook
 pub on_flags : {T : Type 0} (r : Result T ShaperError) (font : Font) (old new : Buffer) → OnOk r (new ≡ rewritten font old) → OnOk r (KeepsGlyphFlags font old new)
-on_flags (Ok x) font old new is = subst (KeepsGlyphFlags font old) (sym is) (rewritten_flags font (wants_circles old) old.level old.glyphs)
+on_flags (Ok x) font old new is = subst (KeepsGlyphFlags font old) (sym is) (rewritten_flags font (allows_circles old) old.level old.glyphs)
 on_flags (Err e) font old new is = tt
 
 -- the masks of jamo

@@ -8,7 +8,7 @@ use Rattle.shapers_buffer.specs.declared.buffer.category.hb_unicode_general_cate
 use Rattle.shapers_base.specs.Font.{Font}
 use Rattle.shapers_buffer.specs.Glyph.{default_glyph}
 use Rattle.shapers_hangul.specs.Hangul.{is_l, is_v, is_t, combines_l, combines_v, combines_t, is_s, is_lv, is_tone, with_v, with_t, lead, vowel, trail, preprocessed, items, stretches}
-use Rattle.shapers_hangul.specs.HangulLaws.{sources, full, spelled}
+use Rattle.shapers_hangul.specs.HangulLaws.{hangul_sources, full, spelled}
 use Rattle.shapers_hangul.specs.Masks.{jamo_masks}
 use Rattle.shapers_base.specs.Masks.{with_numbered_mask}
 
@@ -280,7 +280,7 @@ jamo_tags = refl
 abbrev mixed : List ℕ
 mixed = 0x1100 ∷ 0x1161 ∷ 0x11A8 ∷ 0x302E ∷ 0xAC01 ∷ 0x302F ∷ 0x302F ∷ []
 
-mixed_sources : sources (items (wide (0xAC01 ∷ 0x25CC ∷ [])) true mixed) 7 ≡ 3 ∷ 0 ∷ 5 ∷ 4 ∷ 6 ∷ 6 ∷ []
+mixed_sources : hangul_sources (items (wide (0xAC01 ∷ 0x25CC ∷ [])) true mixed) 7 ≡ 3 ∷ 0 ∷ 5 ∷ 4 ∷ 6 ∷ 6 ∷ []
 mixed_sources = refl
 
 mixed_merges : stretches MonotoneCharacters (items (wide (0xAC01 ∷ 0x25CC ∷ [])) true mixed) ≡ (0, 3) ∷ (0, 4) ∷ (4, 5) ∷ (4, 6) ∷ (6, 7) ∷ []

@@ -17,7 +17,7 @@ use Rattle.shapers_base.specs.Font.{Font, has_nominal}
 use Rattle.shapers_hangul.specs.declared.ot_shaper_hangul.item.JoinedTone.TheVariants.{Absent, Before, Behind}
 use Rattle.shapers_hangul.specs.declared.ot_shaper_hangul.item.Unit.{Unit}
 use Rattle.shapers_hangul.specs.declared.ot_shaper_hangul.item.Unit.TheVariants.{ComposedTwo, ComposedThree, JamoTwo, JamoThree, PartsTwo, PartsThree, PartsBeforeT, Syllable, ToneCircle, CircleTone, Other}
-use Rattle.shapers_hangul.specs.Hangul.{is_between, is_l, is_v, is_t, combines_l, combines_v, combines_t, is_s, is_lv, is_tone, with_v, with_t, lead, vowel, trail, has_jamo_of, is_narrow, jamo_two, jamo_three, parts, syllable_unit, lone_tone, opening_unit, taken, is_syllable, joined_tone, first_item, tone_len, item_len, items_from, items, marked_from, unit_output, with_tone, item_output, outputs, all_joined, glyph_copies, character_copies, preprocessed, wants_circles, rewritten}
+use Rattle.shapers_hangul.specs.Hangul.{is_between, is_l, is_v, is_t, combines_l, combines_v, combines_t, is_s, is_lv, is_tone, with_v, with_t, lead, vowel, trail, has_jamo_of, is_narrow, jamo_two, jamo_three, jamo_parts, syllable_unit, lone_tone, opening_unit, taken, is_syllable, joined_tone, first_item, tone_len, item_len, items_from, items, marked_from, unit_output, with_tone, item_output, outputs, all_joined, glyph_copies, character_copies, preprocessed, allows_circles, rewritten}
 use Rattle.shapers_hangul.specs.HangulLaws.{jamo_of, full, spelled, SpellingLaw, SpellsByUnits, SpellsSame, UnitSpells}
 use Rattle.shapers_hangul.proofs.Outputs.{Leads, outputs-map}
 use Rattle.shapers_hangul.proofs.Walks.{characters-all_joined}
@@ -168,7 +168,7 @@ three_spells font (l ∷ v ∷ t ∷ us) hl hv ht =
     ∙ sym (lv_apart l v (t ∷ []) cl cv))
     (λ _. ap full (marked_same 1 (l ∷ v ∷ t ∷ [])))
 
-parts_spell : (s : ℕ) (us : List ℕ) → is_s s ≡ true → SpellsUnit (s ∷ us) (parts s)
+parts_spell : (s : ℕ) (us : List ℕ) → is_s s ≡ true → SpellsUnit (s ∷ us) (jamo_parts s)
 parts_spell s us h =
     let (a, b, c) = low_jamo s h in
     either (SpellsUnit (s ∷ us)) (is_lv s) (PartsTwo (lead s) (vowel s)) (PartsThree (lead s) (vowel s) (trail s))
@@ -191,14 +191,14 @@ syllable_spells font [] h = absurd cc
 syllable_spells font (s ∷ []) h =
     let us = s ∷ [] in
     either (SpellsUnit us) ((is_lv s && combines_t 0) && has_nominal font (with_t s 0)) (ComposedTwo (with_t s 0)) _ (λ p. let f = (both (is_lv s) false (both _ (has_nominal font (with_t s 0)) p).0).1 in absurd cc)
-    (λ _. either (SpellsUnit us) (not (has_nominal font s) && has_jamo_of font s) (parts s) _ (λ _. parts_spell s [] h)
+    (λ _. either (SpellsUnit us) (not (has_nominal font s) && has_jamo_of font s) (jamo_parts s) _ (λ _. parts_spell s [] h)
     (λ _. either (SpellsUnit us) ((is_lv s && is_t 0) && has_jamo_of font s) (PartsBeforeT (lead s) (vowel s)) _ (λ p. let f = (both (is_lv s) false (both _ (has_jamo_of font s) p).0).1 in absurd cc)
     (λ _. either (SpellsUnit us) (has_nominal font s) Syllable Other (λ _. refl) (λ _. refl))))
 syllable_spells font (s ∷ v ∷ rest) h =
     let us = s ∷ v ∷ rest in
     either (SpellsUnit us) ((is_lv s && combines_t v) && has_nominal font (with_t s v)) (ComposedTwo (with_t s v)) _
     (λ p. let (lv, ct) = both (is_lv s) (combines_t v) (both _ (has_nominal font (with_t s v)) p).0 in composed_t s v h lv ct)
-    (λ _. either (SpellsUnit us) (not (has_nominal font s) && has_jamo_of font s) (parts s) _ (λ _. parts_spell s (v ∷ rest) h)
+    (λ _. either (SpellsUnit us) (not (has_nominal font s) && has_jamo_of font s) (jamo_parts s) _ (λ _. parts_spell s (v ∷ rest) h)
     (λ _. either (SpellsUnit us) ((is_lv s && is_t v) && has_jamo_of font s) (PartsBeforeT (lead s) (vowel s)) _
     (λ p. let lv = (both (is_lv s) (is_t v) (both _ (has_jamo_of font s) p).0).0 in ap full (marked_same 1 (lead s ∷ vowel s ∷ v ∷ [])) ∙ before_t s v [] h lv)
     (λ _. either (SpellsUnit us) (has_nominal font s) Syllable Other (λ _. refl) (λ _. refl))))
@@ -309,7 +309,7 @@ same_spelled font circles level gs =
     ap spelled (outputs-map (λ g. g.glyph_id) glyph_copies character_copies leads cut ms ∙ ap (outputs character_copies cut) (characters-all_joined level cut gs)) ∙ (spells font circles (characters gs)).whole
 
 pub on_spelled : {T : Type 0} (r : Result T ShaperError) (font : Font) (old new : Buffer) → OnOk r (new ≡ rewritten font old) → OnOk r (SpellsSame old new)
-on_spelled (Ok x) font old new is = subst (SpellsSame old) (sym is) (same_spelled font (wants_circles old) old.level old.glyphs)
+on_spelled (Ok x) font old new is = subst (SpellsSame old) (sym is) (same_spelled font (allows_circles old) old.level old.glyphs)
 on_spelled (Err e) font old new is = tt
 
 -- each unit by itself
@@ -326,12 +326,12 @@ units_spell font circles all place (suc skip) (u ∷ us) is = units_spell font c
 by_units : (font : Font) (b : Buffer) → SpellsByUnits font b (rewritten font b)
 by_units font b =
     let us = characters b.glyphs in
-    let cut = items font (wants_circles b) us in
+    let cut = items font (allows_circles b) us in
     let ms = all_joined b.level cut b.glyphs in
     let leads : Leads (λ g. g.glyph_id) glyph_copies character_copies = record { character = λ u g. refl; jamo = λ n g. refl } in
     record {
       outputs = outputs-map (λ g. g.glyph_id) glyph_copies character_copies leads cut ms ∙ ap (outputs character_copies cut) (characters-all_joined b.level cut b.glyphs);
-      units = units_spell font (wants_circles b) us 0 0 us refl;
+      units = units_spell font (allows_circles b) us 0 0 us refl;
     }
 
 pub on_units : {T : Type 0} (r : Result T ShaperError) (font : Font) (old new : Buffer) → OnOk r (new ≡ rewritten font old) → OnOk r (SpellsByUnits font old new)

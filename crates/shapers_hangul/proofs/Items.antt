@@ -8,7 +8,7 @@ use Rattle.shapers_hangul.specs.declared.ot_shaper_hangul.item.JoinedTone.{Joine
 use Rattle.shapers_hangul.specs.declared.ot_shaper_hangul.item.JoinedTone.TheVariants.{Absent, Before, Behind}
 use Rattle.shapers_hangul.specs.declared.ot_shaper_hangul.item.Unit.{Unit}
 use Rattle.shapers_hangul.specs.declared.ot_shaper_hangul.item.Unit.TheVariants.{ComposedTwo, ComposedThree, JamoTwo, JamoThree, PartsTwo, PartsThree, PartsBeforeT, Syllable, ToneCircle, CircleTone, Other}
-use Rattle.shapers_hangul.specs.Hangul.{is_l, is_v, is_t, combines_l, combines_v, combines_t, is_s, is_lv, is_tone, with_v, with_t, lead, vowel, trail, has_jamo_of, is_narrow, jamo_two, jamo_three, jamo_unit, parts, syllable_unit, lone_tone, lone_unit, first_unit, unsafe_len, taken, is_syllable, is_marked, joined_tone, is_split, first_item, tone_len, item_len, items_from, items, items_at, Fit}
+use Rattle.shapers_hangul.specs.Hangul.{is_l, is_v, is_t, combines_l, combines_v, combines_t, is_s, is_lv, is_tone, with_v, with_t, lead, vowel, trail, has_jamo_of, is_narrow, jamo_two, jamo_three, jamo_unit, jamo_parts, syllable_unit, lone_tone, lone_unit, first_unit, unsafe_len, taken, is_syllable, is_marked, joined_tone, is_split, first_item, tone_len, item_len, items_from, items, items_at, Fit}
 
 -- both of two tests that pass together; a choice of two units
 pub both : (a b : Bool) → a && b ≡ true → (a ≡ true) × (b ≡ true)
@@ -63,7 +63,7 @@ two_reaches font u v t some =
     let Q = λ (x : Unit). Reaches v t x in
     either Q ((combines_l u && combines_v v) && has_nominal font (with_v u v)) (ComposedTwo (with_v u v)) JamoTwo (λ _. inr (some, inl (omega arith))) (λ _. inr (some, inl (omega arith)))
 
-parts_reach : (s v t : ℕ) → Reaches v t (parts s)
+parts_reach : (s v t : ℕ) → Reaches v t (jamo_parts s)
 parts_reach s v t = let Q = λ (x : Unit). Reaches v t x in either Q (is_lv s) (PartsTwo (lead s) (vowel s)) (PartsThree (lead s) (vowel s) (trail s)) (λ _. inl (omega arith)) (λ _. inl (omega arith))
 
 syllable_reaches : (font : Font) (s v t : ℕ) → Reaches v t (syllable_unit font s v)
@@ -71,7 +71,7 @@ syllable_reaches font s v t =
     let Q = λ (x : Unit). Reaches v t x in
     either Q ((is_lv s && combines_t v) && has_nominal font (with_t s v)) (ComposedTwo (with_t s v)) _
     (λ h. inr (above combines_t v refl (both (is_lv s) _ (both _ (has_nominal font (with_t s v)) h).0).1, inl (omega arith)))
-    (λ _. either Q (not (has_nominal font s) && has_jamo_of font s) (parts s) _ (λ _. parts_reach s v t)
+    (λ _. either Q (not (has_nominal font s) && has_jamo_of font s) (jamo_parts s) _ (λ _. parts_reach s v t)
     (λ _. either Q ((is_lv s && is_t v) && has_jamo_of font s) (PartsBeforeT (lead s) (vowel s)) _
     (λ h. inr (above is_t v refl (both (is_lv s) _ (both _ (has_jamo_of font s) h).0).1, inl (omega arith)))
     (λ _. either Q (has_nominal font s) Syllable Other (λ _. inl (omega arith)) (λ _. inl (omega arith)))))
@@ -149,30 +149,30 @@ has_or_parts true jamo p = refl
 has_or_parts false true p = refl
 has_or_parts false false p = refl
 
-syllable_lone : (font : Font) (s v : ℕ) → is_t v ≡ false → syllable_unit font s v ≡ cond (has_nominal font s) Syllable (cond (has_jamo_of font s) (parts s) Other)
+syllable_lone : (font : Font) (s v : ℕ) → is_t v ≡ false → syllable_unit font s v ≡ cond (has_nominal font s) Syllable (cond (has_jamo_of font s) (jamo_parts s) Other)
 syllable_lone font s v no_t =
     let has = has_nominal font s in
     let jamo = has_jamo_of font s in
     let split = cond ((is_lv s && is_t v) && jamo) (PartsBeforeT (lead s) (vowel s)) (cond has Syllable Other) in
-    ap (λ x. cond ((is_lv s && x) && has_nominal font (with_t s v)) (ComposedTwo (with_t s v)) (cond (not has && jamo) (parts s) split)) (combines_no v no_t)
-    ∙ never_so (is_lv s) (has_nominal font (with_t s v)) (ComposedTwo (with_t s v)) (cond (not has && jamo) (parts s) split)
-    ∙ ap (cond (not has && jamo) (parts s)) (ap (λ x. cond ((is_lv s && x) && jamo) (PartsBeforeT (lead s) (vowel s)) (cond has Syllable Other)) no_t ∙ never_so (is_lv s) jamo (PartsBeforeT (lead s) (vowel s)) (cond has Syllable Other))
-    ∙ has_or_parts has jamo (parts s)
+    ap (λ x. cond ((is_lv s && x) && has_nominal font (with_t s v)) (ComposedTwo (with_t s v)) (cond (not has && jamo) (jamo_parts s) split)) (combines_no v no_t)
+    ∙ never_so (is_lv s) (has_nominal font (with_t s v)) (ComposedTwo (with_t s v)) (cond (not has && jamo) (jamo_parts s) split)
+    ∙ ap (cond (not has && jamo) (jamo_parts s)) (ap (λ x. cond ((is_lv s && x) && jamo) (PartsBeforeT (lead s) (vowel s)) (cond has Syllable Other)) no_t ∙ never_so (is_lv s) jamo (PartsBeforeT (lead s) (vowel s)) (cond has Syllable Other))
+    ∙ has_or_parts has jamo (jamo_parts s)
 
 unit_lone : (font : Font) (circles : Bool) (u v t : ℕ) → is_v v ≡ false → is_t v ≡ false → first_unit font circles u v t ≡ lone_unit font circles u
 unit_lone font circles u v t no_v no_t =
     let tone = lone_tone font circles u in
     ap (λ x. cond (is_tone u) tone (cond (is_l u && x) (jamo_unit font u v t) (cond (is_s u) (syllable_unit font u v) Other))) no_v
     ∙ ap (cond (is_tone u) tone) (never (is_l u) (jamo_unit font u v t) (cond (is_s u) (syllable_unit font u v) Other) ∙ ap (λ x. cond (is_s u) x Other) (syllable_lone font u v no_t))
-    ∙ turned (is_s u) (is_tone u) true (cond (has_nominal font u) Syllable (cond (has_jamo_of font u) (parts u) Other)) tone Other (tone_no_syllable u)
+    ∙ turned (is_s u) (is_tone u) true (cond (has_nominal font u) Syllable (cond (has_jamo_of font u) (jamo_parts u) Other)) tone Other (tone_no_syllable u)
 
-parts_taken : (s : ℕ) → taken (parts s) ≡ 1
+parts_taken : (s : ℕ) → taken (jamo_parts s) ≡ 1
 parts_taken s = either (λ x. taken x ≡ 1) (is_lv s) (PartsTwo (lead s) (vowel s)) (PartsThree (lead s) (vowel s) (trail s)) (λ _. refl) (λ _. refl)
 
 lone_taken : (font : Font) (circles : Bool) (u : ℕ) → taken (lone_unit font circles u) ≡ 1
 lone_taken font circles u =
     let Q : Unit → Type 0 = λ x. taken x ≡ 1 in
-    either Q (is_s u) _ _ (λ _. either Q (has_nominal font u) Syllable _ (λ _. refl) (λ _. either Q (has_jamo_of font u) (parts u) Other (λ _. parts_taken u) (λ _. refl)))
+    either Q (is_s u) _ _ (λ _. either Q (has_nominal font u) Syllable _ (λ _. refl) (λ _. either Q (has_jamo_of font u) (jamo_parts u) Other (λ _. parts_taken u) (λ _. refl)))
     (λ _. either Q (is_tone u) (lone_tone font circles u) Other (λ _. either Q (circles && has_nominal font 0x25CC) _ Other (λ _. either Q (is_narrow font u) CircleTone ToneCircle (λ _. refl) (λ _. refl)) (λ _. refl)) (λ _. refl))
 
 pub lone_first : (font : Font) (circles : Bool) (us : List ℕ) (unit : Unit) → is_v (get_or us 1 0) || (is_t (get_or us 1 0) || is_tone (get_or us 1 0)) ≡ false → unit ≡ lone_unit font circles (get_or us 0 0) → item_of unit Absent 0 ≡ first_item font circles us
@@ -198,8 +198,8 @@ lone_first font circles us unit free is =
     ∙ ap (item_of unit Absent) rest)
 
 -- what an item flags stands within the text, too
-number : (Q : ℕ → Type 0) (b : Bool) (x y : ℕ) → (b ≡ true → Q x) → (b ≡ false → Q y) → Q (cond b x y)
-number Q b x y passes fails = elim b as (λ a. b ≡ a → Q (cond a x y)) [ true ↦ passes | false ↦ fails ] refl
+cond_holds : (Q : ℕ → Type 0) (b : Bool) (x y : ℕ) → (b ≡ true → Q x) → (b ≡ false → Q y) → Q (cond b x y)
+cond_holds Q b x y passes fails = elim b as (λ a. b ≡ a → Q (cond a x y)) [ true ↦ passes | false ↦ fails ] refl
 
 pub first_item-unsafe : (font : Font) (circles : Bool) (us : List ℕ) → 0 < length us → (first_item font circles us).unsafe_len ≤ length us
 first_item-unsafe font circles us some =
@@ -209,9 +209,9 @@ first_item-unsafe font circles us some =
     let tone = joined_tone font x (get_or us (taken x) 0) in
     let Q : ℕ → Type 0 = λ n. n ≤ length us in
     let within = unit_within font circles us some in
-    number Q (is_l u && is_v v) (taken x) _ (λ _. within)
-    (λ _. number Q (is_marked x && tone_len tone == 1) (taken x) _ (λ _. within)
-    (λ _. number Q (is_split font u v) 2 0 (λ h. omega (arith, there us 1 (above is_t v refl (both (is_lv u) (is_t v) (both (is_lv u && is_t v) _ h).0).1))) (λ _. omega arith)))
+    cond_holds Q (is_l u && is_v v) (taken x) _ (λ _. within)
+    (λ _. cond_holds Q (is_marked x && tone_len tone == 1) (taken x) _ (λ _. within)
+    (λ _. cond_holds Q (is_split font u v) 2 0 (λ h. omega (arith, there us 1 (above is_t v refl (both (is_lv u) (is_t v) (both (is_lv u && is_t v) _ h).0).1))) (λ _. omega arith)))
 
 -- the items from a place on: what the item before took is skipped, and then the first item opens the rest
 skipped : (read : List ℕ → Item) (place skip : ℕ) (us : List ℕ) → items_from read place skip us ≡ items_from read (place + skip) 0 (drop skip us)

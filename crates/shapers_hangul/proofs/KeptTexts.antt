@@ -7,7 +7,7 @@ use Rattle.shapers_buffer.specs.Buffer.{Buffer}
 use Rattle.shapers_buffer.specs.Glyph.{characters}
 use Rattle.shapers_base.specs.Font.{Font}
 use Rattle.shapers_hangul.specs.declared.ot_shaper_hangul.item.Item.{Item}
-use Rattle.shapers_hangul.specs.Hangul.{KeptBefore, first_item, is_kept, item_len, items, items_from, wants_circles}
+use Rattle.shapers_hangul.specs.Hangul.{KeptBefore, first_item, is_kept, item_len, items, items_from, allows_circles}
 use Rattle.shapers_hangul.specs.HangulLaws.{AllKept}
 use Rattle.shapers_hangul.proofs.Walks.{glyphs_end, kept_stays, length-characters}
 
@@ -25,15 +25,15 @@ goes_at font circles gs kept inside goes all =
     cc
 
 -- so the code, which stops at the first item that doesn't stay, comes to its end
-pub never_goes : (font : Font) (b : Buffer) (circles : Bool) (gs : List hb_glyph_info_t) (kept : ℕ) → circles ≡ wants_circles b → gs ≡ b.glyphs → kept < length gs → (kept < length gs → is_kept (first_item font circles (characters (drop kept gs))) ≡ false) → AllKept font b → ⊥
+pub never_goes : (font : Font) (b : Buffer) (circles : Bool) (gs : List hb_glyph_info_t) (kept : ℕ) → circles ≡ allows_circles b → gs ≡ b.glyphs → kept < length gs → (kept < length gs → is_kept (first_item font circles (characters (drop kept gs))) ≡ false) → AllKept font b → ⊥
 never_goes font b circles gs kept same_circles same inside stops all =
     goes_at font circles gs kept inside (stops inside)
-    (subst (λ c. AllByRecursion (λ p. is_kept p.1 ≡ true) (items font c (characters gs))) (sym same_circles) (subst (λ xs. AllByRecursion (λ p. is_kept p.1 ≡ true) (items font (wants_circles b) (characters xs))) (sym same) all))
+    (subst (λ c. AllByRecursion (λ p. is_kept p.1 ≡ true) (items font c (characters gs))) (sym same_circles) (subst (λ xs. AllByRecursion (λ p. is_kept p.1 ≡ true) (items font (allows_circles b) (characters xs))) (sym same) all))
 
 -- and where it comes there, every item stays
-pub all_stay : (font : Font) (b : Buffer) (circles : Bool) (gs : List hb_glyph_info_t) (kept : ℕ) → circles ≡ wants_circles b → gs ≡ b.glyphs → length gs ≤ kept → KeptBefore font circles gs kept → AllKept font b
+pub all_stay : (font : Font) (b : Buffer) (circles : Bool) (gs : List hb_glyph_info_t) (kept : ℕ) → circles ≡ allows_circles b → gs ≡ b.glyphs → length gs ≤ kept → KeptBefore font circles gs kept → AllKept font b
 all_stay font b circles gs kept same_circles same past before =
     let all : AllByRecursion (λ p. is_kept p.1 ≡ true) (items font circles (characters gs)) =
     before.stays (subst (AllByRecursion (λ (p : ℕ × Item). is_kept p.1 ≡ true)) (sym (glyphs_end font circles gs (characters gs) kept refl past)) tt) in
-    subst (λ (xs : List hb_glyph_info_t). AllByRecursion (λ p. is_kept p.1 ≡ true) (items font (wants_circles b) (characters xs))) same
+    subst (λ (xs : List hb_glyph_info_t). AllByRecursion (λ p. is_kept p.1 ≡ true) (items font (allows_circles b) (characters xs))) same
     (subst (λ c. AllByRecursion (λ p. is_kept p.1 ≡ true) (items font c (characters gs))) same_circles all)

@@ -72,8 +72,8 @@ clusters-all_joined level (p ∷ cut) gs =
     ∙ ap clusters (sym (merge_all-append level sts (stretches level cut) gs))
 
 -- what a list of items answers past its end
-abbrev pub default_entry : ℕ × Item
-default_entry = (0, record { unit = ComposedTwo 0; tone = Absent; unsafe_len = 0 })
+abbrev pub default_item : ℕ × Item
+default_item = (0, record { unit = ComposedTwo 0; tone = Absent; unsafe_len = 0 })
 
 -- one of the items that fit
 pub fit-at : (n : ℕ) (cut : List (ℕ × Item)) (k : ℕ) (p : ℕ × Item) → k < length cut → Fit n cut → ((slice_index_or cut k p).0 + item_len (slice_index_or cut k p).1 ≤ n) × ((slice_index_or cut k p).0 + (slice_index_or cut k p).1.unsafe_len ≤ n)

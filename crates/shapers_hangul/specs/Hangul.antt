@@ -91,8 +91,9 @@ jamo_three font l v t =
     else JamoThree
 
 -- a syllable character by its jamo, all marked
-abbrev pub parts : ℕ → Unit
-parts s = if is_lv s then PartsTwo (lead s) (vowel s) else PartsThree (lead s) (vowel s) (trail s)
+abbrev pub jamo_parts : ℕ → Unit
+jamo_parts s =
+    if is_lv s then PartsTwo (lead s) (vowel s) else PartsThree (lead s) (vowel s) (trail s)
 
 -- a syllable character S before v: LV with a combining T as one that the font has; jamo that the
 -- font has of an S that it lacks, or of an LV before any T, which comes along; an S that the font
@@ -100,7 +101,7 @@ parts s = if is_lv s then PartsTwo (lead s) (vowel s) else PartsThree (lead s) (
 abbrev pub syllable_unit : Font → ℕ → ℕ → Unit
 syllable_unit font s v =
     if (is_lv s && combines_t v) && has_nominal font (with_t s v) then ComposedTwo (with_t s v)
-    else if not (has_nominal font s) && has_jamo_of font s then parts s
+    else if not (has_nominal font s) && has_jamo_of font s then jamo_parts s
     else if (is_lv s && is_t v) && has_jamo_of font s then PartsBeforeT (lead s) (vowel s)
     else if has_nominal font s then Syllable
     else Other
@@ -126,7 +127,7 @@ first_unit font circles u v t =
 abbrev pub lone_unit : Font → Bool → ℕ → Unit
 lone_unit font circles u =
     if is_s u then (if has_nominal font u then Syllable
-    else if has_jamo_of font u then parts u else Other)
+    else if has_jamo_of font u then jamo_parts u else Other)
     else if is_tone u then lone_tone font circles u
     else Other
 
@@ -352,12 +353,12 @@ preprocessed font circles level gs =
     outputs glyph_copies cut (all_joined level cut gs)
 
 -- whether the caller lets circles be inserted
-abbrev pub wants_circles : Buffer → Bool
-wants_circles b = not (asks no_dotted_circle b)
+abbrev pub allows_circles : Buffer → Bool
+allows_circles b = not (asks no_dotted_circle b)
 
 -- the buffer with its text rewritten
 abbrev pub rewritten : Font → Buffer → Buffer
-rewritten font b = record b { glyphs = preprocessed font (wants_circles b) b.level b.glyphs }
+rewritten font b = record b { glyphs = preprocessed font (allows_circles b) b.level b.glyphs }
 
 -- in the code: up to this place every item is one character that stays as it is
 pub record KeptBefore (font : Font) (circles : Bool) (gs : List hb_glyph_info_t) (place :

@@ -13,15 +13,15 @@ use Rattle.shapers_clusters.specs.FlagLaw.{AllFlagsStay}
 use Rattle.shapers_clusters.specs.Laws.{ClustersMade}
 use Rattle.shapers_hangul.specs.declared.ot_shaper_hangul.item.Item.{Item}
 use Rattle.shapers_hangul.specs.declared.ot_shaper_hangul.item.JoinedTone.TheVariants.{Before}
-use Rattle.shapers_hangul.specs.Hangul.{lead, vowel, trail, is_s, is_lv, is_tone, opening_unit, taken, is_kept, Copying, unit_output, outputs, output_len, items, stretches, all_joined, character_copies, preprocessed, wants_circles}
+use Rattle.shapers_hangul.specs.Hangul.{lead, vowel, trail, is_s, is_lv, is_tone, opening_unit, taken, is_kept, Copying, unit_output, outputs, output_len, items, stretches, all_joined, character_copies, preprocessed, allows_circles}
 
 -- the rule on places: a copy has the place of what it copies
 abbrev pub place_copies : Copying ℕ
 place_copies = record { as_character = λ u place. place; as_jamo = λ feature place. place }
 
 -- for each glyph that comes of these items of n characters the old place that it copies
-abbrev pub sources : List (ℕ × Item) → ℕ → List ℕ
-sources cut n = outputs place_copies cut (range_with_len 0 n)
+abbrev pub hangul_sources : List (ℕ × Item) → ℕ → List ℕ
+hangul_sources cut n = outputs place_copies cut (range_with_len 0 n)
 
 -- What the rewriting of the characters us makes of their clusters cs: js. They are the clusters of
 -- made glyphs, each having that of its source after the merges, with exact cuts. At the levels that
@@ -30,25 +30,25 @@ sources cut n = outputs place_copies cut (range_with_len 0 n)
 pub record ClustersRewritten (font : Font) (circles : Bool) (level : BufferClusterLevel) (us cs js :
     List ℕ) : Type 0 where
   pub made : ClustersMade level (stretches level (items font circles us))
-      (sources (items font circles us) (length us)) cs js
+      (hangul_sources (items font circles us) (length us)) cs js
   pub cluster_law : merges level ≡ true →
       (before : List (ℕ × Item)) (place : ℕ) (item : Item) (after : List (ℕ × Item)) →
       items font circles us ≡ before ++ (place, item) ∷ after → item.tone ≡ Before →
-      ShareCluster js (length (sources before (length us)))
-      (length (sources before (length us)) + output_len item.unit)
+      ShareCluster js (length (hangul_sources before (length us)))
+      (length (hangul_sources before (length us)) + output_len item.unit)
 
 -- the same of a buffer, and of that with its text rewritten
 abbrev pub KeepsClusters : Font → Buffer → Buffer → Type 0
 KeepsClusters font old new =
-    ClustersRewritten font (wants_circles old) old.level (characters old.glyphs)
+    ClustersRewritten font (allows_circles old) old.level (characters old.glyphs)
     (clusters old.glyphs) (clusters new.glyphs)
 
 -- The flag law, of each glyph by its source: no cluster rises, and unless it fell, no glyph flag of
 -- the source is lost.
 abbrev pub KeepsGlyphFlags : Font → Buffer → Buffer → Type 0
 KeepsGlyphFlags font old new =
-    let cut = items font (wants_circles old) (characters old.glyphs) in
-    AllFlagsStay (pick (sources cut (length old.glyphs)) old.glyphs) new.glyphs
+    let cut = items font (allows_circles old) (characters old.glyphs) in
+    AllFlagsStay (pick (hangul_sources cut (length old.glyphs)) old.glyphs) new.glyphs
 
 -- a glyph without what the rewriting changes
 abbrev pub unnamed : hb_glyph_info_t → hb_glyph_info_t
@@ -59,11 +59,11 @@ unnamed g = record g { glyph_id = 0; auxiliary = 0 }
 pub record RewrittenHolds (font : Font) (circles : Bool) (level : BufferClusterLevel) (gs rs : List
     hb_glyph_info_t) : Type 0 where
   pub made : map unnamed rs
-      ≡ map unnamed (pick (sources (items font circles (characters gs)) (length gs))
+      ≡ map unnamed (pick (hangul_sources (items font circles (characters gs)) (length gs))
       (all_joined level (items font circles (characters gs)) gs))
   pub in_clusters : ClustersRewritten font circles level (characters gs) (clusters gs) (clusters rs)
   pub none_rises : AllZip (λ old new. new.cluster ≤ old.cluster)
-      (pick (sources (items font circles (characters gs)) (length gs)) gs) rs
+      (pick (hangul_sources (items font circles (characters gs)) (length gs)) gs) rs
 
 abbrev pub RewrittenLaw : Type 0
 RewrittenLaw = (font : Font) (circles : Bool) (level : BufferClusterLevel)
@@ -102,15 +102,15 @@ UnitSpells us p =
 -- each spells what it takes.
 pub record SpellsByUnits (font : Font) (old new : Buffer) : Type 0 where
   pub outputs : characters new.glyphs
-      ≡ outputs character_copies (items font (wants_circles old) (characters old.glyphs))
+      ≡ outputs character_copies (items font (allows_circles old) (characters old.glyphs))
       (characters old.glyphs)
   pub units : AllByRecursion (UnitSpells (characters old.glyphs))
-      (items font (wants_circles old) (characters old.glyphs))
+      (items font (allows_circles old) (characters old.glyphs))
 
 -- every item of a text stays as it is
 abbrev pub AllKept : Font → Buffer → Type 0
 AllKept font b =
-    AllByRecursion (λ p. is_kept p.1 ≡ true) (items font (wants_circles b) (characters b.glyphs))
+    AllByRecursion (λ p. is_kept p.1 ≡ true) (items font (allows_circles b) (characters b.glyphs))
 
 -- the same of a buffer
 abbrev pub SpellsSame : Buffer → Buffer → Type 0

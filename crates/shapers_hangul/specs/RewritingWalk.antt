@@ -5,9 +5,9 @@ use Rattle.shapers_hangul.specs.declared.ot_shaper_hangul.item.Item.{Item}
 use Rattle.shapers_hangul.specs.Hangul.{is_kept, item_len, item_output, glyph_copies}
 
 -- the items that aren't one character that stays as it is
-abbrev pub changes : List (ℕ × Item) → List (ℕ × Item)
-changes [] = []
-changes (p ∷ cut) = if is_kept p.1 then changes cut else p ∷ changes cut
+abbrev pub rewritten_items : List (ℕ × Item) → List (ℕ × Item)
+rewritten_items [] = []
+rewritten_items (p ∷ cut) = if is_kept p.1 then rewritten_items cut else p ∷ rewritten_items cut
 
 -- items that stand one behind the other, from a place on, within n characters
 abbrev pub InTurn : ℕ → ℕ → List (ℕ × Item) → Type 0

@@ -55,18 +55,18 @@ abbrev pub plainly : List ℕ → List hb_glyph_info_t
 plainly cs = of (map (λ c. (c, 4)) cs)
 
 -- the glyph with a bit of marks: 2 makes it a ligature
-abbrev pub marked : ℕ → hb_glyph_info_t → hb_glyph_info_t
-marked bits g = record g { marks = record { 0 = bits } }
+abbrev pub with_row_marks : ℕ → hb_glyph_info_t → hb_glyph_info_t
+with_row_marks bits g = record g { marks = record { 0 = bits } }
 
 abbrev pub script : String → Option Script
 script tag = Some (record { 0 = codes tag })
 
 -- what is read: positions, masks, numbers, clusters
-abbrev pub positions_of : List hb_glyph_info_t → List ℕ
-positions_of gs = map (λ g. g.auxiliary) gs
+abbrev pub row_positions : List hb_glyph_info_t → List ℕ
+row_positions gs = map (λ g. g.auxiliary) gs
 
-abbrev pub masks_of : List hb_glyph_info_t → List ℕ
-masks_of gs = map (λ g. g.mask) gs
+abbrev pub row_masks : List hb_glyph_info_t → List ℕ
+row_masks gs = map (λ g. g.mask) gs
 
 abbrev pub numbers_of : List hb_glyph_info_t → List ℕ
 numbers_of gs = map (λ g. g.glyph_id) gs

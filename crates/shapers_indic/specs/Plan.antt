@@ -25,7 +25,7 @@ use Rattle.shapers_base.specs.declared.plan.planner.Request.TheVariants.{Feature
 use Rattle.shapers_base.specs.Font.{Font}
 use Rattle.shapers_base.specs.Map.{Map, mask_of}
 use Rattle.shapers_base.specs.Questions.{question_for}
-use Rattle.shapers_indic.specs.Requests.{basic_features, other_features}
+use Rattle.shapers_indic.specs.Requests.{indic_basic_features, other_features}
 
 -- the properties of a script: whether fonts may follow an older specification, its virama, where a
 -- reph goes and how it is written, and where below-base forms apply
@@ -96,7 +96,7 @@ mask_for m (Pause pause) = 0
 
 -- the masks of all features
 abbrev pub feature_masks : Map → List ℕ
-feature_masks m = map (mask_for m) (basic_features ++ other_features)
+feature_masks m = map (mask_for m) (indic_basic_features ++ other_features)
 
 -- a question of the plan
 abbrev pub question : Option Script → Map → String → IndicWouldSubstituteFeature

@@ -14,8 +14,8 @@ abbrev pub everywhere : String → Request
 everywhere tag = enabled (bit_or F_MANUAL_JOINERS F_PER_SYLLABLE) tag
 
 -- the features between the two reorderings, and those after them
-abbrev pub basic_features : List Request
-basic_features = everywhere "nukt" ∷ everywhere "akhn" ∷ by_mask "rphf" ∷ everywhere "rkrf"
+abbrev pub indic_basic_features : List Request
+indic_basic_features = everywhere "nukt" ∷ everywhere "akhn" ∷ by_mask "rphf" ∷ everywhere "rkrf"
     ∷ by_mask "pref" ∷ by_mask "blwf" ∷ by_mask "abvf" ∷ by_mask "half" ∷ by_mask "pstf"
     ∷ everywhere "vatu" ∷ everywhere "cjct" ∷ []
 
@@ -26,7 +26,7 @@ other_features = by_mask "init" ∷ everywhere "pres" ∷ everywhere "abvs" ∷ 
 -- the whole list
 abbrev pub indic_list : List Request
 indic_list = pause_for SetupSyllablesIndic ∷ enabled F_PER_SYLLABLE "locl"
-    ∷ enabled F_PER_SYLLABLE "ccmp" ∷ pause_for InitialReordering ∷ each_paused basic_features
+    ∷ enabled F_PER_SYLLABLE "ccmp" ∷ pause_for InitialReordering ∷ each_paused indic_basic_features
     ++ pause_for FinalReordering ∷ other_features
 
 -- what comes after the lists of all

@@ -2,9 +2,9 @@
 use Rattle.std.specs.Prelude.{◌≡◌, ℕ, true, false, Bool, List, [], ◌∷◌, map, None, Some, refl}
 use Rattle.shapers_buffer.specs.declared.buffer.glyph.hb_glyph_info_t.{hb_glyph_info_t}
 use Rattle.shapers_buffer.specs.Glyph.{default_glyph}
-use Rattle.shapers_indic.proofs.RowWords.{C, H, N, ZWNJ, ZWJ, M, Ra, CM, of, plainly, positions_of, script}
+use Rattle.shapers_indic.proofs.RowWords.{C, H, N, ZWNJ, ZWJ, M, Ra, CM, of, plainly, row_positions, script}
 use Rattle.shapers_indic_final.proofs.FinalWords.{formed_at, marks_at, mask_given, rules, unformed_at}
-use Rattle.shapers_indic_final.specs.FinalBase.{first_base, links_from, settled_base, with_base}
+use Rattle.shapers_indic_final.specs.FinalBase.{first_base, links_from, settled_base, with_final_base}
 use Rattle.shapers_indic_final.specs.FinalGlyphs.{is_formed, recovered}
 use Rattle.shapers_indic_final.specs.declared.ot_shaper_indic_final.rules.Rules.{Rules}
 
@@ -28,7 +28,7 @@ first_bases = refl
 
 -- what is found of a syllable of a script: the base, positions, and whether pref is tried on
 abbrev found : Rules → List hb_glyph_info_t → ℕ × List ℕ × Bool
-found r gs = let b = with_base r (script "Deva") gs in (b.base, positions_of b.glyphs, b.tries_pref)
+found r gs = let b = with_final_base r (script "Deva") gs in (b.base, row_positions b.glyphs, b.tries_pref)
 
 abbrev deva : List hb_glyph_info_t → ℕ × List ℕ × Bool
 deva = found (rules "Deva")
@@ -67,7 +67,7 @@ chains = refl
 
 -- Malayalam: the last linked consonant of position BELOW_C is base, and each gets BASE_C; others are passed. In other scripts the base stays.
 abbrev mlym : List hb_glyph_info_t → ℕ × List ℕ × Bool
-mlym gs = let b = with_base (rules "Mlym") (script "Mlym") gs in (b.base, positions_of b.glyphs, b.tries_pref)
+mlym gs = let b = with_final_base (rules "Mlym") (script "Mlym") gs in (b.base, row_positions b.glyphs, b.tries_pref)
 
 abbrev linked : List (ℕ × ℕ) → List hb_glyph_info_t
 linked ts = of ((C, 4) ∷ (H, 4) ∷ ts)

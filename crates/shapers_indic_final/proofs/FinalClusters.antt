@@ -48,7 +48,7 @@ use Rattle.shapers_base.specs.declared.plan.indic.RephPosition.{RephPosition}
 use Rattle.shapers_indic_final.specs.FinalBase.{Based, with_viramas}
 use Rattle.shapers_indic_final.specs.FinalPref.{formed_pref, pref_move, pref_step, pref_steps, pref_target}
 use Rattle.shapers_indic_final.specs.FinalReordering.{after_matras, after_reph, based, final_steps, steps_of_pref}
-use Rattle.shapers_indic_final.specs.FinalReph.{opens_with_reph, reph_step, reph_steps, reph_target}
+use Rattle.shapers_indic_final.specs.FinalReph.{opens_with_reph, final_reph_step, reph_steps, reph_target}
 use Rattle.shapers_indic_final.specs.declared.ot_shaper_indic_final.rules.Rules.{Rules}
 use Rattle.shapers_indic_final.proofs.FinalHidden.{base_within, hidden-based, hidden-viramas}
 use Rattle.shapers_indic_final.proofs.FinalLawsAt.{length_at, stretch_at}
@@ -175,9 +175,9 @@ moves_reph position base gs =
       | inl on ↦ rw on (
           let high : j < length gs = reph_target_within position base gs (opens_some gs on) in
           let ends : j + 1 ≤ length gs = omega arith in
-          let at = stretch_at first_last first_last picks_first_last permutes_first_last 0 (j + 1) (reph_step (length gs) j) gs (omega arith) ends refl (ends, tt) tt in
+          let at = stretch_at first_last first_last picks_first_last permutes_first_last 0 (j + 1) (final_reph_step (length gs) j) gs (omega arith) ends refl (ends, tt) tt in
           let fits = at.fits in
-          (change_moves first_last permutes_first_last 0 (j + 1) (length gs) (omega arith) ends (reph_step (length gs) j) refl refl refl fits.0, tt))
+          (change_moves first_last permutes_first_last 0 (j + 1) (length gs) (omega arith) ends (final_reph_step (length gs) j) refl refl refl fits.0, tt))
       | inr off ↦ rw off tt
     ]
 

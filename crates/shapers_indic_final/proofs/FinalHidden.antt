@@ -13,8 +13,8 @@ use Rattle.shapers_base.specs.declared.plan.ot_position_t.TheConstants.{POS_BASE
 use Rattle.shapers_clusters.proofs.FlagCalls.{map-with_stretch}
 use Rattle.shapers_clusters.proofs.ViewedSteps.{length-same}
 use Rattle.shapers_indic.specs.Glyphs.{greatest_place, is_joiner, is_one_of, least_place, passes}
-use Rattle.shapers_indic_final.specs.FinalBase.{along_links, as_linked, base_by_links, base_by_pref, before_halants, before_joiner, behind_halants, first_base, if_unformed, is_behind_base, is_from_base_on, is_unformed, is_unformed_below, last_link, links_from, links_written, may_be_settled, pref_place, stepped_back, unformed_pref, with_base, with_base_at, with_links, with_pref_base, with_viramas}
-use Rattle.shapers_indic_final.specs.FinalGlyphs.{is_halant, is_lost_virama, recovered}
+use Rattle.shapers_indic_final.specs.FinalBase.{along_links, as_linked, base_by_links, base_by_pref, before_halants, before_joiner, behind_halants, first_base, if_unformed, is_behind_base, is_from_base_on, is_unformed, is_unformed_below, last_link, links_from, links_written, may_be_settled, pref_place, stepped_back, unformed_pref, with_final_base, with_base_at, with_links, with_pref_base, with_viramas}
+use Rattle.shapers_indic_final.specs.FinalGlyphs.{is_indic_halant, is_lost_virama, recovered}
 use Rattle.shapers_base.specs.Masks.{has_bits}
 use Rattle.shapers_indic_final.specs.FinalRules.{is_malayalam}
 use Rattle.shapers_indic_final.specs.declared.ot_shaper_indic_final.rules.Rules.{Rules}
@@ -51,9 +51,9 @@ hidden-along true [] = refl
 hidden-along false [] = refl
 hidden-along false (g ∷ gs) =
     let f = as_linked in
-    elim (is_joiner g) as (λ j. map carried (if j then g ∷ along_links f false gs else if is_halant g then g ∷ along_links f true gs else g ∷ gs) ≡ carried g ∷ map carried gs) [
+    elim (is_joiner g) as (λ j. map carried (if j then g ∷ along_links f false gs else if is_indic_halant g then g ∷ along_links f true gs else g ∷ gs) ≡ carried g ∷ map carried gs) [
       | true ↦ ap (λ xs. carried g ∷ xs) (hidden-along false gs)
-      | false ↦ elim (is_halant g) as (λ h. map carried (if h then g ∷ along_links f true gs else g ∷ gs) ≡ carried g ∷ map carried gs) [
+      | false ↦ elim (is_indic_halant g) as (λ h. map carried (if h then g ∷ along_links f true gs else g ∷ gs) ≡ carried g ∷ map carried gs) [
         | true ↦ ap (λ xs. carried g ∷ xs) (hidden-along true gs)
         | false ↦ refl
       ]
@@ -80,7 +80,7 @@ hidden-links script base gs = elim (is_malayalam script) as (λ b. map carried (
   | false ↦ refl
 ]
 
-pub hidden-based : (r : Rules) (script : Option Script) (gs : List hb_glyph_info_t) → map carried (with_base r script gs).glyphs ≡ map carried gs
+pub hidden-based : (r : Rules) (script : Option Script) (gs : List hb_glyph_info_t) → map carried (with_final_base r script gs).glyphs ≡ map carried gs
 hidden-based r script gs =
     let first = first_base gs in
     hidden-links script (base_by_pref r.pref first gs) (with_pref_base r.pref first gs) ∙ hidden-pref_base r.pref first gs
@@ -94,7 +94,7 @@ first_within : (gs : List hb_glyph_info_t) → first_base gs ≤ length gs
 first_within gs = or_length gs (least_place (passes is_from_base_on gs) 0 (length gs)) (λ j found. least_within (passes is_from_base_on gs) 0 (length gs) j found)
 
 behind_within : (gs : List hb_glyph_info_t) (i : ℕ) → i < length gs → behind_halants gs i ≤ length gs
-behind_within gs i l = let rest = run_within is_halant (drop i gs) in omega (arith, length-drop i gs)
+behind_within gs i l = let rest = run_within is_indic_halant (drop i gs) in omega (arith, length-drop i gs)
 
 by_pref_from : (base : ℕ) (gs : List hb_glyph_info_t) (o : Option ℕ) → base ≤ length gs → ((j : ℕ) → o ≡ Some j → j < length gs) → option_map_or (behind_halants gs) (if_unformed gs o) base ≤ length gs
 by_pref_from base gs None l within = l
@@ -135,7 +135,7 @@ halants_within base gs = elim (base == length gs) as (λ b. (if b then base else
   | false ↦ or_start base (greatest_place (passes may_be_settled gs) 1 (base + 1)) (λ j found. greatest_within (passes may_be_settled gs) 1 (base + 1) j found)
 ]
 
-pub base_within : (r : Rules) (script : Option Script) (gs : List hb_glyph_info_t) → (with_base r script gs).base ≤ length (with_base r script gs).glyphs
+pub base_within : (r : Rules) (script : Option Script) (gs : List hb_glyph_info_t) → (with_final_base r script gs).base ≤ length (with_final_base r script gs).glyphs
 base_within r script gs =
     let first = first_base gs in
     let opened = with_pref_base r.pref first gs in

@@ -25,11 +25,11 @@ use Rattle.shapers_indic_final.specs.FinalLaws.{FinalReorderLaws}
 use Rattle.shapers_indic_final.specs.FinalMatras.{end_of_base, ends_search, halant_or_start, has_room, is_free_halant, is_left, matra_steps, matra_target, matras_go, merging_step, nearest_halant, parted, parting_steps, place_before, with_matras}
 use Rattle.shapers_indic_final.specs.FinalPref.{formed_pref, moved_before, pref_move, pref_step, pref_steps, pref_target, with_pref}
 use Rattle.shapers_indic_final.specs.FinalReordering.{after_matras, after_pref, after_reph, based, final_order, final_steps, steps_of_pref}
-use Rattle.shapers_indic_final.specs.FinalReph.{opens_with_reph, reph_step, reph_steps, reph_target, with_reph}
+use Rattle.shapers_indic_final.specs.FinalReph.{opens_with_reph, final_reph_step, reph_steps, reph_target, with_reph}
 use Rattle.shapers_indic_final.specs.FinalRules.{has_no_half_forms}
 use Rattle.shapers_indic_final.specs.declared.ot_shaper_indic_final.rules.Rules.{Rules}
 use Rattle.shapers_indic_final.proofs.FinalHidden.{base_within, hidden-based, hidden-viramas}
-use Rattle.shapers_indic_final.proofs.FinalLawsAt.{LawsAt, agrees_at, same_at, step_at, stretch_at, then_at}
+use Rattle.shapers_indic_final.proofs.FinalLawsAt.{LawsAt, agrees_at, same_at, step_laws_at, stretch_at, then_at}
 use Rattle.shapers_indic_final.proofs.FinalMoves.{permutes_first_last, permutes_last_first, picks_first_last, picks_last_first}
 use Rattle.shapers_indic_final.proofs.LeftMatraMoves.{all_at, is_other}
 use Rattle.shapers_indic_final.proofs.FinalPlaces.{passes_there}
@@ -68,7 +68,7 @@ merging_at gs e (Some i) l =
     let n = length gs in
     let all : n - 0 ≡ n = omega arith in
     let perm : IsPermutation (range_with_len 0 n) (places 0 n) = subst (λ k. IsPermutation (range_with_len 0 n) (range_with_len 0 k)) (sym all) (IsPermutation-refl (range_with_len 0 n)) in
-    step_at gs gs (record { merged_first = (i, e) ∷ []; places = places 0 n; merged_then = [] }) perm (l, tt) tt (sym (ap (λ k. pick (range_with_len 0 k) gs) all ∙ pick-all n gs refl))
+    step_laws_at gs gs (record { merged_first = (i, e) ∷ []; places = places 0 n; merged_then = [] }) perm (l, tt) tt (sym (ap (λ k. pick (range_with_len 0 k) gs) all ∙ pick-all n gs refl))
 
 halant_within : (gs : List hb_glyph_info_t) (i : ℕ) → halant_or_start gs i ≤ i
 halant_within gs i = elim (passes is_free_halant gs i) as (λ b. (if b then i else 0) ≤ i) [ true ↦ omega arith | false ↦ omega arith ]
@@ -124,7 +124,7 @@ reph_at position base gs =
       | inl on ↦ rw on (
           let high : j < length gs = reph_target_within position base gs (opens_some gs on) in
           let ends : j + 1 ≤ length gs = omega arith in
-          stretch_at first_last first_last picks_first_last permutes_first_last 0 (j + 1) (reph_step (length gs) j) gs (omega arith) ends refl (ends, tt) tt)
+          stretch_at first_last first_last picks_first_last permutes_first_last 0 (j + 1) (final_reph_step (length gs) j) gs (omega arith) ends refl (ends, tt) tt)
       | inr off ↦ rw off (same_at gs gs refl)
     ]
 

@@ -75,8 +75,8 @@ fits_permuted n step perm first last = record {
 }
 
 -- one step
-pub step_at : (gs ms : List hb_glyph_info_t) (step : Step) → Permutes (length gs) step → EndWithin (length gs) step.merged_first → EndWithin (length gs) step.merged_then → ms ≡ pick step.places gs → LawsAt gs ms (step ∷ [])
-step_at gs ms step perm first last is =
+pub step_laws_at : (gs ms : List hb_glyph_info_t) (step : Step) → Permutes (length gs) step → EndWithin (length gs) step.merged_first → EndWithin (length gs) step.merged_then → ms ≡ pick step.places gs → LawsAt gs ms (step ∷ [])
+step_laws_at gs ms step perm first last is =
     let fits = fits_permuted (length gs) step perm first last in
     record {
       fits = (fits, tt);
@@ -90,4 +90,4 @@ stretch_at f g picks permutes i k step gs h l is first last =
     let n = length gs in
     let low : i ≤ k = omega arith in
     let perm : Permutes n step = subst (IsPermutation (range_with_len 0 n)) (sym is) (stretch_permutes f permutes i k n low) in
-    step_at gs (with_stretch i k g gs) step perm first last (sym (ap (λ ps. pick ps gs) is ∙ stretch_picks f g picks i k n gs h l refl))
+    step_laws_at gs (with_stretch i k g gs) step perm first last (sym (ap (λ ps. pick ps gs) is ∙ stretch_picks f g picks i k n gs h l refl))

@@ -7,55 +7,55 @@ use Rattle.std.proofs.lemmas.List.Folds.{find-append}
 use Rattle.shapers_buffer.specs.declared.buffer.glyph.hb_glyph_info_t.{hb_glyph_info_t}
 use Rattle.shapers_indic.specs.Glyphs.{is_joiner, passes}
 use Rattle.shapers_indic_final.specs.FinalBase.{along_links, as_linked, is_unformed_below, last_link, links_from, links_written}
-use Rattle.shapers_indic_final.specs.FinalGlyphs.{is_halant}
+use Rattle.shapers_indic_final.specs.FinalGlyphs.{is_indic_halant}
 use Rattle.shapers_indic_final.proofs.FinalPlaces.{passes_there}
 
 -- how links go on behind a glyph
 pub along_joiner : (f : hb_glyph_info_t → hb_glyph_info_t) (h : Bool) (x : hb_glyph_info_t) (xs : List hb_glyph_info_t) → is_joiner x ≡ true → along_links f h (x ∷ xs) ≡ x ∷ along_links f h xs
 along_joiner f true x xs j = ap (λ b. cond b (x ∷ along_links f true xs) (f x ∷ along_links f false xs)) j
-along_joiner f false x xs j = ap (λ b. cond b (x ∷ along_links f false xs) (cond (is_halant x) (x ∷ along_links f true xs) (x ∷ xs))) j
+along_joiner f false x xs j = ap (λ b. cond b (x ∷ along_links f false xs) (cond (is_indic_halant x) (x ∷ along_links f true xs) (x ∷ xs))) j
 
 pub along_end : (f : hb_glyph_info_t → hb_glyph_info_t) (x : hb_glyph_info_t) (xs : List hb_glyph_info_t) → is_joiner x ≡ false → along_links f true (x ∷ xs) ≡ f x ∷ along_links f false xs
 along_end f x xs j = ap (λ b. cond b (x ∷ along_links f true xs) (f x ∷ along_links f false xs)) j
 
-pub along_halant : (f : hb_glyph_info_t → hb_glyph_info_t) (x : hb_glyph_info_t) (xs : List hb_glyph_info_t) → is_joiner x ≡ false → is_halant x ≡ true → along_links f false (x ∷ xs) ≡ x ∷ along_links f true xs
+pub along_halant : (f : hb_glyph_info_t → hb_glyph_info_t) (x : hb_glyph_info_t) (xs : List hb_glyph_info_t) → is_joiner x ≡ false → is_indic_halant x ≡ true → along_links f false (x ∷ xs) ≡ x ∷ along_links f true xs
 along_halant f x xs j h =
-    ap (λ b. cond b (x ∷ along_links f false xs) (cond (is_halant x) (x ∷ along_links f true xs) (x ∷ xs))) j
+    ap (λ b. cond b (x ∷ along_links f false xs) (cond (is_indic_halant x) (x ∷ along_links f true xs) (x ∷ xs))) j
     ∙ ap (λ b. cond b (x ∷ along_links f true xs) (x ∷ xs)) h
 
-pub along_stop : (f : hb_glyph_info_t → hb_glyph_info_t) (x : hb_glyph_info_t) (xs : List hb_glyph_info_t) → is_joiner x ≡ false → is_halant x ≡ false → along_links f false (x ∷ xs) ≡ x ∷ xs
+pub along_stop : (f : hb_glyph_info_t → hb_glyph_info_t) (x : hb_glyph_info_t) (xs : List hb_glyph_info_t) → is_joiner x ≡ false → is_indic_halant x ≡ false → along_links f false (x ∷ xs) ≡ x ∷ xs
 along_stop f x xs j h =
-    ap (λ b. cond b (x ∷ along_links f false xs) (cond (is_halant x) (x ∷ along_links f true xs) (x ∷ xs))) j
+    ap (λ b. cond b (x ∷ along_links f false xs) (cond (is_indic_halant x) (x ∷ along_links f true xs) (x ∷ xs))) j
     ∙ ap (λ b. cond b (x ∷ along_links f true xs) (x ∷ xs)) h
 
 pub links_joiner : (h : Bool) (i : ℕ) (x : hb_glyph_info_t) (xs : List hb_glyph_info_t) → is_joiner x ≡ true → links_from h i (x ∷ xs) ≡ links_from h (suc i) xs
 links_joiner true i x xs j = ap (λ b. cond b (links_from true (suc i) xs) (i ∷ links_from false (suc i) xs)) j
-links_joiner false i x xs j = ap (λ b. cond b (links_from false (suc i) xs) (cond (is_halant x) (links_from true (suc i) xs) [])) j
+links_joiner false i x xs j = ap (λ b. cond b (links_from false (suc i) xs) (cond (is_indic_halant x) (links_from true (suc i) xs) [])) j
 
 pub links_end : (i : ℕ) (x : hb_glyph_info_t) (xs : List hb_glyph_info_t) → is_joiner x ≡ false → links_from true i (x ∷ xs) ≡ i ∷ links_from false (suc i) xs
 links_end i x xs j = ap (λ b. cond b (links_from true (suc i) xs) (i ∷ links_from false (suc i) xs)) j
 
-pub links_halant : (i : ℕ) (x : hb_glyph_info_t) (xs : List hb_glyph_info_t) → is_joiner x ≡ false → is_halant x ≡ true → links_from false i (x ∷ xs) ≡ links_from true (suc i) xs
+pub links_halant : (i : ℕ) (x : hb_glyph_info_t) (xs : List hb_glyph_info_t) → is_joiner x ≡ false → is_indic_halant x ≡ true → links_from false i (x ∷ xs) ≡ links_from true (suc i) xs
 links_halant i x xs j h =
-    ap (λ b. cond b (links_from false (suc i) xs) (cond (is_halant x) (links_from true (suc i) xs) [])) j
+    ap (λ b. cond b (links_from false (suc i) xs) (cond (is_indic_halant x) (links_from true (suc i) xs) [])) j
     ∙ ap (λ b. cond b (links_from true (suc i) xs) []) h
 
-pub links_stop : (i : ℕ) (x : hb_glyph_info_t) (xs : List hb_glyph_info_t) → is_joiner x ≡ false → is_halant x ≡ false → links_from false i (x ∷ xs) ≡ []
+pub links_stop : (i : ℕ) (x : hb_glyph_info_t) (xs : List hb_glyph_info_t) → is_joiner x ≡ false → is_indic_halant x ≡ false → links_from false i (x ∷ xs) ≡ []
 links_stop i x xs j h =
-    ap (λ b. cond b (links_from false (suc i) xs) (cond (is_halant x) (links_from true (suc i) xs) [])) j
+    ap (λ b. cond b (links_from false (suc i) xs) (cond (is_indic_halant x) (links_from true (suc i) xs) [])) j
     ∙ ap (λ b. cond b (links_from true (suc i) xs) []) h
 
 -- the last place that passes, with the first place apart
-last_or_first : (b : Bool) (i last : ℕ) (o : Option ℕ) → unwrap_or (option_or o (cond b (Some i) None)) last ≡ unwrap_or o (cond b i last)
-last_or_first b i last (Some k) = refl
-last_or_first true i last None = refl
-last_or_first false i last None = refl
+last_or_found : (b : Bool) (i last : ℕ) (o : Option ℕ) → unwrap_or (option_or o (cond b (Some i) None)) last ≡ unwrap_or o (cond b i last)
+last_or_found b i last (Some k) = refl
+last_or_found true i last None = refl
+last_or_found false i last None = refl
 
 pub last_first : (test : ℕ → Bool) (i : ℕ) (is : List ℕ) (last : ℕ) → unwrap_or (find test (reverse (i ∷ is))) last ≡ unwrap_or (find test (reverse is)) (cond (test i) i last)
 last_first test i is last =
     ap (λ ps. unwrap_or (find test ps) last) (reverse-append (i ∷ []) is)
     ∙ ap (λ o. unwrap_or o last) (find-append test (reverse is) (i ∷ []))
-    ∙ last_or_first (test i) i last (find test (reverse is))
+    ∙ last_or_found (test i) i last (find test (reverse is))
 
 -- Up to place i: what is written, followed by what the links make of the rest, is the whole; and the last link glyph that
 -- passes in the rest, else the one so far, is the base.
@@ -105,7 +105,7 @@ linking_joiner base i h last d old gs l j s =
     })
 
 -- past a halant
-pub linking_halant : (base i last : ℕ) (d : hb_glyph_info_t) (old gs : List hb_glyph_info_t) → i < length gs → is_joiner (get_or gs i d) ≡ false → is_halant (get_or gs i d) ≡ true → Linking base i false last old gs → Linking base (i + 1) true last old gs
+pub linking_halant : (base i last : ℕ) (d : hb_glyph_info_t) (old gs : List hb_glyph_info_t) → i < length gs → is_joiner (get_or gs i d) ≡ false → is_indic_halant (get_or gs i d) ≡ true → Linking base i false last old gs → Linking base (i + 1) true last old gs
 unfolding base_of
 linking_halant base i last d old gs l j h s =
     one_more i (record {
@@ -145,7 +145,7 @@ pub record Linked (base last : ℕ) (old gs : List hb_glyph_info_t) : Type 0 whe
   pub glyphs : gs ≡ links_written base old
   pub base_is : last ≡ last_link base old
 
-pub linking_stop : (base i last : ℕ) (d : hb_glyph_info_t) (old gs : List hb_glyph_info_t) → i < length gs → is_joiner (get_or gs i d) ≡ false → is_halant (get_or gs i d) ≡ false → Linking base i false last old gs → Linked base last old gs
+pub linking_stop : (base i last : ℕ) (d : hb_glyph_info_t) (old gs : List hb_glyph_info_t) → i < length gs → is_joiner (get_or gs i d) ≡ false → is_indic_halant (get_or gs i d) ≡ false → Linking base i false last old gs → Linked base last old gs
 unfolding base_of
 linking_stop base i last d old gs l j h s =
     let x = get_or gs i d in

@@ -163,8 +163,8 @@ pub placed_last_first : (s e : ℕ) (places : List ℕ) (gs : List hb_glyph_info
 placed_last_first s e places gs l w is = ap (λ xs. take s gs ++ (xs ++ drop e gs)) (ap (λ ps. pick ps gs) is ∙ picks_last_first s e gs l w)
 
 -- a buffer whose places are listed, and then whose glyphs are put so
-pub put : (a b c : Buffer) (gs : List hb_glyph_info_t) → b ≡ record a { places = b.places } → c ≡ record b { glyphs = gs } → c ≡ record a { glyphs = gs; places = c.places }
-put a b c gs before after =
+pub glyphs_put : (a b c : Buffer) (gs : List hb_glyph_info_t) → b ≡ record a { places = b.places } → c ≡ record b { glyphs = gs } → c ≡ record a { glyphs = gs; places = c.places }
+glyphs_put a b c gs before after =
     let same : c.places ≡ b.places = ap (λ (x : Buffer). x.places) after in
     after
     ∙ ap (λ (x : Buffer). let y : Buffer = record x { glyphs = gs } in y) before

@@ -24,13 +24,13 @@ use Rattle.shapers_indic.specs.Glyphs.{least_place, passes, places}
 use Rattle.shapers_indic_final.specs.FinalGlyphs.{last_goes_first}
 use Rattle.shapers_indic_final.specs.FinalMatras.{end_of_base, is_left, matra_step, merging_step, staying_steps}
 use Rattle.shapers_indic_final.specs.FinalPref.{formed_pref, pref_move, pref_step, pref_steps, pref_target}
-use Rattle.shapers_indic_final.specs.FinalReph.{opens_with_reph, reph_step, reph_steps, reph_target}
+use Rattle.shapers_indic_final.specs.FinalReph.{opens_with_reph, final_reph_step, reph_steps, reph_target}
 use Rattle.shapers_indic_final.proofs.FinalMoves.{permutes_last_first}
 use Rattle.shapers_indic_final.proofs.FinalPlaces.{passes_there, places_first, places_none}
 use Rattle.shapers_indic_final.proofs.FinalSteps.{length-moved, matra_stepped, pref_stepped, reph_stepped}
 
 -- how many glyphs there are after a step
-pub length-reph : (level : BufferClusterLevel) (s e j : ℕ) (gs : List hb_glyph_info_t) → s + j < e → e ≤ length gs → length (run_step level (widened s e (length gs) (reph_step (e - s) j)) gs) ≡ length gs
+pub length-reph : (level : BufferClusterLevel) (s e j : ℕ) (gs : List hb_glyph_info_t) → s + j < e → e ≤ length gs → length (run_step level (widened s e (length gs) (final_reph_step (e - s) j)) gs) ≡ length gs
 length-reph level s e j gs l m =
     ap length (sym (reph_stepped level s e j gs l m))
     ∙ length-moved s (s + j + 1) (merge level s (s + j + 1) gs) (omega arith)
@@ -187,11 +187,11 @@ pub one_step : (old new : Buffer) (s e : ℕ) (steps : List Step) (step : Step) 
 one_step old new s e steps step only after =
     after ∙ ap (λ (sts : List Step). let y : Buffer = record old { glyphs = run_steps old.level (map (widened s e (length old.glyphs)) sts) old.glyphs; places = new.places } in y) (sym only)
 
-pub reph_only : (position : RephPosition) (base m target : ℕ) (part : List hb_glyph_info_t) → length part ≡ m → opens_with_reph part ≡ true → target ≡ reph_target position base part → reph_steps position base part ≡ reph_step m target ∷ []
+pub reph_only : (position : RephPosition) (base m target : ℕ) (part : List hb_glyph_info_t) → length part ≡ m → opens_with_reph part ≡ true → target ≡ reph_target position base part → reph_steps position base part ≡ final_reph_step m target ∷ []
 reph_only position base m target part long opens at =
-    ap (λ b. cond b (reph_step (length part) (reph_target position base part) ∷ []) []) opens
-    ∙ ap (λ k. reph_step k (reph_target position base part) ∷ []) long
-    ∙ ap (λ j. reph_step m j ∷ []) (sym at)
+    ap (λ b. cond b (final_reph_step (length part) (reph_target position base part) ∷ []) []) opens
+    ∙ ap (λ k. final_reph_step k (reph_target position base part) ∷ []) long
+    ∙ ap (λ j. final_reph_step m j ∷ []) (sym at)
 
 pub pref_only : (pref : ℕ) (script : Option Script) (base m target i : ℕ) (part : List hb_glyph_info_t) → length part ≡ m → formed_pref pref base part ≡ Some i → target ≡ pref_target script base part → pref_steps pref script base part ≡ pref_move m target i ∷ []
 pref_only pref script base m target i part long formed at =

@@ -9,12 +9,12 @@ use Rattle.shapers_buffer.specs.Glyph.{plain, without_flags}
 use Rattle.shapers_base.specs.declared.plan.indic.RephPosition.{RephPosition}
 use Rattle.shapers_base.specs.declared.plan.indic.indic_shape_plan_t.{indic_shape_plan_t}
 use Rattle.shapers_base.specs.Font.{Font}
-use Rattle.shapers_indic_final.specs.FinalBase.{Based, with_base, with_viramas}
+use Rattle.shapers_indic_final.specs.FinalBase.{Based, with_final_base, with_viramas}
 use Rattle.shapers_indic_final.specs.FinalMatras.{matra_steps, with_matras}
 use Rattle.shapers_indic_final.specs.FinalPref.{pref_steps, with_pref}
 use Rattle.shapers_indic_final.specs.FinalReordering.{based, final_order, final_steps}
 use Rattle.shapers_indic_final.specs.FinalReph.{base_after_reph, reph_steps, with_reph}
-use Rattle.shapers_indic_final.specs.FinalRules.{rules_of}
+use Rattle.shapers_indic_final.specs.FinalRules.{final_rules}
 use Rattle.shapers_indic_final.specs.declared.ot_shaper_indic_final.rules.Rules.{Rules}
 use Rattle.shapers_indic_final.proofs.FinalReads.{KeepsMask, base_after_stays, base_seen, based_stays, final_steps_stay, matra_steps_stay, order_stays, pref_steps_stay, reph_steps_stay, viramas_stay, with_base_stays, with_matras_stays, with_pref_stays, with_reph_stays}
 use Rattle.shapers_syllabic.proofs.Views.{plain_view}
@@ -35,26 +35,26 @@ plain_keeps bits off m =
     omega arith
 
 -- the mask of pref is such a mask in the rules of a plan
-pub pref_touches_no_flag : (font : Font) (p : indic_shape_plan_t) → TouchesNoFlag (rules_of font p).pref
+pub pref_touches_no_flag : (font : Font) (p : indic_shape_plan_t) → TouchesNoFlag (final_rules font p).pref
 pref_touches_no_flag font p = omega arith
 
 -- what is made of the order view is the order view of what is made
 pub viramas_plain : (r : Rules) (gs : List hb_glyph_info_t) → with_viramas r (map plain gs) ≡ map plain (with_viramas r gs)
 viramas_plain r gs = sym (viramas_stay plain_view r gs)
 
-pub base_plain : (r : Rules) → TouchesNoFlag r.pref → (script : Option Script) (gs : List hb_glyph_info_t) → with_base r script (map plain gs) ≡ base_seen plain_view (with_base r script gs)
+pub base_plain : (r : Rules) → TouchesNoFlag r.pref → (script : Option Script) (gs : List hb_glyph_info_t) → with_final_base r script (map plain gs) ≡ base_seen plain_view (with_final_base r script gs)
 base_plain r off script gs = with_base_stays plain_view r (plain_keeps r.pref off) script gs
 
 pub based_plain : (r : Rules) → TouchesNoFlag r.pref → (script : Option Script) (gs : List hb_glyph_info_t) → based r script (map plain gs) ≡ base_seen plain_view (based r script gs)
 based_plain r off script gs = based_stays plain_view r (plain_keeps r.pref off) script gs
 
-pub base_glyphs_plain : (r : Rules) → TouchesNoFlag r.pref → (script : Option Script) (gs : List hb_glyph_info_t) → (with_base r script (map plain gs)).glyphs ≡ map plain (with_base r script gs).glyphs
+pub base_glyphs_plain : (r : Rules) → TouchesNoFlag r.pref → (script : Option Script) (gs : List hb_glyph_info_t) → (with_final_base r script (map plain gs)).glyphs ≡ map plain (with_final_base r script gs).glyphs
 base_glyphs_plain r off script gs = ap (λ (b : Based). b.glyphs) (base_plain r off script gs)
 
-pub base_place_plain : (r : Rules) → TouchesNoFlag r.pref → (script : Option Script) (gs : List hb_glyph_info_t) → (with_base r script (map plain gs)).base ≡ (with_base r script gs).base
+pub base_place_plain : (r : Rules) → TouchesNoFlag r.pref → (script : Option Script) (gs : List hb_glyph_info_t) → (with_final_base r script (map plain gs)).base ≡ (with_final_base r script gs).base
 base_place_plain r off script gs = ap (λ (b : Based). b.base) (base_plain r off script gs)
 
-pub base_tries_plain : (r : Rules) → TouchesNoFlag r.pref → (script : Option Script) (gs : List hb_glyph_info_t) → (with_base r script (map plain gs)).tries_pref ≡ (with_base r script gs).tries_pref
+pub base_tries_plain : (r : Rules) → TouchesNoFlag r.pref → (script : Option Script) (gs : List hb_glyph_info_t) → (with_final_base r script (map plain gs)).tries_pref ≡ (with_final_base r script gs).tries_pref
 base_tries_plain r off script gs = ap (λ (b : Based). b.tries_pref) (base_plain r off script gs)
 
 pub with_matras_plain : (script : Option Script) (base : ℕ) (gs : List hb_glyph_info_t) → with_matras script base (map plain gs) ≡ map plain (with_matras script base gs)
@@ -95,8 +95,8 @@ shows_plain f reads gs hs same = sym (reads gs) ∙ ap f same ∙ reads hs
 pub viramas_same : (r : Rules) (gs hs : List hb_glyph_info_t) → map plain gs ≡ map plain hs → map plain (with_viramas r gs) ≡ map plain (with_viramas r hs)
 viramas_same r gs hs same = shows_plain (with_viramas r) (viramas_plain r) gs hs same
 
-pub base_same : (r : Rules) → TouchesNoFlag r.pref → (script : Option Script) (gs hs : List hb_glyph_info_t) → map plain gs ≡ map plain hs → base_seen plain_view (with_base r script gs) ≡ base_seen plain_view (with_base r script hs)
-base_same r off script gs hs same = sym (base_plain r off script gs) ∙ ap (with_base r script) same ∙ base_plain r off script hs
+pub base_same : (r : Rules) → TouchesNoFlag r.pref → (script : Option Script) (gs hs : List hb_glyph_info_t) → map plain gs ≡ map plain hs → base_seen plain_view (with_final_base r script gs) ≡ base_seen plain_view (with_final_base r script hs)
+base_same r off script gs hs same = sym (base_plain r off script gs) ∙ ap (with_final_base r script) same ∙ base_plain r off script hs
 
 pub based_same : (r : Rules) → TouchesNoFlag r.pref → (script : Option Script) (gs hs : List hb_glyph_info_t) → map plain gs ≡ map plain hs → base_seen plain_view (based r script gs) ≡ base_seen plain_view (based r script hs)
 based_same r off script gs hs same = sym (based_plain r off script gs) ∙ ap (based r script) same ∙ based_plain r off script hs

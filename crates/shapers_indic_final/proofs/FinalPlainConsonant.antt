@@ -14,7 +14,7 @@ use Rattle.shapers_base.specs.declared.plan.ot_category_t.TheConstants.{OT_C}
 use Rattle.shapers_base.specs.declared.plan.ot_position_t.TheConstants.{POS_BASE_C}
 use Rattle.shapers_clusters.specs.Steps.{Step, run_steps, widened}
 use Rattle.shapers_indic.specs.Glyphs.{has_category, has_position, is_plain_consonant}
-use Rattle.shapers_indic_final.specs.FinalBase.{Based, with_base, with_viramas}
+use Rattle.shapers_indic_final.specs.FinalBase.{Based, with_final_base, with_viramas}
 use Rattle.shapers_indic_final.specs.FinalGlyphs.{is_lost_virama}
 use Rattle.shapers_indic_final.specs.FinalReordering.{after_matras, after_pref, after_reph, based, final_order, final_steps, steps_of_based}
 use Rattle.shapers_indic_final.specs.FinalRules.{is_malayalam}
@@ -41,11 +41,11 @@ recovers_none r g m = let none = never_lost r.virama (plain_consonant g) m in rw
 abbrev plain_based : Rules → hb_glyph_info_t → Based
 plain_based r g = record { glyphs = plain_consonant g ∷ []; base = 0; tries_pref = not (r.pref == 0) && true }
 
-base_is : (r : Rules) (script : Option Script) (g : hb_glyph_info_t) → with_base r script (plain_consonant g ∷ []) ≡ plain_based r g
+base_is : (r : Rules) (script : Option Script) (g : hb_glyph_info_t) → with_final_base r script (plain_consonant g ∷ []) ≡ plain_based r g
 base_is r script g = elim (cases_Bool (is_malayalam script)) [ inl on ↦ rw on refl | inr off ↦ rw off refl ]
 
 plain_base : (r : Rules) (script : Option Script) (g : hb_glyph_info_t) → is_ligated g.marks ≡ false → based r script (plain_consonant g ∷ []) ≡ plain_based r g
-plain_base r script g m = ap (with_base r script) (recovers_none r g m) ∙ base_is r script g
+plain_base r script g m = ap (with_final_base r script) (recovers_none r g m) ∙ base_is r script g
 
 -- nothing moves
 ordered : (r : Rules) (script : Option Script) (g : hb_glyph_info_t) → after_pref r script (after_reph r (after_matras r script (plain_based r g))) ≡ plain_consonant g ∷ []

@@ -20,13 +20,13 @@ use Rattle.shapers_base.specs.declared.plan.ot_category_t.TheConstants.{OT_H, OT
 use Rattle.shapers_base.specs.declared.plan.ot_position_t.TheConstants.{POS_BASE_C, POS_SMVD}
 use Rattle.shapers_clusters.specs.Steps.{Step}
 use Rattle.shapers_indic.specs.Glyphs.{greatest_place, has_category, has_position, is_joiner, is_matra, is_one_of, least_place, passes, places}
-use Rattle.shapers_indic_final.specs.FinalBase.{Based, along_links, as_linked, base_by_links, base_by_pref, before_halants, before_joiner, behind_halants, first_base, if_unformed, is_behind_base, is_from_base_on, is_unformed, is_unformed_below, last_link, links_from, links_written, may_be_settled, pref_place, settled_base, stepped_back, unformed_pref, with_base, with_base_at, with_links, with_pref_base, with_viramas}
-use Rattle.shapers_indic_final.specs.FinalGlyphs.{is_formed, is_halant, is_matra_or_halant, last_goes_first, recovered}
+use Rattle.shapers_indic_final.specs.FinalBase.{Based, along_links, as_linked, base_by_links, base_by_pref, before_halants, before_joiner, behind_halants, first_base, if_unformed, is_behind_base, is_from_base_on, is_unformed, is_unformed_below, last_link, links_from, links_written, may_be_settled, pref_place, settled_base, stepped_back, unformed_pref, with_final_base, with_base_at, with_links, with_pref_base, with_viramas}
+use Rattle.shapers_indic_final.specs.FinalGlyphs.{is_formed, is_indic_halant, is_matra_or_halant, last_goes_first, recovered}
 use Rattle.shapers_base.specs.Masks.{has_bits}
 use Rattle.shapers_indic_final.specs.FinalMatras.{end_of_base, ends_search, has_room, is_free_halant, is_left, matra_step, matra_steps, matra_target, matras_go, merging_step, nearest_halant, parted, parting_steps, place_before, staying_steps, steps_before, with_matras}
 use Rattle.shapers_indic_final.specs.FinalPref.{formed_pref, if_formed, is_joiner_behind_halant, moved_before, place_before_base, pref_step, pref_steps, pref_target, with_pref}
 use Rattle.shapers_indic_final.specs.FinalReordering.{after_matras, after_pref, after_reph, based, final_order, final_steps, steps_of_based, steps_of_pref}
-use Rattle.shapers_indic_final.specs.FinalReph.{at_end, base_after_reph, behind_base, carried_along, end_of_run, is_with_main, is_with_sub, last_but_signs, matras_between, opens_with_reph, reph_step, reph_steps, reph_target, with_joiner, with_reph}
+use Rattle.shapers_indic_final.specs.FinalReph.{at_end, base_after_reph, behind_base, carried_along, end_of_run, is_with_main, is_with_sub, last_but_signs, matras_between, opens_with_reph, final_reph_step, reph_steps, reph_target, with_joiner, with_reph}
 use Rattle.shapers_indic_final.specs.FinalRules.{has_no_half_forms, is_malayalam}
 use Rattle.shapers_indic_final.specs.declared.ot_shaper_indic_final.rules.Rules.{Rules}
 use Rattle.shapers_syllabic.proofs.Views.{View, seen_by, shown}
@@ -115,7 +115,7 @@ pub unformed_stays : (v : View) (pref : ℕ) → KeepsMask v pref → (base : �
 unformed_stays v pref kept base gs = if_unformed_stays v gs (pref_place pref base (seen_by v gs)) ∙ ap (if_unformed gs) (pref_place_stays v pref kept base gs)
 
 pub behind_stays : (v : View) (gs : List hb_glyph_info_t) → behind_halants (seen_by v gs) ≡ behind_halants gs
-behind_stays v gs = fun_ext (λ i. ap (λ n. i + n) (ap (prefix_len is_halant) (drop-map (shown v) i gs) ∙ prefix_stays v is_halant (λ g. refl) (drop i gs)))
+behind_stays v gs = fun_ext (λ i. ap (λ n. i + n) (ap (prefix_len is_indic_halant) (drop-map (shown v) i gs) ∙ prefix_stays v is_indic_halant (λ g. refl) (drop i gs)))
 
 pub by_pref_stays : (v : View) (pref : ℕ) → KeepsMask v pref → (base : ℕ) (gs : List hb_glyph_info_t) → base_by_pref pref base (seen_by v gs) ≡ base_by_pref pref base gs
 by_pref_stays v pref kept base gs = same_two (λ (f : ℕ → ℕ) o. option_map_or f o base) (behind_stays v gs) (unformed_stays v pref kept base gs)
@@ -143,9 +143,9 @@ along_stays v false [] = refl
 along_stays v false (g ∷ gs) =
     let f = as_linked in
     let h = shown v g in
-    elim (is_joiner g) as (λ j. seen_by v (if j then g ∷ along_links f false gs else if is_halant g then g ∷ along_links f true gs else g ∷ gs) ≡ (if j then h ∷ along_links f false (seen_by v gs) else if is_halant g then h ∷ along_links f true (seen_by v gs) else h ∷ seen_by v gs)) [
+    elim (is_joiner g) as (λ j. seen_by v (if j then g ∷ along_links f false gs else if is_indic_halant g then g ∷ along_links f true gs else g ∷ gs) ≡ (if j then h ∷ along_links f false (seen_by v gs) else if is_indic_halant g then h ∷ along_links f true (seen_by v gs) else h ∷ seen_by v gs)) [
       | true ↦ ap (λ xs. h ∷ xs) (along_stays v false gs)
-      | false ↦ elim (is_halant g) as (λ b. seen_by v (if b then g ∷ along_links f true gs else g ∷ gs) ≡ (if b then h ∷ along_links f true (seen_by v gs) else h ∷ seen_by v gs)) [
+      | false ↦ elim (is_indic_halant g) as (λ b. seen_by v (if b then g ∷ along_links f true gs else g ∷ gs) ≡ (if b then h ∷ along_links f true (seen_by v gs) else h ∷ seen_by v gs)) [
         | true ↦ ap (λ xs. h ∷ xs) (along_stays v true gs)
         | false ↦ refl
       ]
@@ -161,7 +161,7 @@ along_stays v true (g ∷ gs) =
 pub links_stay : (v : View) (halant : Bool) (i : ℕ) (gs : List hb_glyph_info_t) → links_from halant i (seen_by v gs) ≡ links_from halant i gs
 links_stay v true i [] = refl
 links_stay v false i [] = refl
-links_stay v false i (g ∷ gs) = same_two (λ (xs ys : List ℕ). if is_joiner g then xs else if is_halant g then ys else []) (links_stay v false (suc i) gs) (links_stay v true (suc i) gs)
+links_stay v false i (g ∷ gs) = same_two (λ (xs ys : List ℕ). if is_joiner g then xs else if is_indic_halant g then ys else []) (links_stay v false (suc i) gs) (links_stay v true (suc i) gs)
 links_stay v true i (g ∷ gs) = same_two (λ (xs ys : List ℕ). if is_joiner g then xs else i ∷ ys) (links_stay v true (suc i) gs) (links_stay v false (suc i) gs)
 
 pub written_stays : (v : View) (base : ℕ) (gs : List hb_glyph_info_t) → seen_by v (links_written base gs) ≡ links_written base (seen_by v gs)
@@ -220,11 +220,11 @@ based_from_stays v r kept script first gs =
     let bb = same_two settled_base ss ll ∙ settled_stays v (stepped_back j linked) linked in
     same_three made_of ll bb (ap (λ (o : Option ℕ). not (r.pref == 0) && not (is_some o)) (unformed_stays v r.pref kept first gs))
 
-pub with_base_stays : (v : View) (r : Rules) → KeepsMask v r.pref → (script : Option Script) (gs : List hb_glyph_info_t) → with_base r script (seen_by v gs) ≡ base_seen v (with_base r script gs)
+pub with_base_stays : (v : View) (r : Rules) → KeepsMask v r.pref → (script : Option Script) (gs : List hb_glyph_info_t) → with_final_base r script (seen_by v gs) ≡ base_seen v (with_final_base r script gs)
 with_base_stays v r kept script gs = ap (λ n. based_from r script n (seen_by v gs)) (first_stays v gs) ∙ based_from_stays v r kept script (first_base gs) gs
 
 pub based_stays : (v : View) (r : Rules) → KeepsMask v r.pref → (script : Option Script) (gs : List hb_glyph_info_t) → based r script (seen_by v gs) ≡ base_seen v (based r script gs)
-based_stays v r kept script gs = ap (with_base r script) (sym (viramas_stay v r gs)) ∙ with_base_stays v r kept script (with_viramas r gs)
+based_stays v r kept script gs = ap (with_final_base r script) (sym (viramas_stay v r gs)) ∙ with_base_stays v r kept script (with_viramas r gs)
 
 -- left matras
 pub ends_stay : (v : View) (gs : List hb_glyph_info_t) → ends_search (seen_by v gs) ≡ ends_search gs
@@ -308,8 +308,8 @@ pub at_end_stays : (v : View) (base : ℕ) (gs : List hb_glyph_info_t) → at_en
 at_end_stays v base gs =
     let us = seen_by v gs in
     let last = last_but_signs gs in
-    ap (λ (l : ℕ). if passes is_halant us l then l - matras_between base l us else l) (last_stays v gs)
-    ∙ same_two (λ (b : Bool) (m : ℕ). if b then last - m else last) (passes_at v is_halant (λ g. refl) gs last) (between_stays v base last gs)
+    ap (λ (l : ℕ). if passes is_indic_halant us l then l - matras_between base l us else l) (last_stays v gs)
+    ∙ same_two (λ (b : Bool) (m : ℕ). if b then last - m else last) (passes_at v is_indic_halant (λ g. refl) gs last) (between_stays v base last gs)
 
 pub run_or_end_stays : (v : View) (test : hb_glyph_info_t → Bool) → ReadsShown v test → (base : ℕ) (gs : List hb_glyph_info_t) → (if nat_lt base (length (seen_by v gs)) then end_of_run test base (seen_by v gs) else at_end base (seen_by v gs)) ≡ (if nat_lt base (length gs) then end_of_run test base gs else at_end base gs)
 run_or_end_stays v test reads base gs = same_three (λ (n a b : ℕ). if nat_lt base n then a else b) (length_stays v gs) (run_end_stays v test reads base gs) (at_end_stays v base gs)
@@ -323,7 +323,7 @@ behind_base_stays v AfterPost base gs = at_end_stays v base gs
 
 pub reph_target_stays : (v : View) (position : RephPosition) (base : ℕ) (gs : List hb_glyph_info_t) → reph_target position base (seen_by v gs) ≡ reph_target position base gs
 reph_target_stays v position base gs =
-    same_three (λ (f : ℕ → ℕ) o n. option_map_or f o n) (joined_stays v base gs) (ap (λ (t : ℕ → Bool). least_place t 1 base) (passes_stays v is_halant (λ g. refl) gs)) (behind_base_stays v position base gs)
+    same_three (λ (f : ℕ → ℕ) o n. option_map_or f o n) (joined_stays v base gs) (ap (λ (t : ℕ → Bool). least_place t 1 base) (passes_stays v is_indic_halant (λ g. refl) gs)) (behind_base_stays v position base gs)
 
 pub with_reph_stays : (v : View) (position : RephPosition) (base : ℕ) (gs : List hb_glyph_info_t) → seen_by v (with_reph position base gs) ≡ with_reph position base (seen_by v gs)
 with_reph_stays v position base gs =
@@ -338,7 +338,7 @@ pub base_after_stays : (v : View) (position : RephPosition) (base : ℕ) (gs : L
 base_after_stays v position base gs = same_two (λ (b : Bool) (j : ℕ). if b then carried_along base j else base) (opens_stays v gs) (reph_target_stays v position base gs)
 
 pub reph_steps_stay : (v : View) (position : RephPosition) (base : ℕ) (gs : List hb_glyph_info_t) → reph_steps position base (seen_by v gs) ≡ reph_steps position base gs
-reph_steps_stay v position base gs = same_three (λ (b : Bool) n j. if b then reph_step n j ∷ [] else []) (opens_stays v gs) (length_stays v gs) (reph_target_stays v position base gs)
+reph_steps_stay v position base gs = same_three (λ (b : Bool) n j. if b then final_reph_step n j ∷ [] else []) (opens_stays v gs) (length_stays v gs) (reph_target_stays v position base gs)
 
 -- the pref glyph
 pub if_formed_stays : (v : View) (gs : List hb_glyph_info_t) (o : Option ℕ) → if_formed (seen_by v gs) o ≡ if_formed gs o
@@ -352,7 +352,7 @@ pub before_base_stays : (v : View) (script : Option Script) (base : ℕ) (gs : L
 before_base_stays v script base gs = ap (λ (t : ℕ → Bool). if has_no_half_forms script then base else option_map_or suc (greatest_place t 0 base) 0) (passes_stays v is_matra_or_halant (λ g. refl) gs)
 
 pub behind_halant_stays : (v : View) (gs : List hb_glyph_info_t) → is_joiner_behind_halant (seen_by v gs) ≡ is_joiner_behind_halant gs
-behind_halant_stays v gs = same_two (λ (a b : ℕ → Bool). λ i. nat_lt 0 i && a (i - 1) && b i) (passes_stays v is_halant (λ g. refl) gs) (passes_stays v is_joiner (λ g. refl) gs)
+behind_halant_stays v gs = same_two (λ (a b : ℕ → Bool). λ i. nat_lt 0 i && a (i - 1) && b i) (passes_stays v is_indic_halant (λ g. refl) gs) (passes_stays v is_joiner (λ g. refl) gs)
 
 pub pref_target_stays : (v : View) (script : Option Script) (base : ℕ) (gs : List hb_glyph_info_t) → pref_target script base (seen_by v gs) ≡ pref_target script base gs
 pref_target_stays v script base gs = same_two (λ (t : ℕ → Bool) (i : ℕ). if t i then i + 1 else i) (behind_halant_stays v gs) (before_base_stays v script base gs)

@@ -7,7 +7,7 @@ use Rattle.shapers_buffer.specs.GlyphFlags.{with_bits}
 use Rattle.shapers_buffer.specs.Syllables.{syllables}
 use Rattle.shapers_indic_final.specs.FinalLaws.{FinalReadsNoSerials, FinalTextReadsNoSerials}
 use Rattle.shapers_indic_final.specs.FinalMatras.{is_left}
-use Rattle.shapers_indic_final.specs.FinalWordStart.{in_word, last_or, with_init, with_inits}
+use Rattle.shapers_indic_final.specs.FinalWordStart.{word_goes_on, last_or, with_init, with_inits}
 use Rattle.shapers_indic_final.specs.FinalReordering.{final_order, final_steps}
 use Rattle.shapers_indic_final.proofs.FinalReads.{final_steps_stay, order_stays}
 use Rattle.shapers_syllabic.specs.Borders.{unnumbered}
@@ -22,7 +22,7 @@ final_reads_no_serials r script =
     reads_by_view (final_order r script) (final_steps r script) (order_stays v r (λ m. refl) script) (final_steps_stay v r (λ m. refl) script)
 
 -- init goes by what stands before, not by its serial
-word_stays : (o : Option hb_glyph_info_t) → in_word (option_map unnumbered o) ≡ in_word o
+word_stays : (o : Option hb_glyph_info_t) → word_goes_on (option_map unnumbered o) ≡ word_goes_on o
 word_stays None = refl
 word_stays (Some g) = refl
 
@@ -33,7 +33,7 @@ last_stays o (g ∷ gs) = last_stays (Some g) gs
 init_stays : (bits : ℕ) (o : Option hb_glyph_info_t) (gs : List hb_glyph_info_t) → map unnumbered (with_init bits o gs) ≡ with_init bits (option_map unnumbered o) (map unnumbered gs)
 init_stays bits o [] = refl
 init_stays bits o (g ∷ gs) =
-    (elim (is_left g && not (in_word o)) as (λ b. map unnumbered (if b then with_bits bits g ∷ gs else g ∷ gs) ≡ (if b then with_bits bits (unnumbered g) ∷ map unnumbered gs else unnumbered g ∷ map unnumbered gs)) [ true ↦ refl | false ↦ refl ])
+    (elim (is_left g && not (word_goes_on o)) as (λ b. map unnumbered (if b then with_bits bits g ∷ gs else g ∷ gs) ≡ (if b then with_bits bits (unnumbered g) ∷ map unnumbered gs else unnumbered g ∷ map unnumbered gs)) [ true ↦ refl | false ↦ refl ])
     ∙ ap (λ w. if is_left g && not w then with_bits bits (unnumbered g) ∷ map unnumbered gs else unnumbered g ∷ map unnumbered gs) (sym (word_stays o))
 
 inits_stay : (bits : ℕ) (o : Option hb_glyph_info_t) (ps : List (List hb_glyph_info_t)) → map unnumbered (with_inits bits o ps) ≡ with_inits bits (option_map unnumbered o) (map (map unnumbered) ps)

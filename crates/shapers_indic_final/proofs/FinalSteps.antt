@@ -23,7 +23,7 @@ use Rattle.shapers_indic.specs.Glyphs.{places}
 use Rattle.shapers_indic_final.specs.FinalGlyphs.{last_goes_first}
 use Rattle.shapers_indic_final.specs.FinalMatras.{matra_step}
 use Rattle.shapers_indic_final.specs.FinalPref.{pref_move}
-use Rattle.shapers_indic_final.specs.FinalReph.{reph_step}
+use Rattle.shapers_indic_final.specs.FinalReph.{final_reph_step}
 use Rattle.shapers_indic_final.proofs.FinalMoves.{permutes_first_last, permutes_last_first, picks_first_last, picks_last_first}
 
 -- a stretch of a stretch
@@ -103,7 +103,7 @@ moved_by f g picks permutes s e i k step gs h l m b is =
     ∙ stretch_inside s e i k g gs h (omega arith) b
 
 -- The step of the reph: all up to place j of the syllable merges, and the first glyph goes there.
-pub reph_stepped : (level : BufferClusterLevel) (s e j : ℕ) (gs : List hb_glyph_info_t) → s + j < e → e ≤ length gs → with_stretch s (s + j + 1) first_last (merge level s (s + j + 1) gs) ≡ run_step level (widened s e (length gs) (reph_step (e - s) j)) gs
+pub reph_stepped : (level : BufferClusterLevel) (s e j : ℕ) (gs : List hb_glyph_info_t) → s + j < e → e ≤ length gs → with_stretch s (s + j + 1) first_last (merge level s (s + j + 1) gs) ≡ run_step level (widened s e (length gs) (final_reph_step (e - s) j)) gs
 reph_stepped level s e j gs l m =
     let n = length-merge level (s + 0) (s + (j + 1)) gs (omega arith) in
     let ms = merge level (s + 0) (s + (j + 1)) gs in
@@ -111,8 +111,8 @@ reph_stepped level s e j gs l m =
     let to : s + j + 1 ≡ s + (j + 1) = omega arith in
     ap (λ a. with_stretch a (s + j + 1) first_last (merge level a (s + j + 1) gs)) from
     ∙ ap (λ b. with_stretch (s + 0) b first_last (merge level (s + 0) b gs)) to
-    ∙ sym (moved_by first_last first_last picks_first_last permutes_first_last s e 0 (j + 1) (reph_step (e - s) j) ms (omega arith) (omega (arith, n, m)) (omega arith) (omega arith) refl)
-    ∙ ap (λ k. pick (widened s e k (reph_step (e - s) j)).places ms) n
+    ∙ sym (moved_by first_last first_last picks_first_last permutes_first_last s e 0 (j + 1) (final_reph_step (e - s) j) ms (omega arith) (omega (arith, n, m)) (omega arith) (omega arith) refl)
+    ∙ ap (λ k. pick (widened s e k (final_reph_step (e - s) j)).places ms) n
 
 -- The step of a formed pref glyph: all from place j up to place i merges, and the glyph of place i goes to j.
 pub pref_stepped : (level : BufferClusterLevel) (s e j i : ℕ) (gs : List hb_glyph_info_t) → j ≤ i → s + i < e → e ≤ length gs → with_stretch (s + j) (s + i + 1) last_goes_first (merge level (s + j) (s + i + 1) gs) ≡ run_step level (widened s e (length gs) (pref_move (e - s) j i)) gs

@@ -14,7 +14,7 @@ use Rattle.shapers_base.specs.declared.plan.ot_category_t.TheConstants.{OT_H}
 use Rattle.shapers_clusters.specs.Steps.{FitSteps, Step, old_places, run_steps, widened}
 use Rattle.shapers_clusters.proofs.ViewedSteps.{length-same}
 use Rattle.shapers_clusters.proofs.Widened.{order_view-widened}
-use Rattle.shapers_indic_final.specs.FinalBase.{Based, with_base, with_viramas}
+use Rattle.shapers_indic_final.specs.FinalBase.{Based, with_final_base, with_viramas}
 use Rattle.shapers_indic_final.specs.FinalGlyphs.{is_lost_virama, recovered}
 use Rattle.shapers_indic_final.specs.FinalMatras.{matra_steps, with_matras}
 use Rattle.shapers_indic_final.specs.FinalPref.{pref_steps, with_pref}
@@ -76,9 +76,9 @@ part_by_steps meaning steps s e old new h l laws same is =
 
 -- What the parts read of a syllable shows in its order view.
 pub record Viewed (r : Rules) (script : Option Script) (gs : List hb_glyph_info_t) : Type 0 where
-  pub glyphs : (with_base r script (order_view gs)).glyphs ≡ order_view (with_base r script gs).glyphs
-  pub base : (with_base r script (order_view gs)).base ≡ (with_base r script gs).base
-  pub tries : (with_base r script (order_view gs)).tries_pref ≡ (with_base r script gs).tries_pref
+  pub glyphs : (with_final_base r script (order_view gs)).glyphs ≡ order_view (with_final_base r script gs).glyphs
+  pub base : (with_final_base r script (order_view gs)).base ≡ (with_final_base r script gs).base
+  pub tries : (with_final_base r script (order_view gs)).tries_pref ≡ (with_final_base r script gs).tries_pref
   pub by_matras : (base : ℕ) → matra_steps script base (order_view gs) ≡ matra_steps script base gs
   pub by_reph : (base : ℕ) → reph_steps r.reph_pos base (order_view gs) ≡ reph_steps r.reph_pos base gs
   pub base_then : (base : ℕ) → base_after_reph r.reph_pos base (order_view gs) ≡ base_after_reph r.reph_pos base gs
@@ -156,8 +156,8 @@ pub record Calls (r : Rules) (script : Option Script) (s e base next : ℕ) (tri
   pub in_range : e ≤ length b0.glyphs
   pub viramas : b1 ≡ record b0 { glyphs = with_stretch s e (map (recovered r.virama)) b0.glyphs }
   pub based_are : b2 ≡ record b1 { glyphs = with_stretch s e (settled r script) b1.glyphs }
-  pub base_is : base ≡ (with_base r script (stretch_of s e b1.glyphs)).base
-  pub tries_is : tries ≡ (with_base r script (stretch_of s e b1.glyphs)).tries_pref
+  pub base_is : base ≡ (with_final_base r script (stretch_of s e b1.glyphs)).base
+  pub tries_is : tries ≡ (with_final_base r script (stretch_of s e b1.glyphs)).tries_pref
   pub matras : b3 ≡ record b2 { glyphs = run_steps b2.level (map (widened s e (length b2.glyphs)) (matra_steps script base (stretch_of s e b2.glyphs))) b2.glyphs; places = b3.places }
   pub reph : b4 ≡ record b3 { glyphs = run_steps b3.level (map (widened s e (length b3.glyphs)) (reph_steps r.reph_pos base (stretch_of s e b3.glyphs))) b3.glyphs; places = b4.places }
   pub next_is : next ≡ base_after_reph r.reph_pos base (stretch_of s e b3.glyphs)
@@ -195,7 +195,7 @@ final_syllable r script s e base next tries b0 b1 b2 b3 b4 b5 viewed c last =
     let virama_view : x1 ≡ with_viramas r x0 =
     sym (map-stretch plain s e b1.glyphs) ∙ ap (λ zs. order_view (stretch_of s e zs)) (ap (λ (b : Buffer). b.glyphs) c.viramas) ∙ recovered-stretch r s e b0.glyphs h l in
     let v1 = viewed (stretch_of s e b1.glyphs) in
-    let same1 : with_base r script (order_view (stretch_of s e b1.glyphs)) ≡ B = ap (with_base r script) (map-stretch plain s e b1.glyphs ∙ virama_view) in
+    let same1 : with_final_base r script (order_view (stretch_of s e b1.glyphs)) ≡ B = ap (with_final_base r script) (map-stretch plain s e b1.glyphs ∙ virama_view) in
     let base_at : base ≡ B.base = c.base_is ∙ sym v1.base ∙ ap (λ (b : Based). b.base) same1 in
     let tries_at : tries ≡ B.tries_pref = c.tries_is ∙ sym v1.tries ∙ ap (λ (b : Based). b.tries_pref) same1 in
     let base_low : base ≤ length x2 = subst (λ n. n ≤ length x2) (sym base_at) (subst (λ ys. B.base ≤ length ys) (sym a2.syllable) (base_within r script (with_viramas r x0))) in

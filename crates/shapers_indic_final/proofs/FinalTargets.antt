@@ -16,7 +16,7 @@ use Rattle.shapers_base.specs.declared.plan.ot_position_t.TheConstants.{POS_SMVD
 use Rattle.shapers_buffer.proofs.MappedLists.{all-range}
 use Rattle.shapers_indic.specs.Glyphs.{greatest_place, has_position, is_joiner, least_place, passes, places}
 use Rattle.shapers_indic_final.specs.FinalBase.{pref_place}
-use Rattle.shapers_indic_final.specs.FinalGlyphs.{is_formed, is_halant, is_matra_or_halant}
+use Rattle.shapers_indic_final.specs.FinalGlyphs.{is_formed, is_indic_halant, is_matra_or_halant}
 use Rattle.shapers_base.specs.Masks.{has_bits}
 use Rattle.shapers_indic_final.specs.FinalPref.{formed_pref, if_formed, is_joiner_behind_halant, place_before_base, pref_target}
 use Rattle.shapers_indic_final.specs.FinalReph.{at_end, behind_base, end_of_run, halant_after_start, is_with_main, is_with_sub, last_but_signs, matras_between, opens_with_reph, reph_target, with_joiner}
@@ -86,7 +86,7 @@ end_within base gs l =
     let test : ℕ → Bool = λ i. not (passes (has_position POS_SMVD) gs i) in
     let last = last_but_signs gs in
     let high : last < length gs = last_within gs (greatest_place test 0 (length gs)) l (λ j found. greatest_within test 0 (length gs) j found) in
-    elim (passes is_halant gs last) as (λ b. (if b then last - matras_between base last gs else last) < length gs) [
+    elim (passes is_indic_halant gs last) as (λ b. (if b then last - matras_between base last gs else last) < length gs) [
       | true ↦ omega arith
       | false ↦ high
     ]
@@ -110,7 +110,7 @@ target_from position base gs (Some h) l within = joiner_within base gs h (within
 
 pub reph_target_within : (position : RephPosition) (base : ℕ) (gs : List hb_glyph_info_t) → 0 < length gs → reph_target position base gs < length gs
 reph_target_within position base gs l =
-    target_from position base gs (halant_after_start base gs) l (λ h found. passes_within is_halant gs h (find_passes (passes is_halant gs) (places 1 base) h found))
+    target_from position base gs (halant_after_start base gs) l (λ h found. passes_within is_indic_halant gs h (find_passes (passes is_indic_halant gs) (places 1 base) h found))
 
 pub opens_some : (gs : List hb_glyph_info_t) → opens_with_reph gs ≡ true → 0 < length gs
 opens_some [] h = absurd (true≢false (sym h))

@@ -24,7 +24,7 @@ use Rattle.shapers_clusters.proofs.Views.{seen-run_steps}
 use Rattle.shapers_clusters.proofs.Widened.{all_fit-widened}
 use Rattle.shapers_indic_final.specs.FinalLaws.{BreaksNowhere, FinallyOfHalves, SameButFirstBits, final_clusters, final_text_behind, final_text_steps, with_first_bits}
 use Rattle.shapers_indic_final.specs.FinalMatras.{is_left}
-use Rattle.shapers_indic_final.specs.FinalWordStart.{bound_at, final_text, in_word, is_bound, last_or, syllable_run, text_run, with_init, with_inits}
+use Rattle.shapers_indic_final.specs.FinalWordStart.{bound_at, final_text, word_goes_on, is_bound, last_or, syllable_run, text_run, with_init, with_inits}
 use Rattle.shapers_indic_final.specs.FinalReordering.{final_order, final_steps}
 use Rattle.shapers_indic_final.specs.declared.ot_shaper_indic_final.rules.Rules.{Rules}
 use Rattle.shapers_indic_final.proofs.FinalLaws.{final_laws}
@@ -47,7 +47,7 @@ hidden-bits bits g = ap (λ (m : ℕ). record g { cluster = 0; mask = m; categor
 
 pub hidden-init : (bits : ℕ) (before : Option hb_glyph_info_t) (gs : List hb_glyph_info_t) → seen carried (with_init bits before gs) ≡ seen carried gs
 hidden-init bits before [] = refl
-hidden-init bits before (g ∷ gs) = elim (is_left g && not (in_word before)) as (λ b. seen carried (if b then with_bits bits g ∷ gs else g ∷ gs) ≡ seen carried (g ∷ gs)) [
+hidden-init bits before (g ∷ gs) = elim (is_left g && not (word_goes_on before)) as (λ b. seen carried (if b then with_bits bits g ∷ gs else g ∷ gs) ≡ seen carried (g ∷ gs)) [
   | true ↦ ap (λ x. x ∷ seen carried gs) (hidden-bits bits g)
   | false ↦ refl
 ]
@@ -198,13 +198,13 @@ but_first bits one two ((g ∷ gs) ∷ ps) =
     let more = gs ++ with_inits bits (last_or (Some g) gs) ps in
     let F : Bool → List hb_glyph_info_t = λ b. (if b then with_bits bits g ∷ gs else g ∷ gs) ++ with_inits bits (last_or (Some g) gs) ps in
     let given : (b : Bool) → with_first_bits bits (F b) ≡ with_bits bits g ∷ more = λ b. elim b as (λ b. with_first_bits bits (F b) ≡ with_bits bits g ∷ more) [ true ↦ ap (λ x. x ∷ more) (bits_twice bits g) | false ↦ refl ] in
-    given (is_left g && not (in_word one)) ∙ sym (given (is_left g && not (in_word two)))
+    given (is_left g && not (word_goes_on one)) ∙ sym (given (is_left g && not (word_goes_on two)))
 
 -- with the bits of init on all glyphs, it is the text order
 bits_init : (bits : ℕ) (before : Option hb_glyph_info_t) (gs : List hb_glyph_info_t) → map (with_bits bits) (with_init bits before gs) ≡ map (with_bits bits) gs
 bits_init bits before [] = refl
 bits_init bits before (g ∷ gs) =
-    elim (is_left g && not (in_word before)) as (λ b. map (with_bits bits) (if b then with_bits bits g ∷ gs else g ∷ gs) ≡ map (with_bits bits) (g ∷ gs)) [ true ↦ ap (λ x. x ∷ map (with_bits bits) gs) (bits_twice bits g) | false ↦ refl ]
+    elim (is_left g && not (word_goes_on before)) as (λ b. map (with_bits bits) (if b then with_bits bits g ∷ gs else g ∷ gs) ≡ map (with_bits bits) (g ∷ gs)) [ true ↦ ap (λ x. x ∷ map (with_bits bits) gs) (bits_twice bits g) | false ↦ refl ]
 
 bits_inits : (bits : ℕ) (before : Option hb_glyph_info_t) (ps : List (List hb_glyph_info_t)) → map (with_bits bits) (with_inits bits before ps) ≡ map (with_bits bits) (flat_map (λ p. p) ps)
 bits_inits bits before [] = refl

@@ -16,7 +16,7 @@ use Rattle.shapers_clusters.specs.Steps.{Step, run_steps, widened}
 use Rattle.shapers_clusters.proofs.FlagCalls.{flags-or, map-unsafe_inside, plain-or, plain-with_bits}
 use Rattle.shapers_clusters.proofs.ViewedSteps.{length-same}
 use Rattle.shapers_indic_final.specs.FinalMatras.{is_left}
-use Rattle.shapers_indic_final.specs.FinalWordStart.{before_place, bound_at, final_text, in_word, is_bound, last_or, opened, syllable_run, text_run, with_init, with_inits}
+use Rattle.shapers_indic_final.specs.FinalWordStart.{before_place, bound_at, final_text, word_goes_on, is_bound, last_or, opened, syllable_run, text_run, with_init, with_inits}
 use Rattle.shapers_indic_final.specs.FinalReordering.{final_order, final_steps}
 use Rattle.shapers_indic_final.specs.declared.ot_shaper_indic_final.rules.Rules.{Rules}
 use Rattle.shapers_indic_final.proofs.FinalLaws.{final_laws}
@@ -28,14 +28,14 @@ use Rattle.shapers_syllabic.proofs.ReorderingWalk.{first_len-view, first_len-wit
 -- the mask of init shows as it is, and is not carried along
 init-carried : (bits : ℕ) → bits % 8 ≡ 0 → (before : Option hb_glyph_info_t) (gs : List hb_glyph_info_t) → map carried (with_init bits before gs) ≡ map carried gs
 init-carried bits off before [] = refl
-init-carried bits off before (g ∷ gs) = elim (is_left g && not (in_word before)) as (λ b. map carried (if b then with_bits bits g ∷ gs else g ∷ gs) ≡ map carried (g ∷ gs)) [
+init-carried bits off before (g ∷ gs) = elim (is_left g && not (word_goes_on before)) as (λ b. map carried (if b then with_bits bits g ∷ gs else g ∷ gs) ≡ map carried (g ∷ gs)) [
   | true ↦ ap (λ m. record g { mask = m; category = 0; auxiliary = 0; marks = no_marks } ∷ map carried gs) (flags-or g.mask bits off)
   | false ↦ refl
 ]
 
 init-plain : (bits : ℕ) → bits % 8 ≡ 0 → (before : Option hb_glyph_info_t) (gs : List hb_glyph_info_t) → order_view (with_init bits before gs) ≡ with_init bits before (order_view gs)
 init-plain bits off before [] = refl
-init-plain bits off before (g ∷ gs) = elim (is_left g && not (in_word before)) as (λ b. order_view (if b then with_bits bits g ∷ gs else g ∷ gs) ≡ (if b then with_bits bits (plain g) ∷ order_view gs else order_view (g ∷ gs))) [
+init-plain bits off before (g ∷ gs) = elim (is_left g && not (word_goes_on before)) as (λ b. order_view (if b then with_bits bits g ∷ gs else g ∷ gs) ≡ (if b then with_bits bits (plain g) ∷ order_view gs else order_view (g ∷ gs))) [
   | true ↦ ap (λ m. record g { cluster = 0; mask = m } ∷ order_view gs) (plain-or g.mask bits off)
   | false ↦ refl
 ]
@@ -46,7 +46,7 @@ bound-plain before (g ∷ gs) = refl
 
 -- only the first glyph is read
 init-append : (bits : ℕ) (before : Option hb_glyph_info_t) (g : hb_glyph_info_t) (gs hs : List hb_glyph_info_t) → with_init bits before ((g ∷ gs) ++ hs) ≡ with_init bits before (g ∷ gs) ++ hs
-init-append bits before g gs hs = elim (is_left g && not (in_word before)) as (λ b. (if b then with_bits bits g ∷ (gs ++ hs) else g ∷ (gs ++ hs)) ≡ (if b then with_bits bits g ∷ gs else g ∷ gs) ++ hs) [ true ↦ refl | false ↦ refl ]
+init-append bits before g gs hs = elim (is_left g && not (word_goes_on before)) as (λ b. (if b then with_bits bits g ∷ (gs ++ hs) else g ∷ (gs ++ hs)) ≡ (if b then with_bits bits g ∷ gs else g ∷ gs) ++ hs) [ true ↦ refl | false ↦ refl ]
 
 init-long : (bits : ℕ) (before : Option hb_glyph_info_t) (gs hs : List hb_glyph_info_t) → 0 < length gs → with_init bits before (gs ++ hs) ≡ with_init bits before gs ++ hs
 init-long bits before [] hs some = absurd (omega arith)
@@ -57,25 +57,25 @@ bound-long before [] hs some = absurd (omega arith)
 bound-long before (g ∷ gs) hs some = refl
 
 -- of what stands before, only whether a word goes on
-init-word : (bits : ℕ) (a b : Option hb_glyph_info_t) (gs : List hb_glyph_info_t) → in_word a ≡ in_word b → with_init bits a gs ≡ with_init bits b gs
+init-word : (bits : ℕ) (a b : Option hb_glyph_info_t) (gs : List hb_glyph_info_t) → word_goes_on a ≡ word_goes_on b → with_init bits a gs ≡ with_init bits b gs
 init-word bits a b [] same = refl
 init-word bits a b (g ∷ gs) same = ap (λ w. if is_left g && not w then with_bits bits g ∷ gs else g ∷ gs) same
 
-bound-word : (a b : Option hb_glyph_info_t) (gs : List hb_glyph_info_t) → in_word a ≡ in_word b → is_bound a gs ≡ is_bound b gs
+bound-word : (a b : Option hb_glyph_info_t) (gs : List hb_glyph_info_t) → word_goes_on a ≡ word_goes_on b → is_bound a gs ≡ is_bound b gs
 bound-word a b [] same = refl
 bound-word a b (g ∷ gs) same = ap (λ w. is_left g && w) same
 
-last-word : (a b : Option hb_glyph_info_t) (gs : List hb_glyph_info_t) → in_word a ≡ in_word b → in_word (last_or a gs) ≡ in_word (last_or b gs)
+last-word : (a b : Option hb_glyph_info_t) (gs : List hb_glyph_info_t) → word_goes_on a ≡ word_goes_on b → word_goes_on (last_or a gs) ≡ word_goes_on (last_or b gs)
 last-word a b [] same = same
 last-word a b (g ∷ gs) same = refl
 
-inits-word : (bits : ℕ) (a b : Option hb_glyph_info_t) (syls : List (List hb_glyph_info_t)) → in_word a ≡ in_word b → with_inits bits a syls ≡ with_inits bits b syls
+inits-word : (bits : ℕ) (a b : Option hb_glyph_info_t) (syls : List (List hb_glyph_info_t)) → word_goes_on a ≡ word_goes_on b → with_inits bits a syls ≡ with_inits bits b syls
 inits-word bits a b [] same = refl
 inits-word bits a b (syl ∷ syls) same =
     ap (λ xs. xs ++ with_inits bits (last_or a syl) syls) (init-word bits a b syl same)
     ∙ ap (λ xs. with_init bits b syl ++ xs) (inits-word bits (last_or a syl) (last_or b syl) syls (last-word a b syl same))
 
-run-word : (r : Rules) (script : Option Script) (level : BufferClusterLevel) (s : ℕ) (a b : Option hb_glyph_info_t) (syls : List (List hb_glyph_info_t)) (gs : List hb_glyph_info_t) → in_word a ≡ in_word b → text_run r script level s a syls gs ≡ text_run r script level s b syls gs
+run-word : (r : Rules) (script : Option Script) (level : BufferClusterLevel) (s : ℕ) (a b : Option hb_glyph_info_t) (syls : List (List hb_glyph_info_t)) (gs : List hb_glyph_info_t) → word_goes_on a ≡ word_goes_on b → text_run r script level s a syls gs ≡ text_run r script level s b syls gs
 run-word r script level s a b [] gs same = refl
 run-word r script level s a b (syl ∷ syls) gs same =
     let made = final_order r script syl in
@@ -83,13 +83,13 @@ run-word r script level s a b (syl ∷ syls) gs same =
     ∙ run-word r script level (s + length syl) (last_or a made) (last_or b made) syls (syllable_run r script level s b syl gs) (last-word a b made same)
 
 -- it shows in the order view, and through the mask of init
-word-plain : (a : Option hb_glyph_info_t) (gs : List hb_glyph_info_t) → in_word (last_or a (order_view gs)) ≡ in_word (last_or a gs)
+word-plain : (a : Option hb_glyph_info_t) (gs : List hb_glyph_info_t) → word_goes_on (last_or a (order_view gs)) ≡ word_goes_on (last_or a gs)
 word-plain a [] = refl
 word-plain a (g ∷ gs) = last-word (Some (plain g)) (Some g) (order_view gs) refl ∙ word-plain (Some g) gs
 
-word-init : (bits : ℕ) (before a : Option hb_glyph_info_t) (gs : List hb_glyph_info_t) → in_word (last_or a (with_init bits before gs)) ≡ in_word (last_or a gs)
+word-init : (bits : ℕ) (before a : Option hb_glyph_info_t) (gs : List hb_glyph_info_t) → word_goes_on (last_or a (with_init bits before gs)) ≡ word_goes_on (last_or a gs)
 word-init bits before a [] = refl
-word-init bits before a (g ∷ gs) = elim (is_left g && not (in_word before)) as (λ b. in_word (last_or a (if b then with_bits bits g ∷ gs else g ∷ gs)) ≡ in_word (last_or a (g ∷ gs))) [
+word-init bits before a (g ∷ gs) = elim (is_left g && not (word_goes_on before)) as (λ b. word_goes_on (last_or a (if b then with_bits bits g ∷ gs else g ∷ gs)) ≡ word_goes_on (last_or a (g ∷ gs))) [
   | true ↦ last-word (Some (with_bits bits g)) (Some g) gs refl
   | false ↦ refl
 ]
@@ -145,7 +145,7 @@ run-carried r script level s before (syl ∷ syls) xs ys same =
 
 length-init : (bits : ℕ) (before : Option hb_glyph_info_t) (gs : List hb_glyph_info_t) → length (with_init bits before gs) ≡ length gs
 length-init bits before [] = refl
-length-init bits before (g ∷ gs) = elim (is_left g && not (in_word before)) as (λ b. length (if b then with_bits bits g ∷ gs else g ∷ gs) ≡ length (g ∷ gs)) [ true ↦ refl | false ↦ refl ]
+length-init bits before (g ∷ gs) = elim (is_left g && not (word_goes_on before)) as (λ b. length (if b then with_bits bits g ∷ gs else g ∷ gs) ≡ length (g ∷ gs)) [ true ↦ refl | false ↦ refl ]
 
 first_some : (gs : List hb_glyph_info_t) → 0 < length gs → 0 < first_syllable_len gs
 first_some [] h = absurd (omega arith)
@@ -200,8 +200,8 @@ finished_next r old now mid new start end off to some end_is done opens_it =
     let mid_back : order_view (drop start mg) ≡ made ++ back = sym (drop-map plain start mg) ∙ ap (drop start) view ∙ drop_at front (made ++ back) start fn in
     let bf = before_place start mg in
     let bn = before_place start gs in
-    let front_word : in_word (last_or None front) ≡ in_word bn = ap (λ ys. in_word (last_or None ys)) (take-map plain start gs) ∙ word-plain None (take start gs) in
-    let word : in_word bf ≡ in_word bn = sym (word-plain None (take start mg)) ∙ ap (λ ys. in_word (last_or None ys)) mid_front ∙ front_word in
+    let front_word : word_goes_on (last_or None front) ≡ word_goes_on bn = ap (λ ys. word_goes_on (last_or None ys)) (take-map plain start gs) ∙ word-plain None (take start gs) in
+    let word : word_goes_on bf ≡ word_goes_on bn = sym (word-plain None (take start mg)) ∙ ap (λ ys. word_goes_on (last_or None ys)) mid_front ∙ front_word in
     let B = is_bound bf (drop start mg) in
     let bound : B ≡ is_bound bn made = sym (bound-plain bf (drop start mg)) ∙ ap (is_bound bf) mid_back ∙ bound-long bf made back made_some ∙ bound-word bf bn made word in
     let inited = take start mg ++ with_init bits bf (drop start mg) in
@@ -221,10 +221,10 @@ finished_next r old now mid new start end off to some end_is done opens_it =
     let same : length new.glyphs ≡ length gs = sym (length-map new.glyphs plain) ∙ ap length joined ∙ length-append (front ++ opening) back ∙ omega (arith, length-drop k rest) in
     let be = before_place end new.glyphs in
     let next = last_or bn made in
-    let next_word : in_word be ≡ in_word next =
+    let next_word : word_goes_on be ≡ word_goes_on next =
     sym (word-plain None (take end new.glyphs))
-    ∙ ap (λ ys. in_word (last_or None ys)) (sym (take-map plain end new.glyphs) ∙ before)
-    ∙ ap in_word (last_or-append None front opening)
+    ∙ ap (λ ys. word_goes_on (last_or None ys)) (sym (take-map plain end new.glyphs) ∙ before)
+    ∙ ap word_goes_on (last_or-append None front opening)
     ∙ word-init bits bf (last_or None front) made
     ∙ last-word (last_or None front) bn made front_word in
     let level : now.level ≡ old.level = ap (λ (b : Buffer). b.level) to.others in

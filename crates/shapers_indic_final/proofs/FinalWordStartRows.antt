@@ -6,7 +6,7 @@ use Rattle.shapers_buffer.specs.declared.buffer.glyph.hb_glyph_info_t.{hb_glyph_
 use Rattle.shapers_buffer.specs.declared.buffer.level.BufferClusterLevel.TheVariants.{MonotoneGraphemes}
 use Rattle.shapers_buffer.specs.Glyph.{clusters, default_glyph}
 use Rattle.shapers_buffer.specs.Syllables.{syllables}
-use Rattle.shapers_indic.proofs.RowWords.{C, M, masks_of, numbers_of, script}
+use Rattle.shapers_indic.proofs.RowWords.{C, M, row_masks, numbers_of, script}
 use Rattle.shapers_indic_final.proofs.FinalWords.{rules}
 use Rattle.shapers_indic_final.specs.FinalLaws.{SameButFirstBits, with_first_bits}
 use Rattle.shapers_indic_final.specs.FinalWordStart.{continues_word, final_text, is_bound, last_or, text_run, with_init}
@@ -24,7 +24,7 @@ one i byte general c p = record default_glyph { glyph_id = i; cluster = i; mask 
 abbrev syllable : ℕ → List hb_glyph_info_t
 syllable p = one 1 17 Mc M p ∷ one 2 17 Lo C 4 ∷ one 3 17 Mc M 2 ∷ []
 
-inits : masks_of (with_init 32 None (syllable 2)) ∷ masks_of (with_init 32 (Some (one 0 33 Zs 0 0)) (syllable 2)) ∷ masks_of (with_init 32 (Some (one 0 33 Lo 0 0)) (syllable 2)) ∷ masks_of (with_init 32 None (syllable 3)) ∷ masks_of (with_init 32 None (syllable 1)) ∷ masks_of (with_init 0 None (syllable 2)) ∷ masks_of (with_init 32 None []) ∷ []
+inits : row_masks (with_init 32 None (syllable 2)) ∷ row_masks (with_init 32 (Some (one 0 33 Zs 0 0)) (syllable 2)) ∷ row_masks (with_init 32 (Some (one 0 33 Lo 0 0)) (syllable 2)) ∷ row_masks (with_init 32 None (syllable 3)) ∷ row_masks (with_init 32 None (syllable 1)) ∷ row_masks (with_init 0 None (syllable 2)) ∷ row_masks (with_init 32 None []) ∷ []
     ≡ (96 ∷ 64 ∷ 64 ∷ []) ∷ (96 ∷ 64 ∷ 64 ∷ []) ∷ (64 ∷ 64 ∷ 64 ∷ []) ∷ (64 ∷ 64 ∷ 64 ∷ []) ∷ (64 ∷ 64 ∷ 64 ∷ []) ∷ (64 ∷ 64 ∷ 64 ∷ []) ∷ [] ∷ []
 inits = refl
 
@@ -42,7 +42,7 @@ masked m n =
 same_first : SameButFirstBits 32 (masked 64 64) (masked 96 64)
 same_first = refl
 
-first_bits : map (λ gs. masks_of (with_first_bits 32 gs)) ([] ∷ masked 64 64 ∷ masked 96 64 ∷ masked 64 96 ∷ masked 192 64 ∷ [])
+first_bits : map (λ gs. row_masks (with_first_bits 32 gs)) ([] ∷ masked 64 64 ∷ masked 96 64 ∷ masked 64 96 ∷ masked 192 64 ∷ [])
     ≡ [] ∷ (96 ∷ 64 ∷ []) ∷ (96 ∷ 64 ∷ []) ∷ (96 ∷ 96 ∷ []) ∷ (224 ∷ 64 ∷ []) ∷ []
 first_bits = refl
 
@@ -53,7 +53,7 @@ lasts = refl
 abbrev after : List hb_glyph_info_t → List (List ℕ)
 after gs =
     let run = text_run (rules "Deva") (script "Deva") MonotoneGraphemes 0 None (syllables gs) gs in
-    numbers_of (final_text (rules "Deva") (script "Deva") gs) ∷ masks_of (final_text (rules "Deva") (script "Deva") gs) ∷ clusters run ∷ numbers_of run ∷ map (λ g. g.mask % 8) run ∷ []
+    numbers_of (final_text (rules "Deva") (script "Deva") gs) ∷ row_masks (final_text (rules "Deva") (script "Deva") gs) ∷ clusters run ∷ numbers_of run ∷ map (λ g. g.mask % 8) run ∷ []
 
 -- two syllables M C each behind a letter or a sign: the first opens the text; the second is bound to a letter, and its own glyph is of a later cluster
 abbrev pair : ℕ → ℕ → List hb_glyph_info_t

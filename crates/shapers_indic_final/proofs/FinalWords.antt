@@ -6,7 +6,7 @@ use Rattle.shapers_buffer.specs.declared.buffer.level.BufferClusterLevel.TheVari
 use Rattle.shapers_buffer.specs.Glyph.{clusters}
 use Rattle.shapers_clusters.specs.Steps.{run_steps}
 use Rattle.shapers_indic.specs.Plan.{config_of}
-use Rattle.shapers_indic.proofs.RowWords.{numbers_of, positions_of, script}
+use Rattle.shapers_indic.proofs.RowWords.{numbers_of, row_positions, script}
 use Rattle.shapers_indic_final.specs.FinalReordering.{final_order, final_steps}
 use Rattle.shapers_indic_final.specs.declared.ot_shaper_indic_final.rules.Rules.{Rules}
 
@@ -38,5 +38,5 @@ abbrev pub reordered : String → List hb_glyph_info_t → List (List ℕ)
 reordered tag gs =
     numbers_of (final_order (rules tag) (script tag) gs)
     ∷ clusters (run_steps MonotoneGraphemes (final_steps (rules tag) (script tag) gs) gs)
-    ∷ positions_of (final_order (rules tag) (script tag) gs)
+    ∷ row_positions (final_order (rules tag) (script tag) gs)
     ∷ []

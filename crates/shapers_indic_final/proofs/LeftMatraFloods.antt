@@ -11,7 +11,7 @@ use Rattle.shapers_buffer.specs.Glyph.{clusters, default_glyph}
 use Rattle.shapers_buffer.specs.Clusters.{first_cluster, flooded, has_cluster, in_cluster, last_cluster, least, merged, stretch_of}
 use Rattle.shapers_buffer.proofs.ClusterLemmas.{merged_is}
 use Rattle.shapers_buffer.proofs.OneCluster.{last_of_end, last_stays, least_stays}
-use Rattle.shapers_indic_final.specs.LeftMatraWalk.{Reaches, has_gone, has_stayed, is_passed, staying}
+use Rattle.shapers_indic_final.specs.LeftMatraWalk.{Reaches, has_gone, has_stayed, flood_passes, staying}
 use Rattle.shapers_indic_final.proofs.LeftMatraPlaces.{chosen-empty, chosen-one, chosen-split}
 
 -- a flood over glyphs that are all in its cluster
@@ -73,7 +73,7 @@ Passes i top c from j gs = (j ≤ from) × (list_all (has_cluster c) (staying i 
 pub reaches_none : (i top c from : ℕ) (gs : List hb_glyph_info_t) → Passes i top c from from gs
 reaches_none i top c from gs = (omega arith, ap (list_all (has_cluster c)) (chosen-empty (has_stayed i top gs) gs from))
 
-pub reaches_more : (i top c from k j : ℕ) (gs : List hb_glyph_info_t) → k + 1 ≡ j → j ≤ length gs → Passes i top c from j gs → is_passed i top c gs k ≡ true → Passes i top c from k gs
+pub reaches_more : (i top c from k j : ℕ) (gs : List hb_glyph_info_t) → k + 1 ≡ j → j ≤ length gs → Passes i top c from j gs → flood_passes i top c gs k ≡ true → Passes i top c from k gs
 reaches_more i top c from k j gs one within so passed =
     let t = has_stayed i top gs in
     let le = so.0 in
@@ -90,7 +90,7 @@ reaches_more i top c from k j gs one within so passed =
     ] in
     (omega arith, ap (list_all (has_cluster c)) split ∙ list_all-append (has_cluster c) (staying i top gs k (k + 1)) (staying i top gs j from) ∙ rw (here, so.1) refl)
 
-pub reaches_here : (i top c from j : ℕ) (gs : List hb_glyph_info_t) → 0 < j → j ≤ length gs → Passes i top c from j gs → is_passed i top c gs (j - 1) ≡ false → Reaches i top c from (j - 1 + 1) gs
+pub reaches_here : (i top c from j : ℕ) (gs : List hb_glyph_info_t) → 0 < j → j ≤ length gs → Passes i top c from j gs → flood_passes i top c gs (j - 1) ≡ false → Reaches i top c from (j - 1 + 1) gs
 reaches_here i top c from j gs some within so fails =
     let k = j - 1 in
     let up : j ≡ j - 1 + 1 = omega arith in

@@ -11,7 +11,7 @@ use Rattle.shapers_buffer.specs.Marks.{is_substituted}
 use Rattle.shapers_base.specs.declared.plan.ot_category_t.TheConstants.{OT_H, OT_N, OT_ZWJ}
 use Rattle.shapers_base.specs.declared.plan.ot_position_t.TheConstants.{POS_BASE_C, POS_BELOW_C}
 use Rattle.shapers_indic.specs.Glyphs.{greatest_place, has_position, is_joiner, is_one_of, least_place, passes}
-use Rattle.shapers_indic_final.specs.FinalGlyphs.{is_formed, is_halant, recovered}
+use Rattle.shapers_indic_final.specs.FinalGlyphs.{is_formed, is_indic_halant, recovered}
 use Rattle.shapers_base.specs.Masks.{has_bits}
 use Rattle.shapers_indic_final.specs.declared.ot_shaper_indic_final.rules.Rules.{Rules}
 use Rattle.shapers_indic_final.specs.FinalRules.{is_malayalam}
@@ -41,7 +41,7 @@ unformed_pref pref base gs = if_unformed gs (pref_place pref base gs)
 
 -- the base by pref: the first glyph from the unformed one on that is no halant, else the end
 abbrev pub behind_halants : List hb_glyph_info_t → ℕ → ℕ
-behind_halants gs i = i + prefix_len is_halant (drop i gs)
+behind_halants gs i = i + prefix_len is_indic_halant (drop i gs)
 
 abbrev pub base_by_pref : ℕ → ℕ → List hb_glyph_info_t → ℕ
 base_by_pref pref base gs = option_map_or (behind_halants gs) (unformed_pref pref base gs) base
@@ -61,7 +61,7 @@ abbrev pub links_from : Bool → ℕ → List hb_glyph_info_t → List ℕ
 links_from halant i [] = []
 links_from false i (g ∷ gs) =
     if is_joiner g then links_from false (suc i) gs
-    else if is_halant g then links_from true (suc i) gs else []
+    else if is_indic_halant g then links_from true (suc i) gs else []
 links_from true i (g ∷ gs) =
     if is_joiner g then links_from true (suc i) gs else i ∷ links_from false (suc i) gs
 
@@ -71,7 +71,7 @@ abbrev pub along_links : (hb_glyph_info_t → hb_glyph_info_t) → Bool → List
 along_links f halant [] = []
 along_links f false (g ∷ gs) =
     if is_joiner g then g ∷ along_links f false gs
-    else if is_halant g then g ∷ along_links f true gs else g ∷ gs
+    else if is_indic_halant g then g ∷ along_links f true gs else g ∷ gs
 along_links f true (g ∷ gs) =
     if is_joiner g then g ∷ along_links f true gs else f g ∷ along_links f false gs
 
@@ -134,8 +134,8 @@ pub record Based : Type 0 where
   pub tries_pref : Bool
 
 -- so of a syllable with its viramas: the base by pref, then by links, then where it settles
-abbrev pub with_base : Rules → Option Script → List hb_glyph_info_t → Based
-with_base r script gs =
+abbrev pub with_final_base : Rules → Option Script → List hb_glyph_info_t → Based
+with_final_base r script gs =
     let first = first_base gs in
     let by_pref = base_by_pref r.pref first gs in
     let opened = with_pref_base r.pref first gs in

@@ -7,8 +7,8 @@ use Rattle.shapers_base.specs.declared.font.GlyphId.{GlyphId}
 use Rattle.shapers_base.specs.declared.plan.ot_category_t.TheConstants.{OT_H, OT_M, OT_MPst}
 use Rattle.shapers_indic.specs.Glyphs.{is_one_of}
 
-abbrev pub is_halant : hb_glyph_info_t → Bool
-is_halant = is_one_of (OT_H ∷ [])
+abbrev pub is_indic_halant : hb_glyph_info_t → Bool
+is_indic_halant = is_one_of (OT_H ∷ [])
 
 -- a vowel sign or halant that no lookup put in for several glyphs
 abbrev pub is_matra_or_halant : hb_glyph_info_t → Bool

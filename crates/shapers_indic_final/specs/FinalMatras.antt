@@ -10,7 +10,7 @@ use Rattle.shapers_base.specs.declared.plan.ot_category_t.TheConstants.{OT_ZWJ}
 use Rattle.shapers_base.specs.declared.plan.ot_position_t.TheConstants.{POS_PRE_M}
 use Rattle.shapers_clusters.specs.Steps.{Step}
 use Rattle.shapers_indic.specs.Glyphs.{greatest_place, has_category, has_position, least_place, passes, places}
-use Rattle.shapers_indic_final.specs.FinalGlyphs.{is_halant, is_matra_or_halant}
+use Rattle.shapers_indic_final.specs.FinalGlyphs.{is_indic_halant, is_matra_or_halant}
 use Rattle.shapers_indic_final.specs.FinalRules.{has_no_half_forms}
 
 -- whether a glyph is a left matra; a halant that belongs to none
@@ -18,7 +18,7 @@ abbrev pub is_left : hb_glyph_info_t → Bool
 is_left = has_position POS_PRE_M
 
 abbrev pub is_free_halant : hb_glyph_info_t → Bool
-is_free_halant g = is_halant g && not (is_left g)
+is_free_halant g = is_indic_halant g && not (is_left g)
 
 -- whether the glyph at place i ends the search for a halant: a vowel sign or halant, but no free
 -- halant that a ZWJ follows, which requests a half form

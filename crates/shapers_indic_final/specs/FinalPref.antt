@@ -8,7 +8,7 @@ use Rattle.shapers_buffer.specs.Clusters.{with_stretch}
 use Rattle.shapers_clusters.specs.Steps.{Step}
 use Rattle.shapers_indic.specs.Glyphs.{greatest_place, is_joiner, passes, places}
 use Rattle.shapers_indic_final.specs.FinalBase.{pref_place}
-use Rattle.shapers_indic_final.specs.FinalGlyphs.{is_formed, is_halant, is_matra_or_halant, last_goes_first}
+use Rattle.shapers_indic_final.specs.FinalGlyphs.{is_formed, is_indic_halant, is_matra_or_halant, last_goes_first}
 use Rattle.shapers_indic_final.specs.FinalRules.{has_no_half_forms}
 
 -- the first glyph after the base with the mask of pref, if it is formed
@@ -28,7 +28,8 @@ place_before_base script base gs =
 
 -- but behind a joiner there that follows a halant
 abbrev pub is_joiner_behind_halant : List hb_glyph_info_t → ℕ → Bool
-is_joiner_behind_halant gs i = nat_lt 0 i && passes is_halant gs (i - 1) && passes is_joiner gs i
+is_joiner_behind_halant gs i =
+    nat_lt 0 i && passes is_indic_halant gs (i - 1) && passes is_joiner gs i
 
 abbrev pub pref_target : Option Script → ℕ → List hb_glyph_info_t → ℕ
 pref_target script base gs =

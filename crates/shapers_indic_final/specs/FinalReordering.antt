@@ -4,7 +4,7 @@ use Rattle.std.specs.Prelude.{List, [], ◌++◌, Option, if◌then◌else◌}
 use Rattle.shapers_buffer.specs.declared.buffer.glyph.hb_glyph_info_t.{hb_glyph_info_t}
 use Rattle.shapers_buffer.specs.declared.buffer.tag.Script.{Script}
 use Rattle.shapers_clusters.specs.Steps.{Step}
-use Rattle.shapers_indic_final.specs.FinalBase.{Based, with_base, with_viramas}
+use Rattle.shapers_indic_final.specs.FinalBase.{Based, with_final_base, with_viramas}
 use Rattle.shapers_indic_final.specs.FinalMatras.{matra_steps, with_matras}
 use Rattle.shapers_indic_final.specs.FinalPref.{pref_steps, with_pref}
 use Rattle.shapers_indic_final.specs.FinalReph.{base_after_reph, reph_steps, with_reph}
@@ -29,7 +29,7 @@ after_pref r script b = if b.tries_pref then with_pref r.pref script b.base b.gl
 
 -- the syllable with its base, before anything moves
 abbrev pub based : Rules → Option Script → List hb_glyph_info_t → Based
-based r script gs = with_base r script (with_viramas r gs)
+based r script gs = with_final_base r script (with_viramas r gs)
 
 -- what a syllable becomes, but for the mask of init
 abbrev pub final_order : Rules → Option Script → List hb_glyph_info_t → List hb_glyph_info_t

@@ -12,7 +12,7 @@ use Rattle.shapers_base.specs.declared.plan.ot_category_t.TheConstants.{OT_Repha
 use Rattle.shapers_base.specs.declared.plan.ot_position_t.TheConstants.{POS_AFTER_MAIN, POS_AFTER_POST, POS_POST_C, POS_RA_TO_BECOME_REPH, POS_SMVD}
 use Rattle.shapers_clusters.specs.Steps.{Step}
 use Rattle.shapers_indic.specs.Glyphs.{greatest_place, has_category, has_position, is_joiner, is_matra, least_place, passes, places}
-use Rattle.shapers_indic_final.specs.FinalGlyphs.{is_formed, is_halant}
+use Rattle.shapers_indic_final.specs.FinalGlyphs.{is_formed, is_indic_halant}
 
 -- whether a glyph is a reph that moves: a formed one, or a character of its own that is not formed
 abbrev pub is_moving_reph : hb_glyph_info_t → Bool
@@ -28,7 +28,7 @@ opens_with_reph [] = false
 -- the place behind the first halant between the start and the base, and behind a joiner there that
 -- stands before the base; by the halant's place
 abbrev pub halant_after_start : ℕ → List hb_glyph_info_t → Option ℕ
-halant_after_start base gs = least_place (passes is_halant gs) 1 base
+halant_after_start base gs = least_place (passes is_indic_halant gs) 1 base
 
 abbrev pub with_joiner : ℕ → List hb_glyph_info_t → ℕ → ℕ
 with_joiner base gs h = if nat_lt (h + 1) base && passes is_joiner gs (h + 1) then h + 1 else h
@@ -56,7 +56,7 @@ matras_between base last gs = count_by is_matra (stretch_of (base + 1) last gs)
 abbrev pub at_end : ℕ → List hb_glyph_info_t → ℕ
 at_end base gs =
     let last = last_but_signs gs in
-    if passes is_halant gs last then last - matras_between base last gs else last
+    if passes is_indic_halant gs last then last - matras_between base last gs else last
 
 -- where the reph goes without a halant before the base, by the script
 abbrev pub behind_base : RephPosition → ℕ → List hb_glyph_info_t → ℕ
@@ -87,8 +87,8 @@ base_after_reph position base gs =
     if opens_with_reph gs then carried_along base (reph_target position base gs) else base
 
 -- the step of n places in which all up to place j merges, and the first glyph goes there
-abbrev pub reph_step : ℕ → ℕ → Step
-reph_step n j = record {
+abbrev pub final_reph_step : ℕ → ℕ → Step
+final_reph_step n j = record {
   merged_first = (0, j + 1) ∷ [];
   places = with_stretch 0 (j + 1) first_last (places 0 n);
   merged_then = [];
@@ -96,4 +96,5 @@ reph_step n j = record {
 
 abbrev pub reph_steps : RephPosition → ℕ → List hb_glyph_info_t → List Step
 reph_steps position base gs =
-    if opens_with_reph gs then reph_step (length gs) (reph_target position base gs) ∷ [] else []
+    if opens_with_reph gs then final_reph_step (length gs) (reph_target position base gs) ∷ []
+    else []

@@ -8,8 +8,8 @@ use Rattle.shapers_indic.specs.declared.ot_shaper_indic.indic_feature.TheConstan
 use Rattle.shapers_indic.specs.Plan.{bits_at, is_script, virama_glyph}
 
 -- what is read, by a plan and a font
-abbrev pub rules_of : Font → indic_shape_plan_t → Rules
-rules_of font p = record {
+abbrev pub final_rules : Font → indic_shape_plan_t → Rules
+final_rules font p = record {
   reph_pos = p.config.reph_pos;
   virama = virama_glyph font p;
   pref = bits_at p.mask_array PREF;

@@ -4,17 +4,17 @@ use Rattle.shapers_buffer.specs.declared.buffer.glyph.hb_glyph_info_t.{hb_glyph_
 use Rattle.shapers_buffer.specs.declared.buffer.tag.Script.{Script}
 use Rattle.shapers_buffer.specs.Clusters.{stretch_of, with_stretch}
 use Rattle.shapers_indic_final.specs.declared.ot_shaper_indic_final.rules.Rules.{Rules}
-use Rattle.shapers_indic_final.specs.FinalBase.{with_base}
+use Rattle.shapers_indic_final.specs.FinalBase.{with_final_base}
 
 -- the glyphs of a syllable with the positions that the search for its base gives
 abbrev pub settled : Rules → Option Script → List hb_glyph_info_t → List hb_glyph_info_t
-settled r script gs = (with_base r script gs).glyphs
+settled r script gs = (with_final_base r script gs).glyphs
 
 -- the glyphs before and after, of a syllable from s to e whose base is found, and whether a formed
 -- pref glyph may go before it
 pub record Settles (r : Rules) (script : Option Script) (s e base : ℕ) (tries : Bool) (gs hs : List
     hb_glyph_info_t) : Type 0 where
   pub glyphs : hs ≡ with_stretch s e (settled r script) gs
-  pub base_is : base ≡ (with_base r script (stretch_of s e gs)).base
-  pub tries_is : tries ≡ (with_base r script (stretch_of s e gs)).tries_pref
+  pub base_is : base ≡ (with_final_base r script (stretch_of s e gs)).base
+  pub tries_is : tries ≡ (with_final_base r script (stretch_of s e gs)).tries_pref
   pub within : base ≤ e - s

@@ -33,20 +33,20 @@ continues_word Mn = true
 continues_word _ = false
 
 -- whether a word goes on behind what stands before a syllable; at the start of the text none does
-abbrev pub in_word : Option hb_glyph_info_t → Bool
-in_word None = false
-in_word (Some g) = continues_word g.general_category
+abbrev pub word_goes_on : Option hb_glyph_info_t → Bool
+word_goes_on None = false
+word_goes_on (Some g) = continues_word g.general_category
 
 -- a syllable behind a glyph, with the mask of init on a left matra that opens it and a word
 abbrev pub with_init : ℕ → Option hb_glyph_info_t → List hb_glyph_info_t → List hb_glyph_info_t
 with_init bits before [] = []
 with_init bits before (g ∷ gs) =
-    if is_left g && not (in_word before) then with_bits bits g ∷ gs else g ∷ gs
+    if is_left g && not (word_goes_on before) then with_bits bits g ∷ gs else g ∷ gs
 
 -- whether it is opened by a left matra inside a word, so that a break before it is unsafe
 abbrev pub is_bound : Option hb_glyph_info_t → List hb_glyph_info_t → Bool
 is_bound before [] = false
-is_bound before (g ∷ gs) = is_left g && in_word before
+is_bound before (g ∷ gs) = is_left g && word_goes_on before
 
 -- the last glyph of a syllable, and what stood before it if it has none
 abbrev pub last_or : {X : Type 0} → Option X → List X → Option X

@@ -41,8 +41,8 @@ abbrev pub gone : ℕ → ℕ → List hb_glyph_info_t → ℕ → ℕ → List 
 gone i top gs a b = pick (filter (has_gone i top gs) (places a b)) gs
 
 -- whether a flood of cluster c from behind passes place j
-abbrev pub is_passed : ℕ → ℕ → ℕ → List hb_glyph_info_t → ℕ → Bool
-is_passed i top c gs j = has_gone i top gs j || slice_index (clusters gs) j == c
+abbrev pub flood_passes : ℕ → ℕ → ℕ → List hb_glyph_info_t → ℕ → Bool
+flood_passes i top c gs j = has_gone i top gs j || slice_index (clusters gs) j == c
 
 -- the glyphs as they stand then, where the first to go went to p: what has stayed, and with it
 -- those in the one cluster; what has gone, and with what follows it those in the other

@@ -4,7 +4,7 @@ use Rattle.std.specs.Option.{option_map_or, option_or}
 use Rattle.std.proofs.lemmas.Option.{slice_get-get_or}
 use Rattle.shapers_buffer.specs.declared.buffer.glyph.hb_glyph_info_t.{hb_glyph_info_t}
 use Rattle.shapers_indic.specs.Glyphs.{greatest_place, has_position, passes, some_place}
-use Rattle.shapers_indic_initial.specs.InitialBase.{is_base, is_base_candidate, is_below, search_from, stops_search}
+use Rattle.shapers_indic_initial.specs.InitialBase.{is_base, is_base_candidate, has_below_form, search_from, stops_search}
 use Rattle.shapers_indic_initial.proofs.PlaceSearch.{greatest_back, greatest_here, greatest_before, greatest_first, greatest_further, greatest_last, greatest_none, some_first, some_none}
 
 -- the places from i on are searched: nothing there stops the search, no base stands there, and this says whether a consonant with a below-base form does
@@ -13,7 +13,7 @@ pub record Searching (lo i : ℕ) (below : Bool) (gs : List hb_glyph_info_t) : T
   pub within : i ≤ length gs
   pub still_open : greatest_place (stops_search gs) lo i ≡ greatest_place (stops_search gs) lo (length gs)
   pub no_base : greatest_place (is_base gs) i (length gs) ≡ None
-  pub below_seen : below ≡ some_place (is_below gs) i (length gs)
+  pub below_seen : below ≡ some_place (has_below_form gs) i (length gs)
 
 pub searching_start : (lo : ℕ) (gs : List hb_glyph_info_t) → lo ≤ length gs → Searching lo (length gs) false gs
 searching_start lo gs l = record {
@@ -21,11 +21,11 @@ searching_start lo gs l = record {
   within = omega arith;
   still_open = refl;
   no_base = greatest_none (is_base gs) (length gs) (length gs) (omega arith);
-  below_seen = sym (some_none (is_below gs) (length gs) (length gs) (omega arith));
+  below_seen = sym (some_none (has_below_form gs) (length gs) (length gs) (omega arith));
 }
 
 -- a glyph that doesn't stop the search and isn't the base
-pub searching_next : (lo i : ℕ) (below after : Bool) (gs : List hb_glyph_info_t) → lo ≤ i → Searching lo (i + 1) below gs → stops_search gs i ≡ false → is_base gs i ≡ false → after ≡ is_below gs i || below → Searching lo i after gs
+pub searching_next : (lo i : ℕ) (below after : Bool) (gs : List hb_glyph_info_t) → lo ≤ i → Searching lo (i + 1) below gs → stops_search gs i ≡ false → is_base gs i ≡ false → after ≡ has_below_form gs i || below → Searching lo i after gs
 searching_next lo i below after gs l s going not_base is =
     let inside : i < length gs = omega (arith, s.within) in
     record {
@@ -33,7 +33,7 @@ searching_next lo i below after gs l s going not_base is =
       within = omega arith;
       still_open = sym (ap (λ b. cond b (Some i) (greatest_place (stops_search gs) lo i)) going) ∙ sym (greatest_last (stops_search gs) lo i l) ∙ s.still_open;
       no_base = greatest_first (is_base gs) i (length gs) inside ∙ ap (λ o. option_or o (cond (is_base gs i) (Some i) None)) s.no_base ∙ ap (λ b. cond b (Some i) None) not_base;
-      below_seen = is ∙ ap (λ b. is_below gs i || b) s.below_seen ∙ sym (some_first (is_below gs) i (length gs) inside);
+      below_seen = is ∙ ap (λ b. has_below_form gs i || b) s.below_seen ∙ sym (some_first (has_below_form gs) i (length gs) inside);
     }
 
 -- one that stops it
@@ -67,17 +67,17 @@ none_found lo below gs s =
 pub passes_there : (test : hb_glyph_info_t → Bool) (gs : List hb_glyph_info_t) (i : ℕ) (d : hb_glyph_info_t) → i < length gs → passes test gs i ≡ test (get_or gs i d)
 passes_there test gs i d l = ap (λ o. option_map_or test o false) (slice_get-get_or gs i d l)
 
-pub below_there : (gs : List hb_glyph_info_t) (i : ℕ) (d : hb_glyph_info_t) → i < length gs → is_below gs i ≡ is_base_candidate (get_or gs i d) && has_position 8 (get_or gs i d)
+pub below_there : (gs : List hb_glyph_info_t) (i : ℕ) (d : hb_glyph_info_t) → i < length gs → has_below_form gs i ≡ is_base_candidate (get_or gs i d) && has_position 8 (get_or gs i d)
 below_there gs i d l =
     ap (λ a. a && passes (has_position 8) gs i) (passes_there is_base_candidate gs i d l)
     ∙ ap (λ b. is_base_candidate (get_or gs i d) && b) (passes_there (has_position 8) gs i d l)
 
-pub base_there : (gs : List hb_glyph_info_t) (i : ℕ) (below : Bool) (d : hb_glyph_info_t) → i < length gs → below ≡ some_place (is_below gs) (i + 1) (length gs) → is_base gs i ≡ is_base_candidate (get_or gs i d) && not (is_base_candidate (get_or gs i d) && has_position 8 (get_or gs i d)) && (not (has_position 11 (get_or gs i d)) || below)
+pub base_there : (gs : List hb_glyph_info_t) (i : ℕ) (below : Bool) (d : hb_glyph_info_t) → i < length gs → below ≡ some_place (has_below_form gs) (i + 1) (length gs) → is_base gs i ≡ is_base_candidate (get_or gs i d) && not (is_base_candidate (get_or gs i d) && has_position 8 (get_or gs i d)) && (not (has_position 11 (get_or gs i d)) || below)
 base_there gs i below d l seen =
     let g = get_or gs i d in
-    ap (λ a. a && not (is_below gs i) && (not (passes (has_position 11) gs i) || some_place (is_below gs) (i + 1) (length gs))) (passes_there is_base_candidate gs i d l)
-    ∙ ap (λ b. is_base_candidate g && not b && (not (passes (has_position 11) gs i) || some_place (is_below gs) (i + 1) (length gs))) (below_there gs i d l)
-    ∙ ap (λ b. is_base_candidate g && not (is_base_candidate g && has_position 8 g) && (not b || some_place (is_below gs) (i + 1) (length gs))) (passes_there (has_position 11) gs i d l)
+    ap (λ a. a && not (has_below_form gs i) && (not (passes (has_position 11) gs i) || some_place (has_below_form gs) (i + 1) (length gs))) (passes_there is_base_candidate gs i d l)
+    ∙ ap (λ b. is_base_candidate g && not b && (not (passes (has_position 11) gs i) || some_place (has_below_form gs) (i + 1) (length gs))) (below_there gs i d l)
+    ∙ ap (λ b. is_base_candidate g && not (is_base_candidate g && has_position 8 g) && (not b || some_place (has_below_form gs) (i + 1) (length gs))) (passes_there (has_position 11) gs i d l)
     ∙ ap (λ b. is_base_candidate g && not (is_base_candidate g && has_position 8 g) && (not (has_position 11 g) || b)) (sym seen)
 
 -- where the search ends, one place more, back

@@ -103,8 +103,8 @@ leads f base p h o own = all_true (λ q. nat_lt q base || nat_le p q) (cycle f p
 ])
 
 -- what is still to be merged, of n places from a on
-abbrev pub left_from : List ℕ → ℕ → ℕ → ℕ → List (ℕ × ℕ)
-left_from f base a n = map (cycle_stretch f base) (filter (leads_cycle f base) (range_with_len a n))
+abbrev pub merges_left_from : List ℕ → ℕ → ℕ → ℕ → List (ℕ × ℕ)
+merges_left_from f base a n = map (cycle_stretch f base) (filter (leads_cycle f base) (range_with_len a n))
 
 -- one place alone merges with nothing
 merge_one : (level : BufferClusterLevel) (s e : ℕ) (gs : List hb_glyph_info_t) → e ≡ suc s → merge level s e gs ≡ gs
@@ -133,19 +133,19 @@ pub record Gone (f g : List ℕ) (base r : ℕ) : Type 0 where
   pub alone : cycle g r ≡ r ∷ []
   pub behind : base ≤ r
 
-left_yes : (level : BufferClusterLevel) (s : ℕ) (f : List ℕ) (base a n : ℕ) (gs : List hb_glyph_info_t) → leads_cycle f base a ≡ true → merge_all level (shifted s (left_from f base a (suc n))) gs ≡ merge_all level (shifted s (left_from f base (a + 1) n)) (merge level (s + (cycle_stretch f base a).0) (s + (cycle_stretch f base a).1) gs)
+left_yes : (level : BufferClusterLevel) (s : ℕ) (f : List ℕ) (base a n : ℕ) (gs : List hb_glyph_info_t) → leads_cycle f base a ≡ true → merge_all level (shifted s (merges_left_from f base a (suc n))) gs ≡ merge_all level (shifted s (merges_left_from f base (a + 1) n)) (merge level (s + (cycle_stretch f base a).0) (s + (cycle_stretch f base a).1) gs)
 left_yes level s f base a n gs e = let rest = filter (leads_cycle f base) (range_with_len (a + 1) n) in ap (λ b. merge_all level (shifted s (map (cycle_stretch f base) (cond b (a ∷ rest) rest))) gs) e
 
-left_no : (level : BufferClusterLevel) (s : ℕ) (f : List ℕ) (base a n : ℕ) (gs : List hb_glyph_info_t) → leads_cycle f base a ≡ false → merge_all level (shifted s (left_from f base a (suc n))) gs ≡ merge_all level (shifted s (left_from f base (a + 1) n)) gs
+left_no : (level : BufferClusterLevel) (s : ℕ) (f : List ℕ) (base a n : ℕ) (gs : List hb_glyph_info_t) → leads_cycle f base a ≡ false → merge_all level (shifted s (merges_left_from f base a (suc n))) gs ≡ merge_all level (shifted s (merges_left_from f base (a + 1) n)) gs
 left_no level s f base a n gs e = let rest = filter (leads_cycle f base) (range_with_len (a + 1) n) in ap (λ b. merge_all level (shifted s (map (cycle_stretch f base) (cond b (a ∷ rest) rest))) gs) e
 
-left_alone : (level : BufferClusterLevel) (s : ℕ) (f : List ℕ) (base a n : ℕ) (gs : List hb_glyph_info_t) → base ≤ a → cycle f a ≡ a ∷ [] → merge_all level (shifted s (left_from f base a (suc n))) gs ≡ merge_all level (shifted s (left_from f base (a + 1) n)) gs
+left_alone : (level : BufferClusterLevel) (s : ℕ) (f : List ℕ) (base a n : ℕ) (gs : List hb_glyph_info_t) → base ≤ a → cycle f a ≡ a ∷ [] → merge_all level (shifted s (merges_left_from f base a (suc n))) gs ≡ merge_all level (shifted s (merges_left_from f base (a + 1) n)) gs
 left_alone level s f base a n gs h e = elim (cases_Bool (leads_cycle f base a)) [
-  | inl t ↦ left_yes level s f base a n gs t ∙ ap (merge_all level (shifted s (left_from f base (a + 1) n))) (alone_merges level s f base a gs h e)
+  | inl t ↦ left_yes level s f base a n gs t ∙ ap (merge_all level (shifted s (merges_left_from f base (a + 1) n))) (alone_merges level s f base a gs h e)
   | inr t ↦ left_no level s f base a n gs t
 ]
 
-left_alike : (level : BufferClusterLevel) (s : ℕ) (f g : List ℕ) (base a n : ℕ) (gs : List hb_glyph_info_t) → ((r : ℕ) → a ≤ r → r < a + n → Same f g base r ⊎ Gone f g base r) → merge_all level (shifted s (left_from f base a n)) gs ≡ merge_all level (shifted s (left_from g base a n)) gs
+left_alike : (level : BufferClusterLevel) (s : ℕ) (f g : List ℕ) (base a n : ℕ) (gs : List hb_glyph_info_t) → ((r : ℕ) → a ≤ r → r < a + n → Same f g base r ⊎ Gone f g base r) → merge_all level (shifted s (merges_left_from f base a n)) gs ≡ merge_all level (shifted s (merges_left_from g base a n)) gs
 left_alike level s f g base a zero gs each = refl
 left_alike level s f g base a (suc n) gs each =
     let later = λ (r : ℕ) (h : a + 1 ≤ r) (l : r < a + 1 + n). each r (omega arith) (omega arith) in
@@ -153,7 +153,7 @@ left_alike level s f g base a (suc n) gs each =
       | inl same ↦ elim (cases_Bool (leads_cycle f base a)) [
         | inl t ↦
             left_yes level s f base a n gs t
-            ∙ ap (λ st. merge_all level (shifted s (left_from f base (a + 1) n)) (merge level (s + st.0) (s + st.1) gs)) same.stretch
+            ∙ ap (λ st. merge_all level (shifted s (merges_left_from f base (a + 1) n)) (merge level (s + st.0) (s + st.1) gs)) same.stretch
             ∙ left_alike level s f g base (a + 1) n (merge level (s + (cycle_stretch g base a).0) (s + (cycle_stretch g base a).1) gs) later
             ∙ sym (left_yes level s g base a n gs (sym same.led ∙ t))
         | inr t ↦ left_no level s f base a n gs t ∙ left_alike level s f g base (a + 1) n gs later ∙ sym (left_no level s g base a n gs (sym same.led ∙ t))
@@ -162,10 +162,10 @@ left_alike level s f g base a (suc n) gs each =
     ]
 
 -- a place that stays
-pub left_staying : (level : BufferClusterLevel) (s : ℕ) (f : List ℕ) (base p n : ℕ) (gs : List hb_glyph_info_t) → base ≤ p → p < n → get_or f p 0 ≡ p → merge_all level (shifted s (left_from f base p (n - p))) gs ≡ merge_all level (shifted s (left_from f base (p + 1) (n - (p + 1)))) gs
+pub left_staying : (level : BufferClusterLevel) (s : ℕ) (f : List ℕ) (base p n : ℕ) (gs : List hb_glyph_info_t) → base ≤ p → p < n → get_or f p 0 ≡ p → merge_all level (shifted s (merges_left_from f base p (n - p))) gs ≡ merge_all level (shifted s (merges_left_from f base (p + 1) (n - (p + 1)))) gs
 left_staying level s f base p n gs h l e =
     let m : n - p ≡ suc (n - (p + 1)) = omega arith in
-    ap (λ k. merge_all level (shifted s (left_from f base p k)) gs) m ∙ left_alone level s f base p (n - (p + 1)) gs h (own_cycle f p e)
+    ap (λ k. merge_all level (shifted s (merges_left_from f base p k)) gs) m ∙ left_alone level s f base p (n - (p + 1)) gs h (own_cycle f p e)
 
 -- a place whose cycle merges and is spent
 alike_behind : (f : List ℕ) (base p r : ℕ) → base ≤ p → p < r → r < length f → EachOnce f → Same f (with_spent f (cycle f p)) base r ⊎ Gone f (with_spent f (cycle f p)) base r
@@ -179,10 +179,10 @@ alike_behind f base p r h k l o =
           inl (record { led = ap (list_all (λ q. nat_lt q base || nat_le r q)) same; stretch = ap (λ ys. (max base (fold min r ys), suc (fold max r ys))) same })
     ]
 
-pub left_spent : (level : BufferClusterLevel) (s : ℕ) (f : List ℕ) (base p : ℕ) (gs : List hb_glyph_info_t) → base ≤ p → p < length f → EachOnce f → ((x : ℕ) → base ≤ x → x < p → get_or f x 0 ≡ x) → merge_all level (shifted s (left_from f base p (length f - p))) gs ≡ merge_all level (shifted s (left_from (with_spent f (cycle f p)) base (p + 1) (length f - (p + 1)))) (merge level (s + (cycle_stretch f base p).0) (s + (cycle_stretch f base p).1) gs)
+pub left_spent : (level : BufferClusterLevel) (s : ℕ) (f : List ℕ) (base p : ℕ) (gs : List hb_glyph_info_t) → base ≤ p → p < length f → EachOnce f → ((x : ℕ) → base ≤ x → x < p → get_or f x 0 ≡ x) → merge_all level (shifted s (merges_left_from f base p (length f - p))) gs ≡ merge_all level (shifted s (merges_left_from (with_spent f (cycle f p)) base (p + 1) (length f - (p + 1)))) (merge level (s + (cycle_stretch f base p).0) (s + (cycle_stretch f base p).1) gs)
 left_spent level s f base p gs h l o own =
     let m : length f - p ≡ suc (length f - (p + 1)) = omega arith in
-    ap (λ k. merge_all level (shifted s (left_from f base p k)) gs) m
+    ap (λ k. merge_all level (shifted s (merges_left_from f base p k)) gs) m
     ∙ left_yes level s f base p (length f - (p + 1)) gs (leads f base p l o own)
     ∙ left_alike level s f (with_spent f (cycle f p)) base (p + 1) (length f - (p + 1)) (merge level (s + (cycle_stretch f base p).0) (s + (cycle_stretch f base p).1) gs)
     (λ r a b. alike_behind f base p r h (omega arith) (omega arith) o)

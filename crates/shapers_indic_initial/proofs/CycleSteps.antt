@@ -18,7 +18,7 @@ use Rattle.shapers_buffer.specs.Places.{ListsEachOnce, listed, place_at, with_pl
 use Rattle.shapers_buffer.proofs.PlaceLaws.{places_are_written}
 use Rattle.shapers_indic_initial.specs.CycleWalk.{EachOnce, places_from, with_spent}
 use Rattle.shapers_indic_initial.specs.InitialOrder.{cycle, cycle_stretch, cycle_stretches, stretches_by, way_to}
-use Rattle.shapers_indic_initial.proofs.CycleMerges.{left_from, left_spent, left_staying, once-spent, own_next, stretch_bounds}
+use Rattle.shapers_indic_initial.proofs.CycleMerges.{merges_left_from, left_spent, left_staying, once-spent, own_next, stretch_bounds}
 use Rattle.shapers_indic_initial.proofs.Cycles.{once-swap, swap_at, turned_first, turned_other, turned_second, way_at, way_next, way_spent}
 
 -- the placement list from s to e: how long it is, what it says, what a write makes of it
@@ -147,18 +147,18 @@ pub record Passed (f : List ℕ) (p : ℕ) (now : List ℕ) (least greatest : �
   pub least_is : least ≡ fold min p (cycle f p)
   pub greatest_is : greatest ≡ fold max p (cycle f p)
 
-passed : (f : List ℕ) (p : ℕ) (now : List ℕ) (q m least greatest : ℕ) → way_to (set now p q) p m q ≡ [] → Passing f p now q m least greatest → Passed f p now least greatest
-passed f p now q m least greatest none w = record {
+cycle_passed : (f : List ℕ) (p : ℕ) (now : List ℕ) (q m least greatest : ℕ) → way_to (set now p q) p m q ≡ [] → Passing f p now q m least greatest → Passed f p now least greatest
+cycle_passed f p now q m least greatest none w = record {
   spent = sym (ap (with_spent now) none) ∙ w.spent;
   least_is = sym (ap (fold min least) none) ∙ w.least_left;
   greatest_is = sym (ap (fold max greatest) none) ∙ w.greatest_left;
 }
 
 pub passed_back : (f : List ℕ) (p : ℕ) (now : List ℕ) (q m least greatest : ℕ) → q ≡ p → Passing f p now q m least greatest → Passed f p now least greatest
-passed_back f p now q m least greatest e w = passed f p now q m least greatest (way_at (set now p q) p m q e) w
+passed_back f p now q m least greatest e w = cycle_passed f p now q m least greatest (way_at (set now p q) p m q e) w
 
 pub passed_all : (f : List ℕ) (p : ℕ) (now : List ℕ) (q m least greatest : ℕ) → m ≡ 0 → Passing f p now q m least greatest → Passed f p now least greatest
-passed_all f p now q m least greatest e w = passed f p now q m least greatest (ap (λ k. way_to (set now p q) p k q) e) w
+passed_all f p now q m least greatest e w = cycle_passed f p now q m least greatest (ap (λ k. way_to (set now p q) p k q) e) w
 
 -- the same walk, its parts named otherwise
 pub passing_as : (f : List ℕ) (p : ℕ) (now now_1 : List ℕ) (q q_1 m m_1 least least_1 greatest greatest_1 : ℕ) → now_1 ≡ now → q_1 ≡ q → m_1 ≡ m → least_1 ≡ least → greatest_1 ≡ greatest → Passing f p now q m least greatest → Passing f p now_1 q_1 m_1 least_1 greatest_1
@@ -178,7 +178,7 @@ pub record Merging (s e base p : ℕ) (b0 b : Buffer) : Type 0 where
   pub long : length b.glyphs ≡ length b0.glyphs
   pub once : EachOnce (places_from s e b.places)
   pub own : (x : ℕ) → base ≤ x → x < p → get_or (places_from s e b.places) x 0 ≡ x
-  pub left : merge_all b0.level (shifted s (left_from (places_from s e b.places) base p (e - s - p))) b.glyphs ≡ merge_all b0.level (shifted s (cycle_stretches (places_from s e b0.places) base)) b0.glyphs
+  pub left : merge_all b0.level (shifted s (merges_left_from (places_from s e b.places) base p (e - s - p))) b.glyphs ≡ merge_all b0.level (shifted s (cycle_stretches (places_from s e b0.places) base)) b0.glyphs
 
 pub merging_start : (s e base : ℕ) (b : Buffer) → EachOnce (places_from s e b.places) → Merging s e base base b b
 merging_start s e base b o =
@@ -187,7 +187,7 @@ merging_start s e base b o =
       long = refl;
       once = o;
       own = λ x low high. absurd (omega arith);
-      left = ap (λ k. merge_all b.level (shifted s (left_from (places_from s e b.places) base base (k - base))) b.glyphs) (sym n);
+      left = ap (λ k. merge_all b.level (shifted s (merges_left_from (places_from s e b.places) base base (k - base))) b.glyphs) (sym n);
     }
 
 pub merging_stays : (s e base p : ℕ) (b0 b : Buffer) → base ≤ p → p < e - s → get_or (places_from s e b.places) p 0 ≡ p → Merging s e base p b0 b → Merging s e base (p + 1) b0 b
@@ -230,18 +230,18 @@ merging_next s e base p b0 b b1 b2 least greatest i r h l is0 is1 spent low high
       once = subst EachOnce (sym places2) (once-spent f p inside w.once);
       own = λ x a b. (ap (λ ps. get_or ps x 0) places2 ∙ own_next f base p inside w.once w.own x a b);
       left =
-          ap (merge_all b0.level (shifted s (left_from (places_from s e b2.places) base (p + 1) (e - s - (p + 1))))) merged_is
-          ∙ ap (λ ps. merge_all b0.level (shifted s (left_from ps base (p + 1) (e - s - (p + 1)))) (merge b0.level (s + (cycle_stretch f base p).0) (s + (cycle_stretch f base p).1) b.glyphs)) places2
-          ∙ ap (λ k. merge_all b0.level (shifted s (left_from g base (p + 1) (k - (p + 1)))) (merge b0.level (s + (cycle_stretch f base p).0) (s + (cycle_stretch f base p).1) b.glyphs)) (sym n)
+          ap (merge_all b0.level (shifted s (merges_left_from (places_from s e b2.places) base (p + 1) (e - s - (p + 1))))) merged_is
+          ∙ ap (λ ps. merge_all b0.level (shifted s (merges_left_from ps base (p + 1) (e - s - (p + 1)))) (merge b0.level (s + (cycle_stretch f base p).0) (s + (cycle_stretch f base p).1) b.glyphs)) places2
+          ∙ ap (λ k. merge_all b0.level (shifted s (merges_left_from g base (p + 1) (k - (p + 1)))) (merge b0.level (s + (cycle_stretch f base p).0) (s + (cycle_stretch f base p).1) b.glyphs)) (sym n)
           ∙ sym step
-          ∙ ap (λ k. merge_all b0.level (shifted s (left_from f base p (k - p))) b.glyphs) n
+          ∙ ap (λ k. merge_all b0.level (shifted s (merges_left_from f base p (k - p))) b.glyphs) n
           ∙ w.left;
     }
 
 pub merging_end : (s e base p : ℕ) (b0 b : Buffer) → e - s ≤ p → Merging s e base p b0 b → b.glyphs ≡ merge_all b0.level (shifted s (cycle_stretches (places_from s e b0.places) base)) b0.glyphs
 merging_end s e base p b0 b h w =
     let none : e - s - p ≡ 0 = omega arith in
-    sym (ap (λ k. merge_all b0.level (shifted s (left_from (places_from s e b.places) base p k)) b.glyphs) none) ∙ w.left
+    sym (ap (λ k. merge_all b0.level (shifted s (merges_left_from (places_from s e b.places) base p k)) b.glyphs) none) ∙ w.left
 
 -- a placement list that has each place once
 pub once_range : (n : ℕ) → EachOnce (range_with_len 0 n)
@@ -270,9 +270,9 @@ pub record Reach (s e base least greatest : ℕ) : Type 0 where
   pub ordered : max base least ≤ greatest + 1
   pub inside : s + greatest + 1 ≤ e
 
-pub reach : (s e base p : ℕ) (b0 b : Buffer) (least greatest : ℕ) → s ≤ e → base ≤ p → p < e - s → Merging s e base p b0 b
+pub cycle_reach : (s e base p : ℕ) (b0 b : Buffer) (least greatest : ℕ) → s ≤ e → base ≤ p → p < e - s → Merging s e base p b0 b
     → least ≡ fold min p (cycle (places_from s e b.places) p) → greatest ≡ fold max p (cycle (places_from s e b.places) p) → Reach s e base least greatest
-reach s e base p b0 b least greatest k h l w low high =
+cycle_reach s e base p b0 b least greatest k h l w low high =
     let f = places_from s e b.places in
     let n = length-places_from s e b.places in
     let d = stretch_bounds f base p (omega (arith, n)) w.once in

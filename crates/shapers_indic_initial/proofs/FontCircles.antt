@@ -19,7 +19,7 @@ use Rattle.shapers_indic_initial.specs.InitialFont.{all_by_virama, by_virama, co
 use Rattle.shapers_indic_initial.specs.InitialPause.{InitiallyReordered, initial_circles, order_by_font, steps_by_font, with_positions_and_circles}
 use Rattle.shapers_indic_initial.specs.InitialLaws.{InitialCutsBetweenSpans, InitiallyAsPause}
 use Rattle.shapers_indic_initial.specs.InitialReordering.{initial_order, initial_steps}
-use Rattle.shapers_indic_initial.specs.InitialRules.{rules_of}
+use Rattle.shapers_indic_initial.specs.InitialRules.{initial_rules}
 use Rattle.shapers_indic_initial.proofs.FontPositions.{by_virama-syllable, font_positions-carried, font_positions-viewed, laws_by_font, length-font_positions}
 use Rattle.shapers_indic_initial.proofs.InitialSerialsStay.{order_by_font_reads_no_serials}
 use Rattle.shapers_syllabic.specs.declared.ot_shaper_syllabic.circles.DottedCircles.{DottedCircles}
@@ -113,16 +113,16 @@ pieces_after first steps long (x ∷ ps) =
 
 -- The pause by syllables and that of the whole text: what they make of a text, and where their steps lead.
 record SamePause (font : Font) (m : Map) (p : indic_shape_plan_t) (old : Buffer) : Type 0 where
-  pub order : text_order (initial_order (rules_of font m p) old.script) (order_view (with_positions_and_circles font m p old).glyphs) ≡ text_order (order_by_font font m p old.script) (order_view (circled (initial_circles font old) old.glyphs))
+  pub order : text_order (initial_order (initial_rules font m p) old.script) (order_view (with_positions_and_circles font m p old).glyphs) ≡ text_order (order_by_font font m p old.script) (order_view (circled (initial_circles font old) old.glyphs))
   pub moved :
-      map carried (run_steps old.level (text_steps (initial_steps (rules_of font m p) old.script) (order_view (with_positions_and_circles font m p old).glyphs)) (with_positions_and_circles font m p old).glyphs)
+      map carried (run_steps old.level (text_steps (initial_steps (initial_rules font m p) old.script) (order_view (with_positions_and_circles font m p old).glyphs)) (with_positions_and_circles font m p old).glyphs)
       ≡ map carried (run_steps old.level (text_steps (steps_by_font font m p old.script) (order_view (circled (initial_circles font old) old.glyphs))) (circled (initial_circles font old) old.glyphs))
 
 same_pause : (font : Font) (m : Map) (p : indic_shape_plan_t) (old : Buffer) → SamePause font m p old
 same_pause font m p old =
     let A = positions_by_font font m p in
     let v = virama_glyph font p in
-    let r = rules_of font m p in
+    let r = initial_rules font m p in
     let I = initial_order r old.script in
     let S = initial_steps r old.script in
     let c = initial_circles font old in
@@ -151,9 +151,9 @@ pub paused_by_font : (font : Font) (m : Map) (p : indic_shape_plan_t) (old new :
 paused_by_font font m p old new done = let same = same_pause font m p old in record { others = done.others; order = done.order ∙ same.order; moved = done.moved ∙ same.moved }
 
 -- the text gets its circles, positions by the font, and then its order
-pub reordered_behind_circles : (font : Font) (m : Map) (p q : indic_shape_plan_t) (b0 b1 b2 new : Buffer) → q ≡ p → b1 ≡ (let b : Buffer = record b0 { glyphs = circled (initial_circles font b0) b0.glyphs } in b) → b2 ≡ (let b : Buffer = record b1 { glyphs = positions_by_font font m p b1.glyphs } in b) → SyllablesReordered (initial_order (rules_of font m q) b2.script) (initial_steps (rules_of font m q) b2.script) b2 new → InitiallyReordered font m p b0 new
+pub reordered_behind_circles : (font : Font) (m : Map) (p q : indic_shape_plan_t) (b0 b1 b2 new : Buffer) → q ≡ p → b1 ≡ (let b : Buffer = record b0 { glyphs = circled (initial_circles font b0) b0.glyphs } in b) → b2 ≡ (let b : Buffer = record b1 { glyphs = positions_by_font font m p b1.glyphs } in b) → SyllablesReordered (initial_order (initial_rules font m q) b2.script) (initial_steps (initial_rules font m q) b2.script) b2 new → InitiallyReordered font m p b0 new
 reordered_behind_circles font m p q b0 b1 b2 new same opened placed done =
-    let Done : indic_shape_plan_t → Buffer → Type 0 = λ d b. SyllablesReordered (initial_order (rules_of font m d) b.script) (initial_steps (rules_of font m d) b.script) b new in
+    let Done : indic_shape_plan_t → Buffer → Type 0 = λ d b. SyllablesReordered (initial_order (initial_rules font m d) b.script) (initial_steps (initial_rules font m d) b.script) b new in
     let behind : b2 ≡ with_positions_and_circles font m p b0 =
     placed
     ∙ ap (λ (x : Buffer). (let b : Buffer = record x { glyphs = positions_by_font font m p x.glyphs } in b)) opened

@@ -19,7 +19,7 @@ use Rattle.shapers_clusters.specs.Flags.{seen}
 use Rattle.shapers_clusters.proofs.Picks.{pick-all}
 use Rattle.shapers_indic_initial.specs.InitialLaws.{OrderByFontLaws}
 use Rattle.shapers_indic_initial.specs.InitialReordering.{initial_order, initial_steps}
-use Rattle.shapers_indic_initial.specs.InitialRules.{rules_of}
+use Rattle.shapers_indic_initial.specs.InitialRules.{initial_rules}
 use Rattle.shapers_indic_initial.proofs.InitialLaws.{initial_laws}
 use Rattle.shapers_syllabic.specs.Reordering.{carried}
 use Rattle.shapers_syllabic.specs.ReorderingLaws.{ReorderLaws}
@@ -121,8 +121,8 @@ font_laws font m p v = record {
   agrees = λ gs. font_positions-seen font m p v gs ∙ sym (pick-all (length gs) (seen carried gs) (length-map gs (λ g. plain (carried g))));
 }
 
-pub laws_by_font : (font : Font) (m : Map) (p : indic_shape_plan_t) (v : Option GlyphId) (script : Option Script) → ReorderLaws (λ gs. initial_order (rules_of font m p) script (all_by_virama font m p v gs)) (λ gs. initial_steps (rules_of font m p) script (all_by_virama font m p v gs))
-laws_by_font font m p v script = laws_then (all_by_virama font m p v) (initial_order (rules_of font m p) script) (λ _. []) (initial_steps (rules_of font m p) script) (font_laws font m p v) (initial_laws (rules_of font m p) script)
+pub laws_by_font : (font : Font) (m : Map) (p : indic_shape_plan_t) (v : Option GlyphId) (script : Option Script) → ReorderLaws (λ gs. initial_order (initial_rules font m p) script (all_by_virama font m p v gs)) (λ gs. initial_steps (initial_rules font m p) script (all_by_virama font m p v gs))
+laws_by_font font m p v script = laws_then (all_by_virama font m p v) (initial_order (initial_rules font m p) script) (λ _. []) (initial_steps (initial_rules font m p) script) (font_laws font m p v) (initial_laws (initial_rules font m p) script)
 
 pub order_by_font_laws : OrderByFontLaws
 order_by_font_laws font m p script = laws_by_font font m p (virama_glyph font p) script

@@ -3,7 +3,7 @@ use Rattle.std.specs.Prelude.{◌≡◌, ℕ, true, false, List, [], ◌∷◌, 
 use Rattle.shapers_buffer.specs.declared.buffer.glyph.hb_glyph_info_t.{hb_glyph_info_t}
 use Rattle.shapers_indic.proofs.RowWords.{C, H, ZWNJ, ZWJ, M, Repha, Ra, of, plainly, script}
 use Rattle.shapers_indic_initial.proofs.InitialWords.{rules, no_masks, each_mask, ligated_at, with_reph_of}
-use Rattle.shapers_indic_initial.specs.InitialBase.{base_place, has_reph, joiner_comes_first, limit, reph_len, search_from, search_start}
+use Rattle.shapers_indic_initial.specs.InitialBase.{base_place, has_indic_reph, joiner_comes_first, limit, indic_reph_len, search_from, search_start}
 use Rattle.shapers_indic_initial.specs.InitialRules.{Rules}
 
 -- the joiner of Kannada: Ra, H, ZWJ in front, none of them a ligature
@@ -23,24 +23,24 @@ other_scripts = refl
 abbrev implicit : Rules
 implicit = with_reph_of (0 ∷ 1 ∷ []) (rules "Deva" false each_mask)
 
-implicit_rephs : map (reph_len implicit) (plainly (Ra ∷ H ∷ C ∷ []) ∷ plainly (C ∷ C ∷ M ∷ C ∷ []) ∷ plainly (Ra ∷ H ∷ ZWJ ∷ []) ∷ plainly (Ra ∷ H ∷ ZWNJ ∷ []) ∷ ligated_at 2 (plainly (Ra ∷ H ∷ ZWJ ∷ [])) ∷ plainly (Ra ∷ H ∷ []) ∷ plainly (Repha ∷ []) ∷ [] ∷ []) ≡ 2 ∷ 2 ∷ 0 ∷ 0 ∷ 2 ∷ 0 ∷ 0 ∷ 0 ∷ []
+implicit_rephs : map (indic_reph_len implicit) (plainly (Ra ∷ H ∷ C ∷ []) ∷ plainly (C ∷ C ∷ M ∷ C ∷ []) ∷ plainly (Ra ∷ H ∷ ZWJ ∷ []) ∷ plainly (Ra ∷ H ∷ ZWNJ ∷ []) ∷ ligated_at 2 (plainly (Ra ∷ H ∷ ZWJ ∷ [])) ∷ plainly (Ra ∷ H ∷ []) ∷ plainly (Repha ∷ []) ∷ [] ∷ []) ≡ 2 ∷ 2 ∷ 0 ∷ 0 ∷ 2 ∷ 0 ∷ 0 ∷ 0 ∷ []
 implicit_rephs = refl
 
-no_mask : reph_len (with_reph_of (0 ∷ 1 ∷ []) (rules "Deva" false no_masks)) (plainly (Ra ∷ H ∷ C ∷ [])) ≡ 0
+no_mask : indic_reph_len (with_reph_of (0 ∷ 1 ∷ []) (rules "Deva" false no_masks)) (plainly (Ra ∷ H ∷ C ∷ [])) ≡ 0
 no_mask = refl
 
-not_formed : reph_len (with_reph_of (1 ∷ 0 ∷ []) (rules "Deva" false each_mask)) (plainly (Ra ∷ H ∷ C ∷ [])) ∷ reph_len (with_reph_of (0 ∷ 1 ∷ 2 ∷ []) (rules "Deva" false each_mask)) (plainly (Ra ∷ H ∷ C ∷ [])) ∷ [] ≡ 0 ∷ 0 ∷ []
+not_formed : indic_reph_len (with_reph_of (1 ∷ 0 ∷ []) (rules "Deva" false each_mask)) (plainly (Ra ∷ H ∷ C ∷ [])) ∷ indic_reph_len (with_reph_of (0 ∷ 1 ∷ 2 ∷ []) (rules "Deva" false each_mask)) (plainly (Ra ∷ H ∷ C ∷ [])) ∷ [] ≡ 0 ∷ 0 ∷ []
 not_formed = refl
 
 -- written as Ra, H, ZWJ: the ZWJ is there, be it a ligature, and the font forms it of two or of three
-explicit_rephs : map (λ ids. reph_len (with_reph_of ids (rules "Telu" false each_mask)) (plainly (Ra ∷ H ∷ ZWJ ∷ C ∷ []))) ((0 ∷ 1 ∷ []) ∷ (0 ∷ 1 ∷ 2 ∷ []) ∷ (1 ∷ 2 ∷ []) ∷ []) ≡ 2 ∷ 2 ∷ 0 ∷ []
+explicit_rephs : map (λ ids. indic_reph_len (with_reph_of ids (rules "Telu" false each_mask)) (plainly (Ra ∷ H ∷ ZWJ ∷ C ∷ []))) ((0 ∷ 1 ∷ []) ∷ (0 ∷ 1 ∷ 2 ∷ []) ∷ (1 ∷ 2 ∷ []) ∷ []) ≡ 2 ∷ 2 ∷ 0 ∷ []
 explicit_rephs = refl
 
-explicit_thirds : map (reph_len (with_reph_of (0 ∷ 1 ∷ []) (rules "Sinh" false each_mask))) (plainly (Ra ∷ H ∷ C ∷ []) ∷ plainly (Ra ∷ H ∷ ZWNJ ∷ []) ∷ ligated_at 2 (plainly (Ra ∷ H ∷ ZWJ ∷ [])) ∷ plainly (Ra ∷ H ∷ []) ∷ []) ≡ 0 ∷ 0 ∷ 2 ∷ 0 ∷ []
+explicit_thirds : map (indic_reph_len (with_reph_of (0 ∷ 1 ∷ []) (rules "Sinh" false each_mask))) (plainly (Ra ∷ H ∷ C ∷ []) ∷ plainly (Ra ∷ H ∷ ZWNJ ∷ []) ∷ ligated_at 2 (plainly (Ra ∷ H ∷ ZWJ ∷ [])) ∷ plainly (Ra ∷ H ∷ []) ∷ []) ≡ 0 ∷ 0 ∷ 2 ∷ 0 ∷ []
 explicit_thirds = refl
 
 -- a character of its own, whatever the font says
-rephas : map (reph_len (with_reph_of (0 ∷ 1 ∷ []) (rules "Mlym" false each_mask))) (plainly (Repha ∷ C ∷ []) ∷ plainly (Repha ∷ []) ∷ plainly (Ra ∷ H ∷ C ∷ []) ∷ plainly (C ∷ Repha ∷ []) ∷ [] ∷ plainly (Repha ∷ C ∷ M ∷ []) ∷ ligated_at 0 (plainly (Repha ∷ C ∷ [])) ∷ []) ≡ 1 ∷ 1 ∷ 0 ∷ 0 ∷ 0 ∷ 1 ∷ 1 ∷ []
+rephas : map (indic_reph_len (with_reph_of (0 ∷ 1 ∷ []) (rules "Mlym" false each_mask))) (plainly (Repha ∷ C ∷ []) ∷ plainly (Repha ∷ []) ∷ plainly (Ra ∷ H ∷ C ∷ []) ∷ plainly (C ∷ Repha ∷ []) ∷ [] ∷ plainly (Repha ∷ C ∷ M ∷ []) ∷ ligated_at 0 (plainly (Repha ∷ C ∷ [])) ∷ []) ≡ 1 ∷ 1 ∷ 0 ∷ 0 ∷ 0 ∷ 1 ∷ 1 ∷ []
 rephas = refl
 
 -- the limit: behind the reph and the joiners after it
@@ -89,8 +89,8 @@ behind_zwj = refl
 rephs : map (λ gs. base_place implicit gs) (plainly (Ra ∷ H ∷ C ∷ []) ∷ plainly (Ra ∷ H ∷ M ∷ []) ∷ of ((Ra, 4) ∷ (H, 4) ∷ (C, 8) ∷ []) ∷ []) ≡ 2 ∷ 0 ∷ 2 ∷ []
 rephs = refl
 
-with_reph : map (has_reph implicit) (plainly (Ra ∷ H ∷ C ∷ []) ∷ plainly (Ra ∷ H ∷ M ∷ []) ∷ plainly (C ∷ []) ∷ []) ≡ true ∷ false ∷ false ∷ []
+with_reph : map (has_indic_reph implicit) (plainly (Ra ∷ H ∷ C ∷ []) ∷ plainly (Ra ∷ H ∷ M ∷ []) ∷ plainly (C ∷ []) ∷ []) ≡ true ∷ false ∷ false ∷ []
 with_reph = refl
 
-forced : has_reph (with_reph_of (0 ∷ 1 ∷ []) (rules "Telu" false each_mask)) (plainly (Ra ∷ H ∷ ZWJ ∷ M ∷ [])) ∷ has_reph (rules "Mlym" false no_masks) (plainly (Repha ∷ [])) ∷ has_reph (rules "Mlym" false no_masks) (plainly (Repha ∷ ZWJ ∷ M ∷ [])) ∷ has_reph (rules "Mlym" false no_masks) (plainly (Repha ∷ ZWJ ∷ ZWJ ∷ M ∷ [])) ∷ has_reph (rules "Mlym" false no_masks) (plainly (Repha ∷ C ∷ [])) ∷ [] ≡ true ∷ false ∷ false ∷ true ∷ true ∷ []
+forced : has_indic_reph (with_reph_of (0 ∷ 1 ∷ []) (rules "Telu" false each_mask)) (plainly (Ra ∷ H ∷ ZWJ ∷ M ∷ [])) ∷ has_indic_reph (rules "Mlym" false no_masks) (plainly (Repha ∷ [])) ∷ has_indic_reph (rules "Mlym" false no_masks) (plainly (Repha ∷ ZWJ ∷ M ∷ [])) ∷ has_indic_reph (rules "Mlym" false no_masks) (plainly (Repha ∷ ZWJ ∷ ZWJ ∷ M ∷ [])) ∷ has_indic_reph (rules "Mlym" false no_masks) (plainly (Repha ∷ C ∷ [])) ∷ [] ≡ true ∷ false ∷ false ∷ true ∷ true ∷ []
 forced = refl

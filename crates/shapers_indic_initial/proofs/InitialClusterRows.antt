@@ -6,7 +6,7 @@ use Rattle.shapers_clusters.specs.Steps.{joined_step}
 use Rattle.shapers_indic.proofs.RowWords.{C, M, of}
 use Rattle.shapers_indic_initial.proofs.InitialWords.{no_masks, rules}
 use Rattle.shapers_indic_initial.specs.InitialClusters.{all_ways, kept_together}
-use Rattle.shapers_indic_initial.specs.InitialReordering.{order_step}
+use Rattle.shapers_indic_initial.specs.InitialReordering.{indic_order_step}
 use Rattle.shapers_syllabic.specs.Reordering.{glyphs_before}
 
 -- each place with the old place of what stands there: from the start, and from a base behind it
@@ -27,10 +27,10 @@ kept_longer : kept_together (rules "Deva" false no_masks) (range_with_len 0 300)
 kept_longer = refl
 
 -- clusters after the order: B M(9) M(6) and B M(9) M(6) M(8), and with a left matra and one that moves before it
-joined_clusters : joined_step MonotoneGraphemes (order_step (rules "Deva" false no_masks) (of ((C, 4) ∷ (M, 9) ∷ (M, 6) ∷ []))) (0 ∷ 1 ∷ 2 ∷ [])
-    ∷ joined_step MonotoneCharacters (order_step (rules "Deva" false no_masks) (of ((C, 4) ∷ (M, 9) ∷ (M, 6) ∷ (M, 8) ∷ []))) (0 ∷ 1 ∷ 2 ∷ 3 ∷ [])
-    ∷ joined_step MonotoneGraphemes (order_step (rules "Deva" false no_masks) (of ((C, 4) ∷ (M, 2) ∷ (M, 9) ∷ (M, 6) ∷ []))) (0 ∷ 1 ∷ 2 ∷ 3 ∷ [])
-    ∷ joined_step Characters (order_step (rules "Deva" false no_masks) (of ((C, 4) ∷ (M, 9) ∷ (M, 6) ∷ []))) (0 ∷ 1 ∷ 2 ∷ []) ∷ []
+joined_clusters : joined_step MonotoneGraphemes (indic_order_step (rules "Deva" false no_masks) (of ((C, 4) ∷ (M, 9) ∷ (M, 6) ∷ []))) (0 ∷ 1 ∷ 2 ∷ [])
+    ∷ joined_step MonotoneCharacters (indic_order_step (rules "Deva" false no_masks) (of ((C, 4) ∷ (M, 9) ∷ (M, 6) ∷ (M, 8) ∷ []))) (0 ∷ 1 ∷ 2 ∷ 3 ∷ [])
+    ∷ joined_step MonotoneGraphemes (indic_order_step (rules "Deva" false no_masks) (of ((C, 4) ∷ (M, 2) ∷ (M, 9) ∷ (M, 6) ∷ []))) (0 ∷ 1 ∷ 2 ∷ 3 ∷ [])
+    ∷ joined_step Characters (indic_order_step (rules "Deva" false no_masks) (of ((C, 4) ∷ (M, 9) ∷ (M, 6) ∷ []))) (0 ∷ 1 ∷ 2 ∷ []) ∷ []
     ≡ (0 ∷ 1 ∷ 1 ∷ []) ∷ (0 ∷ 1 ∷ 1 ∷ 1 ∷ []) ∷ (1 ∷ 0 ∷ 2 ∷ 2 ∷ []) ∷ (0 ∷ 2 ∷ 1 ∷ []) ∷ []
 joined_clusters = refl
 

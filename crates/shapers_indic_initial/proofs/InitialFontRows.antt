@@ -9,7 +9,7 @@ use Rattle.shapers_base.specs.declared.font.GlyphId.{GlyphId}
 use Rattle.shapers_base.specs.declared.map.feature_map_t.{feature_map_t}
 use Rattle.shapers_base.specs.Font.{Font}
 use Rattle.shapers_base.specs.Map.{Map}
-use Rattle.shapers_indic.proofs.RowWords.{positions_of, script}
+use Rattle.shapers_indic.proofs.RowWords.{row_positions, script}
 use Rattle.shapers_buffer.specs.Glyph.{default_glyph}
 use Rattle.shapers_indic_initial.specs.InitialFont.{positions_by_font}
 use Rattle.shapers_indic.specs.Glyphs.{number}
@@ -43,7 +43,7 @@ abbrev glyphs : ℕ → List hb_glyph_info_t
 glyphs p = map (λ i. let g : hb_glyph_info_t = record default_glyph { glyph_id = i; auxiliary = p } in g) (range_with_len 1 11)
 
 -- below by blwf or vatu, in either order of virama and consonant; else post-base by pstf or pref; else as it was
-by_font : positions_of (positions_by_font (font_with virama_alone applies) (small None) (indic_plan (script "Deva") (small None)) (glyphs 4)) ≡ 8 ∷ 8 ∷ 8 ∷ 8 ∷ 11 ∷ 11 ∷ 11 ∷ 11 ∷ 8 ∷ 4 ∷ 4 ∷ []
+by_font : row_positions (positions_by_font (font_with virama_alone applies) (small None) (indic_plan (script "Deva") (small None)) (glyphs 4)) ≡ 8 ∷ 8 ∷ 8 ∷ 8 ∷ 11 ∷ 11 ∷ 11 ∷ 11 ∷ 8 ∷ 4 ∷ 4 ∷ []
 by_font = refl
 
 -- other positions than BASE_C stay
@@ -64,7 +64,7 @@ with_context lookup ids zero = if zero then false else applies lookup ids zero
 old_contexts : positions_by_font (font_with virama_alone with_context) (small None) (indic_plan (script "Deva") (small None)) (glyphs 4) ≡ glyphs 4
 old_contexts = refl
 
-new_contexts : positions_of (positions_by_font (font_with virama_alone with_context) (small (Some (record { 0 = codes "dev2" }))) (indic_plan (script "Deva") (small (Some (record { 0 = codes "dev2" })))) (glyphs 4)) ≡ 8 ∷ 8 ∷ 8 ∷ 8 ∷ 11 ∷ 11 ∷ 11 ∷ 11 ∷ 8 ∷ 4 ∷ 4 ∷ []
+new_contexts : row_positions (positions_by_font (font_with virama_alone with_context) (small (Some (record { 0 = codes "dev2" }))) (indic_plan (script "Deva") (small (Some (record { 0 = codes "dev2" })))) (glyphs 4)) ≡ 8 ∷ 8 ∷ 8 ∷ 8 ∷ 11 ∷ 11 ∷ 11 ∷ 11 ∷ 8 ∷ 4 ∷ 4 ∷ []
 new_contexts = refl
 
 -- a font is asked about the low 16 bits of a glyph's number

@@ -8,10 +8,10 @@ use Rattle.shapers_buffer.specs.Glyph.{default_glyph}
 use Rattle.shapers_base.specs.declared.font.GlyphId.{GlyphId}
 use Rattle.shapers_base.specs.Font.{Font}
 use Rattle.shapers_base.specs.Map.{Map}
-use Rattle.shapers_indic.proofs.RowWords.{C, M, Repha, script, numbers_of, positions_of}
+use Rattle.shapers_indic.proofs.RowWords.{C, M, Repha, script, numbers_of, row_positions}
 use Rattle.shapers_indic_initial.specs.InitialPause.{initial_refusal, with_positions_and_circles}
 use Rattle.shapers_indic_initial.specs.InitialReordering.{initial_order}
-use Rattle.shapers_indic_initial.specs.InitialRules.{rules_of}
+use Rattle.shapers_indic_initial.specs.InitialRules.{initial_rules}
 use Rattle.shapers_indic.specs.Plan.{indic_plan}
 use Rattle.shapers_syllabic.specs.Reordering.{text_order}
 
@@ -42,14 +42,14 @@ prepared gs = (with_positions_and_circles font empty_map (indic_plan (script "De
 circles : numbers_of (prepared sixteen) ≡ 500 ∷ range_with_len 0 15 ++ 500 ∷ 15 ∷ []
 circles = refl
 
-circle_positions : positions_of (prepared (one 0 0x14 Repha 3 ∷ one 1 0x14 M 2 ∷ [])) ∷ numbers_of (prepared (one 0 0x14 Repha 3 ∷ one 1 0x14 M 2 ∷ [])) ∷ [] ≡ (3 ∷ 14 ∷ 2 ∷ []) ∷ (0 ∷ 500 ∷ 1 ∷ []) ∷ []
+circle_positions : row_positions (prepared (one 0 0x14 Repha 3 ∷ one 1 0x14 M 2 ∷ [])) ∷ numbers_of (prepared (one 0 0x14 Repha 3 ∷ one 1 0x14 M 2 ∷ [])) ∷ [] ≡ (3 ∷ 14 ∷ 2 ∷ []) ∷ (0 ∷ 500 ∷ 1 ∷ []) ∷ []
 circle_positions = refl
 
 -- the order of a text: a left matra goes before the circle, which is the base, and not into the syllable before it
 abbrev ordered : List hb_glyph_info_t → List hb_glyph_info_t
-ordered gs = text_order (initial_order (rules_of font empty_map (indic_plan (script "Deva") empty_map)) (script "Deva")) (prepared gs)
+ordered gs = text_order (initial_order (initial_rules font empty_map (indic_plan (script "Deva") empty_map)) (script "Deva")) (prepared gs)
 
-text_by_syllables : numbers_of (ordered (one 0 0x10 C 4 ∷ one 1 0x10 M 2 ∷ one 2 0x24 M 2 ∷ one 3 0x33 M 2 ∷ [])) ∷ positions_of (ordered (one 0 0x10 C 4 ∷ one 1 0x10 M 2 ∷ one 2 0x24 M 2 ∷ one 3 0x33 M 2 ∷ [])) ∷ [] ≡ (1 ∷ 0 ∷ 2 ∷ 500 ∷ 3 ∷ []) ∷ (2 ∷ 4 ∷ 2 ∷ 4 ∷ 2 ∷ []) ∷ []
+text_by_syllables : numbers_of (ordered (one 0 0x10 C 4 ∷ one 1 0x10 M 2 ∷ one 2 0x24 M 2 ∷ one 3 0x33 M 2 ∷ [])) ∷ row_positions (ordered (one 0 0x10 C 4 ∷ one 1 0x10 M 2 ∷ one 2 0x24 M 2 ∷ one 3 0x33 M 2 ∷ [])) ∷ [] ≡ (1 ∷ 0 ∷ 2 ∷ 500 ∷ 3 ∷ []) ∷ (2 ∷ 4 ∷ 2 ∷ 4 ∷ 2 ∷ []) ∷ []
 text_by_syllables = refl
 
 -- no circle without a broken syllable, or where the caller forbids it

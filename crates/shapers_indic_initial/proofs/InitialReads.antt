@@ -17,7 +17,7 @@ use Rattle.shapers_base.specs.declared.plan.ot_position_t.TheConstants.{POS_BELO
 use Rattle.shapers_indic.specs.declared.ot_shaper_indic.indic_feature.TheConstants.{RPHF}
 use Rattle.shapers_indic.specs.Glyphs.{greatest_place, has_category, has_position, is_joiner, is_one_of, least_place, numbers, passes, some_place}
 use Rattle.shapers_indic.specs.Plan.{is_script}
-use Rattle.shapers_indic_initial.specs.InitialBase.{base_from, base_place, font_decides_reph, has_reph, is_base, is_base_candidate, is_below, joiner_comes_first, limit, limit_behind, may_be_base, opens_with_repha, reph_is_formed, reph_len, search_from, search_start, stops_search, third_lets_reph}
+use Rattle.shapers_indic_initial.specs.InitialBase.{base_from, base_place, font_decides_reph, has_indic_reph, is_base, is_base_candidate, has_below_form, joiner_comes_first, limit, limit_behind, may_be_base, opens_with_repha, reph_is_formed, indic_reph_len, search_from, search_start, stops_search, third_lets_reph}
 use Rattle.shapers_indic_initial.specs.InitialPositions.{is_passed_by_halant}
 use Rattle.shapers_indic_initial.specs.InitialRules.{Rules, mask_at}
 use Rattle.shapers_syllabic.specs.Consonants.{consonants, is_consonant}
@@ -112,7 +112,7 @@ repha_stays f k Explicit gs = refl
 decides_stays : (f : hb_glyph_info_t → hb_glyph_info_t) → KeepsRead f → (r : Rules) (gs : List hb_glyph_info_t) → font_decides_reph r (map f gs) ≡ font_decides_reph r gs
 decides_stays f k r gs = ap (λ b. not (mask_at r RPHF == 0) && b) (third_stays f k r.config.reph_mode gs)
 
-reph_len_stays : (f : hb_glyph_info_t → hb_glyph_info_t) → KeepsRead f → (r : Rules) (gs : List hb_glyph_info_t) → reph_len r (map f gs) ≡ reph_len r gs
+reph_len_stays : (f : hb_glyph_info_t → hb_glyph_info_t) → KeepsRead f → (r : Rules) (gs : List hb_glyph_info_t) → indic_reph_len r (map f gs) ≡ indic_reph_len r gs
 reph_len_stays f k r gs =
     same_three (λ (d e o : Bool). if d then (if e then 2 else 0) else if o then 1 else 0) (decides_stays f k r gs) (formed_stays f k r.config.reph_mode r.forms_reph gs) (repha_stays f k r.config.reph_mode gs)
 
@@ -120,7 +120,7 @@ limit_behind_stays : (f : hb_glyph_info_t → hb_glyph_info_t) → KeepsRead f �
 limit_behind_stays f k n gs = ap (λ j. if n == 0 then 0 else n + j) (ap (prefix_len is_joiner) (drop-map f n gs) ∙ prefix_stays f is_joiner (joiner_stays f k) (drop n gs))
 
 limit_stays : (f : hb_glyph_info_t → hb_glyph_info_t) → KeepsRead f → (r : Rules) (gs : List hb_glyph_info_t) → limit r (map f gs) ≡ limit r gs
-limit_stays f k r gs = limit_behind_stays f k (reph_len r (map f gs)) gs ∙ ap (λ n. limit_behind n gs) (reph_len_stays f k r gs)
+limit_stays f k r gs = limit_behind_stays f k (indic_reph_len r (map f gs)) gs ∙ ap (λ n. limit_behind n gs) (reph_len_stays f k r gs)
 
 -- the base
 may_stays : (f : hb_glyph_info_t → hb_glyph_info_t) → KeepsRead f → (gs : List hb_glyph_info_t) → may_be_base (map f gs) ≡ may_be_base gs
@@ -136,7 +136,7 @@ search_start_stays : (f : hb_glyph_info_t → hb_glyph_info_t) → KeepsRead f �
 search_start_stays f k r gs =
     search_from_stays f k (min (limit r (map f gs)) (length (map f gs) - 1)) gs ∙ same_two (λ l n. search_from (min l (n - 1)) gs) (limit_stays f k r gs) (length-map gs f)
 
-below_stays : (f : hb_glyph_info_t → hb_glyph_info_t) → KeepsRead f → (gs : List hb_glyph_info_t) → is_below (map f gs) ≡ is_below gs
+below_stays : (f : hb_glyph_info_t → hb_glyph_info_t) → KeepsRead f → (gs : List hb_glyph_info_t) → has_below_form (map f gs) ≡ has_below_form gs
 below_stays f k gs = same_two (λ (a b : ℕ → Bool). λ i. a i && b i) (may_stays f k gs) (passes_stays f (has_position POS_BELOW_C) (position_stays f k POS_BELOW_C) gs)
 
 is_base_stays : (f : hb_glyph_info_t → hb_glyph_info_t) → KeepsRead f → (gs : List hb_glyph_info_t) → is_base (map f gs) ≡ is_base gs
@@ -150,8 +150,8 @@ base_from_stays f k start otherwise gs =
 pub base_stays : (f : hb_glyph_info_t → hb_glyph_info_t) → KeepsRead f → (r : Rules) (gs : List hb_glyph_info_t) → base_place r (map f gs) ≡ base_place r gs
 base_stays f k r gs =
     let us = map f gs in
-    base_from_stays f k (search_start r us) (if reph_len r us == 0 then length us else 0) gs
+    base_from_stays f k (search_start r us) (if indic_reph_len r us == 0 then length us else 0) gs
     ∙ same_three (λ s j n. base_from s (if j == 0 then n else 0) gs) (search_start_stays f k r gs) (reph_len_stays f k r gs) (length-map gs f)
 
-pub has_reph_stays : (f : hb_glyph_info_t → hb_glyph_info_t) → KeepsRead f → (r : Rules) (gs : List hb_glyph_info_t) → has_reph r (map f gs) ≡ has_reph r gs
+pub has_reph_stays : (f : hb_glyph_info_t → hb_glyph_info_t) → KeepsRead f → (r : Rules) (gs : List hb_glyph_info_t) → has_indic_reph r (map f gs) ≡ has_indic_reph r gs
 has_reph_stays f k r gs = same_three (λ (j b l : ℕ). not (j == 0) && not (b == 0 && nat_le l 2)) (reph_len_stays f k r gs) (base_stays f k r gs) (limit_stays f k r gs)

@@ -4,10 +4,10 @@ use Rattle.std.specs.List.{range_with_len}
 use Rattle.shapers_buffer.specs.declared.buffer.category.hb_unicode_general_category_t.TheVariants.{Mn}
 use Rattle.shapers_buffer.specs.declared.buffer.glyph.hb_glyph_info_t.{hb_glyph_info_t}
 use Rattle.shapers_buffer.specs.declared.buffer.level.BufferClusterLevel.TheVariants.{MonotoneGraphemes}
-use Rattle.shapers_indic.proofs.RowWords.{C, H, ZWNJ, ZWJ, M, Ra, glyphs_from, of, plainly, script, numbers_of, positions_of, masks_of}
+use Rattle.shapers_indic.proofs.RowWords.{C, H, ZWNJ, ZWJ, M, Ra, glyphs_from, of, plainly, script, numbers_of, row_positions, row_masks}
 use Rattle.shapers_indic_initial.proofs.InitialWords.{rules, no_masks, each_mask, with_reph_of, clusters_after, reordered}
 use Rattle.shapers_indic_initial.specs.InitialClusters.{as_order_begins}
-use Rattle.shapers_indic_initial.specs.InitialReordering.{initial_order, initial_steps, is_reordered}
+use Rattle.shapers_indic_initial.specs.InitialReordering.{initial_order, initial_steps, is_reordered_in_indic}
 
 abbrev half_alone : List ℕ
 half_alone = 0 ∷ 0 ∷ 0 ∷ 0 ∷ 0 ∷ 0 ∷ 0 ∷ 16 ∷ 0 ∷ 0 ∷ 0 ∷ 0 ∷ 0 ∷ 0 ∷ 0 ∷ 0 ∷ 0 ∷ []
@@ -37,10 +37,10 @@ new_halant : reordered (rules "Deva" false no_masks) (script "Deva") (of ((C, 4)
 new_halant = refl
 
 -- a reph of Ra and H: the mask of rphf is on both and on nothing else; Ra H ZWJ is none, whatever the font says
-reph : masks_of (initial_order (with_reph_of (0 ∷ 1 ∷ []) (rules "Deva" false reph_alone)) (script "Deva") (of ((Ra, 4) ∷ (H, 4) ∷ (C, 4) ∷ (M, 9) ∷ []))) ≡ 16 ∷ 16 ∷ 0 ∷ 0 ∷ []
+reph : row_masks (initial_order (with_reph_of (0 ∷ 1 ∷ []) (rules "Deva" false reph_alone)) (script "Deva") (of ((Ra, 4) ∷ (H, 4) ∷ (C, 4) ∷ (M, 9) ∷ []))) ≡ 16 ∷ 16 ∷ 0 ∷ 0 ∷ []
 reph = refl
 
-no_reph : masks_of (initial_order (with_reph_of (0 ∷ 1 ∷ []) (rules "Deva" false reph_alone)) (script "Deva") (plainly (Ra ∷ H ∷ ZWJ ∷ []))) ≡ 0 ∷ 0 ∷ 0 ∷ []
+no_reph : row_masks (initial_order (with_reph_of (0 ∷ 1 ∷ []) (rules "Deva" false reph_alone)) (script "Deva") (plainly (Ra ∷ H ∷ ZWJ ∷ []))) ≡ 0 ∷ 0 ∷ 0 ∷ []
 no_reph = refl
 
 -- Kannada: of an opening Ra H ZWJ the last two merge and change places
@@ -51,7 +51,7 @@ joiner_behind : reordered (rules "Knda" false no_masks) (script "Deva") (plainly
 joiner_behind = refl
 
 -- the kinds that are reordered: a consonant's, a vowel's, a standalone one and a broken one
-kinds : map (λ k. is_reordered (glyphs_from k 0 ((C, 4) ∷ []))) (range_with_len 0 16) ≡ true ∷ true ∷ true ∷ false ∷ true ∷ replicate 11 false
+kinds : map (λ k. is_reordered_in_indic (glyphs_from k 0 ((C, 4) ∷ []))) (range_with_len 0 16) ≡ true ∷ true ∷ true ∷ false ∷ true ∷ replicate 11 false
 kinds = refl
 
 symbols_stay : initial_order (rules "Deva" false each_mask) (script "Deva") (glyphs_from 3 0 ((C, 4) ∷ (M, 2) ∷ [])) ≡ glyphs_from 3 0 ((C, 4) ∷ (M, 2) ∷ [])
@@ -71,7 +71,7 @@ one_glyph : initial_order (rules "Deva" true each_mask) (script "Deva") (of ((C,
 one_glyph = refl
 
 -- a matra alone keeps its position; without a base all stands before it
-one_matra : masks_of (initial_order (rules "Deva" true each_mask) (script "Deva") (of ((M, 2) ∷ []))) ∷ positions_of (initial_order (rules "Deva" true each_mask) (script "Deva") (of ((M, 2) ∷ []))) ∷ [] ≡ (128 ∷ []) ∷ (2 ∷ []) ∷ []
+one_matra : row_masks (initial_order (rules "Deva" true each_mask) (script "Deva") (of ((M, 2) ∷ []))) ∷ row_positions (initial_order (rules "Deva" true each_mask) (script "Deva") (of ((M, 2) ∷ []))) ∷ [] ≡ (128 ∷ []) ∷ (2 ∷ []) ∷ []
 one_matra = refl
 
 -- a glyph keeps all its other fields

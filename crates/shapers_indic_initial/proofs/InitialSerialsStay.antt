@@ -21,16 +21,16 @@ use Rattle.shapers_indic.specs.declared.ot_shaper_indic.indic_feature.TheConstan
 use Rattle.shapers_indic.specs.Glyphs.{has_category, has_position, is_matra, is_one_of, least_place, number, numbers, places}
 use Rattle.shapers_indic_initial.specs.InitialBase.{base_place}
 use Rattle.shapers_indic_initial.specs.InitialMasks.{bits_of, has_eyelash, is_in_eyelash, loses_half, mask_after_base, mask_before_base, opens_eyelash, pref_pair, with_bits_on_pair, with_eyelash_mask, with_initial_masks, with_masks_around, with_pref_mask, with_reph_mask, without_bits, without_half}
-use Rattle.shapers_indic_initial.specs.InitialOrder.{group, group_in_order, last_unit_first, ordered_base, ordered_places, ordered_stretches}
+use Rattle.shapers_indic_initial.specs.InitialOrder.{group, group_in_order, last_unit_first, ordered_base, indic_ordered_places, ordered_stretches}
 use Rattle.shapers_indic_initial.specs.InitialPositions.{with_marks_attached, with_owners_after}
-use Rattle.shapers_indic_initial.specs.InitialReordering.{halant_step, in_order, is_reordered, joiner_step, masked_in_order, order_step, steps_of_reordered, with_base, with_joiner_first, initial_order, initial_steps}
+use Rattle.shapers_indic_initial.specs.InitialReordering.{halant_step, in_indic_order, is_reordered_in_indic, joiner_step, masked_in_order, indic_order_step, steps_of_reordered, with_base_positions, with_joiner_first, initial_order, initial_steps}
 use Rattle.shapers_base.specs.declared.font.GlyphId.{GlyphId}
 use Rattle.shapers_base.specs.declared.plan.indic.indic_shape_plan_t.{indic_shape_plan_t}
 use Rattle.shapers_base.specs.Font.{Font}
 use Rattle.shapers_base.specs.Map.{Map}
 use Rattle.shapers_indic.specs.Plan.{virama_glyph}
 use Rattle.shapers_indic_initial.specs.InitialFont.{all_by_virama, by_virama, consonant_position, positions_by_font}
-use Rattle.shapers_indic_initial.specs.InitialRules.{Rules, mask_at, rules_of}
+use Rattle.shapers_indic_initial.specs.InitialRules.{Rules, mask_at, initial_rules}
 use Rattle.shapers_indic_initial.specs.InitialLaws.{OrderByFontReadsNoSerials}
 use Rattle.shapers_indic_initial.proofs.InitialLaws.{all_three, halant_order, halant_step_of, masked_order}
 use Rattle.shapers_indic_initial.proofs.InitialReads.{KeepsRead, base_stays, joiner_first_stays, numbers_stay, passes_stays, prefix_stays, same_three, same_two}
@@ -77,15 +77,15 @@ halant_step_stays r script base gs = ap (λ (ps : List ℕ). let st : Step = rec
 
 halant_step_of_stays : (r : Rules) (script : Option Script) (gs : List hb_glyph_info_t) → halant_step_of r script (map unnumbered gs) ≡ halant_step_of r script gs
 halant_step_of_stays r script gs =
-    same_two (halant_step r script) (base_stays unnumbered unnumbered_keeps r gs) (with_base_stays unnumbered unnumbered_keeps r gs) ∙ halant_step_stays r script (base_place r gs) (with_base r gs)
+    same_two (halant_step r script) (base_stays unnumbered unnumbered_keeps r gs) (with_base_stays unnumbered unnumbered_keeps r gs) ∙ halant_step_stays r script (base_place r gs) (with_base_positions r gs)
 
 halant_order_stays : (r : Rules) (script : Option Script) (gs : List hb_glyph_info_t) → map unnumbered (halant_order r script gs) ≡ halant_order r script (map unnumbered gs)
 halant_order_stays r script gs =
     let us = map unnumbered gs in
     let ps = (halant_step_of r script gs).places in
-    sym (with_owners_after_stays unnumbered unnumbered_keeps (base_place r gs) (with_marks_attached (pick ps (with_base r gs))))
-    ∙ ap (with_owners_after (base_place r gs)) (sym (with_marks_stays unnumbered unnumbered_keeps (pick ps (with_base r gs))) ∙ ap with_marks_attached (sym (pick-map unnumbered ps (with_base r gs)) ∙ ap (pick ps) (sym (with_base_stays unnumbered unnumbered_keeps r gs))))
-    ∙ same_two (λ base (st : Step). with_owners_after base (with_marks_attached (pick st.places (with_base r us)))) (sym (base_stays unnumbered unnumbered_keeps r gs)) (sym (halant_step_of_stays r script gs))
+    sym (with_owners_after_stays unnumbered unnumbered_keeps (base_place r gs) (with_marks_attached (pick ps (with_base_positions r gs))))
+    ∙ ap (with_owners_after (base_place r gs)) (sym (with_marks_stays unnumbered unnumbered_keeps (pick ps (with_base_positions r gs))) ∙ ap with_marks_attached (sym (pick-map unnumbered ps (with_base_positions r gs)) ∙ ap (pick ps) (sym (with_base_stays unnumbered unnumbered_keeps r gs))))
+    ∙ same_two (λ base (st : Step). with_owners_after base (with_marks_attached (pick st.places (with_base_positions r us)))) (sym (base_stays unnumbered unnumbered_keeps r gs)) (sym (halant_step_of_stays r script gs))
 
 -- the order
 group_stays : (p : ℕ) (gs : List hb_glyph_info_t) → group (map unnumbered gs) p ≡ group gs p
@@ -98,20 +98,20 @@ auxiliaries_stay : (gs : List hb_glyph_info_t) → map (λ g. g.auxiliary) (map 
 auxiliaries_stay [] = refl
 auxiliaries_stay (g ∷ gs) = ap (λ ps. g.auxiliary ∷ ps) (auxiliaries_stay gs)
 
-ordered_places_stay : (gs : List hb_glyph_info_t) → ordered_places (map unnumbered gs) ≡ ordered_places gs
+ordered_places_stay : (gs : List hb_glyph_info_t) → indic_ordered_places (map unnumbered gs) ≡ indic_ordered_places gs
 ordered_places_stay gs =
     same_two (λ (f : ℕ → List ℕ) ps. flat_map f ps) (fun_ext (λ p. in_order_at p gs)) (ap (λ ps. places 0 (suc (fold max 0 ps))) (auxiliaries_stay gs))
 
 ordered_base_stays : (gs : List hb_glyph_info_t) → ordered_base (map unnumbered gs) ≡ ordered_base gs
 ordered_base_stays gs = same_two (λ t n. unwrap_or (least_place t 0 n) n) (passes_stays unnumbered (has_position POS_BASE_C) (λ g. refl) gs) (length-map gs unnumbered)
 
-in_order_stays : (gs : List hb_glyph_info_t) → map unnumbered (in_order gs) ≡ in_order (map unnumbered gs)
-in_order_stays gs = sym (pick-map unnumbered (ordered_places gs) gs) ∙ ap (λ ps. pick ps (map unnumbered gs)) (sym (ordered_places_stay gs))
+in_order_stays : (gs : List hb_glyph_info_t) → map unnumbered (in_indic_order gs) ≡ in_indic_order (map unnumbered gs)
+in_order_stays gs = sym (pick-map unnumbered (indic_ordered_places gs) gs) ∙ ap (λ ps. pick ps (map unnumbered gs)) (sym (ordered_places_stay gs))
 
-order_step_stays : (r : Rules) (gs : List hb_glyph_info_t) → order_step r (map unnumbered gs) ≡ order_step r gs
+order_step_stays : (r : Rules) (gs : List hb_glyph_info_t) → indic_order_step r (map unnumbered gs) ≡ indic_order_step r gs
 order_step_stays r gs =
     same_two (λ (ps : List ℕ) (base : ℕ). let st : Step = record { merged_first = []; places = ps; merged_then = ordered_stretches r ps base } in st) (ordered_places_stay gs)
-    (ap ordered_base (sym (in_order_stays gs)) ∙ ordered_base_stays (in_order gs))
+    (ap ordered_base (sym (in_order_stays gs)) ∙ ordered_base_stays (in_indic_order gs))
 
 -- masks
 
@@ -185,24 +185,24 @@ masks_stay r script base gs =
 
 masked_order_stays : (r : Rules) (script : Option Script) (gs : List hb_glyph_info_t) → map unnumbered (masked_order r script gs) ≡ masked_order r script (map unnumbered gs)
 masked_order_stays r script gs =
-    let xs = in_order gs in
+    let xs = in_indic_order gs in
     masks_stay r script (ordered_base xs) xs
     ∙ ap (λ base. with_initial_masks r script base (map unnumbered xs)) (sym (ordered_base_stays xs))
     ∙ ap (masked_in_order r script) (in_order_stays gs)
 
 -- all steps, and where the syllable is reordered
-kinds_read : (gs : List hb_glyph_info_t) → is_reordered (map unnumbered gs) ≡ is_reordered gs
+kinds_read : (gs : List hb_glyph_info_t) → is_reordered_in_indic (map unnumbered gs) ≡ is_reordered_in_indic gs
 kinds_read [] = refl
 kinds_read (g ∷ gs) = let same : kind_of (kind_of g.syllable) ≡ kind_of g.syllable = omega arith in ap (λ (k : ℕ). list_any (λ kind. kind == k) (CONSONANT_SYLLABLE ∷ VOWEL_SYLLABLE ∷ STANDALONE_CLUSTER ∷ BROKEN_CLUSTER ∷ [])) same
 
 initial_reads_no_serials : (r : Rules) (script : Option Script) → ReadsNoSerials (initial_order r script) (initial_steps r script)
 initial_reads_no_serials r script =
-    reads_where is_reordered (all_three r script) (steps_of_reordered r script) (λ gs hs same. sym (kinds_read gs) ∙ ap is_reordered same ∙ kinds_read hs)
-    (reads_then (with_joiner_first script) (λ gs. masked_order r script (halant_order r script gs)) (λ gs. joiner_step script gs ∷ []) (λ gs. halant_step_of r script gs ∷ (order_step r (halant_order r script gs) ∷ []))
+    reads_where is_reordered_in_indic (all_three r script) (steps_of_reordered r script) (λ gs hs same. sym (kinds_read gs) ∙ ap is_reordered_in_indic same ∙ kinds_read hs)
+    (reads_then (with_joiner_first script) (λ gs. masked_order r script (halant_order r script gs)) (λ gs. joiner_step script gs ∷ []) (λ gs. halant_step_of r script gs ∷ (indic_order_step r (halant_order r script gs) ∷ []))
     (reads_by_view (with_joiner_first script) (λ gs. joiner_step script gs ∷ []) (joiner_moves_stays script) (λ gs. ap (λ (st : Step). st ∷ []) (joiner_step_stays script gs)))
-    (reads_then (halant_order r script) (masked_order r script) (λ gs. halant_step_of r script gs ∷ []) (λ gs. order_step r gs ∷ [])
+    (reads_then (halant_order r script) (masked_order r script) (λ gs. halant_step_of r script gs ∷ []) (λ gs. indic_order_step r gs ∷ [])
     (reads_by_view (halant_order r script) (λ gs. halant_step_of r script gs ∷ []) (halant_order_stays r script) (λ gs. ap (λ (st : Step). st ∷ []) (halant_step_of_stays r script gs)))
-    (reads_by_view (masked_order r script) (λ gs. order_step r gs ∷ []) (masked_order_stays r script) (λ gs. ap (λ (st : Step). st ∷ []) (order_step_stays r gs)))))
+    (reads_by_view (masked_order r script) (λ gs. indic_order_step r gs ∷ []) (masked_order_stays r script) (λ gs. ap (λ (st : Step). st ∷ []) (order_step_stays r gs)))))
 
 -- positions by the font
 if_position : (b : Bool) (p : ℕ) (g : hb_glyph_info_t) → unnumbered (if b then at_position p g else g) ≡ (if b then at_position p (unnumbered g) else unnumbered g)
@@ -225,7 +225,7 @@ by_font_same font m p gs hs same =
 
 pub order_by_font_reads_no_serials : OrderByFontReadsNoSerials
 order_by_font_reads_no_serials font m p script =
-    let reads = initial_reads_no_serials (rules_of font m p) script in
+    let reads = initial_reads_no_serials (initial_rules font m p) script in
     record {
       meant = λ gs hs same. reads.meant (positions_by_font font m p gs) (positions_by_font font m p hs) (by_font_same font m p gs hs same);
       led = λ gs hs same. reads.led (positions_by_font font m p gs) (positions_by_font font m p hs) (by_font_same font m p gs hs same);

@@ -21,9 +21,9 @@ use Rattle.shapers_clusters.proofs.Picks.{within_at}
 use Rattle.shapers_clusters.proofs.Swaps.{still_moves_merged, swap_moves_merged}
 use Rattle.shapers_indic.specs.Glyphs.{greatest_place, has_category, least_place, passes, places}
 use Rattle.shapers_indic_initial.specs.InitialBase.{joiner_comes_first, opens_with_ra_h_zwj}
-use Rattle.shapers_indic_initial.specs.InitialOrder.{cycle, cycle_stretch, cycle_stretches, leads_cycle, ordered_base, ordered_places, ordered_stretches, way_to}
+use Rattle.shapers_indic_initial.specs.InitialOrder.{cycle, cycle_stretch, cycle_stretches, leads_cycle, ordered_base, indic_ordered_places, ordered_stretches, way_to}
 use Rattle.shapers_indic_initial.specs.InitialPositions.{halant_after, halant_from, halant_places, halant_to, is_passed_by_halant, last_after_halant, moved_behind}
-use Rattle.shapers_indic_initial.specs.InitialReordering.{halant_step, in_order, joiner_step, order_step}
+use Rattle.shapers_indic_initial.specs.InitialReordering.{halant_step, in_indic_order, joiner_step, indic_order_step}
 use Rattle.shapers_indic_initial.specs.InitialRules.{Rules}
 use Rattle.shapers_indic_initial.proofs.OrderedPlaces.{ordered_permutes, places_all}
 
@@ -175,5 +175,5 @@ stretches_end r from base n perm =
     ] in
     subst (λ m. EndWithin m (ordered_stretches r from base)) long ends
 
-pub order_fits : (r : Rules) (gs : List hb_glyph_info_t) → FitsStep (length gs) (order_step r gs)
-order_fits r gs = fits_permuted (length gs) (order_step r gs) (ordered_permutes gs) tt (stretches_end r (ordered_places gs) (ordered_base (in_order gs)) (length gs) (ordered_permutes gs))
+pub order_fits : (r : Rules) (gs : List hb_glyph_info_t) → FitsStep (length gs) (indic_order_step r gs)
+order_fits r gs = fits_permuted (length gs) (indic_order_step r gs) (ordered_permutes gs) tt (stretches_end r (indic_ordered_places gs) (ordered_base (in_indic_order gs)) (length gs) (ordered_permutes gs))

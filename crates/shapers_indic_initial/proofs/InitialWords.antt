@@ -9,7 +9,7 @@ use Rattle.shapers_buffer.specs.Glyph.{clusters}
 use Rattle.shapers_base.specs.declared.font.GlyphId.{GlyphId}
 use Rattle.shapers_clusters.specs.Steps.{run_steps}
 use Rattle.shapers_indic.specs.Plan.{config_of}
-use Rattle.shapers_indic.proofs.RowWords.{marked, masks_of, numbers_of, script}
+use Rattle.shapers_indic.proofs.RowWords.{with_row_marks, row_masks, numbers_of, script}
 use Rattle.shapers_indic_initial.specs.InitialReordering.{initial_order, initial_steps}
 use Rattle.shapers_indic_initial.specs.InitialRules.{Rules}
 
@@ -44,9 +44,9 @@ clusters_after r s gs = clusters (run_steps MonotoneGraphemes (initial_steps r s
 -- the glyph at a place put in by a lookup for several
 abbrev pub ligated_at : ℕ → List hb_glyph_info_t → List hb_glyph_info_t
 ligated_at i [] = []
-ligated_at zero (g ∷ gs) = marked 2 g ∷ gs
+ligated_at zero (g ∷ gs) = with_row_marks 2 g ∷ gs
 ligated_at (suc i) (g ∷ gs) = g ∷ ligated_at i gs
 
 -- order, clusters and masks of a syllable after
 abbrev pub reordered : Rules → Option Script → List hb_glyph_info_t → List (List ℕ)
-reordered r s gs = numbers_of (initial_order r s gs) ∷ clusters_after r s gs ∷ masks_of (initial_order r s gs) ∷ []
+reordered r s gs = numbers_of (initial_order r s gs) ∷ clusters_after r s gs ∷ row_masks (initial_order r s gs) ∷ []

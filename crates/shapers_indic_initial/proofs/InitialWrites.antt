@@ -10,9 +10,9 @@ use Rattle.shapers_buffer.specs.Lists.{each_after}
 use Rattle.shapers_base.specs.declared.plan.ot_category_t.TheConstants.{OT_CM, OT_H, OT_M, OT_MPst, OT_N, OT_RS, OT_SM, OT_ZWJ, OT_ZWNJ}
 use Rattle.shapers_base.specs.declared.plan.ot_position_t.TheConstants.{POS_PRE_M, POS_SMVD}
 use Rattle.shapers_indic.specs.Glyphs.{greatest_place, has_category, has_position, is_matra, least_place, places}
-use Rattle.shapers_indic_initial.specs.InitialBase.{base_place, has_reph}
+use Rattle.shapers_indic_initial.specs.InitialBase.{base_place, has_indic_reph}
 use Rattle.shapers_indic_initial.specs.InitialPositions.{attached_to, before_next, bounds, by_base, carries, draws_sign, halant_after, halant_behind, halant_from, halant_places, halant_to, is_attached, is_passed_by_halant, last_after_halant, moved_behind, owned_by, position_by_base, with_attached, with_halants, with_marks_attached, with_owner, with_owners, with_owners_after, with_signs}
-use Rattle.shapers_indic_initial.specs.InitialReordering.{with_base}
+use Rattle.shapers_indic_initial.specs.InitialReordering.{with_base_positions}
 use Rattle.shapers_indic_initial.specs.InitialRules.{Rules}
 use Rattle.shapers_indic_initial.proofs.InitialReads.{KeepsRead, ReadsView, base_stays, category_stays, consonant_stays, has_reph_stays, passed_stays, passes_stays, position_stays, same_three, same_two}
 use Rattle.shapers_syllabic.specs.Consonants.{is_consonant}
@@ -26,8 +26,8 @@ numbered_stays f k base reph n (g ∷ gs) =
 pub by_base_stays : (f : hb_glyph_info_t → hb_glyph_info_t) → KeepsRead f → (base : ℕ) (reph : Bool) (gs : List hb_glyph_info_t) → by_base base reph (map f gs) ≡ map f (by_base base reph gs)
 by_base_stays f k base reph gs = numbered_stays f k base reph 0 gs
 
-pub with_base_stays : (f : hb_glyph_info_t → hb_glyph_info_t) → KeepsRead f → (r : Rules) (gs : List hb_glyph_info_t) → with_base r (map f gs) ≡ map f (with_base r gs)
-with_base_stays f k r gs = same_two (λ b h. by_base b h (map f gs)) (base_stays f k r gs) (has_reph_stays f k r gs) ∙ by_base_stays f k (base_place r gs) (has_reph r gs) gs
+pub with_base_stays : (f : hb_glyph_info_t → hb_glyph_info_t) → KeepsRead f → (r : Rules) (gs : List hb_glyph_info_t) → with_base_positions r (map f gs) ≡ map f (with_base_positions r gs)
+with_base_stays f k r gs = same_two (λ b h. by_base b h (map f gs)) (base_stays f k r gs) (has_reph_stays f k r gs) ∙ by_base_stays f k (base_place r gs) (has_indic_reph r gs) gs
 
 -- the glyph with another position in one case
 if_stays : (f : hb_glyph_info_t → hb_glyph_info_t) → KeepsRead f → (b : Bool) (p : ℕ) (g : hb_glyph_info_t) → (if b then at_position p (f g) else f g) ≡ f (if b then at_position p g else g)

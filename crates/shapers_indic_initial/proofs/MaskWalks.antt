@@ -104,8 +104,8 @@ pair_at gs i d h =
     ∙ ap (λ ys. numbers (take 2 ys)) (drop_more gs i d (omega arith) ∙ ap (λ ys. get_or gs i d ∷ ys) (drop_more gs (i + 1) d h))
 
 -- the walk over an eyelash Ra: masks don't change what it reads
-categories : List hb_glyph_info_t → List ℕ
-categories gs = map (λ g. g.category) gs
+syllable_categories : List hb_glyph_info_t → List ℕ
+syllable_categories gs = map (λ g. g.category) gs
 
 passes_category : (c : ℕ) (gs : List hb_glyph_info_t) (i : ℕ) → passes (has_category c) gs i ≡ option_map_or (λ x. x == c) (slice_get (map (λ g. g.category) gs) i) false
 passes_category c [] zero = refl

@@ -42,8 +42,8 @@ moved_parts a b c x h j la lb =
     ∙ ap (λ ys. a ++ (b ++ (ys ++ drop (j + 1) xs))) three
     ∙ ap (λ ys. a ++ (b ++ x ∷ ys)) four
 
-pub parts_of : {X : Type 0} (d : X) (h j : ℕ) (xs : List X) → h ≤ j → j < length xs → xs ≡ take h xs ++ get_or xs h d ∷ (take (j - h) (drop (h + 1) xs) ++ drop (j - h) (drop (h + 1) xs))
-parts_of d h j xs l k =
+pub cut_at_two : {X : Type 0} (d : X) (h j : ℕ) (xs : List X) → h ≤ j → j < length xs → xs ≡ take h xs ++ get_or xs h d ∷ (take (j - h) (drop (h + 1) xs) ++ drop (j - h) (drop (h + 1) xs))
+cut_at_two d h j xs l k =
     sym (take-append-drop h xs)
     ∙ ap (λ ys. take h xs ++ ys) (drop_more xs h d (omega arith))
     ∙ ap (λ ys. take h xs ++ get_or xs h d ∷ ys) (sym (take-append-drop (j - h) (drop (h + 1) xs)))
@@ -60,7 +60,7 @@ moved_within d s e h j xs l r k m =
     let x = get_or B h d in
     let b = take (j - h) (drop (h + 1) B) in
     let c = drop (j - h) (drop (h + 1) B) in
-    let split : B ≡ a ++ x ∷ (b ++ c) = parts_of d h j B k (omega (arith, lB)) in
+    let split : B ≡ a ++ x ∷ (b ++ c) = cut_at_two d h j B k (omega (arith, lB)) in
     let la : length a ≡ h = length-take-le h B (omega (arith, lB)) in
     let lb : length b ≡ j - h = length-take-le (j - h) (drop (h + 1) B) (omega (arith, lB, length-drop (h + 1) B)) in
     let inner : moved_behind h j B ≡ a ++ (b ++ x ∷ c) = ap (moved_behind h j) split ∙ moved_parts a b c x h j la (omega (arith, lb)) in

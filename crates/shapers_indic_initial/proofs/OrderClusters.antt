@@ -19,8 +19,8 @@ use Rattle.shapers_clusters.proofs.Picks.{length-pick}
 use Rattle.shapers_indic.specs.Glyphs.{places}
 use Rattle.shapers_indic_initial.specs.CycleWalk.{EachOnce}
 use Rattle.shapers_indic_initial.specs.InitialClusters.{OrderMergesLaw, all_ways, kept_together, way_of}
-use Rattle.shapers_indic_initial.specs.InitialOrder.{cycle_stretches, ordered_base, ordered_places, ordered_stretches}
-use Rattle.shapers_indic_initial.specs.InitialReordering.{in_order}
+use Rattle.shapers_indic_initial.specs.InitialOrder.{cycle_stretches, ordered_base, indic_ordered_places, ordered_stretches}
+use Rattle.shapers_indic_initial.specs.InitialReordering.{in_indic_order}
 use Rattle.shapers_indic_initial.specs.InitialRules.{Rules}
 use Rattle.shapers_indic_initial.proofs.CycleSteps.{once_range}
 use Rattle.shapers_indic_initial.proofs.CycleWays.{held_by_ways}
@@ -107,8 +107,8 @@ kept_before base n sts xs js lies different f p b l =
 
 pub order_merges : OrderMergesLaw
 order_merges r level gs cs m long =
-    let from = ordered_places gs in
-    let base = ordered_base (in_order gs) in
+    let from = indic_ordered_places gs in
+    let base = ordered_base (in_indic_order gs) in
     let n = length gs in
     let perm = ordered_permutes gs in
     let o = once_permuted n from perm in

@@ -25,11 +25,11 @@ use Rattle.shapers_base.specs.declared.plan.ot_category_t.TheConstants.{OT_C}
 use Rattle.shapers_base.specs.declared.plan.ot_position_t.TheConstants.{POS_BASE_C}
 use Rattle.shapers_indic.specs.Glyphs.{has_category, has_position, is_plain_consonant}
 use Rattle.shapers_indic.specs.Plan.{is_script}
-use Rattle.shapers_indic_initial.specs.InitialBase.{base_place, has_reph, joiner_comes_first, opens_with_repha, reph_len}
+use Rattle.shapers_indic_initial.specs.InitialBase.{base_place, has_indic_reph, joiner_comes_first, opens_with_repha, indic_reph_len}
 use Rattle.shapers_indic_initial.specs.InitialMasks.{has_eyelash, with_eyelash_mask, with_initial_masks, with_pref_mask}
-use Rattle.shapers_indic_initial.specs.InitialOrder.{ordered_places, ordered_stretches}
+use Rattle.shapers_indic_initial.specs.InitialOrder.{indic_ordered_places, ordered_stretches}
 use Rattle.shapers_indic_initial.specs.InitialPositions.{by_base, halant_places}
-use Rattle.shapers_indic_initial.specs.InitialReordering.{halant_step, in_order, initial_order, initial_steps, is_reordered, joiner_step, masked_in_order, order_step, positioned, steps_of_reordered, with_base, with_halant_moved, with_joiner_first, with_marks_and_owners}
+use Rattle.shapers_indic_initial.specs.InitialReordering.{halant_step, in_indic_order, initial_order, initial_steps, is_reordered_in_indic, joiner_step, masked_in_order, indic_order_step, positioned, steps_of_reordered, with_base_positions, with_halant_moved, with_joiner_first, with_marks_and_owners}
 use Rattle.shapers_indic_initial.specs.InitialRules.{Rules, mask_at}
 
 not_true : (b : Bool) → not b ≡ true → b ≡ false
@@ -48,7 +48,7 @@ no_repha Implicit g = refl
 no_repha Explicit g = refl
 no_repha LogRepha g = refl
 
-no_reph : (r : Rules) (g : hb_glyph_info_t) → reph_len r (plain_consonant g ∷ []) ≡ 0
+no_reph : (r : Rules) (g : hb_glyph_info_t) → indic_reph_len r (plain_consonant g ∷ []) ≡ 0
 no_reph r g =
     let off = no_repha r.config.reph_mode g in
     elim (cases_Bool (mask_at r RPHF == 0)) [ inl none ↦ rw (none, off) refl | inr some ↦ rw (some, off) refl ]
@@ -56,18 +56,18 @@ no_reph r g =
 is_the_base : (r : Rules) (g : hb_glyph_info_t) → is_ligated g.marks ≡ false → base_place r (plain_consonant g ∷ []) ≡ 0
 is_the_base r g m = let none = no_reph r g in rw (none, m) refl
 
-reph_is_none : (r : Rules) (g : hb_glyph_info_t) → has_reph r (plain_consonant g ∷ []) ≡ false
+reph_is_none : (r : Rules) (g : hb_glyph_info_t) → has_indic_reph r (plain_consonant g ∷ []) ≡ false
 reph_is_none r g = let none = no_reph r g in rw none refl
 
 still_halants : (r : Rules) (script : Option Script) (g : hb_glyph_info_t) → halant_places r script 0 (plain_consonant g ∷ []) ≡ 0 ∷ []
 still_halants r script g = elim (cases_Bool r.old) [ inl on ↦ rw on refl | inr off ↦ rw off refl ]
 
-joined : (script : Option Script) (g : hb_glyph_info_t) → with_joiner_first script (plain_consonant g ∷ []) ≡ plain_consonant g ∷ []
-joined script g = let off = no_joiner script g in rw off refl
+consonant_joined : (script : Option Script) (g : hb_glyph_info_t) → with_joiner_first script (plain_consonant g ∷ []) ≡ plain_consonant g ∷ []
+consonant_joined script g = let off = no_joiner script g in rw off refl
 
-based : (r : Rules) (g : hb_glyph_info_t) → is_ligated g.marks ≡ false → with_base r (plain_consonant g ∷ []) ≡ plain_consonant g ∷ []
-based r g m =
-    ap (λ n. by_base n (has_reph r (plain_consonant g ∷ [])) (plain_consonant g ∷ [])) (is_the_base r g m)
+consonant_based : (r : Rules) (g : hb_glyph_info_t) → is_ligated g.marks ≡ false → with_base_positions r (plain_consonant g ∷ []) ≡ plain_consonant g ∷ []
+consonant_based r g m =
+    ap (λ n. by_base n (has_indic_reph r (plain_consonant g ∷ [])) (plain_consonant g ∷ [])) (is_the_base r g m)
     ∙ ap (λ b. by_base 0 b (plain_consonant g ∷ [])) (reph_is_none r g)
 
 unmoved : (r : Rules) (script : Option Script) (g : hb_glyph_info_t) → with_halant_moved r script 0 (plain_consonant g ∷ []) ≡ plain_consonant g ∷ []
@@ -76,15 +76,15 @@ unmoved r script g = let still = still_halants r script g in rw still refl
 marks_stay : (g : hb_glyph_info_t) → with_marks_and_owners 0 (plain_consonant g ∷ []) ≡ plain_consonant g ∷ []
 marks_stay g = refl
 
-places_are : (g : hb_glyph_info_t) → ordered_places (plain_consonant g ∷ []) ≡ 0 ∷ []
+places_are : (g : hb_glyph_info_t) → indic_ordered_places (plain_consonant g ∷ []) ≡ 0 ∷ []
 places_are g = refl
 
 pub plain_positioned : (r : Rules) (script : Option Script) (g : hb_glyph_info_t) → is_ligated g.marks ≡ false → positioned r script (plain_consonant g ∷ []) ≡ plain_consonant g ∷ []
 plain_positioned r script g m =
     let x = plain_consonant g ∷ [] in
-    ap (λ gs. with_marks_and_owners (base_place r gs) (with_halant_moved r script (base_place r gs) (with_base r gs))) (joined script g)
-    ∙ ap (λ n. with_marks_and_owners n (with_halant_moved r script n (with_base r x))) (is_the_base r g m)
-    ∙ ap (λ gs. with_marks_and_owners 0 (with_halant_moved r script 0 gs)) (based r g m)
+    ap (λ gs. with_marks_and_owners (base_place r gs) (with_halant_moved r script (base_place r gs) (with_base_positions r gs))) (consonant_joined script g)
+    ∙ ap (λ n. with_marks_and_owners n (with_halant_moved r script n (with_base_positions r x))) (is_the_base r g m)
+    ∙ ap (λ gs. with_marks_and_owners 0 (with_halant_moved r script 0 gs)) (consonant_based r g m)
     ∙ ap (with_marks_and_owners 0) (unmoved r script g)
     ∙ marks_stay g
 
@@ -101,8 +101,8 @@ masks_stay r script g =
     let pair = no_pair r (plain_consonant g) in
     rw (eyelash, pair) refl
 
-plain_ordered : (r : Rules) (script : Option Script) (g : hb_glyph_info_t) → is_ligated g.marks ≡ false → masked_in_order r script (in_order (positioned r script (plain_consonant g ∷ []))) ≡ plain_consonant g ∷ []
-plain_ordered r script g m = ap (λ gs. masked_in_order r script (in_order gs)) (plain_positioned r script g m) ∙ masks_stay r script g
+plain_ordered : (r : Rules) (script : Option Script) (g : hb_glyph_info_t) → is_ligated g.marks ≡ false → masked_in_order r script (in_indic_order (positioned r script (plain_consonant g ∷ []))) ≡ plain_consonant g ∷ []
+plain_ordered r script g m = ap (λ gs. masked_in_order r script (in_indic_order gs)) (plain_positioned r script g m) ∙ masks_stay r script g
 
 -- steps of one place, which may merge it alone
 abbrev one_place : List (ℕ × ℕ) → Step
@@ -117,23 +117,23 @@ merges_alone r = elim (cases_Bool r.old) [ inl on ↦ rw on refl | inr off ↦ r
 first_step : (script : Option Script) (g : hb_glyph_info_t) → joiner_step script (plain_consonant g ∷ []) ≡ one_place []
 first_step script g = let off = no_joiner script g in rw off refl
 
-second_step : (r : Rules) (script : Option Script) (g : hb_glyph_info_t) → is_ligated g.marks ≡ false → halant_step r script (base_place r (with_joiner_first script (plain_consonant g ∷ []))) (with_base r (with_joiner_first script (plain_consonant g ∷ []))) ≡ one_place []
+second_step : (r : Rules) (script : Option Script) (g : hb_glyph_info_t) → is_ligated g.marks ≡ false → halant_step r script (base_place r (with_joiner_first script (plain_consonant g ∷ []))) (with_base_positions r (with_joiner_first script (plain_consonant g ∷ []))) ≡ one_place []
 second_step r script g m =
     let x = plain_consonant g ∷ [] in
-    ap (λ gs. halant_step r script (base_place r gs) (with_base r gs)) (joined script g)
-    ∙ ap (λ n. halant_step r script n (with_base r x)) (is_the_base r g m)
-    ∙ ap (halant_step r script 0) (based r g m)
+    ap (λ gs. halant_step r script (base_place r gs) (with_base_positions r gs)) (consonant_joined script g)
+    ∙ ap (λ n. halant_step r script n (with_base_positions r x)) (is_the_base r g m)
+    ∙ ap (halant_step r script 0) (consonant_based r g m)
     ∙ ap (λ ps. let step : Step = record { merged_first = []; places = ps; merged_then = [] } in step) (still_halants r script g)
 
-third_step : (r : Rules) (script : Option Script) (g : hb_glyph_info_t) → is_ligated g.marks ≡ false → order_step r (positioned r script (plain_consonant g ∷ [])) ≡ one_place ((0, 1) ∷ [])
-third_step r script g m = ap (order_step r) (plain_positioned r script g m) ∙ ap one_place (merges_alone r)
+third_step : (r : Rules) (script : Option Script) (g : hb_glyph_info_t) → is_ligated g.marks ≡ false → indic_order_step r (positioned r script (plain_consonant g ∷ [])) ≡ one_place ((0, 1) ∷ [])
+third_step r script g m = ap (indic_order_step r) (plain_positioned r script g m) ∙ ap one_place (merges_alone r)
 
 plain_steps_are : (r : Rules) (script : Option Script) (g : hb_glyph_info_t) → is_ligated g.marks ≡ false → steps_of_reordered r script (plain_consonant g ∷ []) ≡ plain_steps
 plain_steps_are r script g m =
     let x = plain_consonant g ∷ [] in
     let opened = with_joiner_first script x in
-    let second = halant_step r script (base_place r opened) (with_base r opened) in
-    let third = order_step r (positioned r script x) in
+    let second = halant_step r script (base_place r opened) (with_base_positions r opened) in
+    let third = indic_order_step r (positioned r script x) in
     ap (λ step. step ∷ (second ∷ (third ∷ []))) (first_step script g)
     ∙ ap (λ step. one_place [] ∷ (step ∷ (third ∷ []))) (second_step r script g m)
     ∙ ap (λ step. one_place [] ∷ (one_place [] ∷ (step ∷ []))) (third_step r script g m)
@@ -172,8 +172,8 @@ plain_syllable r script s e g b h l is m =
     let still : ran plain_steps ≡ b.glyphs = ap (λ k. run_steps b.level (map (widened s k (length b.glyphs)) plain_steps) b.glyphs) end ∙ still_run b.level s b.glyphs (omega arith) in
     record {
       others = refl;
-      order = sym (stretch_stays s e (initial_order r script) v h (ap (initial_order r script) is ∙ (elim (cases_Bool (is_reordered x)) [ inl on ↦ rw on (plain_ordered r script g m) | inr off ↦ rw off refl ]) ∙ sym is));
-      moved = ap (map carried) (sym (ap (λ gs. ran (initial_steps r script gs)) is ∙ (elim (cases_Bool (is_reordered x)) [
+      order = sym (stretch_stays s e (initial_order r script) v h (ap (initial_order r script) is ∙ (elim (cases_Bool (is_reordered_in_indic x)) [ inl on ↦ rw on (plain_ordered r script g m) | inr off ↦ rw off refl ]) ∙ sym is));
+      moved = ap (map carried) (sym (ap (λ gs. ran (initial_steps r script gs)) is ∙ (elim (cases_Bool (is_reordered_in_indic x)) [
         | inl on ↦ rw on (ap ran (plain_steps_are r script g m) ∙ still)
         | inr off ↦ rw off refl
       ])));

@@ -28,9 +28,9 @@ pub by_base_all : (base : ℕ) (reph : Bool) (gs : List hb_glyph_info_t) → wal
 by_base_all base reph gs = by_base_from base reph 0 gs
 
 -- behind the base each glyph keeps its position
-behind_base : (base : ℕ) (reph : Bool) (i : ℕ) (gs : List hb_glyph_info_t) → base < i → walked (base_step base reph) i gs ≡ gs
-behind_base base reph i [] h = refl
-behind_base base reph i (g ∷ gs) h =
+walked_behind_base : (base : ℕ) (reph : Bool) (i : ℕ) (gs : List hb_glyph_info_t) → base < i → walked (base_step base reph) i gs ≡ gs
+walked_behind_base base reph i [] h = refl
+walked_behind_base base reph i (g ∷ gs) h =
     let first : (i == 0) ≡ false = grind (arith, nat_tests) in
     let before : nat_lt i base ≡ false = grind (arith, nat_tests) in
     let here : (i == base) ≡ false = grind (arith, nat_tests) in
@@ -39,14 +39,14 @@ behind_base base reph i (g ∷ gs) h =
     ∙ ap (λ b. if b then 1 else if nat_lt i base then min 3 g.auxiliary else if i == base then 4 else g.auxiliary) (and_false reph)
     ∙ ap (λ b. if b then min 3 g.auxiliary else if i == base then 4 else g.auxiliary) before
     ∙ ap (λ b. if b then 4 else g.auxiliary) here in
-    ap (λ p. at_position p g ∷ walked (base_step base reph) (i + 1) gs) stays ∙ ap (λ xs. g ∷ xs) (behind_base base reph (i + 1) gs (omega arith))
+    ap (λ p. at_position p g ∷ walked (base_step base reph) (i + 1) gs) stays ∙ ap (λ xs. g ∷ xs) (walked_behind_base base reph (i + 1) gs (omega arith))
 
 pub based_all : (base : ℕ) (reph : Bool) (i : ℕ) (gs old : List hb_glyph_info_t) → (i < length gs → base < i) → take i gs ++ walked (base_step base reph) i (drop i gs) ≡ walked (base_step base reph) 0 old → gs ≡ by_base base reph old
 based_all base reph i gs old far same =
     (elim (nat_lt i (length gs)) as (λ b. nat_lt i (length gs) ≡ b → gs ≡ walked (base_step base reph) 0 old) [
       | true ↦ (λ t.
           let inside : i < length gs = grind (arith, nat_tests) in
-          sym (take-append-drop i gs) ∙ sym (ap (λ xs. take i gs ++ xs) (behind_base base reph i (drop i gs) (far inside))) ∙ same)
+          sym (take-append-drop i gs) ∙ sym (ap (λ xs. take i gs ++ xs) (walked_behind_base base reph i (drop i gs) (far inside))) ∙ same)
       | false ↦ (λ t.
           let done : length gs ≤ i = grind (arith, nat_tests) in
           walk_done (base_step base reph) i gs (walked (base_step base reph) 0 old) i done same)
@@ -54,25 +54,25 @@ based_all base reph i gs old far same =
     ∙ by_base_all base reph old
 
 -- by the nearest glyph before that passes a test: the walk carries its position
-abbrev pub nearest : (hb_glyph_info_t → Bool) → ℕ → List hb_glyph_info_t → ℕ
-nearest test d before = option_map_or (λ h. h.auxiliary) (find test (reverse before)) d
+abbrev pub nearest_place : (hb_glyph_info_t → Bool) → ℕ → List hb_glyph_info_t → ℕ
+nearest_place test d before = option_map_or (λ h. h.auxiliary) (find test (reverse before)) d
 
 abbrev pub carry_step : (hb_glyph_info_t → Bool) → (ℕ → hb_glyph_info_t → hb_glyph_info_t) → ℕ → hb_glyph_info_t → ℕ × hb_glyph_info_t
 carry_step test change c g = (cond (test g) g.auxiliary c, change c g)
 
-nearest_next : (test : hb_glyph_info_t → Bool) (d : ℕ) (before : List hb_glyph_info_t) (g : hb_glyph_info_t) → cond (test g) g.auxiliary (nearest test d before) ≡ nearest test d (before ++ g ∷ [])
+nearest_next : (test : hb_glyph_info_t → Bool) (d : ℕ) (before : List hb_glyph_info_t) (g : hb_glyph_info_t) → cond (test g) g.auxiliary (nearest_place test d before) ≡ nearest_place test d (before ++ g ∷ [])
 nearest_next test d before g =
-    (elim (test g) as (λ b. cond b g.auxiliary (nearest test d before) ≡ option_map_or (λ h. h.auxiliary) (cond b (Some g) (find test (reverse before))) d) [
+    (elim (test g) as (λ b. cond b g.auxiliary (nearest_place test d before) ≡ option_map_or (λ h. h.auxiliary) (cond b (Some g) (find test (reverse before))) d) [
       | true ↦ refl
       | false ↦ refl
     ])
     ∙ sym (ap (λ xs. option_map_or (λ h. h.auxiliary) (find test xs) d) (reverse-append before (g ∷ [])))
 
-pub carried_on : (test : hb_glyph_info_t → Bool) (change : ℕ → hb_glyph_info_t → hb_glyph_info_t) (d c : ℕ) (before gs : List hb_glyph_info_t) → c ≡ nearest test d before → walked (carry_step test change) c gs ≡ map (λ t. change (nearest test d t.0) t.1) (each_after before gs)
+pub carried_on : (test : hb_glyph_info_t → Bool) (change : ℕ → hb_glyph_info_t → hb_glyph_info_t) (d c : ℕ) (before gs : List hb_glyph_info_t) → c ≡ nearest_place test d before → walked (carry_step test change) c gs ≡ map (λ t. change (nearest_place test d t.0) t.1) (each_after before gs)
 carried_on test change d c before [] e = refl
 carried_on test change d c before (g ∷ gs) e =
     ap (λ p. change p g ∷ walked (carry_step test change) (cond (test g) g.auxiliary c) gs) e
-    ∙ ap (λ xs. change (nearest test d before) g ∷ xs) (carried_on test change d (cond (test g) g.auxiliary c) (before ++ g ∷ []) gs (ap (cond (test g) g.auxiliary) e ∙ nearest_next test d before g))
+    ∙ ap (λ xs. change (nearest_place test d before) g ∷ xs) (carried_on test change d (cond (test g) g.auxiliary c) (before ++ g ∷ []) gs (ap (cond (test g) g.auxiliary) e ∙ nearest_next test d before g))
 
 abbrev pub attach_step : ℕ → hb_glyph_info_t → ℕ × hb_glyph_info_t
 attach_step = carry_step carries (λ p g. if is_attached g then at_position p g else g)

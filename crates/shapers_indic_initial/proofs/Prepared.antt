@@ -14,9 +14,9 @@ use Rattle.shapers_clusters.specs.Steps.{FitsStep, Step, shifted, still_step, sw
 use Rattle.shapers_clusters.proofs.Merging.{length-merge}
 use Rattle.shapers_clusters.proofs.Picks.{length-pick, pick-all}
 use Rattle.shapers_indic.specs.Glyphs.{places}
-use Rattle.shapers_indic_initial.specs.InitialBase.{base_place, has_reph, joiner_comes_first}
+use Rattle.shapers_indic_initial.specs.InitialBase.{base_place, has_indic_reph, joiner_comes_first}
 use Rattle.shapers_indic_initial.specs.InitialPositions.{by_base, halant_after, halant_from, halant_places, moved_behind, with_marks_attached, with_owners_after}
-use Rattle.shapers_indic_initial.specs.InitialReordering.{halant_step, halant_steps, joiner_step, joiner_steps, opening_steps, positioned, with_base, with_halant_moved, with_joiner_first, with_marks_and_owners}
+use Rattle.shapers_indic_initial.specs.InitialReordering.{halant_step, halant_steps, joiner_step, joiner_steps, opening_steps, positioned, with_base_positions, with_halant_moved, with_joiner_first, with_marks_and_owners}
 use Rattle.shapers_indic_initial.specs.InitialRules.{Rules}
 use Rattle.shapers_indic_initial.proofs.InitialReads.{KeepsRead, base_stays, joiner_first_stays, same_two}
 use Rattle.shapers_indic_initial.proofs.InitialSteps.{halant_fits, joiner_fits, joiner_long}
@@ -181,13 +181,13 @@ halant_done r script base s e a j old new hs h l same on up within there kept mo
     kept moved
 
 -- positions by the base, and by what marks go with
-by_base_changed : (r : Rules) (s e base : ℕ) (reph : Bool) (old new : Buffer) → s ≤ e → base ≡ base_place r (stretch_of s e old.glyphs) → reph ≡ has_reph r (stretch_of s e old.glyphs) → new ≡ (let b : Buffer = record old { glyphs = new.glyphs } in b) → new.glyphs ≡ with_stretch s e (by_base base reph) old.glyphs → SyllableReordered (with_base r) (λ _. []) s e old new
+by_base_changed : (r : Rules) (s e base : ℕ) (reph : Bool) (old new : Buffer) → s ≤ e → base ≡ base_place r (stretch_of s e old.glyphs) → reph ≡ has_indic_reph r (stretch_of s e old.glyphs) → new ≡ (let b : Buffer = record old { glyphs = new.glyphs } in b) → new.glyphs ≡ with_stretch s e (by_base base reph) old.glyphs → SyllableReordered (with_base_positions r) (λ _. []) s e old new
 by_base_changed r s e base reph old new h base_is reph_is is walked =
     let gs = old.glyphs in
     let syl = stretch_of s e gs in
-    syllable_changed (with_base r) (with_base r) s e old new h (ap but_places is)
+    syllable_changed (with_base_positions r) (with_base_positions r) s e old new h (ap but_places is)
     (walked ∙ same_two (λ b c. take s gs ++ (by_base b c syl ++ drop e gs)) base_is reph_is)
-    (hidden-by_base carried carried_hides_positions (base_place r syl) (has_reph r syl) syl)
+    (hidden-by_base carried carried_hides_positions (base_place r syl) (has_indic_reph r syl) syl)
     (sym (with_base_stays plain plain_keeps r syl))
 
 marks_changed : (s e base : ℕ) (old new : Buffer) → s ≤ e → new ≡ (let b : Buffer = record old { glyphs = new.glyphs } in b) → new.glyphs ≡ with_stretch s e (with_marks_and_owners base) old.glyphs → SyllableReordered (with_marks_and_owners base) (λ _. []) s e old new
@@ -205,21 +205,21 @@ halant_keeps_length : (r : Rules) (script : Option Script) (base : ℕ) (gs : Li
 halant_keeps_length r script base gs = let f = halant_fits r script base gs in length-pick (halant_places r script base gs) gs f.within ∙ f.as_many
 
 -- all of it
-pub opened : (r : Rules) (script : Option Script) (s e base : ℕ) (reph : Bool) (b0 b1 b2 b3 b4 : Buffer) → s ≤ e → e ≤ length b0.glyphs
+pub syllable_opened : (r : Rules) (script : Option Script) (s e base : ℕ) (reph : Bool) (b0 b1 b2 b3 b4 : Buffer) → s ≤ e → e ≤ length b0.glyphs
     → length b1.glyphs ≡ length b0.glyphs
     → SyllableReordered (with_joiner_first script) (joiner_steps script) s e b0 b1
-    → base ≡ base_place r (stretch_of s e b1.glyphs) → reph ≡ has_reph r (stretch_of s e b1.glyphs)
+    → base ≡ base_place r (stretch_of s e b1.glyphs) → reph ≡ has_indic_reph r (stretch_of s e b1.glyphs)
     → b2 ≡ (let b : Buffer = record b1 { glyphs = b2.glyphs } in b) → b2.glyphs ≡ with_stretch s e (by_base base reph) b1.glyphs → length b2.glyphs ≡ length b1.glyphs
     → SyllableReordered (with_halant_moved r script base) (halant_steps r script base) s e b2 b3
     → b4 ≡ (let b : Buffer = record b3 { glyphs = b4.glyphs } in b) → b4.glyphs ≡ with_stretch s e (with_marks_and_owners base) b3.glyphs
     → SyllableReordered (positioned r script) (opening_steps r script) s e b0 b4
-opened r script s e base reph b0 b1 b2 b3 b4 h l long1 one base_is reph_is is2 walked2 long2 three is4 walked4 =
+syllable_opened r script s e base reph b0 b1 b2 b3 b4 h l long1 one base_is reph_is is2 walked2 long2 three is4 walked4 =
     let xs = order_view b0.glyphs in
     let X = stretch_of s e xs in
     let kX : length X ≡ e - s = seen_long s e b0.glyphs h l in
     let Y = with_joiner_first script X in
     let kY : length Y ≡ e - s = joiner_keeps_length script X ∙ kX in
-    let Z = with_base r Y in
+    let Z = with_base_positions r Y in
     let kZ : length Z ≡ e - s = length-with_base r Y ∙ kY in
     let front : length (take s xs) ≡ s = length-take-le s xs (omega (arith, length-map b0.glyphs plain)) in
     let parts = changed_parts s e (take s xs) Y (drop e xs) (order_view b1.glyphs) h front kY one.order in
@@ -227,8 +227,8 @@ opened r script s e base reph b0 b1 b2 b3 b4 h l long1 one base_is reph_is is2 w
     let base_eq : base ≡ base_place r Y = base_is ∙ sym (base_stays plain plain_keeps r (stretch_of s e b1.glyphs)) ∙ ap (base_place r) there in
     let two = by_base_changed r s e base reph b1 b2 h base_is reph_is is2 walked2 in
     let four = marks_changed s e base b3 b4 h is4 walked4 in
-    let one_two = syllable_then (with_joiner_first script) (with_base r) (joiner_steps script) (λ _. []) s e b0 b1 b2 h l kY one two in
-    let first : List hb_glyph_info_t → List hb_glyph_info_t = λ gs. with_base r (with_joiner_first script gs) in
+    let one_two = syllable_then (with_joiner_first script) (with_base_positions r) (joiner_steps script) (λ _. []) s e b0 b1 b2 h l kY one two in
+    let first : List hb_glyph_info_t → List hb_glyph_info_t = λ gs. with_base_positions r (with_joiner_first script gs) in
     let one_three = syllable_then first (with_halant_moved r script base) (λ gs. joiner_steps script gs ++ []) (halant_steps r script base) s e b0 b2 b3 h l kZ one_two three in
     let second : List hb_glyph_info_t → List hb_glyph_info_t = λ gs. with_halant_moved r script base (first gs) in
     let steps : List hb_glyph_info_t → List Step = λ gs. (joiner_steps script gs ++ []) ++ halant_steps r script base (first gs) in

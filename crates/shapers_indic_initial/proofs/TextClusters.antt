@@ -23,9 +23,9 @@ use Rattle.shapers_indic_initial.specs.InitialBase.{base_place}
 use Rattle.shapers_indic_initial.specs.InitialClusters.{EachSyllableMerges, InitialClustersLaw, OrderMerges, SyllableMerges, as_order_begins, kept_together}
 use Rattle.shapers_indic_initial.specs.InitialLaws.{InitialTextMerges}
 use Rattle.shapers_indic_initial.specs.InitialPause.{with_positions_and_circles}
-use Rattle.shapers_indic_initial.specs.InitialOrder.{ordered_base, ordered_places, ordered_stretches}
-use Rattle.shapers_indic_initial.specs.InitialReordering.{halant_step, in_order, initial_steps, joiner_step, order_step, positioned, steps_of_reordered, with_base, with_joiner_first}
-use Rattle.shapers_indic_initial.specs.InitialRules.{Rules, rules_of}
+use Rattle.shapers_indic_initial.specs.InitialOrder.{ordered_base, indic_ordered_places, ordered_stretches}
+use Rattle.shapers_indic_initial.specs.InitialReordering.{halant_step, in_indic_order, initial_steps, joiner_step, indic_order_step, positioned, steps_of_reordered, with_base_positions, with_joiner_first}
+use Rattle.shapers_indic_initial.specs.InitialRules.{Rules, initial_rules}
 use Rattle.shapers_indic_initial.proofs.InitialLaws.{halant_laws, halant_order, halant_step_of, initial_laws, initial_text_reordered, joiner_laws, three_laws}
 use Rattle.shapers_indic_initial.proofs.InitialSteps.{length_permuted, order_fits}
 use Rattle.shapers_clusters.proofs.Alone.{apart_own, same_stretch, stretch_own}
@@ -55,21 +55,21 @@ held_in_text s sts st h i a b =
 -- the order step of a syllable in its text
 record OrderInText (r : Rules) (s e : ℕ) (xs : List hb_glyph_info_t) (cs ms : List ℕ) : Type 0 where
   pub same_length : length ms ≡ length cs
-  pub together : AllByRecursion (λ st. OneAlong ms (s + st.0, s + st.1)) (kept_together r (ordered_places xs) (ordered_base (in_order xs)))
-  pub lies : AllByRecursion (λ st. s + st.1 ≤ e) (kept_together r (ordered_places xs) (ordered_base (in_order xs)))
+  pub together : AllByRecursion (λ st. OneAlong ms (s + st.0, s + st.1)) (kept_together r (indic_ordered_places xs) (ordered_base (in_indic_order xs)))
+  pub lies : AllByRecursion (λ st. s + st.1 ≤ e) (kept_together r (indic_ordered_places xs) (ordered_base (in_indic_order xs)))
 
-order_in_text : (r : Rules) (level : BufferClusterLevel) (s e : ℕ) (xs : List hb_glyph_info_t) (cs : List ℕ) → merges level ≡ true → s ≤ e → e ≤ length cs → length xs ≡ e - s → OrderInText r s e xs cs (joined_step level (widened s e (length cs) (order_step r xs)) cs)
+order_in_text : (r : Rules) (level : BufferClusterLevel) (s e : ℕ) (xs : List hb_glyph_info_t) (cs : List ℕ) → merges level ≡ true → s ≤ e → e ≤ length cs → length xs ≡ e - s → OrderInText r s e xs cs (joined_step level (widened s e (length cs) (indic_order_step r xs)) cs)
 order_in_text r level s e xs cs m h l size =
-    let from = ordered_places xs in
-    let base = ordered_base (in_order xs) in
+    let from = indic_ordered_places xs in
+    let base = ordered_base (in_indic_order xs) in
     let perm = ordered_permutes xs in
     let o = once_permuted (length xs) from perm in
     let fl : length from ≡ length xs = length_permuted (length xs) from perm in
     let sts = ordered_stretches r from base in
     let ways = kept_together r from base in
-    let f : FitsStep (e - s) (order_step r xs) = subst (λ k. FitsStep k (order_step r xs)) size (order_fits r xs) in
-    let w = widened s e (length cs) (order_step r xs) in
-    let fits = fits-widened s e (length cs) (order_step r xs) h l f in
+    let f : FitsStep (e - s) (indic_order_step r xs) = subst (λ k. FitsStep k (indic_order_step r xs)) size (order_fits r xs) in
+    let w = widened s e (length cs) (indic_order_step r xs) in
+    let fits = fits-widened s e (length cs) (indic_order_step r xs) h l f in
     let picked = pick w.places cs in
     let pl : length picked ≡ length cs = length-pick w.places cs fits.within ∙ fits.as_many in
     let ends : EndWithin (length picked) (shifted s sts) = subst (λ k. EndWithin k (shifted s sts)) (sym pl) fits.then_within in
@@ -85,13 +85,13 @@ order_in_text r level s e xs cs m h l size =
     }
 
 -- and what comes after it
-syllable_merges : (r : Rules) (level : BufferClusterLevel) (s e : ℕ) (xs : List hb_glyph_info_t) (cs js : List ℕ) → merges level ≡ true → s ≤ e → e ≤ length cs → length xs ≡ e - s → Leaves s e (joined_step level (widened s e (length cs) (order_step r xs)) cs) js →
-    SyllableMerges s e (ordered_base (in_order xs)) (kept_together r (ordered_places xs) (ordered_base (in_order xs))) (ordered_places xs) cs js
+syllable_merges : (r : Rules) (level : BufferClusterLevel) (s e : ℕ) (xs : List hb_glyph_info_t) (cs js : List ℕ) → merges level ≡ true → s ≤ e → e ≤ length cs → length xs ≡ e - s → Leaves s e (joined_step level (widened s e (length cs) (indic_order_step r xs)) cs) js →
+    SyllableMerges s e (ordered_base (in_indic_order xs)) (kept_together r (indic_ordered_places xs) (ordered_base (in_indic_order xs))) (indic_ordered_places xs) cs js
 syllable_merges r level s e xs cs js m h l size left =
-    let from = ordered_places xs in
-    let base = ordered_base (in_order xs) in
+    let from = indic_ordered_places xs in
+    let base = ordered_base (in_indic_order xs) in
     let ways = kept_together r from base in
-    let step = order_step r xs in
+    let step = indic_order_step r xs in
     let ms = joined_step level (widened s e (length cs) step) cs in
     let done = order_in_text r level s e xs cs m h l size in
     let f : FitsStep (e - s) step = subst (λ k. FitsStep k step) size (order_fits r xs) in
@@ -128,8 +128,8 @@ initial_clusters r script level gs cs m long before behind syl cut on =
     let xs = positioned r script syl in
     let opened = with_joiner_first script syl in
     let first = joiner_step script syl in
-    let second = halant_step r script (base_place r opened) (with_base r opened) in
-    let third = order_step r xs in
+    let second = halant_step r script (base_place r opened) (with_base_positions r opened) in
+    let third = indic_order_step r xs in
     let total = glyphs_cut gs before behind syl cut in
     let sum_a : sum_by (λ piece. piece.0) a ≡ s = sum-pieces steps before in
     let sum_b : sum_by (λ piece. piece.0) b ≡ glyphs_before behind = sum-pieces steps behind in
@@ -163,15 +163,15 @@ initial_clusters r script level gs cs m long before behind syl cut on =
     let left : Leaves s e ms js = leaves_elsewhere s e level n later ms ml (omega arith) (along_elsewhere s e n e b (omega arith) (omega arith) (each_piece FitsStep steps laws.fits behind) (inr (omega arith))) in
     let left_too : Leaves s e (joined_step level (widened s e (length c2) third) c2) js = subst (λ z. Leaves s e (joined_step level (widened s e z third) c2) js) (sym c2l) left in
     let result = syllable_merges r level s e xs c2 js m (omega arith) (omega arith) (length-positioned r script syl ∙ size) left_too in
-    let base = ordered_base (in_order xs) in
-    let ways = kept_together r (ordered_places xs) base in
-    subst (λ z. SyllableMerges s e base ways (ordered_places xs) z (joined_steps level (text_steps steps gs) cs)) (sym begins)
-    (subst (λ z. SyllableMerges s e base ways (ordered_places xs) c2 z) (sym ends) result)
+    let base = ordered_base (in_indic_order xs) in
+    let ways = kept_together r (indic_ordered_places xs) base in
+    subst (λ z. SyllableMerges s e base ways (indic_ordered_places xs) z (joined_steps level (text_steps steps gs) cs)) (sym begins)
+    (subst (λ z. SyllableMerges s e base ways (indic_ordered_places xs) c2 z) (sym ends) result)
 
 -- the clusters of a text after the pause
 pub initial_text_merges : InitialTextMerges
 initial_text_merges font m p old new done merging =
-    let r = rules_of font m p in
+    let r = initial_rules font m p in
     let gs = (with_positions_and_circles font m p old).glyphs in
     let text = initial_text_reordered font m p old new done in
     let long : length (clusters gs) ≡ length (order_view gs) = length-map gs (λ g. g.cluster) ∙ sym (length-map gs plain) in

@@ -61,8 +61,8 @@ abbrev pub font_decides_reph : Rules → List hb_glyph_info_t → Bool
 font_decides_reph r gs = not (mask_at r RPHF == 0) && third_lets_reph r.config.reph_mode gs
 
 -- how many glyphs an opening reph has, without joiners behind it; 0 where there is none
-abbrev pub reph_len : Rules → List hb_glyph_info_t → ℕ
-reph_len r gs =
+abbrev pub indic_reph_len : Rules → List hb_glyph_info_t → ℕ
+indic_reph_len r gs =
     if font_decides_reph r gs then
     (if reph_is_formed r.config.reph_mode r.forms_reph gs then 2 else 0)
     else if opens_with_repha r.config.reph_mode gs then 1 else 0
@@ -72,7 +72,7 @@ abbrev pub limit_behind : ℕ → List hb_glyph_info_t → ℕ
 limit_behind n gs = if n == 0 then 0 else n + prefix_len is_joiner (drop n gs)
 
 abbrev pub limit : Rules → List hb_glyph_info_t → ℕ
-limit r gs = limit_behind (reph_len r gs) gs
+limit r gs = limit_behind (indic_reph_len r gs) gs
 
 -- whether a glyph is a consonant that may be the base, and whether the one at place i is
 abbrev pub is_base_candidate : hb_glyph_info_t → Bool
@@ -95,15 +95,16 @@ abbrev pub search_start : Rules → List hb_glyph_info_t → ℕ
 search_start r gs = search_from (min (limit r gs) (length gs - 1)) gs
 
 -- whether the consonant at place i has a below-base form
-abbrev pub is_below : List hb_glyph_info_t → ℕ → Bool
-is_below gs i = may_be_base gs i && passes (has_position POS_BELOW_C) gs i
+abbrev pub has_below_form : List hb_glyph_info_t → ℕ → Bool
+has_below_form gs i = may_be_base gs i && passes (has_position POS_BELOW_C) gs i
 
 -- whether the search may end with the consonant at place i: it has neither a below-base nor a
 -- post-base form; but a post-base form has to follow below-base ones, so it counts as none before
 -- one of those
 abbrev pub is_base : List hb_glyph_info_t → ℕ → Bool
-is_base gs i = may_be_base gs i && not (is_below gs i)
-    && (not (passes (has_position POS_POST_C) gs i) || some_place (is_below gs) (i + 1) (length gs))
+is_base gs i = may_be_base gs i && not (has_below_form gs i)
+    && (not (passes (has_position POS_POST_C) gs i)
+    || some_place (has_below_form gs) (i + 1) (length gs))
 
 -- the last such consonant, else the first one that may be the base
 abbrev pub last_or_first : ℕ → List hb_glyph_info_t → Option ℕ
@@ -116,9 +117,11 @@ abbrev pub base_from : ℕ → ℕ → List hb_glyph_info_t → ℕ
 base_from start otherwise gs = unwrap_or (last_or_first start gs) otherwise
 
 abbrev pub base_place : Rules → List hb_glyph_info_t → ℕ
-base_place r gs = base_from (search_start r gs) (if reph_len r gs == 0 then length gs else 0) gs
+base_place r gs =
+    base_from (search_start r gs) (if indic_reph_len r gs == 0 then length gs else 0) gs
 
 -- whether the syllable has a reph: one opens it, and there is another base, or a joiner that forces
 -- the reph
-abbrev pub has_reph : Rules → List hb_glyph_info_t → Bool
-has_reph r gs = not (reph_len r gs == 0) && not (base_place r gs == 0 && nat_le (limit r gs) 2)
+abbrev pub has_indic_reph : Rules → List hb_glyph_info_t → Bool
+has_indic_reph r gs =
+    not (indic_reph_len r gs == 0) && not (base_place r gs == 0 && nat_le (limit r gs) 2)

@@ -10,8 +10,8 @@ use Rattle.shapers_buffer.specs.Places.{pick}
 use Rattle.shapers_clusters.specs.Cuts.{AllDifferent, ExactCuts, OneAlong, OwnClusters}
 use Rattle.shapers_clusters.specs.Steps.{joined_step, joined_steps, shifted, steps_along, widened}
 use Rattle.shapers_indic.specs.Glyphs.{places}
-use Rattle.shapers_indic_initial.specs.InitialOrder.{ordered_base, ordered_places}
-use Rattle.shapers_indic_initial.specs.InitialReordering.{in_order, initial_steps, is_reordered, order_step, positioned}
+use Rattle.shapers_indic_initial.specs.InitialOrder.{ordered_base, indic_ordered_places}
+use Rattle.shapers_indic_initial.specs.InitialReordering.{in_indic_order, initial_steps, is_reordered_in_indic, indic_order_step, positioned}
 use Rattle.shapers_indic_initial.specs.InitialRules.{Rules}
 use Rattle.shapers_syllabic.specs.Reordering.{glyphs_before, text_steps}
 
@@ -45,9 +45,10 @@ abbrev pub OrderMergesLaw : Type 0
 OrderMergesLaw =
     (r : Rules) (level : BufferClusterLevel) (gs : List hb_glyph_info_t) (cs : List ℕ) →
     merges level ≡ true → length cs ≡ length gs →
-    OrderMerges (ordered_base (in_order gs))
-    (kept_together r (ordered_places gs) (ordered_base (in_order gs))) (ordered_places gs) cs
-    (joined_step level (order_step r gs) cs)
+    OrderMerges (ordered_base (in_indic_order gs))
+    (kept_together r (indic_ordered_places gs) (ordered_base (in_indic_order gs)))
+    (indic_ordered_places gs) cs
+    (joined_step level (indic_order_step r gs) cs)
 
 -- In a whole text: the clusters as the order of a syllable begins, when those before it are
 -- reordered and it has come to its last step.
@@ -72,11 +73,11 @@ abbrev pub EachSyllableMerges : Rules → Option Script → BufferClusterLevel �
     List ℕ → List ℕ → Type 0
 EachSyllableMerges r script level gs cs js =
     (before behind : List (List hb_glyph_info_t)) (syl : List hb_glyph_info_t) →
-    syllables gs ≡ before ++ syl ∷ behind → is_reordered syl ≡ true →
+    syllables gs ≡ before ++ syl ∷ behind → is_reordered_in_indic syl ≡ true →
     let s = glyphs_before before in
     let xs = positioned r script syl in
-    let from = ordered_places xs in
-    let base = ordered_base (in_order xs) in
+    let from = indic_ordered_places xs in
+    let base = ordered_base (in_indic_order xs) in
     SyllableMerges s (s + length syl) base (kept_together r from base) from
     (as_order_begins r script level (length gs) before syl cs) js
 

@@ -10,7 +10,7 @@ use Rattle.shapers_base.specs.Map.{Map}
 use Rattle.shapers_indic_initial.specs.InitialClusters.{EachSyllableMerges}
 use Rattle.shapers_indic_initial.specs.InitialPause.{InitiallyReordered, initial_circles, order_by_font, steps_by_font, with_positions_and_circles}
 use Rattle.shapers_indic_initial.specs.InitialReordering.{initial_order, initial_steps}
-use Rattle.shapers_indic_initial.specs.InitialRules.{Rules, rules_of}
+use Rattle.shapers_indic_initial.specs.InitialRules.{Rules, initial_rules}
 use Rattle.shapers_buffer.specs.declared.buffer.syllables.Span.{Span}
 use Rattle.shapers_syllabic.specs.Borders.{spans_set_up, unnumbered}
 use Rattle.shapers_syllabic.specs.Reordering.{PauseReordered}
@@ -46,7 +46,7 @@ abbrev pub InitiallyMerged : Font → Map → indic_shape_plan_t → Buffer → 
 InitiallyMerged font m p old new =
     let gs = (with_positions_and_circles font m p old).glyphs in
     merges old.level ≡ true →
-    EachSyllableMerges (rules_of font m p) old.script old.level (order_view gs) (clusters gs)
+    EachSyllableMerges (initial_rules font m p) old.script old.level (order_view gs) (clusters gs)
     (clusters new.glyphs)
 
 abbrev pub InitialTextMerges : Type 0

@@ -14,7 +14,7 @@ use Rattle.shapers_base.specs.Map.{Map}
 use Rattle.shapers_clusters.specs.Steps.{Step}
 use Rattle.shapers_indic_initial.specs.InitialFont.{positions_by_font}
 use Rattle.shapers_indic_initial.specs.InitialReordering.{initial_order, initial_steps}
-use Rattle.shapers_indic_initial.specs.InitialRules.{rules_of}
+use Rattle.shapers_indic_initial.specs.InitialRules.{initial_rules}
 use Rattle.shapers_syllabic.specs.declared.ot_shaper_syllabic.kinds.indic_syllable.TheConstants.{BROKEN_CLUSTER, NON_INDIC_CLUSTER}
 use Rattle.shapers_syllabic.specs.Circles.{circled}
 use Rattle.shapers_syllabic.specs.declared.ot_shaper_syllabic.circles.DottedCircles.{DottedCircles}
@@ -43,8 +43,9 @@ with_positions_and_circles font m p b =
 -- the buffer before and after the pause
 abbrev pub InitiallyReordered : Font → Map → indic_shape_plan_t → Buffer → Buffer → Type 0
 InitiallyReordered font m p old new =
-    SyllablesReordered (initial_order (rules_of font m p) old.script)
-    (initial_steps (rules_of font m p) old.script) (with_positions_and_circles font m p old) new
+    SyllablesReordered (initial_order (initial_rules font m p) old.script)
+    (initial_steps (initial_rules font m p) old.script)
+    (with_positions_and_circles font m p old) new
 
 -- the refusal of a text with a syllable of unknown kind
 abbrev pub initial_refusal : Buffer → Option ShaperError
@@ -55,9 +56,9 @@ initial_refusal b = unknown_refusal NON_INDIC_CLUSTER b.glyphs
 abbrev pub order_by_font : Font → Map → indic_shape_plan_t → Option Script → List hb_glyph_info_t →
     List hb_glyph_info_t
 order_by_font font m p script gs =
-    initial_order (rules_of font m p) script (positions_by_font font m p gs)
+    initial_order (initial_rules font m p) script (positions_by_font font m p gs)
 
 abbrev pub steps_by_font : Font → Map → indic_shape_plan_t → Option Script → List hb_glyph_info_t →
     List Step
 steps_by_font font m p script gs =
-    initial_steps (rules_of font m p) script (positions_by_font font m p gs)
+    initial_steps (initial_rules font m p) script (positions_by_font font m p gs)

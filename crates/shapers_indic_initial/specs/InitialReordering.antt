@@ -5,17 +5,17 @@ use Rattle.shapers_buffer.specs.declared.buffer.glyph.hb_glyph_info_t.{hb_glyph_
 use Rattle.shapers_buffer.specs.declared.buffer.tag.Script.{Script}
 use Rattle.shapers_buffer.specs.Places.{pick}
 use Rattle.shapers_clusters.specs.Steps.{Step, still_step, swap_step}
-use Rattle.shapers_indic_initial.specs.InitialBase.{base_place, has_reph, joiner_comes_first}
+use Rattle.shapers_indic_initial.specs.InitialBase.{base_place, has_indic_reph, joiner_comes_first}
 use Rattle.shapers_indic_initial.specs.InitialMasks.{with_initial_masks}
-use Rattle.shapers_indic_initial.specs.InitialOrder.{ordered_base, ordered_places, ordered_stretches}
+use Rattle.shapers_indic_initial.specs.InitialOrder.{ordered_base, indic_ordered_places, ordered_stretches}
 use Rattle.shapers_indic_initial.specs.InitialPositions.{by_base, halant_places, with_marks_attached, with_owners_after}
 use Rattle.shapers_indic_initial.specs.InitialRules.{Rules}
 use Rattle.shapers_syllabic.specs.Circles.{is_of_kinds}
 use Rattle.shapers_syllabic.specs.declared.ot_shaper_syllabic.kinds.indic_syllable.TheConstants.{BROKEN_CLUSTER, CONSONANT_SYLLABLE, STANDALONE_CLUSTER, VOWEL_SYLLABLE}
 
 -- whether a syllable is reordered: one of a consonant or a vowel, a standalone one, or a broken one
-abbrev pub is_reordered : List hb_glyph_info_t → Bool
-is_reordered gs =
+abbrev pub is_reordered_in_indic : List hb_glyph_info_t → Bool
+is_reordered_in_indic gs =
     is_of_kinds (CONSONANT_SYLLABLE ∷ VOWEL_SYLLABLE ∷ STANDALONE_CLUSTER ∷ BROKEN_CLUSTER ∷ []) gs
 
 -- the step of Kannada: H and a ZWJ behind it merge and change places
@@ -31,8 +31,8 @@ abbrev pub with_joiner_first : Option Script → List hb_glyph_info_t → List h
 with_joiner_first script gs = pick (joiner_step script gs).places gs
 
 -- the syllable with its positions by the base
-abbrev pub with_base : Rules → List hb_glyph_info_t → List hb_glyph_info_t
-with_base r gs = by_base (base_place r gs) (has_reph r gs) gs
+abbrev pub with_base_positions : Rules → List hb_glyph_info_t → List hb_glyph_info_t
+with_base_positions r gs = by_base (base_place r gs) (has_indic_reph r gs) gs
 
 -- the step of the older specification's H
 abbrev pub halant_step : Rules → Option Script → ℕ → List hb_glyph_info_t → Step
@@ -60,24 +60,25 @@ with_all_positions r script base gs =
 abbrev pub positioned : Rules → Option Script → List hb_glyph_info_t → List hb_glyph_info_t
 positioned r script gs =
     let opened = with_joiner_first script gs in
-    with_all_positions r script (base_place r opened) (with_base r opened)
+    with_all_positions r script (base_place r opened) (with_base_positions r opened)
 
 -- the steps on the way there
 abbrev pub opening_steps : Rules → Option Script → List hb_glyph_info_t → List Step
 opening_steps r script gs =
     let opened = with_joiner_first script gs in
-    joiner_step script gs ∷ halant_step r script (base_place r opened) (with_base r opened) ∷ []
+    joiner_step script gs
+    ∷ halant_step r script (base_place r opened) (with_base_positions r opened) ∷ []
 
 -- a syllable with positions in the order that they give
-abbrev pub in_order : List hb_glyph_info_t → List hb_glyph_info_t
-in_order gs = pick (ordered_places gs) gs
+abbrev pub in_indic_order : List hb_glyph_info_t → List hb_glyph_info_t
+in_indic_order gs = pick (indic_ordered_places gs) gs
 
 -- the step of the order, and what merges then
-abbrev pub order_step : Rules → List hb_glyph_info_t → Step
-order_step r gs = record {
+abbrev pub indic_order_step : Rules → List hb_glyph_info_t → Step
+indic_order_step r gs = record {
   merged_first = [];
-  places = ordered_places gs;
-  merged_then = ordered_stretches r (ordered_places gs) (ordered_base (in_order gs));
+  places = indic_ordered_places gs;
+  merged_then = ordered_stretches r (indic_ordered_places gs) (ordered_base (in_indic_order gs));
 }
 
 -- an ordered syllable with its masks
@@ -87,12 +88,13 @@ masked_in_order r script gs = with_initial_masks r script (ordered_base gs) gs
 -- what a syllable becomes
 abbrev pub initial_order : Rules → Option Script → List hb_glyph_info_t → List hb_glyph_info_t
 initial_order r script gs =
-    if is_reordered gs then masked_in_order r script (in_order (positioned r script gs)) else gs
+    if is_reordered_in_indic gs
+    then masked_in_order r script (in_indic_order (positioned r script gs)) else gs
 
 -- the steps that lead there: those of the positions, and then that of the order
 abbrev pub steps_of_reordered : Rules → Option Script → List hb_glyph_info_t → List Step
 steps_of_reordered r script gs =
-    opening_steps r script gs ++ order_step r (positioned r script gs) ∷ []
+    opening_steps r script gs ++ indic_order_step r (positioned r script gs) ∷ []
 
 abbrev pub initial_steps : Rules → Option Script → List hb_glyph_info_t → List Step
-initial_steps r script gs = if is_reordered gs then steps_of_reordered r script gs else []
+initial_steps r script gs = if is_reordered_in_indic gs then steps_of_reordered r script gs else []

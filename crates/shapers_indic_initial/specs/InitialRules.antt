@@ -17,8 +17,8 @@ pub record Rules : Type 0 where
   pub forms_pref : List GlyphId → Bool
 
 -- so by a plan and a font
-abbrev pub rules_of : Font → Map → indic_shape_plan_t → Rules
-rules_of font m p = record {
+abbrev pub initial_rules : Font → Map → indic_shape_plan_t → Rules
+initial_rules font m p = record {
   config = p.config;
   old = p.is_old_spec;
   masks = p.mask_array;

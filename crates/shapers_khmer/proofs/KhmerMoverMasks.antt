@@ -12,7 +12,7 @@ use Rattle.std.proofs.lemmas.List.FromFn.{get_or-enumerate_from, length-enumerat
 use Rattle.std.proofs.lemmas.Bool.{and_parts}
 use Rattle.shapers_buffer.specs.Glyph.{default_glyph}
 use Rattle.shapers_buffer.specs.Lists.{each_after}
-use Rattle.shapers_khmer.specs.Khmer.{Pair, brought, is_coeng, is_left_vowel, is_ro, khmer_masked, khmer_moves, masked, masked_all, masked_for, merged_for, moves_by_cases, categories_of, with_mask}
+use Rattle.shapers_khmer.specs.Khmer.{Pair, brought, is_coeng, is_left_vowel, is_ro, khmer_masked, khmer_moves, masked, masked_all, masked_for, merged_by_move, moves_by_cases, categories_of, with_mask}
 use Rattle.shapers_khmer.proofs.KhmerCases.{brought_parts}
 use Rattle.shapers_khmer.proofs.KhmerMaskPlaces.{join_if, masked_before, masked_behind, masked_there, swap_if}
 use Rattle.shapers_khmer.proofs.KhmerMasks.{length-masked, length-categories}
@@ -258,7 +258,7 @@ length-khmer_masked r g gs =
     let first = masked r.others 1 (length all) all in
     let len : length first ≡ length all = length-masked r.others 1 (length all) all (omega arith) in
     sym (length-categories (khmer_masked r all))
-    ∙ ap length (hidden-masked_all (λ g. g.category) (λ m g. refl) r (khmer_moves all) (range_with_len 0 (length all)) first (subst (λ n. EndWithin n (map merged_for (khmer_moves all))) (sym len) (khmer_ends all)))
+    ∙ ap length (hidden-masked_all (λ g. g.category) (λ m g. refl) r (khmer_moves all) (range_with_len 0 (length all)) first (subst (λ n. EndWithin n (map merged_by_move (khmer_moves all))) (sym len) (khmer_ends all)))
     ∙ length-categories first
     ∙ len
 

@@ -11,7 +11,7 @@ use Rattle.shapers_buffer.specs.declared.buffer.glyph.hb_glyph_info_t.{hb_glyph_
 use Rattle.shapers_khmer.specs.Khmer.{Move, Pair, Vowel, brought, is_coeng, is_left_vowel, is_ro, khmer_moves, moved_all, moves_by_cases, categories_of}
 use Rattle.shapers_khmer.proofs.KhmerCases.{brought_parts}
 use Rattle.shapers_khmer.proofs.KhmerMasks.{length-categories}
-use Rattle.shapers_khmer.specs.KhmerMovers.{Alone, Coeng, KhmerMoversLaw, Part, behind_coengs, is_coeng_or_left_vowel, is_mover, moves_behind, order_by_movers, parts_from, places_of}
+use Rattle.shapers_khmer.specs.KhmerMovers.{Alone, Coeng, KhmerMoversLaw, Part, behind_coengs, is_coeng_or_left_vowel, is_mover, moves_behind, order_by_movers, parts_from, part_places}
 
 -- THE COUNT. How many Coengs are counted, by what stands behind them: with more than two counted no Ro moves
 abbrev pub counted : ℕ → List ℕ → ℕ
@@ -82,7 +82,7 @@ behind_alone (Alone q x ∷ before) p y = behind_alone before p y
 
 -- THE RESULT. What stands in front of and behind the front, one part more
 abbrev flat : List (List Part × Part) → List ℕ
-flat es = flat_map (λ e. places_of e.1) es
+flat es = flat_map (λ e. part_places e.1) es
 
 abbrev is_stayer : List Part × Part → Bool
 is_stayer e = not (is_mover e)
@@ -90,19 +90,19 @@ is_stayer e = not (is_mover e)
 abbrev result : List ℕ → List (List Part × Part) → List ℕ
 result front es = flat (reverse (filter is_mover es)) ++ (front ++ flat (filter is_stayer es))
 
-result_stays : (front : List ℕ) (e : List Part × Part) (es : List (List Part × Part)) → is_mover e ≡ false → result (front ++ places_of e.1) es ≡ result front (e ∷ es)
+result_stays : (front : List ℕ) (e : List Part × Part) (es : List (List Part × Part)) → is_mover e ≡ false → result (front ++ part_places e.1) es ≡ result front (e ∷ es)
 result_stays front e es off =
     let ms = flat (reverse (filter is_mover es)) in
-    rw off (ap (λ xs. ms ++ xs) (append_assoc front (places_of e.1) (flat (filter is_stayer es)) ∙ ap (λ xs. front ++ xs) (sym (flat_map-cons (λ (e : List Part × Part). places_of e.1) e (filter is_stayer es)))))
+    rw off (ap (λ xs. ms ++ xs) (append_assoc front (part_places e.1) (flat (filter is_stayer es)) ∙ ap (λ xs. front ++ xs) (sym (flat_map-cons (λ (e : List Part × Part). part_places e.1) e (filter is_stayer es)))))
 
-result_moves : (front : List ℕ) (e : List Part × Part) (es : List (List Part × Part)) → is_mover e ≡ true → result (places_of e.1 ++ front) es ≡ result front (e ∷ es)
+result_moves : (front : List ℕ) (e : List Part × Part) (es : List (List Part × Part)) → is_mover e ≡ true → result (part_places e.1 ++ front) es ≡ result front (e ∷ es)
 result_moves front e es on =
     let ms = reverse (filter is_mover es) in
     let ss = flat (filter is_stayer es) in
-    let f : List Part × Part → List ℕ = λ e. places_of e.1 in
-    let one : flat (e ∷ []) ≡ places_of e.1 = flat_map-cons f e [] ∙ append-nil (places_of e.1) in
-    let more : flat (reverse (e ∷ filter is_mover es)) ≡ flat ms ++ places_of e.1 = ap flat (reverse_onto (filter is_mover es) e []) ∙ flat_map-append f ms (e ∷ []) ∙ ap (λ xs. flat ms ++ xs) one in
-    rw on (ap (λ xs. flat ms ++ xs) (append_assoc (places_of e.1) front ss) ∙ sym (append_assoc (flat ms) (places_of e.1) (front ++ ss)) ∙ ap (λ xs. xs ++ (front ++ ss)) (sym more))
+    let f : List Part × Part → List ℕ = λ e. part_places e.1 in
+    let one : flat (e ∷ []) ≡ part_places e.1 = flat_map-cons f e [] ∙ append-nil (part_places e.1) in
+    let more : flat (reverse (e ∷ filter is_mover es)) ≡ flat ms ++ part_places e.1 = ap flat (reverse_onto (filter is_mover es) e []) ∙ flat_map-append f ms (e ∷ []) ∙ ap (λ xs. flat ms ++ xs) one in
+    rw on (ap (λ xs. flat ms ++ xs) (append_assoc (part_places e.1) front ss) ∙ sym (append_assoc (flat ms) (part_places e.1) (front ++ ss)) ∙ ap (λ xs. xs ++ (front ++ ss)) (sym more))
 
 -- THE MOVES. Those of what is still to be looked at, with the front before it
 abbrev pub looked : List ℕ → List ℕ → ℕ → List Move
@@ -233,15 +233,15 @@ pub longer : (a b : List ℕ) (x y : ℕ) → length a ≡ length b → length (
 longer a b x y same = length-append a (x ∷ []) ∙ ap (λ n. n + 1) same ∙ sym (length-append b (y ∷ []))
 
 -- what is looked at, behind a front whose last is neither Coeng nor a left vowel
-moved : (before : List Part) (p : ℕ) (categories : List ℕ) (c : ℕ) (front : List ℕ) (x : ℕ) (places : List ℕ) → length places ≡ length (front ++ x ∷ []) → is_coeng x ≡ false → is_left_vowel x ≡ false → is_inner categories ≡ true → counted 0 (behind_coengs before) ≡ c → Moved before p categories c (front ++ x ∷ []) places
-moved before p [] c front x places len no_coeng no_vowel inner count = refl
-moved before p (z ∷ []) c front x places len no_coeng no_vowel inner count =
+movers_moved : (before : List Part) (p : ℕ) (categories : List ℕ) (c : ℕ) (front : List ℕ) (x : ℕ) (places : List ℕ) → length places ≡ length (front ++ x ∷ []) → is_coeng x ≡ false → is_left_vowel x ≡ false → is_inner categories ≡ true → counted 0 (behind_coengs before) ≡ c → Moved before p categories c (front ++ x ∷ []) places
+movers_moved before p [] c front x places len no_coeng no_vowel inner count = refl
+movers_moved before p (z ∷ []) c front x places len no_coeng no_vowel inner count =
     let all = front ++ x ∷ [] in
     elim (cases_Bool (is_left_vowel z)) [
       | inl vowel ↦ alone_moves before p z [] c all places len vowel refl refl
       | inr other ↦ alone_stays before p z [] c all places other refl (rw other refl) refl
     ]
-moved before p (z ∷ (y ∷ rest)) c front x places len no_coeng no_vowel inner count =
+movers_moved before p (z ∷ (y ∷ rest)) c front x places len no_coeng no_vowel inner count =
     let all = front ++ x ∷ [] in
     let categories = y ∷ rest in
     elim (cases_Bool (is_coeng z)) [
@@ -255,10 +255,10 @@ moved before p (z ∷ (y ∷ rest)) c front x places len no_coeng no_vowel inner
                 let both = and_parts (is_ro y) (nat_le c 2) on in
                 let two : counted_on c y ≡ 2 = rw (both.1, both.0) refl in
                 pair_moves before p z y rest c front x places len no_coeng no_vowel is both.1 both.0 (test ∙ on)
-                (moved (before ++ Coeng p y ∷ []) (p + 2) rest 2 (z ∷ (y ∷ front)) x (p ∷ ((p + 1) ∷ places)) (ap (λ n. suc (suc n)) len) no_coeng no_vowel tail (counts ∙ two))
+                (movers_moved (before ++ Coeng p y ∷ []) (p + 2) rest 2 (z ∷ (y ∷ front)) x (p ∷ ((p + 1) ∷ places)) (ap (λ n. suc (suc n)) len) no_coeng no_vowel tail (counts ∙ two))
             | inr off ↦
                 coeng_stays before p z y rest c all places behind.0 behind.1 is off (test ∙ off)
-                (moved (before ++ Coeng p y ∷ []) (p + 2) rest (counted_on c y) (all ++ z ∷ []) y (places ++ p ∷ ((p + 1) ∷ []))
+                (movers_moved (before ++ Coeng p y ∷ []) (p + 2) rest (counted_on c y) (all ++ z ∷ []) y (places ++ p ∷ ((p + 1) ∷ []))
                 (ap length (sym (append_assoc places (p ∷ []) ((p + 1) ∷ []))) ∙ longer (places ++ p ∷ []) (all ++ z ∷ []) (p + 1) y (longer places all p z len)) behind.0 behind.1 tail counts)
           ]
       | inr off ↦
@@ -266,8 +266,8 @@ moved before p (z ∷ (y ∷ rest)) c front x places len no_coeng no_vowel inner
           let counts = count_alone before p z c count in
           let parts : parts_from p (z ∷ categories) ≡ Alone p z ∷ parts_from (p + 1) categories = rw off refl in
           elim (cases_Bool (is_left_vowel z)) [
-            | inl vowel ↦ alone_moves before p z categories c all places len vowel parts (moved (before ++ Alone p z ∷ []) (p + 1) (y ∷ rest) c (z ∷ front) x (p ∷ places) (ap suc len) no_coeng no_vowel tail counts)
-            | inr other ↦ alone_stays before p z categories c all places other parts (looked_other all z categories c off other) (moved (before ++ Alone p z ∷ []) (p + 1) (y ∷ rest) c all z (places ++ p ∷ []) (longer places all p z len) off other tail counts)
+            | inl vowel ↦ alone_moves before p z categories c all places len vowel parts (movers_moved (before ++ Alone p z ∷ []) (p + 1) (y ∷ rest) c (z ∷ front) x (p ∷ places) (ap suc len) no_coeng no_vowel tail counts)
+            | inr other ↦ alone_stays before p z categories c all places other parts (looked_other all z categories c off other) (movers_moved (before ++ Alone p z ∷ []) (p + 1) (y ∷ rest) c all z (places ++ p ∷ []) (longer places all p z len) off other tail counts)
           ]
     ]
 
@@ -283,7 +283,7 @@ first_part x (y ∷ categories) off = rw off refl
 by_result : (categories : List ℕ) → result [] (each_after [] (parts_from 0 categories)) ≡ order_by_movers categories
 by_result categories =
     let es = each_after [] (parts_from 0 categories) in
-    sym (flat_map-append (λ (e : List Part × Part). places_of e.1) (reverse (filter is_mover es)) (filter is_stayer es))
+    sym (flat_map-append (λ (e : List Part × Part). part_places e.1) (reverse (filter is_mover es)) (filter is_stayer es))
 
 pub khmer_order_by_movers : KhmerMoversLaw
 khmer_order_by_movers [] regular = refl
@@ -295,7 +295,7 @@ khmer_order_by_movers (g ∷ gs) regular =
     let es = each_after (Alone 0 x ∷ []) (parts_from 1 categories) in
     ap (λ ms. moved_all ms (0 ∷ range_with_len 1 (length gs))) (first_looked g gs)
     ∙ ap (λ n. moved_all (looked (x ∷ []) categories 0) (0 ∷ range_with_len 1 n)) (sym (length-categories gs))
-    ∙ moved (Alone 0 x ∷ []) 1 categories 0 [] x (0 ∷ []) refl first.0 first.1 (inner_tail x categories both.1) refl
+    ∙ movers_moved (Alone 0 x ∷ []) 1 categories 0 [] x (0 ∷ []) refl first.0 first.1 (inner_tail x categories both.1) refl
     ∙ result_stays [] ([], Alone 0 x) es first.1
     ∙ ap (λ ps. result [] (each_after [] ps)) (sym (first_part x categories first.0))
     ∙ by_result (x ∷ categories)

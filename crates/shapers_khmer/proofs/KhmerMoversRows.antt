@@ -3,7 +3,7 @@ use Rattle.std.specs.Prelude.{List, ◌≡◌, ℕ, false, true, [], ◌∷◌, 
 use Rattle.shapers_buffer.specs.Glyph.{default_glyph}
 use Rattle.shapers_buffer.specs.declared.buffer.glyph.hb_glyph_info_t.{hb_glyph_info_t}
 use Rattle.shapers_khmer.specs.declared.ot_shaper_khmer.reordering.KhmerOrder.{KhmerOrder}
-use Rattle.shapers_khmer.specs.KhmerMovers.{Alone, Coeng, behind_coengs, coeng_place, is_mover, is_regular, khmer_by_movers, masked_at, masked_by_movers, merged_over, merges_by_movers, moves_behind, moving_coengs, order_by_movers, parts_from, places_of, with_mask_if}
+use Rattle.shapers_khmer.specs.KhmerMovers.{Alone, Coeng, behind_coengs, coeng_place, is_mover, is_regular, khmer_by_movers, masked_at, masked_by_movers, merged_over, merges_by_movers, moves_behind, moving_coengs, order_by_movers, parts_from, part_places, with_mask_if}
 
 -- the categories: a consonant, Coeng, Ro, a left vowel
 abbrev c : ℕ
@@ -32,7 +32,7 @@ parts = refl
 no_parts : parts_from 3 [] ≡ []
 no_parts = refl
 
-places : map places_of (Coeng 4 c ∷ Alone 6 h ∷ []) ≡ (4 ∷ 5 ∷ []) ∷ (6 ∷ []) ∷ []
+places : map part_places (Coeng 4 c ∷ Alone 6 h ∷ []) ≡ (4 ∷ 5 ∷ []) ∷ (6 ∷ []) ∷ []
 places = refl
 
 behind : behind_coengs (Alone 3 c ∷ Coeng 4 ra ∷ Alone 6 pre ∷ Coeng 7 c ∷ Alone 9 h ∷ []) ≡ ra ∷ c ∷ []

@@ -10,7 +10,7 @@ use Rattle.shapers_buffer.specs.Clusters.{stretch_of}
 use Rattle.shapers_clusters.specs.Cuts.{EndWithin}
 use Rattle.shapers_clusters.specs.Steps.{HeldBetween, MovesInside}
 use Rattle.shapers_clusters.proofs.Moves.{held-front, held-rest, held_by}
-use Rattle.shapers_khmer.specs.Khmer.{Move, Pair, Vowel, brought, moved, moved_all, merged_for}
+use Rattle.shapers_khmer.specs.Khmer.{Move, Pair, Vowel, brought, moved, moved_all, merged_by_move}
 
 -- the front, what moves and the rest are all
 parts : {X : Type 0} (n k : ℕ) (xs : List X) → (take n xs ++ stretch_of n (n + k) xs) ++ drop (n + k) xs ≡ xs
@@ -117,19 +117,19 @@ inside_more n k sts order l before p h =
       ]
     ]
 
-inside_all : (moves : List Move) (sts : List (ℕ × ℕ)) (order : List ℕ) → EndWithin (length order) (map merged_for moves) → MovesInside sts order → MovesInside (sts ++ map merged_for moves) (moved_all moves order)
+inside_all : (moves : List Move) (sts : List (ℕ × ℕ)) (order : List ℕ) → EndWithin (length order) (map merged_by_move moves) → MovesInside sts order → MovesInside (sts ++ map merged_by_move moves) (moved_all moves order)
 inside_all [] sts order ends before = subst (λ xs. MovesInside xs order) (sym (append-nil sts)) before
 inside_all (Pair over ∷ moves) sts order ends before =
     let next = inside_more over 2 sts order ends.0 before in
-    let rest = inside_all moves (sts ++ (0, over + 2) ∷ []) (brought over 2 order) (subst (λ n. EndWithin n (map merged_for moves)) (sym (length-brought over 2 order)) ends.1) next in
-    subst (λ xs. MovesInside xs (moved_all moves (brought over 2 order))) (append_assoc sts ((0, over + 2) ∷ []) (map merged_for moves)) rest
+    let rest = inside_all moves (sts ++ (0, over + 2) ∷ []) (brought over 2 order) (subst (λ n. EndWithin n (map merged_by_move moves)) (sym (length-brought over 2 order)) ends.1) next in
+    subst (λ xs. MovesInside xs (moved_all moves (brought over 2 order))) (append_assoc sts ((0, over + 2) ∷ []) (map merged_by_move moves)) rest
 inside_all (Vowel over ∷ moves) sts order ends before =
     let next = inside_more over 1 sts order ends.0 before in
-    let rest = inside_all moves (sts ++ (0, over + 1) ∷ []) (brought over 1 order) (subst (λ n. EndWithin n (map merged_for moves)) (sym (length-brought over 1 order)) ends.1) next in
-    subst (λ xs. MovesInside xs (moved_all moves (brought over 1 order))) (append_assoc sts ((0, over + 1) ∷ []) (map merged_for moves)) rest
+    let rest = inside_all moves (sts ++ (0, over + 1) ∷ []) (brought over 1 order) (subst (λ n. EndWithin n (map merged_by_move moves)) (sym (length-brought over 1 order)) ends.1) next in
+    subst (λ xs. MovesInside xs (moved_all moves (brought over 1 order))) (append_assoc sts ((0, over + 1) ∷ []) (map merged_by_move moves)) rest
 
-pub inside_merged : (moves : List Move) (n : ℕ) → EndWithin n (map merged_for moves) → MovesInside (map merged_for moves) (moved_all moves (range_with_len 0 n))
+pub inside_merged : (moves : List Move) (n : ℕ) → EndWithin n (map merged_by_move moves) → MovesInside (map merged_by_move moves) (moved_all moves (range_with_len 0 n))
 inside_merged moves n ends =
     let len = length-range_with_len 0 n in
-    inside_all moves [] (range_with_len 0 n) (subst (λ m. EndWithin m (map merged_for moves)) (sym len) ends)
+    inside_all moves [] (range_with_len 0 n) (subst (λ m. EndWithin m (map merged_by_move moves)) (sym len) ends)
     (λ p h. held_itself [] p (get_or (range_with_len 0 n) p 0) (let at = get_or-range_with_len 0 n p 0 (omega arith) in omega arith))

@@ -12,9 +12,9 @@ use Rattle.shapers_syllabic.specs.Circles.{circled}
 use Rattle.shapers_syllabic.specs.Reordering.{PauseReordered, carried}
 use Rattle.shapers_syllabic.specs.declared.ot_shaper_syllabic.circles.DottedCircles.{DottedCircles}
 use Rattle.shapers_khmer.specs.declared.ot_shaper_khmer.reordering.KhmerOrder.{KhmerOrder}
-use Rattle.shapers_khmer.specs.Khmer.{categories_of, is_reordered, khmer_order, khmer_places, khmer_steps}
+use Rattle.shapers_khmer.specs.Khmer.{categories_of, is_reordered_in_khmer, khmer_order, khmer_places, khmer_steps}
 use Rattle.shapers_khmer.specs.KhmerMovers.{is_regular, merges_by_movers, ordered_by_movers, steps_by_movers}
-use Rattle.shapers_khmer.proofs.KhmerByMovers.{khmer_by_movers}
+use Rattle.shapers_khmer.proofs.KhmerByMovers.{by_movers_law}
 use Rattle.shapers_khmer.proofs.KhmerMovers.{khmer_order_by_movers}
 use Rattle.shapers_khmer.proofs.KhmerMoverMerges.{khmer_merges_by_movers}
 
@@ -28,13 +28,13 @@ map_same f g same (x ∷ xs) = ap (λ y. y ∷ map f xs) (same x) ∙ ap (λ ys.
 
 order_same : (r : KhmerOrder) (gs : List hb_glyph_info_t) → khmer_order r gs ≡ ordered_by_movers r gs
 order_same r gs = elim (cases_Bool (is_regular (categories_of gs))) [
-  | inl on ↦ rw on (khmer_by_movers r gs on)
+  | inl on ↦ rw on (by_movers_law r gs on)
   | inr off ↦ rw off refl
 ]
 
 step_same : (gs : List hb_glyph_info_t) → khmer_steps gs ≡ steps_by_movers gs
 step_same gs = elim (cases_Bool (is_regular (categories_of gs))) [
-  | inl on ↦ elim (cases_Bool (is_reordered gs)) [
+  | inl on ↦ elim (cases_Bool (is_reordered_in_khmer gs)) [
     | inl kind ↦
         let ordered = khmer_order_by_movers gs on in
         let merged = khmer_merges_by_movers gs on in

@@ -9,7 +9,7 @@ use Rattle.shapers_base.specs.Font.{CharacterTables}
 use Rattle.shapers_base.specs.declared.plan.joining.hb_arabic_joining_type_t.TheVariants.{U}
 use Rattle.shapers_clusters.specs.Steps.{run_step}
 use Rattle.shapers_khmer.specs.declared.ot_shaper_khmer.reordering.KhmerOrder.{KhmerOrder}
-use Rattle.shapers_khmer.specs.Khmer.{decomposed_in_khmer, is_coeng, is_ro, is_left_vowel, is_reordered, khmer_circles, khmer_order, khmer_step, order_in, with_mask}
+use Rattle.shapers_khmer.specs.Khmer.{decomposed_in_khmer, is_coeng, is_ro, is_left_vowel, is_reordered_in_khmer, khmer_circles, khmer_order, khmer_step, order_in, with_mask}
 use Rattle.shapers_base.specs.declared.plan.PlanData.TheVariants.{Khmer}
 use Rattle.shapers_buffer.specs.Syllables.{unknown_refusal}
 use Rattle.shapers_buffer.specs.declared.buffer.refusal.ShaperError.TheVariants.{UnknownSyllable}
@@ -78,10 +78,10 @@ signs : map is_coeng (3 ∷ 4 ∷ 5 ∷ []) ++ (map is_ro (14 ∷ 15 ∷ 16 ∷ 
 signs = refl
 
 -- the kinds: consonant syllables and broken ones
-kinds : map (λ kind. is_reordered (glyphs kind (c 1 ∷ []))) (0 ∷ 1 ∷ 2 ∷ 3 ∷ []) ≡ true ∷ true ∷ false ∷ false ∷ []
+kinds : map (λ kind. is_reordered_in_khmer (glyphs kind (c 1 ∷ []))) (0 ∷ 1 ∷ 2 ∷ 3 ∷ []) ≡ true ∷ true ∷ false ∷ false ∷ []
 kinds = refl
 
-nothing : is_reordered [] ≡ false
+nothing : is_reordered_in_khmer [] ≡ false
 nothing = refl
 
 -- C H Ra H C

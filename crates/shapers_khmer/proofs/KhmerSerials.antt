@@ -11,13 +11,13 @@ use Rattle.shapers_buffer.proofs.ClusterLemmas.{map-stretch}
 use Rattle.shapers_clusters.specs.Steps.{Step, still_step}
 use Rattle.shapers_clusters.proofs.Picks.{pick-map}
 use Rattle.shapers_khmer.specs.declared.ot_shaper_khmer.reordering.KhmerOrder.{KhmerOrder}
-use Rattle.shapers_khmer.specs.Khmer.{Move, Pair, Vowel, is_reordered, khmer_masked, khmer_moves, khmer_order, khmer_places, khmer_step, masked, masked_all, masked_for, merged_for, moved, moved_all, categories_of, with_mask}
+use Rattle.shapers_khmer.specs.Khmer.{Move, Pair, Vowel, is_reordered_in_khmer, khmer_masked, khmer_moves, khmer_order, khmer_places, khmer_step, masked, masked_all, masked_for, merged_by_move, moved, moved_all, categories_of, with_mask}
 use Rattle.shapers_khmer.specs.KhmerLaws.{KhmerReadsNoSerials}
 use Rattle.shapers_khmer.proofs.KhmerCases.{moves_by_categories, moves_of_categories}
 use Rattle.shapers_syllabic.specs.Borders.{unnumbered}
 
 -- without serials, the kind, the categories and the length stay
-kind_stays : (gs : List hb_glyph_info_t) → is_reordered (map unnumbered gs) ≡ is_reordered gs
+kind_stays : (gs : List hb_glyph_info_t) → is_reordered_in_khmer (map unnumbered gs) ≡ is_reordered_in_khmer gs
 kind_stays [] = refl
 kind_stays (g ∷ gs) = let same : kind_of (kind_of g.syllable) ≡ kind_of g.syllable = omega arith in ap (λ (k : ℕ). list_any (λ kind. kind == k) (0 ∷ 1 ∷ [])) same
 
@@ -80,9 +80,9 @@ khmer_masked_stays r gs =
 order_stays : (r : KhmerOrder) (gs : List hb_glyph_info_t) → map unnumbered (khmer_order r gs) ≡ khmer_order r (map unnumbered gs)
 order_stays r gs =
     let us = map unnumbered gs in
-    elim (cases_Bool (is_reordered gs)) [
+    elim (cases_Bool (is_reordered_in_khmer gs)) [
       | inl on ↦
-          let on_too : is_reordered us ≡ true = kind_stays gs ∙ on in
+          let on_too : is_reordered_in_khmer us ≡ true = kind_stays gs ∙ on in
           let left : khmer_order r gs ≡ pick (khmer_places gs) (khmer_masked r gs) = rw on refl in
           let right : khmer_order r us ≡ pick (khmer_places us) (khmer_masked r us) = rw on_too refl in
           ap (map unnumbered) left
@@ -91,7 +91,7 @@ order_stays r gs =
           ∙ ap (λ ps. pick ps (khmer_masked r us)) (sym (places_stay gs))
           ∙ sym right
       | inr off ↦
-          let off_too : is_reordered us ≡ false = kind_stays gs ∙ off in
+          let off_too : is_reordered_in_khmer us ≡ false = kind_stays gs ∙ off in
           let left : khmer_order r gs ≡ gs = rw off refl in
           let right : khmer_order r us ≡ us = rw off_too refl in
           ap (map unnumbered) left ∙ sym right
@@ -100,17 +100,17 @@ order_stays r gs =
 step_stays : (gs : List hb_glyph_info_t) → khmer_step (map unnumbered gs) ≡ khmer_step gs
 step_stays gs =
     let us = map unnumbered gs in
-    elim (cases_Bool (is_reordered gs)) [
+    elim (cases_Bool (is_reordered_in_khmer gs)) [
       | inl on ↦
-          let on_too : is_reordered us ≡ true = kind_stays gs ∙ on in
-          let left : khmer_step us ≡ record { merged_first = map merged_for (khmer_moves us); places = khmer_places us; merged_then = [] } = rw on_too refl in
-          let right : khmer_step gs ≡ record { merged_first = map merged_for (khmer_moves gs); places = khmer_places gs; merged_then = [] } = rw on refl in
+          let on_too : is_reordered_in_khmer us ≡ true = kind_stays gs ∙ on in
+          let left : khmer_step us ≡ record { merged_first = map merged_by_move (khmer_moves us); places = khmer_places us; merged_then = [] } = rw on_too refl in
+          let right : khmer_step gs ≡ record { merged_first = map merged_by_move (khmer_moves gs); places = khmer_places gs; merged_then = [] } = rw on refl in
           left
-          ∙ ap (λ (ms : List Move). let st : Step = record { merged_first = map merged_for ms; places = khmer_places us; merged_then = [] } in st) (moves_stay gs)
-          ∙ ap (λ (ps : List ℕ). let st : Step = record { merged_first = map merged_for (khmer_moves gs); places = ps; merged_then = [] } in st) (places_stay gs)
+          ∙ ap (λ (ms : List Move). let st : Step = record { merged_first = map merged_by_move ms; places = khmer_places us; merged_then = [] } in st) (moves_stay gs)
+          ∙ ap (λ (ps : List ℕ). let st : Step = record { merged_first = map merged_by_move (khmer_moves gs); places = ps; merged_then = [] } in st) (places_stay gs)
           ∙ sym right
       | inr off ↦
-          let off_too : is_reordered us ≡ false = kind_stays gs ∙ off in
+          let off_too : is_reordered_in_khmer us ≡ false = kind_stays gs ∙ off in
           let left : khmer_step us ≡ still_step (length us) = rw off_too refl in
           let right : khmer_step gs ≡ still_step (length gs) = rw off refl in
           left ∙ ap still_step (length_stays gs) ∙ sym right

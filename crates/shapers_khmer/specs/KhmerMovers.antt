@@ -5,7 +5,7 @@ use Rattle.shapers_buffer.specs.Lists.{each_after}
 use Rattle.shapers_buffer.specs.Places.{pick}
 use Rattle.shapers_buffer.specs.declared.buffer.glyph.hb_glyph_info_t.{hb_glyph_info_t}
 use Rattle.shapers_clusters.specs.Steps.{Step, still_step}
-use Rattle.shapers_khmer.specs.Khmer.{is_coeng, is_left_vowel, is_reordered, is_ro, khmer_masked, khmer_moves, khmer_order, khmer_places, khmer_steps, merged_for, categories_of, with_mask}
+use Rattle.shapers_khmer.specs.Khmer.{is_coeng, is_left_vowel, is_reordered_in_khmer, is_ro, khmer_masked, khmer_moves, khmer_order, khmer_places, khmer_steps, merged_by_move, categories_of, with_mask}
 use Rattle.shapers_khmer.specs.declared.ot_shaper_khmer.reordering.KhmerOrder.{KhmerOrder}
 
 -- whether a syllable of these categories is regular: its first is neither Coeng nor a left vowel,
@@ -26,9 +26,9 @@ pub data Part : Type 0 where
   Alone : (place category : ℕ) → Part
 
 -- the places of its glyphs
-abbrev pub places_of : Part → List ℕ
-places_of (Coeng place behind) = place ∷ ((place + 1) ∷ [])
-places_of (Alone place category) = place ∷ []
+abbrev pub part_places : Part → List ℕ
+part_places (Coeng place behind) = place ∷ ((place + 1) ∷ [])
+part_places (Alone place category) = place ∷ []
 
 -- the parts of categories, numbered from a place on
 abbrev pub parts_from : ℕ → List ℕ → List Part
@@ -60,7 +60,7 @@ is_mover (before, Alone place category) = is_left_vowel category
 abbrev pub order_by_movers : List ℕ → List ℕ
 order_by_movers categories =
     let parts = each_after [] (parts_from 0 categories) in
-    flat_map (λ e. places_of e.1)
+    flat_map (λ e. part_places e.1)
     (reverse (filter is_mover parts) ++ filter (λ e. not (is_mover e)) parts)
 
 -- the order by cases of a regular syllable is that by its movers
@@ -101,7 +101,8 @@ KhmerMoversMasksLaw = (r : KhmerOrder) (gs : List hb_glyph_info_t) →
 -- what a syllable becomes, by its movers: the glyphs with their masks, in that order
 abbrev pub khmer_by_movers : KhmerOrder → List hb_glyph_info_t → List hb_glyph_info_t
 khmer_by_movers r gs =
-    if is_reordered gs then pick (order_by_movers (categories_of gs)) (masked_by_movers r gs)
+    if is_reordered_in_khmer gs
+    then pick (order_by_movers (categories_of gs)) (masked_by_movers r gs)
     else gs
 
 -- so a regular syllable becomes
@@ -123,7 +124,7 @@ merges_by_movers categories =
 abbrev pub KhmerMoversMergesLaw : Type 0
 KhmerMoversMergesLaw =
     (gs : List hb_glyph_info_t) → is_regular (categories_of gs) ≡ true →
-    map merged_for (khmer_moves gs) ≡ merges_by_movers (categories_of gs)
+    map merged_by_move (khmer_moves gs) ≡ merges_by_movers (categories_of gs)
 
 -- THE CALL. What a syllable becomes and by which steps, where those of a regular one are said by
 -- its movers
@@ -133,7 +134,7 @@ ordered_by_movers r gs =
 
 abbrev pub step_by_movers : List hb_glyph_info_t → Step
 step_by_movers gs =
-    if is_reordered gs then record {
+    if is_reordered_in_khmer gs then record {
       merged_first = merges_by_movers (categories_of gs);
       places = order_by_movers (categories_of gs);
       merged_then = [];

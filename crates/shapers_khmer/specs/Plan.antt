@@ -6,13 +6,14 @@ use Rattle.shapers_base.specs.declared.plan.PlanData.TheVariants.{Khmer}
 use Rattle.shapers_base.specs.Map.{Map, mask_of}
 
 -- the basic features, which some glyphs of a syllable get
-abbrev pub basic_features : List String
-basic_features = "pref" ∷ "blwf" ∷ "abvf" ∷ "pstf" ∷ "cfar" ∷ []
+abbrev pub khmer_basic_features : List String
+khmer_basic_features = "pref" ∷ "blwf" ∷ "abvf" ∷ "pstf" ∷ "cfar" ∷ []
 
 -- the masks that the plan keeps: those of the basic features, and none for the four features that
 -- hold for the whole text
 abbrev pub khmer_masks : Map → List ℕ
-khmer_masks m = map (λ tag. mask_of (record { 0 = codes tag }) m) basic_features ++ replicate 4 0
+khmer_masks m =
+    map (λ tag. mask_of (record { 0 = codes tag }) m) khmer_basic_features ++ replicate 4 0
 
 -- whether these are Khmer's plan data
 abbrev pub is_khmer_data : PlanData → Bool

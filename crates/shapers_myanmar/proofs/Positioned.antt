@@ -6,7 +6,7 @@ use Rattle.std.proofs.lemmas.List.{drop_more, drop-set-lt, take_more_set}
 use Rattle.shapers_base.specs.declared.plan.ot_category_t.TheConstants.{OT_VBlw}
 use Rattle.shapers_buffer.specs.declared.buffer.glyph.hb_glyph_info_t.{hb_glyph_info_t}
 use Rattle.shapers_buffer.specs.Glyph.{at_position}
-use Rattle.shapers_myanmar.specs.Myanmar.{below_parts, carries_on_below, in_below_part, in_parts, main_len, main_part, own_position, with_own_positions}
+use Rattle.shapers_myanmar.specs.Myanmar.{below_parts, carries_on_below, in_below_part, parts_positioned, main_len, main_part, own_position, with_own_positions}
 use Rattle.shapers_myanmar.specs.MyanmarWalk.{behind_part, in_part, part_of}
 
 -- the parts, one after another
@@ -31,7 +31,7 @@ opens_below g gs is =
     let carries : carries_on_below g ≡ true = grind (arith, nat_tests, is) in
     ap (λ b. (let n : ℕ = if b then 8 else 9 in in_part n g ∷ behind_part n gs)) carries
 
-pub parts_behind : (gs : List hb_glyph_info_t) → behind_part 5 gs ≡ in_parts gs
+pub parts_behind : (gs : List hb_glyph_info_t) → behind_part 5 gs ≡ parts_positioned gs
 parts_behind [] = refl
 parts_behind (g ∷ gs) =
     let part : Bool → ℕ = λ b. if b then 8 else 5 in

@@ -14,7 +14,7 @@ use Rattle.shapers_stretch.specs.declared.ot_shaper_arabic_stretch.measuring.Run
 use Rattle.shapers_stretch.specs.Cells.{Cell, glyphs_of, positions_of, repeats}
 use Rattle.shapers_stretch.specs.CountingWalk.{pen_behind, stands_at}
 use Rattle.shapers_stretch.specs.LayingWalk.{laid_on, offsets}
-use Rattle.shapers_stretch.specs.Measure.{added, overlap}
+use Rattle.shapers_stretch.specs.Measure.{times_added, overlap}
 use Rattle.shapers_stretch.specs.Stretch.{Copy, copies, copies_of, unbroken, width_of}
 use Rattle.shapers_stretch.proofs.TileWalk.{copies-push}
 use Rattle.shapers_stretch.proofs.Zips.{length-zipped, stretch_then, zip-append, zip-drop, zip-stretch, zip-take}
@@ -135,9 +135,9 @@ flag_copies_at m w v n false c = refl
 flag_copies_of : (font : Font) (z : Run) (m : ℕ) (c : Cell) → copies_of font z (flag_cell m c) ≡ map (flag_copy m) (copies_of font z c)
 flag_copies_of font z m c =
     let width : width_of font (with_bits_off 3 m c.0) ≡ width_of font c.0 = ap (λ n. font.advance (record { 0 = n })) (same_id m c.0) in
-    ap (λ w. copies_at w (w -ℤ overlap z) (added z) (repeats (with_bits_off 3 m c.0)) (flag_cell m c)) width
-    ∙ ap (λ b. copies_at (width_of font c.0) (width_of font c.0 -ℤ overlap z) (added z) b (flag_cell m c)) (same_repeats m c.0)
-    ∙ flag_copies_at m (width_of font c.0) (width_of font c.0 -ℤ overlap z) (added z) (repeats c.0) c
+    ap (λ w. copies_at w (w -ℤ overlap z) (times_added z) (repeats (with_bits_off 3 m c.0)) (flag_cell m c)) width
+    ∙ ap (λ b. copies_at (width_of font c.0) (width_of font c.0 -ℤ overlap z) (times_added z) b (flag_cell m c)) (same_repeats m c.0)
+    ∙ flag_copies_at m (width_of font c.0) (width_of font c.0 -ℤ overlap z) (times_added z) (repeats c.0) c
 
 pub flag_copies : (font : Font) (z : Run) (m : ℕ) (cs : List Cell) → copies font z (map (flag_cell m) cs) ≡ map (flag_copy m) (copies font z cs)
 flag_copies font z m [] = refl

@@ -43,9 +43,9 @@ one_laid right_to_left copy pen gs ps at x can is_at is_x =
       behind = ap (drop i) now ∙ drop-set cells i y within ∙ ap (λ n. y ∷ drop n cells) next ∙ ap (λ x. (copy.tile.0, standing x) ∷ drop pen.place cells) is_x;
     }
 
-moved_all : (right_to_left : Bool) (at : ℤ) (xs ys : List Copy) → pen_behind right_to_left (pen_behind right_to_left at (moves xs)) (moves ys) ≡ pen_behind right_to_left at (moves (xs ++ ys))
-moved_all true at xs ys = omega (arith, ints, moves-append xs ys)
-moved_all false at xs ys = omega (arith, ints, moves-append xs ys)
+pen_moved_all : (right_to_left : Bool) (at : ℤ) (xs ys : List Copy) → pen_behind right_to_left (pen_behind right_to_left at (moves xs)) (moves ys) ≡ pen_behind right_to_left at (moves (xs ++ ys))
+pen_moved_all true at xs ys = omega (arith, ints, moves-append xs ys)
+pen_moved_all false at xs ys = omega (arith, ints, moves-append xs ys)
 
 -- copies, and then others
 pub lays_then : (right_to_left : Bool) (xs ys : List Copy) (a b c : Pen) (old mid now : List Cell) → Lays right_to_left xs a b old mid → Lays right_to_left ys b c mid now → Lays right_to_left (xs ++ ys) a c old now
@@ -55,7 +55,7 @@ lays_then right_to_left xs ys a b c old mid now l m =
     let second = laid_on right_to_left b.at ys in
     let both : laid_on right_to_left a.at (xs ++ ys) ≡ first ++ second = laid_on-append right_to_left a.at xs ys ∙ ap (λ at. first ++ laid_on right_to_left at ys) (sym l.pen) in
     record {
-      pen = m.pen ∙ ap (λ at. pen_behind right_to_left at (moves ys)) l.pen ∙ moved_all right_to_left a.at xs ys;
+      pen = m.pen ∙ ap (λ at. pen_behind right_to_left at (moves ys)) l.pen ∙ pen_moved_all right_to_left a.at xs ys;
       place = omega (arith, m.place, l.place, length-append xs ys);
       kept = m.kept ∙ sym (take-take c.place b.place mid before) ∙ ap (take c.place) l.kept ∙ take-take c.place b.place old before;
       behind = m.behind ∙ ap (λ z. reverse second ++ z) l.behind ∙ sym (append_assoc (reverse second) (reverse first) (drop a.place old)) ∙ ap (λ z. z ++ drop a.place old) (sym (ap reverse both ∙ reverse-append first second));

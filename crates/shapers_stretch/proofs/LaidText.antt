@@ -14,11 +14,11 @@ use Rattle.shapers_buffer.specs.Lists.{each_after}
 use Rattle.shapers_buffer.proofs.MappedLists.{map-reverse}
 use Rattle.shapers_base.specs.declared.plan.arabic.StretchStart.{StretchStart}
 use Rattle.shapers_base.specs.Font.{Font}
-use Rattle.shapers_stretch.specs.Cells.{Cell, before_tiles, before_word, cut_between, cut_here, glyphs_of, parts, positions_of, repeats, run_ends, tiles_of, word_of}
+use Rattle.shapers_stretch.specs.Cells.{Cell, before_tiles, before_word, cut_between, cut_here, glyphs_of, parts_of_text, positions_of, repeats, run_ends, tiles_of, word_of}
 use Rattle.shapers_stretch.specs.CountingWalk.{offsets_on, pen_behind, stands_at}
 use Rattle.shapers_stretch.specs.LayingWalk.{laid_on, offsets}
-use Rattle.shapers_stretch.specs.Measure.{added, copies_added, overlap, start, total}
-use Rattle.shapers_stretch.specs.Stretch.{Copy, Laying, cells, cells_in_order, copies, copies_in, copies_of, has_run, in_order, laid_run, laying, marks_stretched, repeating, run_of, stretched, stretched_part, unbroken, width_of, with_cells}
+use Rattle.shapers_stretch.specs.Measure.{times_added, copies_added, overlap, start, total}
+use Rattle.shapers_stretch.specs.Stretch.{Copy, Laying, cells, cells_in_order, copies, copies_in, copies_of, has_run, in_working_order, laid_run, laying, marks_stretched, repeating, run_of_part, stretched, stretched_part, unbroken, width_of, with_cells}
 use Rattle.shapers_stretch.specs.StretchLaws.{PartIsLaid, RunIsLaid, TextIsLaid, ids, laid_ids, moves_in, offsets_by, stands}
 use Rattle.shapers_stretch.specs.declared.ot_shaper_arabic_stretch.measuring.Run.{Run}
 use Rattle.shapers_stretch.proofs.Flagging.{flag_cell, flag_copies, flag_copy, flag_offsets, same_id, tiles_are, unbroken_is}
@@ -52,26 +52,26 @@ none_repeat : (tiles : List Cell) → length tiles ≡ 0 → length (repeating (
 none_repeat [] e = refl
 none_repeat (t ∷ ts) e = absurd (omega arith)
 
-no_copies : (font : Font) (part : List Cell) → has_run part ≡ false → copies_added (run_of font part) ≡ 0
+no_copies : (font : Font) (part : List Cell) → has_run part ≡ false → copies_added (run_of_part font part) ≡ 0
 no_copies font part e =
-    let z = run_of font part in
-    ap (λ k. added z * k) (none_repeat (tiles_of part) (no_tiles part e)) ∙ mul-zero (added z)
+    let z = run_of_part font part in
+    ap (λ k. times_added z * k) (none_repeat (tiles_of part) (no_tiles part e)) ∙ mul-zero (times_added z)
 
-longer_by : (how : Laying) (part : List Cell) (b : Bool) → has_run part ≡ b → length (stretched_part how part) ≡ length part + copies_added (run_of how.font part)
+longer_by : (how : Laying) (part : List Cell) (b : Bool) → has_run part ≡ b → length (stretched_part how part) ≡ length part + copies_added (run_of_part how.font part)
 longer_by how part true e = run_length how part e
 longer_by how part false e = omega (arith, ap length (no_run_length how part e), no_copies how.font part e)
 
 abbrev copies_of_run : Font → List Cell → ℕ
-copies_of_run font part = copies_added (run_of font part)
+copies_of_run font part = copies_added (run_of_part font part)
 
 parts_longer : (how : Laying) (ps : List (List Cell)) → length (flat_map (stretched_part how) ps) ≡ length (flat_map (λ p. p) ps) + sum_by (copies_of_run how.font) ps
 parts_longer how [] = refl
 parts_longer how (p ∷ ps) = omega (arith, length-append (stretched_part how p) (flat_map (stretched_part how) ps), length-append p (flat_map (λ p. p) ps), longer_by how p (has_run p) refl, parts_longer how ps, sum_by-cons (copies_of_run how.font) p ps)
 
-text_longer : (how : Laying) (cs : List Cell) → length (stretched how cs) ≡ length cs + sum_by (copies_of_run how.font) (parts cs)
-text_longer how cs = parts_longer how (parts cs) ∙ ap (λ n. n + sum_by (copies_of_run how.font) (parts cs)) (ap length (pieces_join run_ends cs))
+text_longer : (how : Laying) (cs : List Cell) → length (stretched how cs) ≡ length cs + sum_by (copies_of_run how.font) (parts_of_text cs)
+text_longer how cs = parts_longer how (parts_of_text cs) ∙ ap (λ n. n + sum_by (copies_of_run how.font) (parts_of_text cs)) (ap length (pieces_join run_ends cs))
 
-length-in_order : {X : Type 0} (r : Bool) (xs : List X) → length (in_order r xs) ≡ length xs
+length-in_order : {X : Type 0} (r : Bool) (xs : List X) → length (in_working_order r xs) ≡ length xs
 length-in_order true xs = refl
 length-in_order false xs = length-reverse xs
 
@@ -83,9 +83,9 @@ pub marks_longer : (font : Font) (choice : StretchStart) (b : Buffer) → length
 marks_longer font choice b both =
     let how = laying font choice b in
     let r = how.right_to_left in
-    let cs = in_order r (cells b) in
-    let after = in_order r (stretched how cs) in
-    longer_if b.stch (with_cells after b) b (sum_by (copies_of_run font) (parts cs)) (omega (arith, length-map after (λ c. c.0), length-in_order r (stretched how cs), text_longer how cs, length-in_order r (cells b), length-zipped b.glyphs b.positions (sym both)))
+    let cs = in_working_order r (cells b) in
+    let after = in_working_order r (stretched how cs) in
+    longer_if b.stch (with_cells after b) b (sum_by (copies_of_run font) (parts_of_text cs)) (omega (arith, length-map after (λ c. c.0), length-in_order r (stretched how cs), text_longer how cs, length-in_order r (cells b), length-zipped b.glyphs b.positions (sym both)))
 
 pub grows : {T : Type 0} (font : Font) (choice : StretchStart) (b new : Buffer) (r : Result T ShaperError) → length b.positions ≡ length b.glyphs → OnOk r (new ≡ marks_stretched font choice b) → OnOk r (length new.glyphs ≡ length b.glyphs + copies_in font b)
 grows font choice b new (Ok v) both h = ap (λ b. length b.glyphs) h ∙ marks_longer font choice b both
@@ -110,15 +110,15 @@ tile_ids false n w v c = refl
 abbrev ids_of_tile : ℕ → hb_glyph_info_t → List ℕ
 ids_of_tile n g = replicate (cond (repeats g) (suc n) 1) g.glyph_id
 
-flat_ids : (font : Font) (z : Run) (cs : List Cell) → map copy_id (flat_map (copies_of font z) cs) ≡ flat_map (ids_of_tile (added z)) (glyphs_of cs)
+flat_ids : (font : Font) (z : Run) (cs : List Cell) → map copy_id (flat_map (copies_of font z) cs) ≡ flat_map (ids_of_tile (times_added z)) (glyphs_of cs)
 flat_ids font z [] = refl
 flat_ids font z (c ∷ cs) =
     map-append copy_id (copies_of font z c) (flat_map (copies_of font z) cs)
-    ∙ ap (λ ns. ns ++ map copy_id (flat_map (copies_of font z) cs)) (tile_ids (repeats c.0) (added z) (width_of font c.0) (width_of font c.0 -ℤ overlap z) c)
-    ∙ ap (λ ns. ids_of_tile (added z) c.0 ++ ns) (flat_ids font z cs)
+    ∙ ap (λ ns. ns ++ map copy_id (flat_map (copies_of font z) cs)) (tile_ids (repeats c.0) (times_added z) (width_of font c.0) (width_of font c.0 -ℤ overlap z) c)
+    ∙ ap (λ ns. ids_of_tile (times_added z) c.0 ++ ns) (flat_ids font z cs)
 
-copies-ids : (font : Font) (z : Run) (tiles : List Cell) → map copy_id (copies font z tiles) ≡ laid_ids (added z) (glyphs_of tiles)
-copies-ids font z tiles = flat_ids font z (reverse tiles) ∙ ap (flat_map (ids_of_tile (added z))) (map-reverse (λ c. c.0) tiles)
+copies-ids : (font : Font) (z : Run) (tiles : List Cell) → map copy_id (copies font z tiles) ≡ laid_ids (times_added z) (glyphs_of tiles)
+copies-ids font z tiles = flat_ids font z (reverse tiles) ∙ ap (flat_map (ids_of_tile (times_added z))) (map-reverse (λ c. c.0) tiles)
 
 flagged_copies-ids : (m : ℕ) (cs : List Copy) → map copy_id (map (flag_copy m) cs) ≡ map copy_id cs
 flagged_copies-ids m [] = refl
@@ -163,7 +163,7 @@ laid_flagged how z m tiles =
 
 run_laid : (how : Laying) (part : List Cell) → has_run part ≡ true → RunIsLaid how part (stretched_part how part)
 run_laid how part e =
-    let z = run_of how.font part in
+    let z = run_of_part how.font part in
     let word = word_of part in
     let tiles = tiles_of part in
     let whole = unbroken (word ++ tiles) in
@@ -202,14 +202,14 @@ parts_laid how (p ∷ ps) = (part_laid how p, parts_laid how ps)
 
 text_laid : (how : Laying) (cs : List Cell) → TextIsLaid how cs (stretched how cs)
 text_laid how cs = record {
-  pieces = map (stretched_part how) (parts cs);
+  pieces = map (stretched_part how) (parts_of_text cs);
   before = pieces_join run_ends cs;
-  after = flat_map-map (λ p. p) (stretched_part how) (parts cs);
-  each = parts_laid how (parts cs);
+  after = flat_map-map (λ p. p) (stretched_part how) (parts_of_text cs);
+  each = parts_laid how (parts_of_text cs);
 }
 
 -- of a buffer
-twice_in_order : {X : Type 0} (r : Bool) (xs : List X) → in_order r (in_order r xs) ≡ xs
+twice_in_order : {X : Type 0} (r : Bool) (xs : List X) → in_working_order r (in_working_order r xs) ≡ xs
 twice_in_order true xs = refl
 twice_in_order false xs = reverse-reverse xs
 
@@ -218,8 +218,8 @@ stretch_is_as_wide font choice old new marked both e =
     let how = laying font choice old in
     let r = how.right_to_left in
     let cs = cells_in_order old in
-    let after = in_order r (stretched how cs) in
+    let after = in_working_order r (stretched how cs) in
     let is : new ≡ with_cells after old = e ∙ ap (λ b. cond b (with_cells after old) old) marked in
     let lengths : length new.positions ≡ length new.glyphs = ap (λ b. length b.positions) is ∙ length-map after (λ c. c.1) ∙ sym (length-map after (λ c. c.0)) ∙ sym (ap (λ b. length b.glyphs) is) in
-    let now : cells_in_order new ≡ stretched how cs = ap cells_in_order is ∙ ap (in_order r) (zipped after) ∙ twice_in_order r (stretched how cs) in
+    let now : cells_in_order new ≡ stretched how cs = ap cells_in_order is ∙ ap (in_working_order r) (zipped after) ∙ twice_in_order r (stretched how cs) in
     (lengths, subst (TextIsLaid how cs) (sym now) (text_laid how cs))

@@ -9,7 +9,7 @@ use borrow.Author.Tests.{clash}
 use Rattle.shapers_buffer.specs.Lists.{last_run, before_last_run}
 use Rattle.shapers_buffer.proofs.ListLaws.{suffix_len_yes, suffix_len_no, suffix_len_stop, from_end, last_of}
 use Rattle.shapers_buffer.proofs.MappedLists.{suffix_len-map}
-use Rattle.shapers_stretch.specs.Cells.{Cell, glyphs_of, before_tiles, before_word, cut_here, in_word, is_tile, parts, run_ends, tiles_of, word_of}
+use Rattle.shapers_stretch.specs.Cells.{Cell, glyphs_of, before_tiles, before_word, cut_here, in_word, is_tile, parts_of_text, run_ends, tiles_of, word_of}
 use Rattle.shapers_stretch.proofs.Parts.{parts-append}
 
 -- a list as what stands before its last run, and that run
@@ -100,15 +100,15 @@ other c = not (is_tile c.0)
 abbrev wordly : Cell → Bool
 wordly c = in_word c.0
 
-uncut : (x : Cell) (xs : List Cell) → cut_here run_ends x xs ≡ false → parts xs ≡ xs ∷ [] → parts (x ∷ xs) ≡ (x ∷ xs) ∷ []
-uncut x xs here rest = ap (λ b. cond b ((x ∷ []) ∷ parts xs) (onto_first x (parts xs))) here ∙ ap (onto_first x) rest
+uncut : (x : Cell) (xs : List Cell) → cut_here run_ends x xs ≡ false → parts_of_text xs ≡ xs ∷ [] → parts_of_text (x ∷ xs) ≡ (x ∷ xs) ∷ []
+uncut x xs here rest = ap (λ b. cond b ((x ∷ []) ∷ parts_of_text xs) (onto_first x (parts_of_text xs))) here ∙ ap (onto_first x) rest
 
 uncut_other : (x : Cell) (xs : List Cell) → other x ≡ true → cut_here run_ends x xs ≡ false
 uncut_other x [] h = refl
 uncut_other x (y ∷ xs) h = ap (λ b. b && not (is_tile y.0)) (not-true (is_tile x.0) h)
 
 -- other cells and then tiles are one part
-tiles_alone : (x : Cell) (xs : List Cell) → list_all tile (x ∷ xs) ≡ true → parts (x ∷ xs) ≡ (x ∷ xs) ∷ []
+tiles_alone : (x : Cell) (xs : List Cell) → list_all tile (x ∷ xs) ≡ true → parts_of_text (x ∷ xs) ≡ (x ∷ xs) ∷ []
 tiles_alone x [] h = refl
 tiles_alone x (y ∷ xs) h =
     let both = and_parts (tile x) (list_all tile (y ∷ xs)) h in
@@ -116,7 +116,7 @@ tiles_alone x (y ∷ xs) h =
     let here : cut_here run_ends x (y ∷ xs) ≡ false = ap (λ b. is_tile x.0 && not b) next ∙ and_right (is_tile x.0) false refl in
     uncut x (y ∷ xs) here (tiles_alone y xs both.1)
 
-pub one_part : (x : Cell) (others tiles : List Cell) → list_all other (x ∷ others) ≡ true → list_all tile tiles ≡ true → parts ((x ∷ others) ++ tiles) ≡ ((x ∷ others) ++ tiles) ∷ []
+pub one_part : (x : Cell) (others tiles : List Cell) → list_all other (x ∷ others) ≡ true → list_all tile tiles ≡ true → parts_of_text ((x ∷ others) ++ tiles) ≡ ((x ∷ others) ++ tiles) ∷ []
 one_part x [] [] h p = refl
 one_part x [] (t ∷ tiles) h p = uncut x (t ∷ tiles) (uncut_other x (t ∷ tiles) (and_parts (other x) true h).0) (tiles_alone t tiles p)
 one_part x (y ∷ others) tiles h p =
@@ -131,7 +131,7 @@ pub record LastPartOf (cs : List Cell) : Type 0 where
   pub tiles : List Cell
   pub whole : cs ≡ front ++ ((before ++ word) ++ tiles)
   pub some : 0 < length ((before ++ word) ++ tiles)
-  pub parted : parts cs ≡ parts front ++ ((before ++ word) ++ tiles) ∷ []
+  pub parted : parts_of_text cs ≡ parts_of_text front ++ ((before ++ word) ++ tiles) ∷ []
   pub count_tiles : suffix_len tile cs ≡ length tiles
   pub count_word : suffix_len wordly (front ++ (before ++ word)) ≡ length word
   pub count_before : suffix_len other (front ++ before) ≡ length before
@@ -159,27 +159,27 @@ in_word_other g h = (and_parts (other g) _ h).0
 ends_with_tile : (front : List Cell) (a : Cell) → suffix_len other (front ++ a ∷ []) ≡ 0 → tile a ≡ true
 ends_with_tile front a h = not-false (tile a) (last_fails other front a h)
 
-alone : (others tiles : List Cell) → list_all other others ≡ true → list_all tile tiles ≡ true → 0 < length (others ++ tiles) → parts (others ++ tiles) ≡ (others ++ tiles) ∷ []
+alone : (others tiles : List Cell) → list_all other others ≡ true → list_all tile tiles ≡ true → 0 < length (others ++ tiles) → parts_of_text (others ++ tiles) ≡ (others ++ tiles) ∷ []
 alone [] [] h p some = absurd (omega arith)
 alone [] (t ∷ tiles) h p some = tiles_alone t tiles p
 alone (x ∷ others) tiles h p some = one_part x others tiles h p
 
-behind_tile : (front : List Cell) (a : Cell) (others tiles : List Cell) → tile a ≡ true → suffix_len tile ((front ++ a ∷ []) ++ others) ≡ 0 → list_all other others ≡ true → list_all tile tiles ≡ true → parts ((front ++ a ∷ []) ++ (others ++ tiles)) ≡ parts (front ++ a ∷ []) ++ (others ++ tiles) ∷ []
+behind_tile : (front : List Cell) (a : Cell) (others tiles : List Cell) → tile a ≡ true → suffix_len tile ((front ++ a ∷ []) ++ others) ≡ 0 → list_all other others ≡ true → list_all tile tiles ≡ true → parts_of_text ((front ++ a ∷ []) ++ (others ++ tiles)) ≡ parts_of_text (front ++ a ∷ []) ++ (others ++ tiles) ∷ []
 behind_tile front a [] tiles e t h p =
     let fails : tile a ≡ false = last_fails tile front a (ap (suffix_len tile) (sym (append-nil (front ++ a ∷ []))) ∙ t) in
     absurd (clash (sym fails ∙ e))
 behind_tile front a (x ∷ others) tiles e t h p =
     let here : tile x ≡ false = not-true (tile x) (and_parts (other x) _ h).0 in
-    parts-append front a x (others ++ tiles) e here ∙ ap (λ ps. parts (front ++ a ∷ []) ++ ps) (one_part x others tiles h p)
+    parts-append front a x (others ++ tiles) e here ∙ ap (λ ps. parts_of_text (front ++ a ∷ []) ++ ps) (one_part x others tiles h p)
 
-parted_at : (front others tiles : List Cell) → suffix_len other front ≡ 0 → suffix_len tile (front ++ others) ≡ 0 → list_all other others ≡ true → list_all tile tiles ≡ true → 0 < length (others ++ tiles) → parts (front ++ (others ++ tiles)) ≡ parts front ++ (others ++ tiles) ∷ []
+parted_at : (front others tiles : List Cell) → suffix_len other front ≡ 0 → suffix_len tile (front ++ others) ≡ 0 → list_all other others ≡ true → list_all tile tiles ≡ true → 0 < length (others ++ tiles) → parts_of_text (front ++ (others ++ tiles)) ≡ parts_of_text front ++ (others ++ tiles) ∷ []
 parted_at front others tiles s t h p some =
     elim (last_of front) [
       | inl none ↦
-          let P : List Cell → Type 0 = λ f. parts (f ++ (others ++ tiles)) ≡ parts f ++ (others ++ tiles) ∷ [] in
+          let P : List Cell → Type 0 = λ f. parts_of_text (f ++ (others ++ tiles)) ≡ parts_of_text f ++ (others ++ tiles) ∷ [] in
           subst P (sym none) (alone others tiles h p some)
       | inr q ↦
-          let P : List Cell → Type 0 = λ f. suffix_len other f ≡ 0 → suffix_len tile (f ++ others) ≡ 0 → parts (f ++ (others ++ tiles)) ≡ parts f ++ (others ++ tiles) ∷ [] in
+          let P : List Cell → Type 0 = λ f. suffix_len other f ≡ 0 → suffix_len tile (f ++ others) ≡ 0 → parts_of_text (f ++ (others ++ tiles)) ≡ parts_of_text f ++ (others ++ tiles) ∷ [] in
           subst P (sym q.parts) (λ s t. behind_tile q.front q.last others tiles (ends_with_tile q.front q.last s) t h p) s t
     ]
 
@@ -222,7 +222,7 @@ last_part_of cs some =
       tiles = tiles;
       whole = whole;
       some = some_part;
-      parted = ap parts whole ∙ parted_at front (before ++ word) tiles r.before.stops no_tile others r.tiles.passes some_part;
+      parted = ap parts_of_text whole ∙ parted_at front (before ++ word) tiles r.before.stops no_tile others r.tiles.passes some_part;
       count_tiles = ap (suffix_len tile) r.tiles.whole ∙ counts_after tile r.tiles.front tiles r.tiles.stops r.tiles.passes;
       count_word = sym (ap (suffix_len wordly) upto) ∙ ap (suffix_len wordly) r.word.whole ∙ counts_after wordly r.word.front word r.word.stops r.word.passes;
       count_before = counts_after other front before r.before.stops r.before.passes;
@@ -242,7 +242,7 @@ pub record LastPartAt (cs : List Cell) (s w t : ℕ) : Type 0 where
   pub before_fits : s ≤ w
   pub word_fits : w ≤ t
   pub tiles_fit : t ≤ length cs
-  pub parted : parts cs ≡ parts (take s cs) ++ drop s cs ∷ []
+  pub parted : parts_of_text cs ≡ parts_of_text (take s cs) ++ drop s cs ∷ []
   pub tiles_is : tiles_of (drop s cs) ≡ drop t cs
   pub word_is : word_of (drop s cs) ≡ drop w (take t cs)
   pub before_is : before_word (drop s cs) ≡ drop s (take w cs)
@@ -275,7 +275,7 @@ last_part_at cs s w t some ends word start =
       before_fits = omega arith;
       word_fits = omega arith;
       tiles_fit = omega arith;
-      parted = p.parted ∙ ap (λ f. parts f ++ part ∷ []) (sym cut_s.0) ∙ ap (λ q. parts (take s cs) ++ q ∷ []) (sym cut_s.1);
+      parted = p.parted ∙ ap (λ f. parts_of_text f ++ part ∷ []) (sym cut_s.0) ∙ ap (λ q. parts_of_text (take s cs) ++ q ∷ []) (sym cut_s.1);
       tiles_is = ap tiles_of cut_s.1 ∙ p.tiles_is ∙ sym cut_t.1;
       word_is = ap word_of cut_s.1 ∙ p.word_is ∙ sym in_t.1;
       before_is = ap before_word cut_s.1 ∙ p.before_is ∙ sym in_w.1;

@@ -13,13 +13,13 @@ use Rattle.shapers_stretch.specs.CountingWalk.{IsLay, IsNumber}
 use Rattle.shapers_stretch.specs.declared.ot_shaper_arabic_stretch.measuring.Lay.{Lay}
 use Rattle.shapers_stretch.specs.declared.ot_shaper_arabic_stretch.measuring.Run.{Run}
 use Rattle.shapers_stretch.specs.Lays.{lay_if_fits, lay_of}
-use Rattle.shapers_stretch.specs.Measure.{added, copies_added, falls_short, fit, fits_i32, fitting, laid_width, left, numbers, overlap, reach, run_numbers, squeezes, start}
+use Rattle.shapers_stretch.specs.Measure.{times_added, copies_added, falls_short, fit, fits_i32, fitting, laid_width, left, numbers_to_fit, overlap, reach, run_numbers, squeezes, start}
 use Rattle.shapers_stretch.proofs.Numbers.{fit_room, fit_width, fit_yes, fits_from, overlap_bounds, overlap_no, quotient_abs}
 
 -- what fits, of the numbers of a run
 pub record SmallRun (z : Run) : Type 0 where
   pub left : FitsSigned w32 (left z)
-  pub reach : FitsSigned w32 (reach z (added z))
+  pub reach : FitsSigned w32 (reach z (times_added z))
   pub copies : copies_added z < 2 ^ 31
 
 small_from : (z : Run) → list_all fits_i32 (run_numbers z) ≡ true → SmallRun z
@@ -28,11 +28,11 @@ small_from z e =
     let b = and_parts (fits_i32 z.fixed) _ a.1 in
     let c = and_parts (fits_i32 z.repeating) _ b.1 in
     let d = and_parts (fits_i32 (left z)) _ c.1 in
-    let f = and_parts (fits_i32 (reach z (added z))) _ d.1 in
+    let f = and_parts (fits_i32 (reach z (times_added z))) _ d.1 in
     let h = and_parts (fits_i32 (pos (copies_added z))) _ f.1 in
-    record { left = fits_from (left z) d.0; reach = fits_from (reach z (added z)) f.0; copies = ltb-true (copies_added z) (2 ^ 31) h.0 }
+    record { left = fits_from (left z) d.0; reach = fits_from (reach z (times_added z)) f.0; copies = ltb-true (copies_added z) (2 ^ 31) h.0 }
 
-numbers_small : (choice : StretchStart) (z : Run) → list_all fits_i32 (numbers choice z) ≡ true → SmallRun z
+numbers_small : (choice : StretchStart) (z : Run) → list_all fits_i32 (numbers_to_fit choice z) ≡ true → SmallRun z
 numbers_small AsCode z e = small_from z e
 numbers_small Centred z e = small_from z (and_parts _ _ (sym (list_all-append fits_i32 (run_numbers z) (laid_width z ∷ (z.word -ℤ laid_width z) ∷ [])) ∙ e)).0
 
@@ -72,7 +72,7 @@ number_neg : (x : ℤ) → FitsSigned w32 x → IsNumber (neg_ℤ (int_div x (po
 number_neg (pos n) fits = record { low = omega (arith, ints, div-le_self n 2); high = omega (arith, ints, div-le_self n 2) }
 number_neg (negsuc n) fits = record { low = omega (arith, ints, div-le_self (suc n) 2); high = omega (arith, ints, div-le_self (suc n) 2) }
 
-start_small : (choice : StretchStart) (right_to_left : Bool) (z : Run) → list_all fits_i32 (numbers choice z) ≡ true → IsNumber (start choice right_to_left z)
+start_small : (choice : StretchStart) (right_to_left : Bool) (z : Run) → list_all fits_i32 (numbers_to_fit choice z) ≡ true → IsNumber (start choice right_to_left z)
 start_small AsCode right_to_left z e = number_if (squeezes z) _ _ number_zero (half_small (left z) (small_from z e).left)
 start_small Centred right_to_left z e =
     let both = and_parts _ _ (sym (list_all-append fits_i32 (run_numbers z) (laid_width z ∷ (z.word -ℤ laid_width z) ∷ [])) ∙ e) in
@@ -81,16 +81,16 @@ start_small Centred right_to_left z e =
 
 -- a lay that was found
 pub record FoundLay (choice : StretchStart) (right_to_left : Bool) (z : Run) (lay : Lay) : Type 0 where
-  pub fits : list_all fits_i32 (numbers choice z) ≡ true
+  pub fits : list_all fits_i32 (numbers_to_fit choice z) ≡ true
   pub is : lay ≡ lay_of choice right_to_left z
   pub small : IsLay lay
   pub copies : lay.added * z.repeaters < 2 ^ 31
 
-found_here : (choice : StretchStart) (right_to_left : Bool) (z : Run) → list_all fits_i32 (numbers choice z) ≡ true → FoundLay choice right_to_left z (lay_of choice right_to_left z)
+found_here : (choice : StretchStart) (right_to_left : Bool) (z : Run) → list_all fits_i32 (numbers_to_fit choice z) ≡ true → FoundLay choice right_to_left z (lay_of choice right_to_left z)
 found_here choice right_to_left z e =
     let s = numbers_small choice z e in
     let over = overlap_small z (squeezes z) refl s in
-    let few : added z ≤ 2 ^ 31 = added_if (falls_short z) (fitting z) (fit_small z.repeating (left z) s.left) in
+    let few : times_added z ≤ 2 ^ 31 = added_if (falls_short z) (fitting z) (fit_small z.repeating (left z) s.left) in
     record { fits = e; is = refl; small = record { added = few; low = over.0; high = over.1; start = start_small choice right_to_left z e }; copies = s.copies }
 
 abbrev lay_or : Lay → Option Lay → Lay
@@ -99,14 +99,14 @@ lay_or d None = d
 
 pub found_lay : (choice : StretchStart) (right_to_left : Bool) (z : Run) (lay : Lay) → lay_if_fits choice right_to_left z ≡ Some lay → FoundLay choice right_to_left z lay
 found_lay choice right_to_left z lay e =
-    elim (list_all fits_i32 (numbers choice z)) as (λ b. list_all fits_i32 (numbers choice z) ≡ b → cond b (Some (lay_of choice right_to_left z)) None ≡ Some lay → FoundLay choice right_to_left z lay) [
+    elim (list_all fits_i32 (numbers_to_fit choice z)) as (λ b. list_all fits_i32 (numbers_to_fit choice z) ≡ b → cond b (Some (lay_of choice right_to_left z)) None ≡ Some lay → FoundLay choice right_to_left z lay) [
       | true ↦ λ f e. subst (FoundLay choice right_to_left z) (ap (lay_or lay) e) (found_here choice right_to_left z f)
       | false ↦ λ f e. absurd (none-some lay e)
     ] refl e
 
-pub no_lay : (choice : StretchStart) (right_to_left : Bool) (z : Run) → lay_if_fits choice right_to_left z ≡ None → list_all fits_i32 (numbers choice z) ≡ false
+pub no_lay : (choice : StretchStart) (right_to_left : Bool) (z : Run) → lay_if_fits choice right_to_left z ≡ None → list_all fits_i32 (numbers_to_fit choice z) ≡ false
 no_lay choice right_to_left z e =
-    elim (list_all fits_i32 (numbers choice z)) as (λ b. list_all fits_i32 (numbers choice z) ≡ b → cond b (Some (lay_of choice right_to_left z)) None ≡ None → b ≡ false) [
+    elim (list_all fits_i32 (numbers_to_fit choice z)) as (λ b. list_all fits_i32 (numbers_to_fit choice z) ≡ b → cond b (Some (lay_of choice right_to_left z)) None ≡ None → b ≡ false) [
       | true ↦ λ f e. absurd (none-some (lay_of choice right_to_left z) (sym e))
       | false ↦ λ f e. refl
     ] refl e

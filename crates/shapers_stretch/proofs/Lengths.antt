@@ -6,7 +6,7 @@ use Rattle.std.proofs.lemmas.Grind.{reverse_onto}
 use Rattle.shapers_base.specs.Font.{Font}
 use Rattle.shapers_stretch.specs.Cells.{Cell, glyphs_of, repeats}
 use Rattle.shapers_stretch.specs.declared.ot_shaper_arabic_stretch.measuring.Run.{Run}
-use Rattle.shapers_stretch.specs.Measure.{added, overlap}
+use Rattle.shapers_stretch.specs.Measure.{times_added, overlap}
 use Rattle.shapers_stretch.specs.Stretch.{Copy, copies, copies_of, laid, repeating, width_of}
 use Rattle.shapers_stretch.proofs.Moves.{length_if}
 use Rattle.shapers_stretch.proofs.Pen.{laid_is, laid_on, pen_behind}
@@ -20,16 +20,16 @@ count_if true n k m total e = omega (arith, mul-suc n k)
 count_if false n k m total e = omega arith
 
 -- one for each tile, and the added copies of those that repeat
-pub length-copies : (font : Font) (z : Run) (cs : List Cell) → length (copies font z cs) ≡ length cs + added z * length (repeating (glyphs_of cs))
-length-copies font z [] = omega (arith, mul-zero (added z))
+pub length-copies : (font : Font) (z : Run) (cs : List Cell) → length (copies font z cs) ≡ length cs + times_added z * length (repeating (glyphs_of cs))
+length-copies font z [] = omega (arith, mul-zero (times_added z))
 length-copies font z (c ∷ cs) =
     let cut : copies font z (c ∷ cs) ≡ copies font z cs ++ (copies_of font z c ++ []) = ap (flat_map (copies_of font z)) (reverse_onto cs c []) ∙ flat_map-append (copies_of font z) (reverse cs) (c ∷ []) in
-    let tile : length (copies_of font z c) ≡ suc (cond (repeats c.0) (added z) 0) = copies_if (repeats c.0) (added z) (record { tile = c; move = width_of font c.0 }) (record { tile = c; move = width_of font c.0 -ℤ overlap z }) in
-    let whole : length (copies font z (c ∷ cs)) ≡ length (copies font z cs) + suc (cond (repeats c.0) (added z) 0) =
+    let tile : length (copies_of font z c) ≡ suc (cond (repeats c.0) (times_added z) 0) = copies_if (repeats c.0) (times_added z) (record { tile = c; move = width_of font c.0 }) (record { tile = c; move = width_of font c.0 -ℤ overlap z }) in
+    let whole : length (copies font z (c ∷ cs)) ≡ length (copies font z cs) + suc (cond (repeats c.0) (times_added z) 0) =
     ap length cut ∙ length-append (copies font z cs) (copies_of font z c ++ []) ∙ ap (λ n. length (copies font z cs) + n) (ap length (append-nil (copies_of font z c)) ∙ tile) in
-    let step = count_if (repeats c.0) (added z) (length (repeating (glyphs_of cs))) (length cs) (length (copies font z cs)) (length-copies font z cs) in
+    let step = count_if (repeats c.0) (times_added z) (length (repeating (glyphs_of cs))) (length cs) (length (copies font z cs)) (length-copies font z cs) in
     let some : length (repeating (glyphs_of (c ∷ cs))) ≡ cond (repeats c.0) (suc (length (repeating (glyphs_of cs)))) (length (repeating (glyphs_of cs))) = length_if (repeats c.0) c.0 (repeating (glyphs_of cs)) in
-    whole ∙ step ∙ sym (ap (λ k. suc (length cs) + added z * k) some)
+    whole ∙ step ∙ sym (ap (λ k. suc (length cs) + times_added z * k) some)
 
 length-laid_on : (right_to_left : Bool) (pen : ℤ) (cs : List Copy) → length (laid_on right_to_left pen cs) ≡ length cs
 length-laid_on right_to_left pen [] = refl

@@ -2,7 +2,7 @@
 use Rattle.std.specs.Prelude.{◌≡◌, ℕ, ℤ, pos, negsuc, true, false, List, [], ◌∷◌, map, refl}
 use Rattle.shapers_base.specs.declared.plan.arabic.StretchStart.TheVariants.{AsCode, Centred}
 use Rattle.shapers_stretch.specs.declared.ot_shaper_arabic_stretch.measuring.Run.{Run}
-use Rattle.shapers_stretch.specs.Measure.{copies_added, overlap, start, laid_width, numbers, fits_i32}
+use Rattle.shapers_stretch.specs.Measure.{copies_added, overlap, start, laid_width, numbers_to_fit, fits_i32}
 
 -- a run by its word, its fixed and its repeating tiles, and how many of these there are
 abbrev run : ℤ → ℤ → ℤ → ℕ → Run
@@ -132,8 +132,8 @@ ends : map fits_i32 (pos 2147483647 ∷ pos 2147483648 ∷ negsuc 2147483647 ∷
 ends = refl
 
 -- which numbers must fit, by the choice of a start
-as_code : numbers AsCode (run (pos 1000) (pos 100) (pos 200) 1) ≡ pos 1000 ∷ pos 100 ∷ pos 200 ∷ pos 900 ∷ pos 1000 ∷ pos 4 ∷ []
+as_code : numbers_to_fit AsCode (run (pos 1000) (pos 100) (pos 200) 1) ≡ pos 1000 ∷ pos 100 ∷ pos 200 ∷ pos 900 ∷ pos 1000 ∷ pos 4 ∷ []
 as_code = refl
 
-centred : numbers Centred (run (pos 1000) (pos 0) (pos 300) 1) ≡ pos 1000 ∷ pos 0 ∷ pos 300 ∷ pos 1000 ∷ pos 1200 ∷ pos 3 ∷ pos 1002 ∷ negsuc 1 ∷ []
+centred : numbers_to_fit Centred (run (pos 1000) (pos 0) (pos 300) 1) ≡ pos 1000 ∷ pos 0 ∷ pos 300 ∷ pos 1000 ∷ pos 1200 ∷ pos 3 ∷ pos 1002 ∷ negsuc 1 ∷ []
 centred = refl

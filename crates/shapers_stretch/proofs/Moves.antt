@@ -11,8 +11,8 @@ use Rattle.shapers_buffer.specs.declared.buffer.glyph.hb_glyph_info_t.{hb_glyph_
 use Rattle.shapers_base.specs.Font.{Font}
 use Rattle.shapers_stretch.specs.Cells.{Cell, repeats, tiles_of, glyphs_of}
 use Rattle.shapers_stretch.specs.declared.ot_shaper_arabic_stretch.measuring.Run.{Run}
-use Rattle.shapers_stretch.specs.Measure.{added, overlap, total, laid_width}
-use Rattle.shapers_stretch.specs.Stretch.{Copy, copies, copies_of, moves, width_of, repeating, fixed, run_of}
+use Rattle.shapers_stretch.specs.Measure.{times_added, overlap, total, laid_width}
+use Rattle.shapers_stretch.specs.Stretch.{Copy, copies, copies_of, moves, width_of, repeating, fixed, run_of_part}
 use Rattle.shapers_stretch.proofs.Sums.{total_cons, total-append, times_suc, times_sum, times_add, times_zero, total-replicate, times_neg}
 
 -- the moves of one tile by whether it repeats
@@ -48,27 +48,27 @@ one_more true w F R M o k n e =
     omega (arith, ints, times_sum (suc n) w R)
 one_more false w F R M o k n e = omega (arith, ints)
 
-tiles_moves : (font : Font) (z : Run) (cs : List Cell) → moves (copies font z cs) ≡ total (map (width_of font) (fixed (glyphs_of cs))) +ℤ (pos (suc (added z)) *ℤ total (map (width_of font) (repeating (glyphs_of cs))) -ℤ pos (added z * length (repeating (glyphs_of cs))) *ℤ overlap z)
-tiles_moves font z [] = omega (arith, ints, times_zero (overlap z), *ℤ-zero (pos (suc (added z))), ap (λ m. pos m *ℤ overlap z) (mul-zero (added z)))
+tiles_moves : (font : Font) (z : Run) (cs : List Cell) → moves (copies font z cs) ≡ total (map (width_of font) (fixed (glyphs_of cs))) +ℤ (pos (suc (times_added z)) *ℤ total (map (width_of font) (repeating (glyphs_of cs))) -ℤ pos (times_added z * length (repeating (glyphs_of cs))) *ℤ overlap z)
+tiles_moves font z [] = omega (arith, ints, times_zero (overlap z), *ℤ-zero (pos (suc (times_added z))), ap (λ m. pos m *ℤ overlap z) (mul-zero (times_added z)))
 tiles_moves font z (c ∷ cs) =
     let w = width_of font c.0 in
     let cut : copies font z (c ∷ cs) ≡ copies font z cs ++ (copies_of font z c ++ []) = ap (flat_map (copies_of font z)) (reverse_onto cs c []) ∙ flat_map-append (copies_of font z) (reverse cs) (c ∷ []) in
-    let whole : moves (copies font z (c ∷ cs)) ≡ moves (copies font z cs) +ℤ tile_moves (repeats c.0) w (added z) (overlap z) =
-    ap moves cut ∙ moves-append (copies font z cs) (copies_of font z c ++ []) ∙ ap (λ m. moves (copies font z cs) +ℤ m) (ap moves (append-nil (copies_of font z c)) ∙ moves_if (repeats c.0) c w (overlap z) (added z)) in
-    let step = one_more (repeats c.0) w (total (map (width_of font) (fixed (glyphs_of cs)))) (total (map (width_of font) (repeating (glyphs_of cs)))) (moves (copies font z cs)) (overlap z) (length (repeating (glyphs_of cs))) (added z) (tiles_moves font z cs) in
+    let whole : moves (copies font z (c ∷ cs)) ≡ moves (copies font z cs) +ℤ tile_moves (repeats c.0) w (times_added z) (overlap z) =
+    ap moves cut ∙ moves-append (copies font z cs) (copies_of font z c ++ []) ∙ ap (λ m. moves (copies font z cs) +ℤ m) (ap moves (append-nil (copies_of font z c)) ∙ moves_if (repeats c.0) c w (overlap z) (times_added z)) in
+    let step = one_more (repeats c.0) w (total (map (width_of font) (fixed (glyphs_of cs)))) (total (map (width_of font) (repeating (glyphs_of cs)))) (moves (copies font z cs)) (overlap z) (length (repeating (glyphs_of cs))) (times_added z) (tiles_moves font z cs) in
     let F : total (map (width_of font) (fixed (glyphs_of (c ∷ cs)))) ≡ cond (not (repeats c.0)) (w +ℤ total (map (width_of font) (fixed (glyphs_of cs)))) (total (map (width_of font) (fixed (glyphs_of cs)))) = total_if (width_of font) (not (repeats c.0)) c.0 (fixed (glyphs_of cs)) in
     let R : total (map (width_of font) (repeating (glyphs_of (c ∷ cs)))) ≡ cond (repeats c.0) (w +ℤ total (map (width_of font) (repeating (glyphs_of cs)))) (total (map (width_of font) (repeating (glyphs_of cs)))) = total_if (width_of font) (repeats c.0) c.0 (repeating (glyphs_of cs)) in
     let K : length (repeating (glyphs_of (c ∷ cs))) ≡ cond (repeats c.0) (suc (length (repeating (glyphs_of cs)))) (length (repeating (glyphs_of cs))) = length_if (repeats c.0) c.0 (repeating (glyphs_of cs)) in
-    let sides : ℤ → ℤ → ℕ → ℤ = λ F R k. F +ℤ (pos (suc (added z)) *ℤ R -ℤ pos (added z * k) *ℤ overlap z) in
+    let sides : ℤ → ℤ → ℕ → ℤ = λ F R k. F +ℤ (pos (suc (times_added z)) *ℤ R -ℤ pos (times_added z * k) *ℤ overlap z) in
     whole ∙ step ∙ sym (ap (λ x. sides x (total (map (width_of font) (repeating (glyphs_of (c ∷ cs))))) (length (repeating (glyphs_of (c ∷ cs))))) F ∙ ap (λ x. sides (cond (not (repeats c.0)) (w +ℤ total (map (width_of font) (fixed (glyphs_of cs)))) (total (map (width_of font) (fixed (glyphs_of cs))))) x (length (repeating (glyphs_of (c ∷ cs))))) R ∙ ap (λ x. sides (cond (not (repeats c.0)) (w +ℤ total (map (width_of font) (fixed (glyphs_of cs)))) (total (map (width_of font) (fixed (glyphs_of cs))))) (cond (repeats c.0) (w +ℤ total (map (width_of font) (repeating (glyphs_of cs)))) (total (map (width_of font) (repeating (glyphs_of cs))))) x) K)
 
-pub moves_hold : (font : Font) (part : List Cell) → moves (copies font (run_of font part) (tiles_of part)) ≡ laid_width (run_of font part)
-moves_hold font part = omega (arith, ints, tiles_moves font (run_of font part) (tiles_of part))
+pub moves_hold : (font : Font) (part : List Cell) → moves (copies font (run_of_part font part) (tiles_of part)) ≡ laid_width (run_of_part font part)
+moves_hold font part = omega (arith, ints, tiles_moves font (run_of_part font part) (tiles_of part))
 
 -- without a tile that repeats they have no width
 no_repeating : (font : Font) (gs : List hb_glyph_info_t) → pos 0 <ℤ total (map (width_of font) gs) → 0 < length gs
 no_repeating font [] p = absurd (omega (arith, ints))
 no_repeating font (g ∷ gs) p = omega arith
 
-pub widths_hold : (font : Font) (part : List Cell) → TilesFit (run_of font part) → CoversTheWord (run_of font part)
-widths_hold font part fits = covers (run_of font part) (no_repeating font (repeating (glyphs_of (tiles_of part))) fits.0) fits
+pub widths_hold : (font : Font) (part : List Cell) → TilesFit (run_of_part font part) → CoversTheWord (run_of_part font part)
+widths_hold font part fits = covers (run_of_part font part) (no_repeating font (repeating (glyphs_of (tiles_of part))) fits.0) fits

@@ -11,8 +11,8 @@ use Rattle.shapers_stretch.specs.declared.ot_shaper_arabic_stretch.measuring.Run
 use Rattle.shapers_base.specs.declared.plan.arabic.StretchStart.{StretchStart}
 use Rattle.shapers_base.specs.declared.plan.arabic.StretchStart.TheVariants.{AsCode, Centred}
 use Rattle.shapers_stretch.specs.declared.ot_shaper_arabic_stretch.measuring.Lay.{Lay}
-use Rattle.shapers_stretch.specs.Lays.{RunFits, lay_if_fits, lay_of, start_if_fits}
-use Rattle.shapers_stretch.specs.Measure.{added, copies_added, excess, falls_short, fit, fits_i32, fitting, left, overlap, laid_width, reach, squeezes, start}
+use Rattle.shapers_stretch.specs.Lays.{TileRunFits, lay_if_fits, lay_of, start_if_fits}
+use Rattle.shapers_stretch.specs.Measure.{times_added, copies_added, excess, falls_short, fit, fits_i32, fitting, left, overlap, laid_width, reach, squeezes, start}
 
 -- a number that passes the test fits, and each of a list that does
 pub fits_from : (x : ℤ) → fits_i32 x ≡ true → FitsSigned w32 x
@@ -24,7 +24,7 @@ abs_within : (x : ℤ) → FitsSigned w32 x → unsigned_abs x ≤ 2 ^ 31
 abs_within (pos n) f = omega (arith, f.sfits)
 abs_within (negsuc n) f = omega (arith, f.sfits)
 
-pub reach_fits : (z : Run) (n : ℕ) → RunFits z → n ≤ 2 ^ 31 → FitsSigned w64 (reach z n)
+pub reach_fits : (z : Run) (n : ℕ) → TileRunFits z → n ≤ 2 ^ 31 → FitsSigned w64 (reach z n)
 reach_fits z n fits few = fits_signed_mul w64 (pos (suc n)) z.repeating (2 ^ 31 + 1) (2 ^ 31) (omega arith) (abs_within z.repeating fits.repeating) (omega arith)
 
 -- what fits 32 or 64 bits fits 128
@@ -40,7 +40,7 @@ wider (negsuc n) f = record { sfits = omega (arith, f.sfits) }
 pub is_true_from : (b : Bool) → IsTrue b → b ≡ true
 is_true_from b t = t
 
-pub run_fits_from : (z : Run) → IsTrue (list_all fits_i32 (z.word ∷ z.fixed ∷ z.repeating ∷ left z ∷ [])) → RunFits z
+pub run_fits_from : (z : Run) → IsTrue (list_all fits_i32 (z.word ∷ z.fixed ∷ z.repeating ∷ left z ∷ [])) → TileRunFits z
 run_fits_from z t =
     let first = and_parts (fits_i32 z.word) _ (is_true_from _ t) in
     let second = and_parts (fits_i32 z.fixed) _ first.1 in
@@ -78,13 +78,13 @@ fit_room r m h = if_first _ _ _ _ (lt_not r m h)
 pub fit_width : (r m : ℤ) → r ≤ℤ pos 0 → fit r m ≡ 0
 fit_width r m h = if_second (int_lt r m) _ _ _ (lt_not (pos 0) r h)
 
-pub added_yes : (z : Run) → pos 0 <ℤ (left z -ℤ reach z (fitting z)) → 0 < z.repeaters → added z ≡ suc (fitting z)
+pub added_yes : (z : Run) → pos 0 <ℤ (left z -ℤ reach z (fitting z)) → 0 < z.repeaters → times_added z ≡ suc (fitting z)
 added_yes z h p = if_both _ _ _ _ (lt_yes (pos 0) (left z -ℤ reach z (fitting z)) h) (grind (arith, nat_tests))
 
-pub added_full : (z : Run) → (left z -ℤ reach z (fitting z)) ≤ℤ pos 0 → added z ≡ fitting z
+pub added_full : (z : Run) → (left z -ℤ reach z (fitting z)) ≤ℤ pos 0 → times_added z ≡ fitting z
 added_full z h = if_first _ _ _ _ (lt_not (pos 0) (left z -ℤ reach z (fitting z)) h)
 
-pub added_none : (z : Run) → z.repeaters ≡ 0 → added z ≡ fitting z
+pub added_none : (z : Run) → z.repeaters ≡ 0 → times_added z ≡ fitting z
 added_none z h = if_second (int_lt (pos 0) (left z -ℤ reach z (fitting z))) _ _ _ (grind (arith, nat_tests))
 
 -- the reach of as many times as fit, by a number that equals them
@@ -116,8 +116,8 @@ squeezed_some z e =
     let both = and_parts (falls_short z) _ e in
     let short = and_parts (int_lt (pos 0) (left z -ℤ reach z (fitting z))) (nat_lt 0 z.repeaters) both.0 in
     let some : 0 < z.repeaters = ltb-true 0 z.repeaters short.1 in
-    let one_more : added z ≡ suc (fitting z) = ap (λ v. cond v (suc (fitting z)) (fitting z)) both.0 in
-    let many : 0 < added z = omega arith in
+    let one_more : times_added z ≡ suc (fitting z) = ap (λ v. cond v (suc (fitting z)) (fitting z)) both.0 in
+    let many : 0 < times_added z = omega arith in
     (mul-pos many some, grind (arith, ints))
 
 pub overlap_yes : (z : Run) → squeezes z ≡ true → overlap z ≡ int_div (excess z) (pos (copies_added z))
@@ -133,8 +133,8 @@ quotient_bounds (negsuc a) n h p = absurd (omega (arith, ints))
 lt_gap : (a b : ℤ) → int_lt a b ≡ int_lt (pos 0) (b -ℤ a)
 lt_gap a b = by_lt_z a b (λ h. let over : pos 0 <ℤ (b -ℤ a) = omega (arith, ints) in lt_yes a b h ∙ sym (lt_yes (pos 0) (b -ℤ a) over)) (λ h. let under : (b -ℤ a) ≤ℤ pos 0 = omega (arith, ints) in lt_not a b h ∙ sym (lt_not (pos 0) (b -ℤ a) under))
 
-pub squeezes_at : (z : Run) (l r : ℤ) → l ≡ left z → r ≡ reach z (added z) → pos 0 <ℤ (left z -ℤ reach z (fitting z)) → 0 < z.repeaters → int_lt l r ≡ squeezes z
-squeezes_at z l r e f h p = ap (λ l. int_lt l r) e ∙ ap (λ r. int_lt (left z) r) f ∙ lt_gap (left z) (reach z (added z)) ∙ sym (squeezes_short z h p)
+pub squeezes_at : (z : Run) (l r : ℤ) → l ≡ left z → r ≡ reach z (times_added z) → pos 0 <ℤ (left z -ℤ reach z (fitting z)) → 0 < z.repeaters → int_lt l r ≡ squeezes z
+squeezes_at z l r e f h p = ap (λ l. int_lt l r) e ∙ ap (λ r. int_lt (left z) r) f ∙ lt_gap (left z) (reach z (times_added z)) ∙ sym (squeezes_short z h p)
 
 -- the quotient that overlap is, and its bounds
 pub overlap_at : (z : Run) (q ex n : ℤ) → squeezes z ≡ true → q ≡ int_div ex n → ex ≡ excess z → n ≡ pos (copies_added z) → q ≡ overlap z
@@ -179,14 +179,14 @@ some_same e = ap number_or e
 as_code_found : (right_to_left : Bool) (z : Run) (b : Bool) (s : ℤ) → b ≡ true → start AsCode right_to_left z ≡ s → cond b (Some (lay_of AsCode right_to_left z)) None ≡ Some (record (lay_of AsCode right_to_left z) { start = s })
 as_code_found right_to_left z b s e f = ap (λ b. cond b (Some (lay_of AsCode right_to_left z)) None) e ∙ ap (λ s. let r : Lay = record (lay_of AsCode right_to_left z) { start = s } in Some r) f
 
-pub four_and_two : (z : Run) (rest : Bool) → list_all fits_i32 (z.word ∷ z.fixed ∷ z.repeating ∷ left z ∷ []) ≡ true → list_all fits_i32 (reach z (added z) ∷ pos (copies_added z) ∷ []) ≡ true → (fits_i32 z.word && (fits_i32 z.fixed && (fits_i32 z.repeating && (fits_i32 (left z) && (fits_i32 (reach z (added z)) && (fits_i32 (pos (copies_added z)) && rest)))))) ≡ rest
-four_and_two z rest e f = four_true (fits_i32 z.word) (fits_i32 z.fixed) (fits_i32 z.repeating) (fits_i32 (left z)) _ e ∙ two_true (fits_i32 (reach z (added z))) (fits_i32 (pos (copies_added z))) rest f
+pub four_and_two : (z : Run) (rest : Bool) → list_all fits_i32 (z.word ∷ z.fixed ∷ z.repeating ∷ left z ∷ []) ≡ true → list_all fits_i32 (reach z (times_added z) ∷ pos (copies_added z) ∷ []) ≡ true → (fits_i32 z.word && (fits_i32 z.fixed && (fits_i32 z.repeating && (fits_i32 (left z) && (fits_i32 (reach z (times_added z)) && (fits_i32 (pos (copies_added z)) && rest)))))) ≡ rest
+four_and_two z rest e f = four_true (fits_i32 z.word) (fits_i32 z.fixed) (fits_i32 z.repeating) (fits_i32 (left z)) _ e ∙ two_true (fits_i32 (reach z (times_added z))) (fits_i32 (pos (copies_added z))) rest f
 
 centred_found : (right_to_left : Bool) (z : Run) (b : Bool) (s : ℤ) → cond b (Some (start Centred right_to_left z)) None ≡ Some s → cond b (Some (lay_of Centred right_to_left z)) None ≡ Some (record (lay_of Centred right_to_left z) { start = s })
 centred_found right_to_left z true s e = ap (λ s. let r : Lay = record (lay_of Centred right_to_left z) { start = s } in Some r) (some_same e)
 centred_found right_to_left z false s e = absurd (none-some s e)
 
-pub lay_found : (choice : StretchStart) (right_to_left : Bool) (z : Run) (s : ℤ) → list_all fits_i32 (z.word ∷ z.fixed ∷ z.repeating ∷ left z ∷ []) ≡ true → list_all fits_i32 (reach z (added z) ∷ pos (copies_added z) ∷ []) ≡ true → start_if_fits choice right_to_left z ≡ Some s → lay_if_fits choice right_to_left z ≡ Some (record (lay_of choice right_to_left z) { start = s })
+pub lay_found : (choice : StretchStart) (right_to_left : Bool) (z : Run) (s : ℤ) → list_all fits_i32 (z.word ∷ z.fixed ∷ z.repeating ∷ left z ∷ []) ≡ true → list_all fits_i32 (reach z (times_added z) ∷ pos (copies_added z) ∷ []) ≡ true → start_if_fits choice right_to_left z ≡ Some s → lay_if_fits choice right_to_left z ≡ Some (record (lay_of choice right_to_left z) { start = s })
 lay_found AsCode right_to_left z s e f h = as_code_found right_to_left z _ s (four_and_two z true e f) (some_same h)
 lay_found Centred right_to_left z s e f h =
     let rest = list_all fits_i32 (laid_width z ∷ (z.word -ℤ laid_width z) ∷ []) in
@@ -208,14 +208,14 @@ two_false false b rest e = refl
 run_apart : (z : Run) (rest : Bool) → list_all fits_i32 (z.word ∷ z.fixed ∷ z.repeating ∷ left z ∷ []) ≡ false → (fits_i32 z.word && (fits_i32 z.fixed && (fits_i32 z.repeating && (fits_i32 (left z) && rest)))) ≡ false
 run_apart z rest e = four_false (fits_i32 z.word) (fits_i32 z.fixed) (fits_i32 z.repeating) (fits_i32 (left z)) rest e
 
-added_apart : (z : Run) (rest : Bool) → list_all fits_i32 (z.word ∷ z.fixed ∷ z.repeating ∷ left z ∷ []) ≡ true → list_all fits_i32 (reach z (added z) ∷ pos (copies_added z) ∷ []) ≡ false → (fits_i32 z.word && (fits_i32 z.fixed && (fits_i32 z.repeating && (fits_i32 (left z) && (fits_i32 (reach z (added z)) && (fits_i32 (pos (copies_added z)) && rest)))))) ≡ false
-added_apart z rest e f = four_true (fits_i32 z.word) (fits_i32 z.fixed) (fits_i32 z.repeating) (fits_i32 (left z)) _ e ∙ two_false (fits_i32 (reach z (added z))) (fits_i32 (pos (copies_added z))) rest f
+added_apart : (z : Run) (rest : Bool) → list_all fits_i32 (z.word ∷ z.fixed ∷ z.repeating ∷ left z ∷ []) ≡ true → list_all fits_i32 (reach z (times_added z) ∷ pos (copies_added z) ∷ []) ≡ false → (fits_i32 z.word && (fits_i32 z.fixed && (fits_i32 z.repeating && (fits_i32 (left z) && (fits_i32 (reach z (times_added z)) && (fits_i32 (pos (copies_added z)) && rest)))))) ≡ false
+added_apart z rest e f = four_true (fits_i32 z.word) (fits_i32 z.fixed) (fits_i32 z.repeating) (fits_i32 (left z)) _ e ∙ two_false (fits_i32 (reach z (times_added z))) (fits_i32 (pos (copies_added z))) rest f
 
 pub no_lay_run : (choice : StretchStart) (right_to_left : Bool) (z : Run) → list_all fits_i32 (z.word ∷ z.fixed ∷ z.repeating ∷ left z ∷ []) ≡ false → None ≡ lay_if_fits choice right_to_left z
 no_lay_run AsCode right_to_left z e = sym (ap (λ b. cond b (Some (lay_of AsCode right_to_left z)) None) (run_apart z _ e))
 no_lay_run Centred right_to_left z e = sym (ap (λ b. cond b (Some (lay_of Centred right_to_left z)) None) (run_apart z _ e))
 
-pub no_lay_added : (choice : StretchStart) (right_to_left : Bool) (z : Run) → list_all fits_i32 (z.word ∷ z.fixed ∷ z.repeating ∷ left z ∷ []) ≡ true → list_all fits_i32 (reach z (added z) ∷ pos (copies_added z) ∷ []) ≡ false → None ≡ lay_if_fits choice right_to_left z
+pub no_lay_added : (choice : StretchStart) (right_to_left : Bool) (z : Run) → list_all fits_i32 (z.word ∷ z.fixed ∷ z.repeating ∷ left z ∷ []) ≡ true → list_all fits_i32 (reach z (times_added z) ∷ pos (copies_added z) ∷ []) ≡ false → None ≡ lay_if_fits choice right_to_left z
 no_lay_added AsCode right_to_left z e f = sym (ap (λ b. cond b (Some (lay_of AsCode right_to_left z)) None) (added_apart z _ e f))
 no_lay_added Centred right_to_left z e f = sym (ap (λ b. cond b (Some (lay_of Centred right_to_left z)) None) (added_apart z _ e f))
 
@@ -223,7 +223,7 @@ no_start : (right_to_left : Bool) (z : Run) (b : Bool) → cond b (Some (start C
 no_start right_to_left z true e = absurd (none-some _ (sym e))
 no_start right_to_left z false e = refl
 
-pub no_lay_start : (choice : StretchStart) (right_to_left : Bool) (z : Run) → list_all fits_i32 (z.word ∷ z.fixed ∷ z.repeating ∷ left z ∷ []) ≡ true → list_all fits_i32 (reach z (added z) ∷ pos (copies_added z) ∷ []) ≡ true → start_if_fits choice right_to_left z ≡ None → None ≡ lay_if_fits choice right_to_left z
+pub no_lay_start : (choice : StretchStart) (right_to_left : Bool) (z : Run) → list_all fits_i32 (z.word ∷ z.fixed ∷ z.repeating ∷ left z ∷ []) ≡ true → list_all fits_i32 (reach z (times_added z) ∷ pos (copies_added z) ∷ []) ≡ true → start_if_fits choice right_to_left z ≡ None → None ≡ lay_if_fits choice right_to_left z
 no_lay_start AsCode right_to_left z e f h = absurd (none-some _ (sym h))
 no_lay_start Centred right_to_left z e f h =
     let rest = list_all fits_i32 (laid_width z ∷ (z.word -ℤ laid_width z) ∷ []) in

@@ -17,12 +17,12 @@ use Rattle.shapers_buffer.specs.Glyph.{clusters}
 use Rattle.shapers_buffer.proofs.MappedLists.{map-reverse}
 use Rattle.shapers_base.specs.declared.plan.arabic.StretchStart.{StretchStart}
 use Rattle.shapers_base.specs.Font.{Font}
-use Rattle.shapers_stretch.specs.Cells.{Cell, before_tiles, before_word, glyphs_of, in_word, is_tile, parts, positions_of, repeats, tiles_of, word_of}
+use Rattle.shapers_stretch.specs.Cells.{Cell, before_tiles, before_word, glyphs_of, in_word, is_tile, parts_of_text, positions_of, repeats, tiles_of, word_of}
 use Rattle.shapers_stretch.specs.CountingWalk.{CountsAdded, IsCounted, moves_of, offsets_fit, offsets_on, pen_behind, run_added, run_moves, stands_at}
 use Rattle.shapers_stretch.specs.declared.ot_shaper_arabic_stretch.measuring.Run.{Run}
 use Rattle.shapers_stretch.specs.Lays.{lay_of}
-use Rattle.shapers_stretch.specs.Measure.{added, copies_added, fits_i32, numbers, overlap, start}
-use Rattle.shapers_stretch.specs.Stretch.{Copy, Laying, copies, copies_of, has_run, laid_run, measured, overflows, part_overflows, repeating, run_of, stretched, stretched_over, stretched_part, unbroken, width_of}
+use Rattle.shapers_stretch.specs.Measure.{times_added, copies_added, fits_i32, numbers_to_fit, overlap, start}
+use Rattle.shapers_stretch.specs.Stretch.{Copy, Laying, copies, copies_of, has_run, laid_run, measured, overflows, part_overflows, repeating, run_of_part, stretched, stretched_over, stretched_part, unbroken, width_of}
 use Rattle.shapers_stretch.proofs.LastParts.{LastPartAt, last_part_at}
 use Rattle.shapers_stretch.proofs.Lengths.{length-copies, length-laid}
 use Rattle.shapers_stretch.proofs.Zips.{length-zipped, zip-take}
@@ -72,15 +72,15 @@ run_repeats word tiles =
     ap (λ gs. length (repeating gs)) same ∙ as_many_repeat 3 m (glyphs_of tiles)
 
 -- the word as long as before, and the run longer by its added copies
-over_length : (how : Laying) (z : Run) (word tiles : List Cell) → length (stretched_over how z word tiles) ≡ length word + (length tiles + added z * length (repeating (glyphs_of tiles)))
+over_length : (how : Laying) (z : Run) (word tiles : List Cell) → length (stretched_over how z word tiles) ≡ length word + (length tiles + times_added z * length (repeating (glyphs_of tiles)))
 over_length how z word tiles =
     let whole = unbroken (word ++ tiles) in
     let run = drop (length word) whole in
     let long : length whole ≡ length word + length tiles = length-unbroken (word ++ tiles) ∙ length-append word tiles in
     let first : length (take (length word) whole) ≡ length word = length-take-le (length word) whole (omega arith) in
     let rest : length run ≡ length tiles = omega (arith, length-drop (length word) whole) in
-    let copied : length (reverse (laid_run how z run)) ≡ length run + added z * length (repeating (glyphs_of run)) = length-reverse (laid_run how z run) ∙ length-laid how.right_to_left (start how.choice how.right_to_left z) (copies how.font z run) ∙ length-copies how.font z run in
-    let many : length run + added z * length (repeating (glyphs_of run)) ≡ length tiles + added z * length (repeating (glyphs_of tiles)) = ap (λ n. n + added z * length (repeating (glyphs_of run))) rest ∙ ap (λ n. length tiles + added z * n) (run_repeats word tiles) in
+    let copied : length (reverse (laid_run how z run)) ≡ length run + times_added z * length (repeating (glyphs_of run)) = length-reverse (laid_run how z run) ∙ length-laid how.right_to_left (start how.choice how.right_to_left z) (copies how.font z run) ∙ length-copies how.font z run in
+    let many : length run + times_added z * length (repeating (glyphs_of run)) ≡ length tiles + times_added z * length (repeating (glyphs_of tiles)) = ap (λ n. n + times_added z * length (repeating (glyphs_of run))) rest ∙ ap (λ n. length tiles + times_added z * n) (run_repeats word tiles) in
     length-append (take (length word) whole) (reverse (laid_run how z run)) ∙ ap (λ n. n + length (reverse (laid_run how z run))) first ∙ ap (λ n. length word + n) (copied ∙ many)
 
 part_length : (part : List Cell) → length part ≡ length (before_word part) + (length (word_of part) + length (tiles_of part))
@@ -89,14 +89,14 @@ part_length part =
     let front : length (before_word part) + length (word_of part) ≡ length (before_tiles part) = sym (length-append (before_word part) (word_of part)) ∙ ap length (take-append-drop _ (before_tiles part)) in
     omega arith
 
-pub run_length : (how : Laying) (part : List Cell) → has_run part ≡ true → length (stretched_part how part) ≡ length part + copies_added (run_of how.font part)
+pub run_length : (how : Laying) (part : List Cell) → has_run part ≡ true → length (stretched_part how part) ≡ length part + copies_added (run_of_part how.font part)
 run_length how part e =
-    let z = run_of how.font part in
+    let z = run_of_part how.font part in
     let over = stretched_over how z (word_of part) (tiles_of part) in
     ap (λ b. length (cond (not b) part (before_word part ++ over))) e ∙ length-append (before_word part) over ∙ omega (arith, over_length how z (word_of part) (tiles_of part), part_length part)
 
 pub no_run_length : (how : Laying) (part : List Cell) → has_run part ≡ false → stretched_part how part ≡ part
-no_run_length how part e = ap (λ b. cond (not b) part (before_word part ++ stretched_over how (run_of how.font part) (word_of part) (tiles_of part))) e
+no_run_length how part e = ap (λ b. cond (not b) part (before_word part ++ stretched_over how (run_of_part how.font part) (word_of part) (tiles_of part))) e
 
 -- the offsets of a laid list, from the moves of its copies alone
 on_offsets : (right_to_left : Bool) (pen : ℤ) (cs : List Copy) → map (λ c. c.1.x_offset) (laid_on right_to_left pen cs) ≡ offsets_on right_to_left pen (map (λ copy. copy.move) cs)
@@ -108,7 +108,7 @@ moves_if true n copy = map-replicate (λ copy. copy.move) n copy
 moves_if false n copy = refl
 
 tile_moves : (choice : StretchStart) (right_to_left : Bool) (font : Font) (z : Run) (c : Cell) → map (λ copy. copy.move) (copies_of font z c) ≡ moves_of font (lay_of choice right_to_left z) c.0
-tile_moves choice right_to_left font z c = ap (λ ms. width_of font c.0 ∷ ms) (moves_if (repeats c.0) (added z) (record { tile = c; move = width_of font c.0 -ℤ overlap z }))
+tile_moves choice right_to_left font z c = ap (λ ms. width_of font c.0 ∷ ms) (moves_if (repeats c.0) (times_added z) (record { tile = c; move = width_of font c.0 -ℤ overlap z }))
 
 flat_moves : (choice : StretchStart) (right_to_left : Bool) (font : Font) (z : Run) (cs : List Cell) → map (λ copy. copy.move) (flat_map (copies_of font z) cs) ≡ flat_map (moves_of font (lay_of choice right_to_left z)) (glyphs_of cs)
 flat_moves choice right_to_left font z [] = refl
@@ -126,13 +126,13 @@ run_offsets how z tiles =
 
 -- whether all numbers of a part's run fit
 abbrev all_fit : Laying → Run → List hb_glyph_info_t → Bool
-all_fit how z tiles = list_all fits_i32 (numbers how.choice z) && offsets_fit how.right_to_left (start how.choice how.right_to_left z) (run_moves how.font (lay_of how.choice how.right_to_left z) tiles)
+all_fit how z tiles = list_all fits_i32 (numbers_to_fit how.choice z) && offsets_fit how.right_to_left (start how.choice how.right_to_left z) (run_moves how.font (lay_of how.choice how.right_to_left z) tiles)
 
-fit_same : (how : Laying) (part : List Cell) → has_run part ≡ true → part_overflows how part ≡ not (all_fit how (run_of how.font part) (glyphs_of (tiles_of part)))
+fit_same : (how : Laying) (part : List Cell) → has_run part ≡ true → part_overflows how part ≡ not (all_fit how (run_of_part how.font part) (glyphs_of (tiles_of part)))
 fit_same how part e =
-    let z = run_of how.font part in
+    let z = run_of_part how.font part in
     let offsets = map (λ c. c.1.x_offset) (laid_run how z (tiles_of part)) in
-    ap (λ b. b && not (list_all fits_i32 (numbers how.choice z ++ offsets))) e ∙ ap not (list_all-append fits_i32 (numbers how.choice z) offsets ∙ ap (λ xs. list_all fits_i32 (numbers how.choice z) && list_all fits_i32 xs) (run_offsets how z (tiles_of part)))
+    ap (λ b. b && not (list_all fits_i32 (numbers_to_fit how.choice z ++ offsets))) e ∙ ap not (list_all-append fits_i32 (numbers_to_fit how.choice z) offsets ∙ ap (λ xs. list_all fits_i32 (numbers_to_fit how.choice z) && list_all fits_i32 xs) (run_offsets how z (tiles_of part)))
 
 found_if : (b : Bool) (m n : ℕ) → cond b (Some m) None ≡ Some n → (b ≡ true) × (m ≡ n)
 found_if true m n e = (refl, ap (λ o. elim o [ Some x ↦ x | None ↦ n ]) e)
@@ -147,13 +147,13 @@ no_or : (b : Bool) → (b || false) ≡ b
 no_or true = refl
 no_or false = refl
 
-last_overflows : (how : Laying) (cs front part : List Cell) → parts cs ≡ parts front ++ part ∷ [] → overflows how cs ≡ (overflows how front || (part_overflows how part || false))
-last_overflows how cs front part e = ap (list_any (part_overflows how)) e ∙ list_any-append (part_overflows how) (parts front) (part ∷ [])
+last_overflows : (how : Laying) (cs front part : List Cell) → parts_of_text cs ≡ parts_of_text front ++ part ∷ [] → overflows how cs ≡ (overflows how front || (part_overflows how part || false))
+last_overflows how cs front part e = ap (list_any (part_overflows how)) e ∙ list_any-append (part_overflows how) (parts_of_text front) (part ∷ [])
 
-last_stretched : (how : Laying) (cs front part : List Cell) → parts cs ≡ parts front ++ part ∷ [] → stretched how cs ≡ stretched how front ++ stretched_part how part
-last_stretched how cs front part e = ap (flat_map (stretched_part how)) e ∙ flat_map-append (stretched_part how) (parts front) (part ∷ []) ∙ ap (λ ys. stretched how front ++ ys) (append-nil (stretched_part how part))
+last_stretched : (how : Laying) (cs front part : List Cell) → parts_of_text cs ≡ parts_of_text front ++ part ∷ [] → stretched how cs ≡ stretched how front ++ stretched_part how part
+last_stretched how cs front part e = ap (flat_map (stretched_part how)) e ∙ flat_map-append (stretched_part how) (parts_of_text front) (part ∷ []) ∙ ap (λ ys. stretched how front ++ ys) (append-nil (stretched_part how part))
 
-counted_by : (how : Laying) (cs : List Cell) (s n : ℕ) → s ≤ length cs → parts cs ≡ parts (take s cs) ++ drop s cs ∷ [] → part_overflows how (drop s cs) ≡ false → length (stretched_part how (drop s cs)) ≡ length (drop s cs) + n → IsCounted how cs s n
+counted_by : (how : Laying) (cs : List Cell) (s n : ℕ) → s ≤ length cs → parts_of_text cs ≡ parts_of_text (take s cs) ++ drop s cs ∷ [] → part_overflows how (drop s cs) ≡ false → length (stretched_part how (drop s cs)) ≡ length (drop s cs) + n → IsCounted how cs s n
 counted_by how cs s n p e fits long =
     let front = stretched how (take s cs) in
     let whole : length (stretched how cs) ≡ length front + length (stretched_part how (drop s cs)) = ap length (last_stretched how cs (take s cs) (drop s cs) e) ∙ length-append front (stretched_part how (drop s cs)) in
@@ -174,12 +174,12 @@ pub counted_plain : (how : Laying) (cs : List Cell) (s w t : ℕ) → LastPartAt
 counted_plain how cs s w t at most =
     let part = drop s cs in
     let without : has_run part ≡ false = no_tiles part (drop t cs) at.tiles_is (omega (arith, length-drop t cs)) in
-    let z = run_of how.font part in
-    let fits : part_overflows how part ≡ false = ap (λ b. b && not (list_all fits_i32 (numbers how.choice z ++ map (λ c. c.1.x_offset) (laid_run how z (tiles_of part))))) without in
+    let z = run_of_part how.font part in
+    let fits : part_overflows how part ≡ false = ap (λ b. b && not (list_all fits_i32 (numbers_to_fit how.choice z ++ map (λ c. c.1.x_offset) (laid_run how z (tiles_of part))))) without in
     counted_by how cs s 0 (omega (arith, at.less)) at.parted fits (omega (arith, ap length (no_run_length how part without)))
 
 -- the run of a last part, by what the slices give of it
-run_at : (how : Laying) (cs : List Cell) (s w t : ℕ) → LastPartAt cs s w t → run_of how.font (drop s cs) ≡ measured how.font (positions_of (drop w (take t cs))) (glyphs_of (drop t cs))
+run_at : (how : Laying) (cs : List Cell) (s w t : ℕ) → LastPartAt cs s w t → run_of_part how.font (drop s cs) ≡ measured how.font (positions_of (drop w (take t cs))) (glyphs_of (drop t cs))
 run_at how cs s w t at = ap (λ word. measured how.font (positions_of word) (glyphs_of (tiles_of (drop s cs)))) at.word_is ∙ ap (λ tiles. measured how.font (positions_of (drop w (take t cs))) (glyphs_of tiles)) at.tiles_is
 
 fit_at : (how : Laying) (cs : List Cell) (s w t : ℕ) → LastPartAt cs s w t → t < length cs → part_overflows how (drop s cs) ≡ not (all_fit how (measured how.font (positions_of (drop w (take t cs))) (glyphs_of (drop t cs))) (glyphs_of (drop t cs)))
@@ -195,7 +195,7 @@ counted_run how cs s w t n at less e =
     let has : has_run part ≡ true = has_tiles part (drop t cs) at.tiles_is (omega (arith, length-drop t cs)) in
     let found = found_if (all_fit how z (glyphs_of (drop t cs))) (copies_added z) n e in
     let fits : part_overflows how part ≡ false = fit_at how cs s w t at less ∙ ap not found.0 in
-    let many : copies_added (run_of how.font part) ≡ n = ap copies_added (run_at how cs s w t at) ∙ found.1 in
+    let many : copies_added (run_of_part how.font part) ≡ n = ap copies_added (run_at how cs s w t at) ∙ found.1 in
     counted_by how cs s n (omega (arith, at.less)) at.parted fits (omega (arith, run_length how part has))
 
 pub uncounted_run : (how : Laying) (cs : List Cell) (s w t : ℕ) → LastPartAt cs s w t → t < length cs → run_added how.choice how.right_to_left how.font (measured how.font (positions_of (drop w (take t cs))) (glyphs_of (drop t cs))) (glyphs_of (drop t cs)) ≡ None → overflows how cs ≡ true

@@ -12,10 +12,10 @@ use Rattle.shapers_buffer.specs.declared.buffer.glyph.hb_glyph_info_t.{hb_glyph_
 use Rattle.shapers_buffer.specs.Clusters.{stretch_of}
 use Rattle.shapers_buffer.proofs.ClusterLemmas.{length-stretch}
 use Rattle.shapers_stretch.specs.declared.ot_shaper_arabic_stretch.measuring.Run.{Run}
-use Rattle.shapers_stretch.specs.Cells.{Cell, before_tiles, before_word, cut_between, cut_here, glyphs_of, in_word, is_tile, parts, positions_of, run_ends, tiles_of, word_of}
-use Rattle.shapers_stretch.specs.LayingWalk.{CanLayRun, HasRoom, IsLaidFrom, IsUnlaid, offsets, text_of, whole_of}
-use Rattle.shapers_stretch.specs.Measure.{fits_i32, numbers, start}
-use Rattle.shapers_stretch.specs.Stretch.{Laying, copies, has_run, laid_run, measured, overflows, part_overflows, run_of, stretched, stretched_over, stretched_part, unbroken}
+use Rattle.shapers_stretch.specs.Cells.{Cell, before_tiles, before_word, cut_between, cut_here, glyphs_of, in_word, is_tile, parts_of_text, positions_of, run_ends, tiles_of, word_of}
+use Rattle.shapers_stretch.specs.LayingWalk.{CanLayRun, HasRoomForTiles, IsLaidFrom, IsUnlaid, offsets, text_in_slices, stretched_whole}
+use Rattle.shapers_stretch.specs.Measure.{fits_i32, numbers_to_fit, start}
+use Rattle.shapers_stretch.specs.Stretch.{Laying, copies, has_run, laid_run, measured, overflows, part_overflows, run_of_part, stretched, stretched_over, stretched_part, unbroken}
 use Rattle.shapers_stretch.proofs.Flagging.{unbroken_is}
 use Rattle.shapers_stretch.proofs.LastParts.{LastPartAt, last_part_at}
 use Rattle.shapers_stretch.proofs.Lengths.{length-copies, length-laid}
@@ -48,17 +48,17 @@ length-over how z word tiles =
     let copied : length laid ≡ length (copies how.font z tiles) = length-laid how.right_to_left (start how.choice how.right_to_left z) (copies how.font z (run_tiles word tiles)) ∙ flagged_length how.font z word tiles in
     length-append (take (length word) whole) (reverse laid) ∙ ap (λ n. n + length (reverse laid)) (length-take-le (length word) whole (omega (arith, all))) ∙ ap (λ n. length word + n) (length-reverse laid ∙ copied)
 
-part_grows_at : (how : Laying) (part : List Cell) (b : Bool) → length part ≤ length (cond (not b) part (before_word part ++ stretched_over how (run_of how.font part) (word_of part) (tiles_of part)))
+part_grows_at : (how : Laying) (part : List Cell) (b : Bool) → length part ≤ length (cond (not b) part (before_word part ++ stretched_over how (run_of_part how.font part) (word_of part) (tiles_of part)))
 part_grows_at how part false = omega arith
 part_grows_at how part true =
-    let z = run_of how.font part in
+    let z = run_of_part how.font part in
     let outer : length part ≡ length (before_tiles part) + length (tiles_of part) = ap length (sym (take-append-drop _ part)) ∙ length-append (before_tiles part) (tiles_of part) in
     let inner : length (before_tiles part) ≡ length (before_word part) + length (word_of part) = ap length (sym (take-append-drop _ (before_tiles part))) ∙ length-append (before_word part) (word_of part) in
     omega (arith, outer, inner, length-append (before_word part) (stretched_over how z (word_of part) (tiles_of part)), length-over how z (word_of part) (tiles_of part), length-copies how.font z (tiles_of part))
 
 pub stretched_longer : (how : Laying) (cs : List Cell) → length cs ≤ length (stretched how cs)
 stretched_longer how cs =
-    omega (arith, ap length (cut_joined run_ends cs), flat_grows (stretched_part how) (parts cs) (λ part. part_grows_at how part (has_run part)))
+    omega (arith, ap length (cut_joined run_ends cs), flat_grows (stretched_part how) (parts_of_text cs) (λ part. part_grows_at how part (has_run part)))
 
 -- the parts before the last one, and it
 
@@ -73,11 +73,11 @@ pub record PartOf (how : Laying) (gs : List hb_glyph_info_t) (ps : List GlyphPos
   pub tiles_fit : t ≤ end
   pub front : overflows how (take s (zip gs ps)) ≡ false
   pub longer : s ≤ length (stretched how (take s (zip gs ps)))
-  pub still : t ≡ end → stretched how (text_of end gs ps) ≡ stretched how (take s (zip gs ps)) ++ stretch_of s end (zip gs ps)
-  pub changed : t < end → stretched how (text_of end gs ps) ≡ stretched how (take s (zip gs ps)) ++ (stretch_of s w (zip gs ps) ++ stretched_over how (measured how.font (positions_of (stretch_of w t (zip gs ps))) (glyphs_of (stretch_of t end (zip gs ps)))) (stretch_of w t (zip gs ps)) (stretch_of t end (zip gs ps)))
+  pub still : t ≡ end → stretched how (text_in_slices end gs ps) ≡ stretched how (take s (zip gs ps)) ++ stretch_of s end (zip gs ps)
+  pub changed : t < end → stretched how (text_in_slices end gs ps) ≡ stretched how (take s (zip gs ps)) ++ (stretch_of s w (zip gs ps) ++ stretched_over how (measured how.font (positions_of (stretch_of w t (zip gs ps))) (glyphs_of (stretch_of t end (zip gs ps)))) (stretch_of w t (zip gs ps)) (stretch_of t end (zip gs ps)))
   pub fits : t < end →
       let z = measured how.font (positions_of (stretch_of w t (zip gs ps))) (glyphs_of (stretch_of t end (zip gs ps))) in
-      list_all fits_i32 (numbers how.choice z ++ offsets (laid_run how z (stretch_of t end (zip gs ps)))) ≡ true
+      list_all fits_i32 (numbers_to_fit how.choice z ++ offsets (laid_run how z (stretch_of t end (zip gs ps)))) ≡ true
 
 same_takes : {X Y : Type 0} (n : ℕ) (xs : List X) (ys : List Y) → length xs ≡ length ys → length (take n xs) ≡ length (take n ys)
 same_takes zero xs ys e = refl
@@ -86,7 +86,7 @@ same_takes (suc n) [] (y ∷ ys) e = absurd (omega arith)
 same_takes (suc n) (x ∷ xs) [] e = absurd (omega arith)
 same_takes (suc n) (x ∷ xs) (y ∷ ys) e = ap suc (same_takes n xs ys (omega arith))
 
-text_glyphs : (end : ℕ) (gs : List hb_glyph_info_t) (ps : List GlyphPosition) → length gs ≡ length ps → glyphs_of (text_of end gs ps) ≡ take end gs
+text_glyphs : (end : ℕ) (gs : List hb_glyph_info_t) (ps : List GlyphPosition) → length gs ≡ length ps → glyphs_of (text_in_slices end gs ps) ≡ take end gs
 text_glyphs end gs ps both = ap glyphs_of (zip-take end gs ps) ∙ firsts-zip (take end gs) (take end ps) (same_takes end ps gs (sym both))
 
 not_false : (a b : Bool) → a ≡ true → (a && not b) ≡ false → b ≡ true
@@ -94,10 +94,10 @@ not_false true true p e = refl
 not_false true false p e = absurd (clash (sym e))
 not_false false b p e = absurd (clash p)
 
-pub part_of : (how : Laying) (gs : List hb_glyph_info_t) (ps : List GlyphPosition) (s w t end place : ℕ) → 0 < end → IsUnlaid how gs ps end place → t + suffix_len is_tile (take end gs) ≡ length (take end gs) → w + suffix_len in_word (take t (take end gs)) ≡ t → s + suffix_len (λ g. not (is_tile g)) (take w (take end gs)) ≡ w → PartOf how gs ps s w t end place
-part_of how gs ps s w t end place some u e f h =
+pub part_unlaid : (how : Laying) (gs : List hb_glyph_info_t) (ps : List GlyphPosition) (s w t end place : ℕ) → 0 < end → IsUnlaid how gs ps end place → t + suffix_len is_tile (take end gs) ≡ length (take end gs) → w + suffix_len in_word (take t (take end gs)) ≡ t → s + suffix_len (λ g. not (is_tile g)) (take w (take end gs)) ≡ w → PartOf how gs ps s w t end place
+part_unlaid how gs ps s w t end place some u e f h =
     let cells = zip gs ps in
-    let cs = text_of end gs ps in
+    let cs = text_in_slices end gs ps in
     let long : length cells ≡ length gs = length-zipped gs ps u.both in
     let whole : length cs ≡ end = length-take-le end cells (omega (arith, u.ahead, u.within)) in
     let is = text_glyphs end gs ps u.both in
@@ -112,8 +112,8 @@ part_of how gs ps s w t end place some u e f h =
     let word : word_of (drop s cs) ≡ stretch_of w t cells = l.word_is ∙ ap (drop w) (take-take t end cells t_end) ∙ dropped_taken w t cells l.word_fits in
     let tiles : tiles_of (drop s cs) ≡ stretch_of t end cells = l.tiles_is ∙ dropped_taken t end cells t_end in
     let count : length (tiles_of (drop s cs)) ≡ end - t = ap length tiles ∙ length-stretch t end cells (omega (arith, u.ahead, u.within, long)) in
-    let split : stretched how cs ≡ stretched how (take s cells) ++ stretched_part how (drop s cs) = ap (flat_map (stretched_part how)) l.parted ∙ flat_map-append (stretched_part how) (parts (take s cs)) (drop s cs ∷ []) ∙ ap (λ x. stretched how (take s cs) ++ x) (append-nil (stretched_part how (drop s cs))) ∙ ap (λ x. stretched how x ++ stretched_part how (drop s cs)) front in
-    let none = or_parts _ _ (sym (ap (list_any (part_overflows how)) l.parted ∙ list_any-append (part_overflows how) (parts (take s cs)) (drop s cs ∷ [])) ∙ u.fits) in
+    let split : stretched how cs ≡ stretched how (take s cells) ++ stretched_part how (drop s cs) = ap (flat_map (stretched_part how)) l.parted ∙ flat_map-append (stretched_part how) (parts_of_text (take s cs)) (drop s cs ∷ []) ∙ ap (λ x. stretched how (take s cs) ++ x) (append-nil (stretched_part how (drop s cs))) ∙ ap (λ x. stretched how x ++ stretched_part how (drop s cs)) front in
+    let none = or_parts _ _ (sym (ap (list_any (part_overflows how)) l.parted ∙ list_any-append (part_overflows how) (parts_of_text (take s cs)) (drop s cs ∷ [])) ∙ u.fits) in
     let last = or_parts _ _ none.1 in
     let has : t < end → has_run (drop s cs) ≡ true = λ p. ap (nat_lt 0) count ∙ sym (lt-true 0 (end - t) (omega arith)) in
     let hasnt : t ≡ end → has_run (drop s cs) ≡ false = λ p. let zero : end - t ≡ 0 = omega arith in ap (nat_lt 0) (count ∙ zero) in
@@ -125,13 +125,13 @@ part_of how gs ps s w t end place some u e f h =
       tiles_fit = t_end;
       front = ap (overflows how) (sym front) ∙ none.0;
       longer = omega (arith, stretched_longer how (take s cells), length-take-le s cells (omega (arith, long, u.ahead, u.within)));
-      still = λ p. split ∙ ap (λ x. stretched how (take s cells) ++ x) (ap (λ b. cond (not b) (drop s cs) (before_word (drop s cs) ++ stretched_over how (run_of how.font (drop s cs)) (word_of (drop s cs)) (tiles_of (drop s cs)))) (hasnt p) ∙ dropped_taken s end cells s_end);
-      changed = λ p. split ∙ ap (λ x. stretched how (take s cells) ++ x) (ap (λ b. cond (not b) (drop s cs) (before_word (drop s cs) ++ stretched_over how (run_of how.font (drop s cs)) (word_of (drop s cs)) (tiles_of (drop s cs)))) (has p)
+      still = λ p. split ∙ ap (λ x. stretched how (take s cells) ++ x) (ap (λ b. cond (not b) (drop s cs) (before_word (drop s cs) ++ stretched_over how (run_of_part how.font (drop s cs)) (word_of (drop s cs)) (tiles_of (drop s cs)))) (hasnt p) ∙ dropped_taken s end cells s_end);
+      changed = λ p. split ∙ ap (λ x. stretched how (take s cells) ++ x) (ap (λ b. cond (not b) (drop s cs) (before_word (drop s cs) ++ stretched_over how (run_of_part how.font (drop s cs)) (word_of (drop s cs)) (tiles_of (drop s cs)))) (has p)
           ∙ ap (λ x. x ++ stretched_over how (Z (word_of (drop s cs)) (tiles_of (drop s cs))) (word_of (drop s cs)) (tiles_of (drop s cs))) before
           ∙ ap (λ x. stretch_of s w cells ++ stretched_over how (Z x (tiles_of (drop s cs))) x (tiles_of (drop s cs))) word
           ∙ ap (λ x. stretch_of s w cells ++ stretched_over how (Z (stretch_of w t cells) x) (stretch_of w t cells) x) tiles);
-      fits = λ p. sym (ap (λ x. list_all fits_i32 (numbers how.choice (Z x (tiles_of (drop s cs))) ++ offsets (laid_run how (Z x (tiles_of (drop s cs))) (tiles_of (drop s cs))))) word
-          ∙ ap (λ x. list_all fits_i32 (numbers how.choice (Z (stretch_of w t cells) x) ++ offsets (laid_run how (Z (stretch_of w t cells) x) x))) tiles)
+      fits = λ p. sym (ap (λ x. list_all fits_i32 (numbers_to_fit how.choice (Z x (tiles_of (drop s cs))) ++ offsets (laid_run how (Z x (tiles_of (drop s cs))) (tiles_of (drop s cs))))) word
+          ∙ ap (λ x. list_all fits_i32 (numbers_to_fit how.choice (Z (stretch_of w t cells) x) ++ offsets (laid_run how (Z (stretch_of w t cells) x) x))) tiles)
           ∙ not_false (has_run (drop s cs)) _ (has p) last.0;
     }
 
@@ -163,7 +163,7 @@ all_less P (suc s) zero gs p all = absurd (omega arith)
 all_less P (suc s) (suc e) [] p all = tt
 all_less P (suc s) (suc e) (g ∷ gs) p all = (all.0, all_less P s e gs (omega arith) all.1)
 
-pub left_over : (how : Laying) (gs us : List hb_glyph_info_t) (ps vs : List GlyphPosition) (s w t end place q : ℕ) (became : List Cell) → IsUnlaid how gs ps end place → PartOf how gs ps s w t end place → length us ≡ length gs → length us ≡ length vs → stretched how (text_of end gs ps) ≡ stretched how (take s (zip gs ps)) ++ became → q + length became ≡ place → take s (zip us vs) ≡ take s (zip gs ps) → drop q (zip us vs) ≡ became ++ drop place (zip gs ps) → IsLaidFrom how (whole_of how gs ps end place) us vs s q
+pub left_over : (how : Laying) (gs us : List hb_glyph_info_t) (ps vs : List GlyphPosition) (s w t end place q : ℕ) (became : List Cell) → IsUnlaid how gs ps end place → PartOf how gs ps s w t end place → length us ≡ length gs → length us ≡ length vs → stretched how (text_in_slices end gs ps) ≡ stretched how (take s (zip gs ps)) ++ became → q + length became ≡ place → take s (zip us vs) ≡ take s (zip gs ps) → drop q (zip us vs) ≡ became ++ drop place (zip gs ps) → IsLaidFrom how (stretched_whole how gs ps end place) us vs s q
 left_over how gs us ps vs s w t end place q became u l same both split count kept behind =
     let cells = zip gs ps in
     let front = stretched how (take s cells) in
@@ -184,7 +184,7 @@ left_over how gs us ps vs s w t end place q became u l same both split count kep
 -- a part without a run moves up
 pub part_moved : (how : Laying) (gs us : List hb_glyph_info_t) (ps vs : List GlyphPosition) (s w t end place : ℕ) → t ≡ end → IsUnlaid how gs ps end place → PartOf how gs ps s w t end place → length us ≡ length gs → length us ≡ length vs →
     let q = place - (t - s) in
-    take q (zip us vs) ≡ take q (zip gs ps) → drop q (zip us vs) ≡ stretch_of s t (zip gs ps) ++ drop place (zip gs ps) → IsLaidFrom how (whole_of how gs ps end place) us vs s q
+    take q (zip us vs) ≡ take q (zip gs ps) → drop q (zip us vs) ≡ stretch_of s t (zip gs ps) ++ drop place (zip gs ps) → IsLaidFrom how (stretched_whole how gs ps end place) us vs s q
 part_moved how gs us ps vs s w t end place none u l same both kept up =
     let cells = zip gs ps in
     let q = place - (t - s) in
@@ -205,7 +205,7 @@ pub part_laid : (how : Laying) (gs hs us : List hb_glyph_info_t) (ps qs vs : Lis
     take t (zip hs qs) ≡ take w (zip gs ps) ++ take (length word) (unbroken (word ++ tiles)) →
     drop p (zip hs qs) ≡ reverse (laid_run how z (drop (length word) (unbroken (word ++ tiles)))) ++ drop place (zip gs ps) →
     p + length (copies how.font z tiles) ≡ place →
-    take q (zip us vs) ≡ take q (zip hs qs) → drop q (zip us vs) ≡ stretch_of s t (zip hs qs) ++ drop p (zip hs qs) → IsLaidFrom how (whole_of how gs ps end place) us vs s q
+    take q (zip us vs) ≡ take q (zip hs qs) → drop q (zip us vs) ≡ stretch_of s t (zip hs qs) ++ drop p (zip hs qs) → IsLaidFrom how (stretched_whole how gs ps end place) us vs s q
 part_laid how gs hs us ps qs vs s w t end place p some u l same same_too both flagged laid count kept up =
     let cells = zip gs ps in
     let now = zip hs qs in
@@ -233,16 +233,16 @@ part_laid how gs hs us ps qs vs s w t end place p some u l same same_too both fl
     ∙ sym (append_assoc (stretch_of s w cells) (take (length word) whole ++ run) (drop place cells)))
 
 -- the start: all is left; and the end: nothing is
-pub all_left : (how : Laying) (gs : List hb_glyph_info_t) (ps : List GlyphPosition) (len : ℕ) → HasRoom how gs ps len → IsLaidFrom how (stretched how (text_of len gs ps)) gs ps len (length gs)
+pub all_left : (how : Laying) (gs : List hb_glyph_info_t) (ps : List GlyphPosition) (len : ℕ) → HasRoomForTiles how gs ps len → IsLaidFrom how (stretched how (text_in_slices len gs ps)) gs ps len (length gs)
 all_left how gs ps len r =
     let cells = zip gs ps in
     let long : length cells ≡ length gs = length-zipped gs ps r.both in
-    let whole = stretched how (text_of len gs ps) in
+    let whole = stretched how (text_in_slices len gs ps) in
     record {
       left = record {
         both = r.both;
         room = r.room;
-        ahead = omega (arith, r.room, stretched_longer how (text_of len gs ps), length-take-le len cells (omega (arith, long, r.in_range)));
+        ahead = omega (arith, r.room, stretched_longer how (text_in_slices len gs ps), length-take-le len cells (omega (arith, long, r.in_range)));
         within = omega arith;
         glyph_numbers = r.glyph_numbers;
         fits = r.fits;

@@ -1,7 +1,7 @@
 -- The parts of a text, from its end: what stands before its last part, and that part.
 use Rattle.std.proofs.Common.{◌≡◌, Bool, true, false, cond, not, ◌&&◌, List, [], ◌∷◌, ◌++◌, refl, sym, ◌∙◌, ap}
 use Rattle.std.specs.List.{onto_first}
-use Rattle.shapers_stretch.specs.Cells.{Cell, cut_between, cut_here, is_tile, parts, run_ends}
+use Rattle.shapers_stretch.specs.Cells.{Cell, cut_between, cut_here, is_tile, parts_of_text, run_ends}
 
 piece_if : {X : Type 0} (b : Bool) (x : X) (pieces : List (List X)) (P : List (List X) → Type 0) → ((piece : List X) (pieces : List (List X)) → P (piece ∷ pieces)) → P (cond b ((x ∷ []) ∷ pieces) (onto_first x pieces))
 piece_if true x pieces P f = f (x ∷ []) pieces
@@ -31,5 +31,5 @@ cut_between-append {X} apart (x ∷ (y ∷ xs)) a b ys e =
     cut_some apart y (xs ++ a ∷ []) P (λ piece pieces f. cut_step (apart x y) x (piece ∷ pieces) _ (cut_between apart (b ∷ ys)) piece pieces refl f) rest
 
 -- the last part of a text behind others: the tile a ends the part before it, and b, which is no tile, opens it
-pub parts-append : (front : List Cell) (a b : Cell) (rest : List Cell) → is_tile a.0 ≡ true → is_tile b.0 ≡ false → parts ((front ++ a ∷ []) ++ b ∷ rest) ≡ parts (front ++ a ∷ []) ++ parts (b ∷ rest)
+pub parts-append : (front : List Cell) (a b : Cell) (rest : List Cell) → is_tile a.0 ≡ true → is_tile b.0 ≡ false → parts_of_text ((front ++ a ∷ []) ++ b ∷ rest) ≡ parts_of_text (front ++ a ∷ []) ++ parts_of_text (b ∷ rest)
 parts-append front a b rest e f = cut_between-append run_ends front a b rest (ap (λ v. v && not (is_tile b.0)) e ∙ ap not f)

@@ -35,9 +35,9 @@ no_move false from = omega (arith, ints)
 pub laid_is : (right_to_left : Bool) (from : ℤ) (cs : List Copy) → laid right_to_left from cs ≡ laid_on right_to_left from cs
 laid_is right_to_left from cs = laid_after right_to_left from [] cs ∙ ap (λ pen. laid_on right_to_left pen cs) (no_move right_to_left from)
 
-moved_on : (right_to_left : Bool) (pen : ℤ) (c : Copy) (xs : List Copy) → pen_behind right_to_left (pen_behind right_to_left pen c.move) (moves xs) ≡ pen_behind right_to_left pen (moves (c ∷ xs))
-moved_on true pen c xs = omega (arith, ints, total_cons c.move (map (λ copy. copy.move) xs))
-moved_on false pen c xs = omega (arith, ints, total_cons c.move (map (λ copy. copy.move) xs))
+pen_moved_on : (right_to_left : Bool) (pen : ℤ) (c : Copy) (xs : List Copy) → pen_behind right_to_left (pen_behind right_to_left pen c.move) (moves xs) ≡ pen_behind right_to_left pen (moves (c ∷ xs))
+pen_moved_on true pen c xs = omega (arith, ints, total_cons c.move (map (λ copy. copy.move) xs))
+pen_moved_on false pen c xs = omega (arith, ints, total_cons c.move (map (λ copy. copy.move) xs))
 
 -- copies and then others
 pub laid_on-append : (right_to_left : Bool) (pen : ℤ) (xs ys : List Copy) → laid_on right_to_left pen (xs ++ ys) ≡ laid_on right_to_left pen xs ++ laid_on right_to_left (pen_behind right_to_left pen (moves xs)) ys
@@ -45,4 +45,4 @@ laid_on-append right_to_left pen [] ys = ap (λ pen. laid_on right_to_left pen y
 laid_on-append right_to_left pen (c ∷ xs) ys =
     let first = laid_at (stands_at right_to_left pen c.move) c.tile in
     let rest = laid_on right_to_left (pen_behind right_to_left pen c.move) xs in
-    ap (λ zs. first ∷ zs) (laid_on-append right_to_left (pen_behind right_to_left pen c.move) xs ys ∙ ap (λ pen. rest ++ laid_on right_to_left pen ys) (moved_on right_to_left pen c xs))
+    ap (λ zs. first ∷ zs) (laid_on-append right_to_left (pen_behind right_to_left pen c.move) xs ys ∙ ap (λ pen. rest ++ laid_on right_to_left pen ys) (pen_moved_on right_to_left pen c xs))

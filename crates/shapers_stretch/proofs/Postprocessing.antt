@@ -14,7 +14,7 @@ use Rattle.shapers_buffer.specs.declared.buffer.refusal.ShaperError.TheVariants.
 use Rattle.shapers_buffer.proofs.MappedLists.{all-append, map-reverse}
 use Rattle.shapers_stretch.specs.Cells.{Cell, glyphs_of, positions_of}
 use Rattle.shapers_stretch.specs.CountingWalk.{CountsAdded, text_refusal}
-use Rattle.shapers_stretch.specs.LayingWalk.{HasRoom, text_of}
+use Rattle.shapers_stretch.specs.LayingWalk.{HasRoomForTiles, text_in_slices}
 use Rattle.shapers_stretch.specs.Stretch.{Laying, cells, overflows, stretched, with_cells}
 use Rattle.shapers_stretch.proofs.PartCounts.{glyphs_zip, positions_zip}
 use Rattle.shapers_stretch.proofs.Zips.{length-zipped}
@@ -98,8 +98,8 @@ pub room_for : (b : Buffer) (how : Laying) (n : ℕ) → length b.positions ≡ 
 room_for b how n both counted =
     room_made b.glyphs b.positions n (sym both) (λ e. nothing_added how (cells b) n counted (omega (arith, length-zipped b.glyphs b.positions (sym both))))
 
-pub has_room : (b : Buffer) (how : Laying) (n : ℕ) → length b.positions ≡ length b.glyphs → All (λ g. g.glyph_id ≤ 65535) b.glyphs → CountsAdded how (cells b) (Some n) → HasRoom how (grown n b).glyphs (grown n b).positions (length b.glyphs)
-has_room b how n both numbers counted =
+pub room_for_tiles : (b : Buffer) (how : Laying) (n : ℕ) → length b.positions ≡ length b.glyphs → All (λ g. g.glyph_id ≤ 65535) b.glyphs → CountsAdded how (cells b) (Some n) → HasRoomForTiles how (grown n b).glyphs (grown n b).positions (length b.glyphs)
+room_for_tiles b how n both numbers counted =
     let room = room_for b how n both counted in
     let P : hb_glyph_info_t → Type 0 = λ g. g.glyph_id ≤ 65535 in
     record {
@@ -111,7 +111,7 @@ has_room b how n both numbers counted =
     }
 
 -- what a walk over the grown buffer leaves
-pub stretched_buffer : (b : Buffer) (how : Laying) (n : ℕ) (new : Buffer) → length b.positions ≡ length b.glyphs → CountsAdded how (cells b) (Some n) → (let cs = stretched how (text_of (length b.glyphs) (grown n b).glyphs (grown n b).positions) in (new.glyphs ≡ glyphs_of cs) × (new.positions ≡ positions_of cs)) → (let r : Buffer = record (grown n b) { glyphs = new.glyphs; positions = new.positions } in new ≡ r) → new ≡ with_cells (stretched how (cells b)) b
+pub stretched_buffer : (b : Buffer) (how : Laying) (n : ℕ) (new : Buffer) → length b.positions ≡ length b.glyphs → CountsAdded how (cells b) (Some n) → (let cs = stretched how (text_in_slices (length b.glyphs) (grown n b).glyphs (grown n b).positions) in (new.glyphs ≡ glyphs_of cs) × (new.positions ≡ positions_of cs)) → (let r : Buffer = record (grown n b) { glyphs = new.glyphs; positions = new.positions } in new ≡ r) → new ≡ with_cells (stretched how (cells b)) b
 stretched_buffer b how n new both counted walked others =
     let room = room_for b how n both counted in
     let at : List hb_glyph_info_t → List GlyphPosition → Buffer = λ gs ps. record b { glyphs = gs; positions = ps } in
@@ -120,15 +120,15 @@ stretched_buffer b how n new both counted walked others =
     others ∙ ap (λ gs. at gs new.positions) first ∙ ap (λ ps. at (glyphs_of (stretched how (cells b))) ps) second
 
 -- the same of a buffer that equals the grown one
-pub has_room_in : (b made : Buffer) (how : Laying) (n len : ℕ) → made ≡ grown n b → len ≡ length b.glyphs → length b.positions ≡ length b.glyphs → All (λ g. g.glyph_id ≤ 65535) b.glyphs → CountsAdded how (cells b) (Some n) → HasRoom how made.glyphs made.positions len
+pub has_room_in : (b made : Buffer) (how : Laying) (n len : ℕ) → made ≡ grown n b → len ≡ length b.glyphs → length b.positions ≡ length b.glyphs → All (λ g. g.glyph_id ≤ 65535) b.glyphs → CountsAdded how (cells b) (Some n) → HasRoomForTiles how made.glyphs made.positions len
 has_room_in b made how n len e f both numbers counted =
-    let P : Buffer → Type 0 = λ made. HasRoom how made.glyphs made.positions len in
-    let Q : ℕ → Type 0 = λ len. HasRoom how (grown n b).glyphs (grown n b).positions len in
-    subst P (sym e) (subst Q (sym f) (has_room b how n both numbers counted))
+    let P : Buffer → Type 0 = λ made. HasRoomForTiles how made.glyphs made.positions len in
+    let Q : ℕ → Type 0 = λ len. HasRoomForTiles how (grown n b).glyphs (grown n b).positions len in
+    subst P (sym e) (subst Q (sym f) (room_for_tiles b how n both numbers counted))
 
-pub stretched_in : (b made : Buffer) (how : Laying) (n len : ℕ) (new : Buffer) → made ≡ grown n b → len ≡ length b.glyphs → length b.positions ≡ length b.glyphs → CountsAdded how (cells b) (Some n) → (let cs = stretched how (text_of len made.glyphs made.positions) in (new.glyphs ≡ glyphs_of cs) × (new.positions ≡ positions_of cs)) → (let r : Buffer = record made { glyphs = new.glyphs; positions = new.positions } in new ≡ r) → new ≡ with_cells (stretched how (cells b)) b
+pub stretched_in : (b made : Buffer) (how : Laying) (n len : ℕ) (new : Buffer) → made ≡ grown n b → len ≡ length b.glyphs → length b.positions ≡ length b.glyphs → CountsAdded how (cells b) (Some n) → (let cs = stretched how (text_in_slices len made.glyphs made.positions) in (new.glyphs ≡ glyphs_of cs) × (new.positions ≡ positions_of cs)) → (let r : Buffer = record made { glyphs = new.glyphs; positions = new.positions } in new ≡ r) → new ≡ with_cells (stretched how (cells b)) b
 stretched_in b made how n len new e f both counted =
-    let P : Buffer → ℕ → Type 0 = λ made len. (let cs = stretched how (text_of len made.glyphs made.positions) in (new.glyphs ≡ glyphs_of cs) × (new.positions ≡ positions_of cs)) → (let r : Buffer = record made { glyphs = new.glyphs; positions = new.positions } in new ≡ r) → new ≡ with_cells (stretched how (cells b)) b in
+    let P : Buffer → ℕ → Type 0 = λ made len. (let cs = stretched how (text_in_slices len made.glyphs made.positions) in (new.glyphs ≡ glyphs_of cs) × (new.positions ≡ positions_of cs)) → (let r : Buffer = record made { glyphs = new.glyphs; positions = new.positions } in new ≡ r) → new ≡ with_cells (stretched how (cells b)) b in
     subst (λ made. P made len) (sym e) (subst (λ len. P (grown n b) len) (sym f) (stretched_buffer b how n new both counted))
 
 -- what counting says of slices that are those of a buffer

@@ -20,7 +20,7 @@ use Rattle.shapers_stretch.specs.Cells.{Cell, glyphs_of, positions_of}
 use Rattle.shapers_stretch.specs.CountingWalk.{IsNumber}
 use Rattle.shapers_stretch.specs.LayingWalk.{CanLay, CanLayRun, IsLayOf, Lays, copies_with, laid_on, offsets, run_copies}
 use Rattle.shapers_stretch.specs.Lays.{lay_if_fits}
-use Rattle.shapers_stretch.specs.Measure.{added, fits_i32, numbers, start}
+use Rattle.shapers_stretch.specs.Measure.{times_added, fits_i32, numbers_to_fit, start}
 use Rattle.shapers_stretch.specs.Stretch.{Copy, Laying, copies, laid_run, measured, unbroken}
 use Rattle.shapers_stretch.proofs.Flagging.{flag_copies, flag_copy, flag_offsets, stretch_glyphs, stretch_positions, tiles_are}
 use Rattle.shapers_stretch.proofs.LayBounds.{found_lay, no_lay}
@@ -51,7 +51,7 @@ measured_is font w t e gs ps p q both =
 -- the copies by the numbers of a run are the run's
 pub copies_same : (font : Font) (z : Run) (lay : Lay) (cs : List Cell) → IsLayOf z lay → run_copies font lay cs ≡ copies font z cs
 copies_same font z lay cs is =
-    ap (λ n. flat_map (copies_with font n lay.overlap) (reverse cs)) is.added ∙ ap (λ o. flat_map (copies_with font (added z) o) (reverse cs)) is.overlap
+    ap (λ n. flat_map (copies_with font n lay.overlap) (reverse cs)) is.added ∙ ap (λ o. flat_map (copies_with font (times_added z) o) (reverse cs)) is.overlap
 
 -- the lay that was found
 pub lay_is : (choice : StretchStart) (right_to_left : Bool) (z : Run) (lay : Lay) → lay_if_fits choice right_to_left z ≡ Some lay → IsLayOf z lay
@@ -79,9 +79,9 @@ pub start_read_near : (choice : StretchStart) (right_to_left : Bool) (z : Run) (
 start_read_near choice right_to_left z lay e = subst IsNumber (sym (start_read choice right_to_left z lay e)) (start_near choice right_to_left z lay e)
 
 -- one is found where no number overflows
-pub lay_some : (choice : StretchStart) (right_to_left : Bool) (z : Run) (rest : List ℤ) {P : Type 0} → list_all fits_i32 (numbers choice z ++ rest) ≡ true → lay_if_fits choice right_to_left z ≡ None → P
+pub lay_some : (choice : StretchStart) (right_to_left : Bool) (z : Run) (rest : List ℤ) {P : Type 0} → list_all fits_i32 (numbers_to_fit choice z ++ rest) ≡ true → lay_if_fits choice right_to_left z ≡ None → P
 lay_some choice right_to_left z rest e none =
-    let yes = (and_parts _ _ (sym (list_all-append fits_i32 (numbers choice z) rest) ∙ e)).0 in
+    let yes = (and_parts _ _ (sym (list_all-append fits_i32 (numbers_to_fit choice z) rest) ∙ e)).0 in
     absurd (clash (sym (no_lay choice right_to_left z none) ∙ yes))
 
 -- so its flagged tiles can be laid
@@ -91,7 +91,7 @@ pub run_can : (how : Laying) (word tiles cs : List Cell) (first end place : ℕ)
 run_can how word tiles cs first end place gs fs ps at can is same from =
     let z = measured how.font (positions_of word) (glyphs_of tiles) in
     let rest = offsets (laid_run how z tiles) in
-    let fits : list_all fits_i32 rest ≡ true = (and_parts _ _ (sym (list_all-append fits_i32 (numbers how.choice z) rest) ∙ can.fits)).1 in
+    let fits : list_all fits_i32 rest ≡ true = (and_parts _ _ (sym (list_all-append fits_i32 (numbers_to_fit how.choice z) rest) ∙ can.fits)).1 in
     record {
       fits =
           ap (λ x. list_all fits_i32 (offsets (laid_on how.right_to_left x (copies how.font z cs)))) from

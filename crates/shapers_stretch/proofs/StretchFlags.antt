@@ -18,9 +18,9 @@ use Rattle.shapers_clusters.specs.FlagLaw.{FlagsAdded}
 use Rattle.shapers_clusters.proofs.FlagCalls.{keeps-with_bits}
 use Rattle.shapers_clusters.proofs.FlagLaw.{added_on, added_same}
 use Rattle.shapers_stretch.specs.declared.ot_shaper_arabic_stretch.measuring.Run.{Run}
-use Rattle.shapers_stretch.specs.Cells.{Cell, before_tiles, before_word, cut_between, cut_here, glyphs_of, parts, positions_of, repeats, tiles_of, word_of}
-use Rattle.shapers_stretch.specs.Measure.{added, overlap, start}
-use Rattle.shapers_stretch.specs.Stretch.{Copy, Laying, cells, cells_in_order, copies, copies_of, has_run, in_order, laid, laid_at, laid_run, laying, marks_stretched, offset, run_of, runs_leftward, stretched, stretched_cells, stretched_over, stretched_part, unbroken, width_of}
+use Rattle.shapers_stretch.specs.Cells.{Cell, before_tiles, before_word, cut_between, cut_here, glyphs_of, parts_of_text, positions_of, repeats, tiles_of, word_of}
+use Rattle.shapers_stretch.specs.Measure.{times_added, overlap, start}
+use Rattle.shapers_stretch.specs.Stretch.{Copy, Laying, cells, cells_in_order, copies, copies_of, has_run, in_working_order, laid, laid_at, laid_run, laying, marks_stretched, offset, run_of_part, runs_leftward, stretched, stretched_cells, stretched_over, stretched_part, unbroken, width_of}
 use Rattle.shapers_stretch.specs.StretchLaws.{AreCopies, IsLaidOver}
 use Rattle.shapers_stretch.proofs.LaidText.{stretch_is_as_wide}
 
@@ -83,8 +83,8 @@ every_copy_of Q font z c is =
     let P : Copy → Type 0 = λ copy. Q copy.tile.0 in
     let more : Copy = record { tile = c; move = width_of font c.0 -ℤ overlap z } in (
       is,
-      elim (repeats c.0) as (λ b. AllByRecursion P (cond b (replicate (added z) more) [])) [
-        | true ↦ every_replicate P (added z) more is
+      elim (repeats c.0) as (λ b. AllByRecursion P (cond b (replicate (times_added z) more) [])) [
+        | true ↦ every_replicate P (times_added z) more is
         | false ↦ tt
       ],
     )
@@ -112,21 +112,21 @@ every_part Q stays how part all =
     let P : Cell → Type 0 = λ c. Q c.0 in
     let before = before_tiles part in
     let front : Every Q before = every_take P _ part all in
-    let z = run_of how.font part in
+    let z = run_of_part how.font part in
     elim (not (has_run part)) as (λ b. Every Q (cond b part (before_word part ++ stretched_over how z (word_of part) (tiles_of part)))) [
       | true ↦ all
       | false ↦ all-append P (before_word part) (stretched_over how z (word_of part) (tiles_of part)) (every_take P _ before front) (every_over Q stays how z (word_of part) (tiles_of part) (every_drop P _ before front) (every_drop P _ part all))
     ]
 
 every_stretched : (Q : hb_glyph_info_t → Type 0) → Stays Q → (how : Laying) (cs : List Cell) → Every Q cs → Every Q (stretched how cs)
-every_stretched Q stays how cs all = all-flat_map (AllByRecursion (λ (c : Cell). Q c.0)) (λ (c : Cell). Q c.0) (stretched_part how) (λ part is. every_part Q stays how part is) (parts cs) (every_cut (λ (c : Cell). Q c.0) _ cs all)
+every_stretched Q stays how cs all = all-flat_map (AllByRecursion (λ (c : Cell). Q c.0)) (λ (c : Cell). Q c.0) (stretched_part how) (λ part is. every_part Q stays how part is) (parts_of_text cs) (every_cut (λ (c : Cell). Q c.0) _ cs all)
 
 every_zip : (Q : hb_glyph_info_t → Type 0) (gs : List hb_glyph_info_t) (ps : List GlyphPosition) → AllByRecursion Q gs → Every Q (zip gs ps)
 every_zip Q [] ps all = tt
 every_zip Q (g ∷ gs) [] all = tt
 every_zip Q (g ∷ gs) (p ∷ ps) all = (all.0, every_zip Q gs ps all.1)
 
-every_in_order : (Q : hb_glyph_info_t → Type 0) (right_to_left : Bool) (cs : List Cell) → Every Q cs → Every Q (in_order right_to_left cs)
+every_in_order : (Q : hb_glyph_info_t → Type 0) (right_to_left : Bool) (cs : List Cell) → Every Q cs → Every Q (in_working_order right_to_left cs)
 every_in_order Q true cs all = all
 every_in_order Q false cs all = every_reverse (λ (c : Cell). Q c.0) cs all
 
@@ -140,14 +140,14 @@ every_marked Q stays font choice b all =
     elim b.stch as (λ s. AllByRecursion Q (let r : Buffer = cond s (record b { glyphs = glyphs_of (stretched_cells font choice b); positions = positions_of (stretched_cells font choice b) }) b in r.glyphs)) [ true ↦ glyphs | false ↦ all ]
 
 -- each glyph is one of the text
-stands : (front : List hb_glyph_info_t) (g : hb_glyph_info_t) (gs : List hb_glyph_info_t) → Contains (front ++ g ∷ gs) g
-stands [] g gs = (0, omega arith, refl)
-stands (h ∷ front) g gs = let (k, inside, at) = stands front g gs in (suc k, omega arith, at)
+contains_middle : (front : List hb_glyph_info_t) (g : hb_glyph_info_t) (gs : List hb_glyph_info_t) → Contains (front ++ g ∷ gs) g
+contains_middle [] g gs = (0, omega arith, refl)
+contains_middle (h ∷ front) g gs = let (k, inside, at) = contains_middle front g gs in (suc k, omega arith, at)
 
 among : (all front gs : List hb_glyph_info_t) → all ≡ front ++ gs → AllByRecursion (λ g. (old : hb_glyph_info_t) × (Contains all old × FlagsAdded old g)) gs
 among all front [] is = tt
 among all front (g ∷ gs) is =
-    ((g, (subst (λ xs. Contains xs g) (sym is) (stands front g gs), added_same g g refl refl)), among all (front ++ g ∷ []) gs (is ∙ sym (append_assoc front (g ∷ []) gs)))
+    ((g, (subst (λ xs. Contains xs g) (sym is) (contains_middle front g gs), added_same g g refl refl)), among all (front ++ g ∷ []) gs (is ∙ sym (append_assoc front (g ∷ []) gs)))
 
 pub on_copies : {T : Type 0} (r : Result T ShaperError) (font : Font) (choice : StretchStart) (old new : Buffer) → OnOk r (new ≡ marks_stretched font choice old) → OnOk r (AreCopies old.glyphs new.glyphs)
 on_copies (Ok x) font choice old new is =

@@ -13,7 +13,7 @@ use Rattle.shapers_buffer.specs.Glyph.{default_glyph, default_position}
 use Rattle.shapers_base.specs.declared.plan.arabic.StretchStart.{StretchStart}
 use Rattle.shapers_base.specs.declared.plan.arabic.StretchStart.TheVariants.{AsCode, Centred}
 use Rattle.shapers_base.specs.Font.{Font}
-use Rattle.shapers_stretch.specs.Cells.{Cell, parts, tiles_of, word_of, before_word, is_word_category}
+use Rattle.shapers_stretch.specs.Cells.{Cell, parts_of_text, tiles_of, word_of, before_word, is_word_category}
 use Rattle.shapers_stretch.specs.Stretch.{cells, marks_stretched, stretch_refusal}
 
 -- a font by the advances of its glyphs
@@ -126,10 +126,10 @@ not_marked : marks_stretched (font widths) AsCode unmarked ≡ unmarked
 not_marked = refl
 
 -- the parts of a text: cut behind each run
-text_parts : parts (letter 0 (pos 1) ∷ fixed_tile ∷ repeating_tile ∷ space ∷ letter 0 (pos 2) ∷ fixed_tile ∷ letter 0 (pos 3) ∷ []) ≡ (letter 0 (pos 1) ∷ fixed_tile ∷ repeating_tile ∷ []) ∷ (space ∷ letter 0 (pos 2) ∷ fixed_tile ∷ []) ∷ (letter 0 (pos 3) ∷ []) ∷ []
+text_parts : parts_of_text (letter 0 (pos 1) ∷ fixed_tile ∷ repeating_tile ∷ space ∷ letter 0 (pos 2) ∷ fixed_tile ∷ letter 0 (pos 3) ∷ []) ≡ (letter 0 (pos 1) ∷ fixed_tile ∷ repeating_tile ∷ []) ∷ (space ∷ letter 0 (pos 2) ∷ fixed_tile ∷ []) ∷ (letter 0 (pos 3) ∷ []) ∷ []
 text_parts = refl
 
-tiles_first : parts (fixed_tile ∷ letter 0 (pos 1) ∷ []) ≡ (fixed_tile ∷ []) ∷ (letter 0 (pos 1) ∷ []) ∷ []
+tiles_first : parts_of_text (fixed_tile ∷ letter 0 (pos 1) ∷ []) ≡ (fixed_tile ∷ []) ∷ (letter 0 (pos 1) ∷ []) ∷ []
 tiles_first = refl
 
 -- a part: its run, its word, what stands before

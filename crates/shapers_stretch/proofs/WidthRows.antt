@@ -6,8 +6,8 @@ use Rattle.shapers_buffer.specs.Buffer.{Buffer}
 use Rattle.shapers_base.specs.declared.plan.arabic.StretchStart.{StretchStart}
 use Rattle.shapers_base.specs.declared.plan.arabic.StretchStart.TheVariants.{AsCode, Centred}
 use Rattle.shapers_stretch.specs.Cells.{Cell, glyphs_of, tiles_of}
-use Rattle.shapers_stretch.specs.Measure.{added, copies_added, laid_width, total}
-use Rattle.shapers_stretch.specs.Stretch.{Laying, copies_in, run_of}
+use Rattle.shapers_stretch.specs.Measure.{times_added, copies_added, laid_width, total}
+use Rattle.shapers_stretch.specs.Stretch.{Laying, copies_in, run_of_part}
 use Rattle.shapers_stretch.specs.StretchLaws.{TilesFit, laid_ids, moves_in, offsets_by, start_in}
 use Rattle.shapers_stretch.proofs.StretchRows.{fixed_tile, font, letter, repeating_tile, second_tile, space, text, widths}
 
@@ -24,9 +24,9 @@ pub record Row : Type 0 where
 abbrev row : (ℕ → ℤ) → StretchStart → Bool → List Cell → Row
 row widths choice right_to_left part =
     let how : Laying = record { font = font widths; choice = choice; right_to_left = right_to_left } in
-    let z = run_of how.font part in
+    let z = run_of_part how.font part in
     record {
-      laid = laid_ids (added z) (glyphs_of (tiles_of part));
+      laid = laid_ids (times_added z) (glyphs_of (tiles_of part));
       moves = moves_in how part;
       offsets = offsets_by right_to_left (start_in how part) (moves_in how part);
       together = total (moves_in how part);
@@ -61,7 +61,7 @@ seven_rightward : row widths Centred false seven ≡ record {
 }
 seven_rightward = refl
 
-seven_fit : TilesFit (run_of (font widths) seven)
+seven_fit : TilesFit (run_of_part (font widths) seven)
 seven_fit = (omega (arith, ints), omega (arith, ints))
 
 -- a tile of 300 over 1000: wider by two units, with three copies more

@@ -69,8 +69,8 @@ abbrev pub run_ends : Cell → Cell → Bool
 run_ends a b = is_tile a.0 && not (is_tile b.0)
 
 -- the parts of a text: cut behind each longest run of tiles
-abbrev pub parts : List Cell → List (List Cell)
-parts cs = cut_between run_ends cs
+abbrev pub parts_of_text : List Cell → List (List Cell)
+parts_of_text cs = cut_between run_ends cs
 
 -- the tiles at the end of a part, the word directly before them, and what stands before that
 abbrev pub tiles_of : List Cell → List Cell

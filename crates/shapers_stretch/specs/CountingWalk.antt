@@ -11,7 +11,7 @@ use Rattle.shapers_stretch.specs.Cells.{Cell, repeats}
 use Rattle.shapers_stretch.specs.declared.ot_shaper_arabic_stretch.measuring.Lay.{Lay}
 use Rattle.shapers_stretch.specs.declared.ot_shaper_arabic_stretch.measuring.Run.{Run}
 use Rattle.shapers_stretch.specs.Lays.{lay_of}
-use Rattle.shapers_stretch.specs.Measure.{copies_added, fits_i32, numbers, start, total}
+use Rattle.shapers_stretch.specs.Measure.{copies_added, fits_i32, numbers_to_fit, start, total}
 use Rattle.shapers_stretch.specs.Stretch.{Laying, overflows, stretched, width_of}
 
 -- where a copy stands when the pen is here, and where the pen is behind it
@@ -71,7 +71,7 @@ WalksPen right_to_left pen moves (Some behind) =
 -- how many copies a run adds, unless a number of it doesn't fit
 abbrev pub run_added : StretchStart → Bool → Font → Run → List hb_glyph_info_t → Option ℕ
 run_added choice right_to_left font z tiles =
-    if list_all fits_i32 (numbers choice z)
+    if list_all fits_i32 (numbers_to_fit choice z)
     && offsets_fit right_to_left (start choice right_to_left z)
     (run_moves font (lay_of choice right_to_left z) tiles) then Some (copies_added z)
     else None

@@ -7,7 +7,7 @@ use Rattle.shapers_base.specs.declared.plan.arabic.StretchStart.{StretchStart}
 use Rattle.shapers_base.specs.Font.{Font}
 use Rattle.shapers_stretch.specs.Cells.{Cell, glyphs_of, positions_of, repeats}
 use Rattle.shapers_stretch.specs.CountingWalk.{pen_behind, stands_at}
-use Rattle.shapers_stretch.specs.Measure.{added, fits_i32, numbers, overlap}
+use Rattle.shapers_stretch.specs.Measure.{times_added, fits_i32, numbers_to_fit, overlap}
 use Rattle.shapers_stretch.specs.Stretch.{Copy, Laying, copies, laid_at, laid_run, measured, moves, overflows, stretched, width_of}
 use Rattle.shapers_stretch.specs.declared.ot_shaper_arabic_stretch.tiles.Pen.{Pen}
 use Rattle.shapers_stretch.specs.declared.ot_shaper_arabic_stretch.measuring.Lay.{Lay}
@@ -48,39 +48,40 @@ laying_by font choice right_to_left =
     record { font = font; choice = choice; right_to_left = right_to_left }
 
 -- the text in the first cells of slices
-abbrev pub text_of : ℕ → List hb_glyph_info_t → List GlyphPosition → List Cell
-text_of end gs ps = take end (zip gs ps)
+abbrev pub text_in_slices : ℕ → List hb_glyph_info_t → List GlyphPosition → List Cell
+text_in_slices end gs ps = take end (zip gs ps)
 
 -- The text before `end` is unlaid: stretched it fills the places before `place`, and reading is
 -- ahead.
 pub record IsUnlaid (how : Laying) (gs : List hb_glyph_info_t) (ps : List GlyphPosition) (end place
     : ℕ) : Type 0 where
   pub both : length gs ≡ length ps
-  pub room : length (stretched how (text_of end gs ps)) ≡ place
+  pub room : length (stretched how (text_in_slices end gs ps)) ≡ place
   pub ahead : end ≤ place
   pub within : place ≤ length gs
   pub glyph_numbers : AllByRecursion (λ g. g.glyph_id ≤ 65535) (take end gs)
-  pub fits : overflows how (text_of end gs ps) ≡ false
+  pub fits : overflows how (text_in_slices end gs ps) ≡ false
 
 -- what the unlaid text becomes, and what stands behind it
-abbrev pub whole_of : Laying → List hb_glyph_info_t → List GlyphPosition → ℕ → ℕ → List Cell
-whole_of how gs ps end place = stretched how (text_of end gs ps) ++ drop place (zip gs ps)
+abbrev pub stretched_whole : Laying → List hb_glyph_info_t → List GlyphPosition → ℕ → ℕ → List Cell
+stretched_whole how gs ps end place =
+    stretched how (text_in_slices end gs ps) ++ drop place (zip gs ps)
 
 -- in the middle of laying the whole: the writer never overtakes the reader
 pub record IsLaidFrom (how : Laying) (whole : List Cell) (gs : List hb_glyph_info_t) (ps : List
     GlyphPosition) (end place : ℕ) : Type 0 where
   pub left : IsUnlaid how gs ps end place
-  pub joined : whole_of how gs ps end place ≡ whole
+  pub joined : stretched_whole how gs ps end place ≡ whole
 
 -- The first cells of these slices are a text that stretched fills them: glyph numbers are in range,
 -- and no number of it overflows.
-pub record HasRoom (how : Laying) (gs : List hb_glyph_info_t) (ps : List GlyphPosition) (len :
-    ℕ) : Type 0 where
+pub record HasRoomForTiles (how : Laying) (gs : List hb_glyph_info_t) (ps : List GlyphPosition)
+    (len : ℕ) : Type 0 where
   pub both : length gs ≡ length ps
   pub in_range : len ≤ length gs
-  pub room : length (stretched how (text_of len gs ps)) ≡ length gs
+  pub room : length (stretched how (text_in_slices len gs ps)) ≡ length gs
   pub glyph_numbers : AllByRecursion (λ g. g.glyph_id ≤ 65535) (take len gs)
-  pub fits : overflows how (text_of len gs ps) ≡ false
+  pub fits : overflows how (text_in_slices len gs ps) ≡ false
 
 -- the copies of one tile by these numbers, and those of a run's tiles, from the last to the first
 abbrev pub copies_with : Font → ℕ → ℤ → Cell → List Copy
@@ -97,7 +98,7 @@ run_copies font lay tiles = flat_map (copies_by font lay) (reverse tiles)
 
 -- the numbers by which the copies of a run are laid
 pub record IsLayOf (z : Run) (lay : Lay) : Type 0 where
-  pub added : lay.added ≡ added z
+  pub added : lay.added ≡ times_added z
   pub overlap : lay.overlap ≡ overlap z
   pub low : pos 0 ≤ℤ lay.overlap
   pub high : lay.overlap ≤ℤ pos (2 ^ 66)
@@ -112,7 +113,7 @@ pub record CanLayRun (how : Laying) (word tiles : List Cell) (first end place : 
   pub both : length gs ≡ length ps
   pub glyph_numbers : AllByRecursion (λ g. g.glyph_id ≤ 65535) (take end gs)
   pub fits : let z = measured how.font (positions_of word) (glyphs_of tiles) in
-      list_all fits_i32 (numbers how.choice z ++ offsets (laid_run how z tiles)) ≡ true
+      list_all fits_i32 (numbers_to_fit how.choice z ++ offsets (laid_run how z tiles)) ≡ true
   pub room : first
       + length (copies how.font (measured how.font (positions_of word) (glyphs_of tiles)) tiles)
       ≤ place

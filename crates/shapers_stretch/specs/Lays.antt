@@ -6,10 +6,10 @@ use Rattle.shapers_base.specs.declared.plan.arabic.StretchStart.{StretchStart}
 use Rattle.shapers_base.specs.declared.plan.arabic.StretchStart.TheVariants.{AsCode, Centred}
 use Rattle.shapers_stretch.specs.declared.ot_shaper_arabic_stretch.measuring.Lay.{Lay}
 use Rattle.shapers_stretch.specs.declared.ot_shaper_arabic_stretch.measuring.Run.{Run}
-use Rattle.shapers_stretch.specs.Measure.{added, fits_i32, laid_width, left, numbers, overlap, start}
+use Rattle.shapers_stretch.specs.Measure.{times_added, fits_i32, laid_width, left, numbers_to_fit, overlap, start}
 
 -- what fits 32 bits before tiles are counted
-pub record RunFits (z : Run) : Type 0 where
+pub record TileRunFits (z : Run) : Type 0 where
   pub word : FitsSigned w32 z.word
   pub fixed : FitsSigned w32 z.fixed
   pub repeating : FitsSigned w32 z.repeating
@@ -17,11 +17,12 @@ pub record RunFits (z : Run) : Type 0 where
 
 abbrev pub lay_of : StretchStart → Bool → Run → Lay
 lay_of choice right_to_left z =
-    record { added = added z; overlap = overlap z; start = start choice right_to_left z }
+    record { added = times_added z; overlap = overlap z; start = start choice right_to_left z }
 
 abbrev pub lay_if_fits : StretchStart → Bool → Run → Option Lay
 lay_if_fits choice right_to_left z =
-    if list_all fits_i32 (numbers choice z) then Some (lay_of choice right_to_left z) else None
+    if list_all fits_i32 (numbers_to_fit choice z) then Some (lay_of choice right_to_left z)
+    else None
 
 -- the start alone, where the numbers of its choice fit
 abbrev pub start_if_fits : StretchStart → Bool → Run → Option ℤ

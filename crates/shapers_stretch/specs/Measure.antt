@@ -27,16 +27,16 @@ abbrev pub falls_short : Run → Bool
 falls_short z = int_lt (pos 0) (left z -ℤ reach z (fitting z)) && nat_lt 0 z.repeaters
 
 -- how many times more they are laid: as often as they fit, and once more where that falls short
-abbrev pub added : Run → ℕ
-added z = if falls_short z then suc (fitting z) else fitting z
+abbrev pub times_added : Run → ℕ
+times_added z = if falls_short z then suc (fitting z) else fitting z
 
 -- how many copies that makes
 abbrev pub copies_added : Run → ℕ
-copies_added z = added z * z.repeaters
+copies_added z = times_added z * z.repeaters
 
 -- how far they then reach too far
 abbrev pub excess : Run → ℤ
-excess z = reach z (added z) -ℤ left z
+excess z = reach z (times_added z) -ℤ left z
 
 -- whether the copies overlap, and by how much each that was added then does
 abbrev pub squeezes : Run → Bool
@@ -47,7 +47,7 @@ overlap z = if squeezes z then int_div (excess z) (pos (copies_added z)) else po
 
 -- the width that is laid
 abbrev pub laid_width : Run → ℤ
-laid_width z = (z.fixed +ℤ reach z (added z)) -ℤ pos (copies_added z) *ℤ overlap z
+laid_width z = (z.fixed +ℤ reach z (times_added z)) -ℤ pos (copies_added z) *ℤ overlap z
 
 -- half of what is laid less than the word
 abbrev pub half_gap : Run → ℤ
@@ -62,11 +62,11 @@ start Centred right_to_left z = if right_to_left then neg_ℤ (half_gap z) else 
 -- the numbers that must fit 32 bits
 abbrev pub run_numbers : Run → List ℤ
 run_numbers z =
-    z.word ∷ z.fixed ∷ z.repeating ∷ left z ∷ reach z (added z) ∷ pos (copies_added z) ∷ []
+    z.word ∷ z.fixed ∷ z.repeating ∷ left z ∷ reach z (times_added z) ∷ pos (copies_added z) ∷ []
 
-abbrev pub numbers : StretchStart → Run → List ℤ
-numbers AsCode z = run_numbers z
-numbers Centred z = run_numbers z ++ laid_width z ∷ (z.word -ℤ laid_width z) ∷ []
+abbrev pub numbers_to_fit : StretchStart → Run → List ℤ
+numbers_to_fit AsCode z = run_numbers z
+numbers_to_fit Centred z = run_numbers z ++ laid_width z ∷ (z.word -ℤ laid_width z) ∷ []
 
 -- whether a number fits 32 bits with a sign
 abbrev pub fits_i32 : ℤ → Bool

@@ -13,9 +13,9 @@ use Rattle.shapers_buffer.specs.GlyphFlags.{flagged}
 use Rattle.shapers_buffer.specs.Lists.{each_after}
 use Rattle.shapers_base.specs.declared.plan.arabic.StretchStart.{StretchStart}
 use Rattle.shapers_base.specs.Font.{Font}
-use Rattle.shapers_stretch.specs.Cells.{Cell, glyphs_of, positions_of, repeats, parts, tiles_of, word_of, before_word}
+use Rattle.shapers_stretch.specs.Cells.{Cell, glyphs_of, positions_of, repeats, parts_of_text, tiles_of, word_of, before_word}
 use Rattle.shapers_stretch.specs.declared.ot_shaper_arabic_stretch.measuring.Run.{Run}
-use Rattle.shapers_stretch.specs.Measure.{added, copies_added, overlap, start, numbers, fits_i32, total}
+use Rattle.shapers_stretch.specs.Measure.{times_added, copies_added, overlap, start, numbers_to_fit, fits_i32, total}
 use Rattle.std.specs.Prelude.{true, false}
 
 -- how a font's tiles are laid: from which start, and in which direction
@@ -45,8 +45,8 @@ measured font word tiles = record {
 }
 
 -- what the run of a part measures
-abbrev pub run_of : Font → List Cell → Run
-run_of font part = measured font (positions_of (word_of part)) (glyphs_of (tiles_of part))
+abbrev pub run_of_part : Font → List Cell → Run
+run_of_part font part = measured font (positions_of (word_of part)) (glyphs_of (tiles_of part))
 
 -- A copy of a tile, and how far it moves the pen.
 pub record Copy : Type 0 where
@@ -58,7 +58,8 @@ abbrev pub copies_of : Font → Run → Cell → List Copy
 copies_of font z c =
     let width = width_of font c.0 in
     record { tile = c; move = width }
-    ∷ (if repeats c.0 then replicate (added z) (record { tile = c; move = width -ℤ overlap z })
+    ∷ (if repeats c.0
+    then replicate (times_added z) (record { tile = c; move = width -ℤ overlap z })
     else [])
 
 -- the copies of a run as they are laid, from its last tile to its first
@@ -107,41 +108,42 @@ abbrev pub stretched_part : Laying → List Cell → List Cell
 stretched_part how part =
     if not (has_run part) then part
     else before_word part
-    ++ stretched_over how (run_of how.font part) (word_of part) (tiles_of part)
+    ++ stretched_over how (run_of_part how.font part) (word_of part) (tiles_of part)
 
 -- a text stretched, part by part
 abbrev pub stretched : Laying → List Cell → List Cell
-stretched how cs = flat_map (stretched_part how) (parts cs)
+stretched how cs = flat_map (stretched_part how) (parts_of_text cs)
 
 -- whether a number of a part's run, or an offset of its laid list, doesn't fit 32 bits
 abbrev pub part_overflows : Laying → List Cell → Bool
 part_overflows how part =
-    let z = run_of how.font part in
+    let z = run_of_part how.font part in
     has_run part
-    && not (list_all fits_i32 (numbers how.choice z
+    && not (list_all fits_i32 (numbers_to_fit how.choice z
     ++ map (λ c. c.1.x_offset) (laid_run how z (tiles_of part))))
 
 abbrev pub overflows : Laying → List Cell → Bool
-overflows how cs = list_any (part_overflows how) (parts cs)
+overflows how cs = list_any (part_overflows how) (parts_of_text cs)
 
 -- the cells of a buffer in working order: from right to left as they stand, else backwards
 abbrev pub runs_leftward : Direction → Bool
 runs_leftward RightToLeft = true
 runs_leftward _ = false
 
-abbrev pub in_order : {X : Type 0} → Bool → List X → List X
-in_order right_to_left xs = if right_to_left then xs else reverse xs
+abbrev pub in_working_order : {X : Type 0} → Bool → List X → List X
+in_working_order right_to_left xs = if right_to_left then xs else reverse xs
 
 abbrev pub cells : Buffer → List Cell
 cells b = zip b.glyphs b.positions
 
 abbrev pub cells_in_order : Buffer → List Cell
-cells_in_order b = in_order (runs_leftward b.direction) (cells b)
+cells_in_order b = in_working_order (runs_leftward b.direction) (cells b)
 
 -- how many copies are added to the runs of a buffer together
 abbrev pub copies_in : Font → Buffer → ℕ
 copies_in font b =
-    if b.stch then sum_by (λ part. copies_added (run_of font part)) (parts (cells_in_order b))
+    if b.stch
+    then sum_by (λ part. copies_added (run_of_part font part)) (parts_of_text (cells_in_order b))
     else 0
 
 -- how the tiles of a buffer are laid
@@ -152,7 +154,7 @@ laying font choice b =
 abbrev pub stretched_cells : Font → StretchStart → Buffer → List Cell
 stretched_cells font choice b =
     let how = laying font choice b in
-    in_order how.right_to_left (stretched how (cells_in_order b))
+    in_working_order how.right_to_left (stretched how (cells_in_order b))
 
 -- the buffer stretched: nothing without the mark "has stch"
 abbrev pub with_cells : List Cell → Buffer → Buffer

@@ -7,12 +7,12 @@ use Rattle.shapers_buffer.specs.Lists.{each_after}
 use Rattle.shapers_base.specs.declared.plan.arabic.StretchStart.{StretchStart}
 use Rattle.shapers_base.specs.Font.{Font}
 use Rattle.shapers_clusters.specs.FlagLaw.{FlagsAdded}
-use Rattle.shapers_stretch.specs.Cells.{Cell, before_tiles, glyphs_of, parts, positions_of, repeats, tiles_of}
+use Rattle.shapers_stretch.specs.Cells.{Cell, before_tiles, glyphs_of, parts_of_text, positions_of, repeats, tiles_of}
 use Rattle.shapers_stretch.specs.CountingWalk.{run_moves}
 use Rattle.shapers_stretch.specs.declared.ot_shaper_arabic_stretch.measuring.Run.{Run}
 use Rattle.shapers_stretch.specs.Lays.{lay_of}
-use Rattle.shapers_stretch.specs.Measure.{added, left, laid_width, copies_added, start, total}
-use Rattle.shapers_stretch.specs.Stretch.{Laying, cells_in_order, has_run, laying, marks_stretched, run_of}
+use Rattle.shapers_stretch.specs.Measure.{times_added, left, laid_width, copies_added, start, total}
+use Rattle.shapers_stretch.specs.Stretch.{Laying, cells_in_order, has_run, laying, marks_stretched, run_of_part}
 
 -- the repeating tiles have a width, and fit into what the fixed ones leave of the word
 abbrev pub TilesFit : Run → Type 0
@@ -47,11 +47,11 @@ offsets_by right_to_left from moves =
 -- overlap less; and where the first begins
 abbrev pub moves_in : Laying → List Cell → List ℤ
 moves_in how part =
-    let z = run_of how.font part in
+    let z = run_of_part how.font part in
     run_moves how.font (lay_of how.choice how.right_to_left z) (glyphs_of (tiles_of part))
 
 abbrev pub start_in : Laying → List Cell → ℤ
-start_in how part = start how.choice how.right_to_left (run_of how.font part)
+start_in how part = start how.choice how.right_to_left (run_of_part how.font part)
 
 -- What a part with a run became. In front stands what stood before the run, with its positions, and
 -- so with the word's advance. Behind it stand the copies, the one that is laid first last. They
@@ -63,13 +63,14 @@ pub record RunIsLaid (how : Laying) (part piece : List Cell) : Type 0 where
   pub joined : piece ≡ front ++ reverse copies
   pub front_ids : ids front ≡ ids (before_tiles part)
   pub front_positions : positions_of front ≡ positions_of (before_tiles part)
-  pub tiles : ids copies ≡ laid_ids (added (run_of how.font part)) (glyphs_of (tiles_of part))
-  pub many : length copies ≡ length (tiles_of part) + copies_added (run_of how.font part)
+  pub tiles : ids copies ≡ laid_ids (times_added (run_of_part how.font part))
+      (glyphs_of (tiles_of part))
+  pub many : length copies ≡ length (tiles_of part) + copies_added (run_of_part how.font part)
   pub advances : map (λ c. c.1.x_advance) copies ≡ replicate (length copies) (pos 0)
   pub offsets : map (λ c. c.1.x_offset) copies
       ≡ offsets_by how.right_to_left (start_in how part) (moves_in how part)
-  pub width : total (moves_in how part) ≡ laid_width (run_of how.font part)
-  pub covers : TilesFit (run_of how.font part) → CoversTheWord (run_of how.font part)
+  pub width : total (moves_in how part) ≡ laid_width (run_of_part how.font part)
+  pub covers : TilesFit (run_of_part how.font part) → CoversTheWord (run_of_part how.font part)
 
 -- a part without a run stays
 abbrev pub PartIsLaid : Laying → List Cell → List Cell → Type 0
@@ -79,9 +80,9 @@ PartIsLaid how part piece =
 -- The text before is its parts, and the text after what each of them became, one after another.
 pub record TextIsLaid (how : Laying) (old new : List Cell) : Type 0 where
   pub pieces : List (List Cell)
-  pub before : flat_map (λ part. part) (parts old) ≡ old
+  pub before : flat_map (λ part. part) (parts_of_text old) ≡ old
   pub after : flat_map (λ piece. piece) pieces ≡ new
-  pub each : AllZip (PartIsLaid how) (parts old) pieces
+  pub each : AllZip (PartIsLaid how) (parts_of_text old) pieces
 
 -- So it is, in working order, for what stretching makes of a buffer that is marked to have
 -- stretches.

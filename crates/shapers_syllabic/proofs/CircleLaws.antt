@@ -13,7 +13,7 @@ use Rattle.shapers_buffer.specs.Buffer.{Buffer}
 use Rattle.shapers_buffer.specs.Glyph.{clusters, default_glyph}
 use Rattle.shapers_buffer.specs.Syllables.{syllables, with_opening, first_syllable_len, kind_of}
 use Rattle.shapers_syllabic.specs.Circles.{is_of_kind, rephas_len, circle_in, with_circle, with_circles, circled, circled_syllable, count_of_kind}
-use Rattle.shapers_syllabic.specs.CircleLaws.{unmarked, marked, no_marks, marks_in, CirclesCanBeErased, CirclesKeepClusters, NoNewCluster}
+use Rattle.shapers_syllabic.specs.CircleLaws.{unmarked, marked, none_marked, marks_in, CirclesCanBeErased, CirclesKeepClusters, NoNewCluster}
 use Rattle.shapers_syllabic.specs.FirstBroken.{IsFirstBroken, is_of_other_kind}
 use Rattle.shapers_buffer.proofs.MappedLists.{Contains-map}
 use Rattle.shapers_buffer.proofs.SyllableLaws.{syllables_are_runs}
@@ -190,27 +190,27 @@ marked-append (m ∷ ms) ns [] ys same = absurd (omega arith)
 marked-append (true ∷ ms) ns (x ∷ xs) ys same = ap (λ zs. x ∷ zs) (marked-append ms ns xs ys (omega arith))
 marked-append (false ∷ ms) ns (x ∷ xs) ys same = marked-append ms ns xs ys (omega arith)
 
-unmarked-none : (gs : List hb_glyph_info_t) → unmarked (no_marks gs) gs ≡ gs
+unmarked-none : (gs : List hb_glyph_info_t) → unmarked (none_marked gs) gs ≡ gs
 unmarked-none [] = refl
 unmarked-none (g ∷ gs) = ap (λ xs. g ∷ xs) (unmarked-none gs)
 
-marked-none : (gs : List hb_glyph_info_t) → marked (no_marks gs) gs ≡ []
+marked-none : (gs : List hb_glyph_info_t) → marked (none_marked gs) gs ≡ []
 marked-none [] = refl
 marked-none (g ∷ gs) = marked-none gs
 
-length-no_marks : (gs : List hb_glyph_info_t) → length (no_marks gs) ≡ length gs
+length-no_marks : (gs : List hb_glyph_info_t) → length (none_marked gs) ≡ length gs
 length-no_marks gs = length-map gs (λ g. false)
 
 -- one mark between two lists
-unmarked-between : (front back : List hb_glyph_info_t) (g : hb_glyph_info_t) → unmarked (no_marks front ++ true ∷ no_marks back) (front ++ g ∷ back) ≡ front ++ back
-unmarked-between front back g = unmarked-append (no_marks front) (true ∷ no_marks back) front (g ∷ back) (length-no_marks front) ∙ cc (unmarked-none front, unmarked-none back)
+unmarked-between : (front back : List hb_glyph_info_t) (g : hb_glyph_info_t) → unmarked (none_marked front ++ true ∷ none_marked back) (front ++ g ∷ back) ≡ front ++ back
+unmarked-between front back g = unmarked-append (none_marked front) (true ∷ none_marked back) front (g ∷ back) (length-no_marks front) ∙ cc (unmarked-none front, unmarked-none back)
 
-marked-between : (front back : List hb_glyph_info_t) (g : hb_glyph_info_t) → marked (no_marks front ++ true ∷ no_marks back) (front ++ g ∷ back) ≡ g ∷ []
-marked-between front back g = marked-append (no_marks front) (true ∷ no_marks back) front (g ∷ back) (length-no_marks front) ∙ cc (marked-none front, marked-none back)
+marked-between : (front back : List hb_glyph_info_t) (g : hb_glyph_info_t) → marked (none_marked front ++ true ∷ none_marked back) (front ++ g ∷ back) ≡ g ∷ []
+marked-between front back g = marked-append (none_marked front) (true ∷ none_marked back) front (g ∷ back) (length-no_marks front) ∙ cc (marked-none front, marked-none back)
 
 -- a syllable without its circle, and its circle
 abbrev marks_of : DottedCircles → Bool → List hb_glyph_info_t → List Bool
-marks_of rule broken gs = if broken then no_marks (take (rephas_len rule.repha gs) gs) ++ true ∷ no_marks (drop (rephas_len rule.repha gs) gs) else no_marks gs
+marks_of rule broken gs = if broken then none_marked (take (rephas_len rule.repha gs) gs) ++ true ∷ none_marked (drop (rephas_len rule.repha gs) gs) else none_marked gs
 
 unmarked-syllable : (rule : DottedCircles) (broken : Bool) (gs : List hb_glyph_info_t) → unmarked (marks_of rule broken gs) (opened rule broken gs) ≡ gs
 unmarked-syllable rule false gs = unmarked-none gs
@@ -228,7 +228,7 @@ length-marks_of : (rule : DottedCircles) (broken : Bool) (gs : List hb_glyph_inf
 length-marks_of rule false gs = length-no_marks gs
 length-marks_of rule true gs =
     let n = rephas_len rule.repha gs in
-    omega (arith, length-append (no_marks (take n gs)) (true ∷ no_marks (drop n gs)), length-append (take n gs) (circle_in gs rule.circle ∷ drop n gs), length-no_marks (take n gs), length-no_marks (drop n gs))
+    omega (arith, length-append (none_marked (take n gs)) (true ∷ none_marked (drop n gs)), length-append (take n gs) (circle_in gs rule.circle ∷ drop n gs), length-no_marks (take n gs), length-no_marks (drop n gs))
 
 abbrev marks_all : DottedCircles → Pieces → List Bool
 marks_all rule pieces = flat_map (marks_in rule) pieces

@@ -35,14 +35,14 @@ Glyphs = List hb_glyph_info_t
 abbrev pub by : (ℕ → ℕ) → Glyphs → Glyphs
 by f gs = map (with_mask_by f) gs
 
-abbrev pub KeepsFlags : (ℕ → ℕ) → Type 0
-KeepsFlags f = (m : ℕ) → without_flags (f m) ≡ f (without_flags m)
+abbrev pub MaskKeepsFlags : (ℕ → ℕ) → Type 0
+MaskKeepsFlags f = (m : ℕ) → without_flags (f m) ≡ f (without_flags m)
 
 pub clusters-by : (f : ℕ → ℕ) (gs : Glyphs) → clusters (by f gs) ≡ clusters gs
 clusters-by f [] = refl
 clusters-by f (g ∷ gs) = ap (λ cs. g.cluster ∷ cs) (clusters-by f gs)
 
-view-by : (f : ℕ → ℕ) → KeepsFlags f → (gs : Glyphs) → order_view (by f gs) ≡ by f (order_view gs)
+view-by : (f : ℕ → ℕ) → MaskKeepsFlags f → (gs : Glyphs) → order_view (by f gs) ≡ by f (order_view gs)
 view-by f keeps [] = refl
 view-by f keeps (g ∷ gs) = ap (λ (m : ℕ). record g { cluster = 0; mask = m } ∷ order_view (by f gs)) (keeps g.mask) ∙ ap (λ l. with_mask_by f (plain g) ∷ l) (view-by f keeps gs)
 
@@ -83,10 +83,10 @@ circled-by f None gs = refl
 circled-by f (Some rule) gs = ap (flat_map (circled_syllable rule)) (syllables-by f gs) ∙ joined-by f (circled_syllable rule) (circled_syllable-by f rule) (syllables gs)
 
 -- a pause that reads no masks
-opened-by : (f : ℕ → ℕ) → KeepsFlags f → (circles : Option DottedCircles) (gs : Glyphs) → order_view (circled circles (by f gs)) ≡ by f (order_view (circled circles gs))
+opened-by : (f : ℕ → ℕ) → MaskKeepsFlags f → (circles : Option DottedCircles) (gs : Glyphs) → order_view (circled circles (by f gs)) ≡ by f (order_view (circled circles gs))
 opened-by f keeps circles gs = ap order_view (circled-by f circles gs) ∙ view-by f keeps (circled circles gs)
 
-pub paused-by : (f : ℕ → ℕ) → KeepsFlags f → (circles : Option DottedCircles) (meaning : Glyphs → Glyphs) → ((gs : Glyphs) → meaning (by f gs) ≡ by f (meaning gs)) → (gs : Glyphs) → paused_order circles meaning (by f gs) ≡ by f (paused_order circles meaning gs)
+pub paused-by : (f : ℕ → ℕ) → MaskKeepsFlags f → (circles : Option DottedCircles) (meaning : Glyphs → Glyphs) → ((gs : Glyphs) → meaning (by f gs) ≡ by f (meaning gs)) → (gs : Glyphs) → paused_order circles meaning (by f gs) ≡ by f (paused_order circles meaning gs)
 paused-by f keeps circles meaning meant gs =
     let xs = order_view (circled circles gs) in
     ap (text_order meaning) (opened-by f keeps circles gs) ∙ ap (flat_map meaning) (syllables-by f xs) ∙ joined-by f meaning meant (syllables xs)
@@ -105,7 +105,7 @@ steps-by f steps led xs =
     ∙ ap (λ ps. steps_along (length xs) 0 (pieces_of steps ps)) (syllables-by f xs)
     ∙ ap (steps_along (length xs) 0) (pieces-by f steps led (syllables xs))
 
-pub clusters_paused-by : (f : ℕ → ℕ) → KeepsFlags f → (circles : Option DottedCircles) (steps : Glyphs → List Step) → ((gs : Glyphs) → steps (by f gs) ≡ steps gs) → (level : BufferClusterLevel) (gs : Glyphs) → paused_clusters circles steps level (by f gs) ≡ paused_clusters circles steps level gs
+pub clusters_paused-by : (f : ℕ → ℕ) → MaskKeepsFlags f → (circles : Option DottedCircles) (steps : Glyphs → List Step) → ((gs : Glyphs) → steps (by f gs) ≡ steps gs) → (level : BufferClusterLevel) (gs : Glyphs) → paused_clusters circles steps level (by f gs) ≡ paused_clusters circles steps level gs
 clusters_paused-by f keeps circles steps led level gs =
     let xs = circled circles gs in
     ap (λ cs. joined_steps level (text_steps steps (order_view (circled circles (by f gs)))) cs) (ap clusters (circled-by f circles gs) ∙ clusters-by f xs)
@@ -163,7 +163,7 @@ map-twice : (h : hb_glyph_info_t → hb_glyph_info_t) (gs : Glyphs) → map (λ 
 map-twice h [] = refl
 map-twice h (g ∷ gs) = ap (λ l. unnumbered (h g) ∷ l) (map-twice h gs)
 
-pub joined_halves : (f : ℕ → ℕ) → KeepsFlags f → (circles : Option DottedCircles) (meaning : Glyphs → Glyphs) (steps : Glyphs → List Step) (level : BufferClusterLevel) → ReorderLaws meaning steps → ReadsNoSerials meaning steps → ((gs : Glyphs) → meaning (by f gs) ≡ by f (meaning gs)) → ((gs : Glyphs) → steps (by f gs) ≡ steps gs) →
+pub joined_halves : (f : ℕ → ℕ) → MaskKeepsFlags f → (circles : Option DottedCircles) (meaning : Glyphs → Glyphs) (steps : Glyphs → List Step) (level : BufferClusterLevel) → ReorderLaws meaning steps → ReadsNoSerials meaning steps → ((gs : Glyphs) → meaning (by f gs) ≡ by f (meaning gs)) → ((gs : Glyphs) → steps (by f gs) ≡ steps gs) →
     (gs hs whole front back xs ys new : Glyphs) → SetUpParts f gs hs whole front back → SameButSerials front xs → SameButSerials back ys →
     order_view new ≡ paused_order circles meaning whole → clusters new ≡ paused_clusters circles steps level whole →
     HalvesJoined (λ g. unnumbered (with_mask_by f g)) (paused_order circles meaning) (paused_clusters circles steps level) gs hs xs ys new

@@ -19,15 +19,15 @@ marked (mark ∷ marks) [] = []
 marked (mark ∷ marks) (x ∷ xs) = if mark then x ∷ marked marks xs else marked marks xs
 
 -- no mark for any of these glyphs
-abbrev pub no_marks : List hb_glyph_info_t → List Bool
-no_marks gs = map (λ g. false) gs
+abbrev pub none_marked : List hb_glyph_info_t → List Bool
+none_marked gs = map (λ g. false) gs
 
 -- for each glyph of what a syllable becomes, whether it is the circle
 abbrev pub marks_in : DottedCircles → List hb_glyph_info_t → List Bool
 marks_in rule gs =
-    if is_of_kind rule.broken_kind gs then no_marks (take (rephas_len rule.repha gs) gs) ++ true
-    ∷ no_marks (drop (rephas_len rule.repha gs) gs)
-    else no_marks gs
+    if is_of_kind rule.broken_kind gs then none_marked (take (rephas_len rule.repha gs) gs) ++ true
+    ∷ none_marked (drop (rephas_len rule.repha gs) gs)
+    else none_marked gs
 
 -- for each place of the text with its circles, whether a circle stands there
 abbrev pub circle_marks : DottedCircles → List hb_glyph_info_t → List Bool

@@ -16,7 +16,7 @@ use Rattle.shapers_clusters.specs.Steps.{Permutes, MovesMerged, run_step}
 use Rattle.shapers_clusters.proofs.Permuted.{still_permutes, swap_permutes}
 use Rattle.shapers_clusters.proofs.Proved.{reordered_whole}
 use Rattle.shapers_clusters.proofs.Swaps.{still_moves_merged, swap_moves_merged, run-still_step, order_view-swap_step}
-use Rattle.shapers_text.specs.Hebrew.{mark_step, step_at, marks_swapped, opens_triple, triple_place, second_of_triple}
+use Rattle.shapers_text.specs.Hebrew.{hebrew_mark_step, step_at, marks_swapped, opens_triple, triple_place, second_of_triple}
 
 triple_place_hit : (g : hb_glyph_info_t) (gs : List hb_glyph_info_t) → opens_triple (g ∷ gs) ≡ true → triple_place (g ∷ gs) ≡ Some 0
 triple_place_hit g gs h = rw h refl
@@ -31,9 +31,9 @@ opens-front (a ∷ []) = refl
 opens-front (a ∷ (b ∷ [])) = refl
 opens-front (a ∷ (b ∷ (c ∷ gs))) = refl
 
-moved : (second : ℕ) (o : Option ℕ) → option_map (λ k. second + k) (option_map suc o) ≡ option_map (λ k. second + 1 + k) o
-moved second None = refl
-moved second (Some k) = let e : second + suc k ≡ second + 1 + k = omega arith in ap Some e
+triple_moved : (second : ℕ) (o : Option ℕ) → option_map (λ k. second + k) (option_map suc o) ≡ option_map (λ k. second + 1 + k) o
+triple_moved second None = refl
+triple_moved second (Some k) = let e : second + suc k ≡ second + 1 + k = omega arith in ap Some e
 
 counted : (start : ℕ) (o : Option ℕ) → option_map (λ k. start + 1 + k) o ≡ option_map (λ k. start + k + 1) o
 counted start None = refl
@@ -68,7 +68,7 @@ pub triple_miss : (gs w rest : List hb_glyph_info_t) (second : ℕ) → 3 ≤ le
 triple_miss [] w rest second some is left fails = absurd (omega arith)
 triple_miss (g ∷ gs) w rest second some is left fails =
     let not_here : opens_triple (g ∷ gs) ≡ false = sym (opens-front (g ∷ gs)) ∙ sym (ap opens_triple is) ∙ fails in
-    sym (ap (option_map (λ k. second + k)) (triple_place_miss g gs not_here) ∙ moved second (triple_place gs) ∙ ap (λ xs. option_map (λ k. second + 1 + k) (triple_place xs)) (sym left))
+    sym (ap (option_map (λ k. second + k)) (triple_place_miss g gs not_here) ∙ triple_moved second (triple_place gs) ∙ ap (λ xs. option_map (λ k. second + 1 + k) (triple_place xs)) (sym left))
 
 few : (gs : List hb_glyph_info_t) → length gs < 3 → triple_place gs ≡ None
 few [] h = refl
@@ -124,13 +124,13 @@ swapped gs i x y h hx hy =
     rw (ex, ey) (swap_is gs i (i + 1) default_glyph (omega arith) (omega arith))
 
 -- the step of the marks is one of the smallest
-pub mark_moves_merged : (start end : ℕ) (gs : List hb_glyph_info_t) → IfSome (second_of_triple start end gs) (λ i. i + 1 < length gs) → MovesMerged (length gs) (mark_step start end gs)
+pub mark_moves_merged : (start end : ℕ) (gs : List hb_glyph_info_t) → IfSome (second_of_triple start end gs) (λ i. i + 1 < length gs) → MovesMerged (length gs) (hebrew_mark_step start end gs)
 mark_moves_merged start end gs within = elim (second_of_triple start end gs) as (λ o. IfSome o (λ i. i + 1 < length gs) → MovesMerged (length gs) (step_at (length gs) o)) [
   | None ↦ λ w. still_moves_merged (length gs)
   | Some i ↦ λ w. swap_moves_merged (length gs) i w
 ] within
 
-mark_permutes : (start end : ℕ) (gs : List hb_glyph_info_t) → IfSome (second_of_triple start end gs) (λ i. i + 1 < length gs) → Permutes (length gs) (mark_step start end gs)
+mark_permutes : (start end : ℕ) (gs : List hb_glyph_info_t) → IfSome (second_of_triple start end gs) (λ i. i + 1 < length gs) → Permutes (length gs) (hebrew_mark_step start end gs)
 mark_permutes start end gs within = elim (second_of_triple start end gs) as (λ o. IfSome o (λ i. i + 1 < length gs) → Permutes (length gs) (step_at (length gs) o)) [
   | None ↦ λ w. still_permutes (length gs)
   | Some i ↦ λ w. swap_permutes (length gs) i w
@@ -160,14 +160,14 @@ marks_view_at level gs None within = ap order_view (run-still_step level gs)
 marks_view_at level gs (Some i) within = order_view-swap_step level gs i within
 
 -- the order view of the step is the rule's
-pub marks_view : (level : BufferClusterLevel) (start end : ℕ) (gs : List hb_glyph_info_t) → IfSome (second_of_triple start end gs) (λ i. i + 1 < length gs) → order_view (run_step level (mark_step start end gs) gs) ≡ marks_swapped start end (order_view gs)
+pub marks_view : (level : BufferClusterLevel) (start end : ℕ) (gs : List hb_glyph_info_t) → IfSome (second_of_triple start end gs) (λ i. i + 1 < length gs) → order_view (run_step level (hebrew_mark_step start end gs) gs) ≡ marks_swapped start end (order_view gs)
 marks_view level start end gs within =
     marks_view_at level gs (second_of_triple start end gs) within ∙ ap (λ o. option_map_or (λ i. swap (order_view gs) i (i + 1)) o (order_view gs)) (sym (second_plain start end gs))
 
 -- what the step leaves, by the laws
-pub mark_laws : (level : BufferClusterLevel) (start end : ℕ) (gs : List hb_glyph_info_t) → IfSome (second_of_triple start end gs) (λ i. i + 1 < length gs) → ReorderedHold whole level (mark_step start end gs ∷ []) gs (run_step level (mark_step start end gs) gs)
-mark_laws level start end gs within = reordered_whole level (mark_step start end gs ∷ []) gs (mark_moves_merged start end gs within, tt) (mark_permutes start end gs within, tt)
+pub mark_laws : (level : BufferClusterLevel) (start end : ℕ) (gs : List hb_glyph_info_t) → IfSome (second_of_triple start end gs) (λ i. i + 1 < length gs) → ReorderedHold whole level (hebrew_mark_step start end gs ∷ []) gs (run_step level (hebrew_mark_step start end gs) gs)
+mark_laws level start end gs within = reordered_whole level (hebrew_mark_step start end gs ∷ []) gs (mark_moves_merged start end gs within, tt) (mark_permutes start end gs within, tt)
 
 -- the step is the one that the search found
-pub mark_step_is : (level : BufferClusterLevel) (start end : ℕ) (gs : List hb_glyph_info_t) (o : Option ℕ) → o ≡ second_of_triple start end gs → run_step level (step_at (length gs) o) gs ≡ run_step level (mark_step start end gs) gs
+pub mark_step_is : (level : BufferClusterLevel) (start end : ℕ) (gs : List hb_glyph_info_t) (o : Option ℕ) → o ≡ second_of_triple start end gs → run_step level (step_at (length gs) o) gs ≡ run_step level (hebrew_mark_step start end gs) gs
 mark_step_is level start end gs o e = ap (λ p. run_step level (step_at (length gs) p) gs) e

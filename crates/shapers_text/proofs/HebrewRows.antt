@@ -6,7 +6,7 @@ use Rattle.shapers_buffer.specs.declared.buffer.glyph.hb_glyph_info_t.{hb_glyph_
 use Rattle.shapers_buffer.specs.declared.buffer.level.BufferClusterLevel.TheVariants.{MonotoneGraphemes, Characters}
 use Rattle.shapers_buffer.specs.Glyph.{default_glyph, clusters}
 use Rattle.shapers_clusters.specs.Steps.{run_step}
-use Rattle.shapers_text.specs.Hebrew.{composed_in_hebrew, hebrew_form, is_meteg_or_below, is_patah_or_qamats, is_sheva_or_hiriq, mark_step, marks_swapped, second_of_triple, triple_place}
+use Rattle.shapers_text.specs.Hebrew.{composed_in_hebrew, hebrew_form, is_meteg_or_below, is_patah_or_qamats, is_sheva_or_hiriq, hebrew_mark_step, marks_swapped, second_of_triple, triple_place}
 
 -- marks of these classes and clusters
 abbrev marks : List (ℕ × ℕ) → List hb_glyph_info_t
@@ -19,14 +19,14 @@ abbrev twice : List hb_glyph_info_t
 twice = marks ((20, 0) ∷ (22, 1) ∷ (25, 2) ∷ (20, 3) ∷ (22, 4) ∷ (25, 5) ∷ [])
 
 -- of two triples the first
-first_alone : classes (run_step MonotoneGraphemes (mark_step 0 6 twice) twice) ≡ 20 ∷ 25 ∷ 22 ∷ 20 ∷ 22 ∷ 25 ∷ []
+first_alone : classes (run_step MonotoneGraphemes (hebrew_mark_step 0 6 twice) twice) ≡ 20 ∷ 25 ∷ 22 ∷ 20 ∷ 22 ∷ 25 ∷ []
 first_alone = refl
 
-first_merges : clusters (run_step MonotoneGraphemes (mark_step 0 6 twice) twice) ≡ 0 ∷ 1 ∷ 1 ∷ 3 ∷ 4 ∷ 5 ∷ []
+first_merges : clusters (run_step MonotoneGraphemes (hebrew_mark_step 0 6 twice) twice) ≡ 0 ∷ 1 ∷ 1 ∷ 3 ∷ 4 ∷ 5 ∷ []
 first_merges = refl
 
 -- at level Characters the marks take their clusters along
-characters : clusters (run_step Characters (mark_step 0 6 twice) twice) ≡ 0 ∷ 2 ∷ 1 ∷ 3 ∷ 4 ∷ 5 ∷ []
+characters : clusters (run_step Characters (hebrew_mark_step 0 6 twice) twice) ≡ 0 ∷ 2 ∷ 1 ∷ 3 ∷ 4 ∷ 5 ∷ []
 characters = refl
 
 -- what a letter and a point compose to
@@ -128,15 +128,15 @@ swapped : map (λ (s : ℕ × ℕ). classes (marks_swapped s.0 s.1 six)) ((0, 6)
 swapped = refl
 
 -- the step: the last two merge and change places, in a text of six marks
-second_step : mark_step 1 6 six ≡ record { merged_first = (4, 6) ∷ []; places = 0 ∷ 1 ∷ 2 ∷ 3 ∷ 5 ∷ 4 ∷ []; merged_then = [] }
+second_step : hebrew_mark_step 1 6 six ≡ record { merged_first = (4, 6) ∷ []; places = 0 ∷ 1 ∷ 2 ∷ 3 ∷ 5 ∷ 4 ∷ []; merged_then = [] }
 second_step = refl
 
-no_step : mark_step 1 5 six ≡ record { merged_first = []; places = 0 ∷ 1 ∷ 2 ∷ 3 ∷ 4 ∷ 5 ∷ []; merged_then = [] }
+no_step : hebrew_mark_step 1 5 six ≡ record { merged_first = []; places = 0 ∷ 1 ∷ 2 ∷ 3 ∷ 4 ∷ 5 ∷ []; merged_then = [] }
 no_step = refl
 
 -- with a start above 0, where clusters are merged and flags fall, all other fields stay
 abbrev full : ℕ → ℕ → ℕ → hb_glyph_info_t
 full class c m = record { glyph_id = 0x05B7; cluster = c; mask = m; var = 0x7A; syllable = 0x24; category = 1; auxiliary = 3; general_category = Mn; modified_combining_class = class; lig_comp = 2; marks = record { 0 = 31 } }
 
-full_swapped : run_step MonotoneGraphemes (mark_step 1 4 (full 20 0 15 ∷ full 21 1 15 ∷ full 23 2 15 ∷ full 220 3 15 ∷ [])) (full 20 0 15 ∷ full 21 1 15 ∷ full 23 2 15 ∷ full 220 3 15 ∷ []) ≡ full 20 0 15 ∷ full 21 1 15 ∷ full 220 2 8 ∷ full 23 2 15 ∷ []
+full_swapped : run_step MonotoneGraphemes (hebrew_mark_step 1 4 (full 20 0 15 ∷ full 21 1 15 ∷ full 23 2 15 ∷ full 220 3 15 ∷ [])) (full 20 0 15 ∷ full 21 1 15 ∷ full 23 2 15 ∷ full 220 3 15 ∷ []) ≡ full 20 0 15 ∷ full 21 1 15 ∷ full 220 2 8 ∷ full 23 2 15 ∷ []
 full_swapped = refl

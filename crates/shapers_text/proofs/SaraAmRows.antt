@@ -4,7 +4,7 @@ use Rattle.std.specs.List.{range_with_len}
 use Rattle.shapers_buffer.specs.declared.buffer.category.hb_unicode_general_category_t.TheVariants.{Cc, Mn}
 use Rattle.shapers_buffer.specs.declared.buffer.glyph.hb_glyph_info_t.{hb_glyph_info_t}
 use Rattle.shapers_buffer.specs.declared.buffer.level.BufferClusterLevel.TheVariants.{MonotoneGraphemes, MonotoneCharacters, Characters}
-use Rattle.shapers_text.specs.Thai.{is_above_base, is_sara_am, is_thai, joins_before, nikhahit, sara_aa, sara_am_stretches, sources, wants_forms}
+use Rattle.shapers_text.specs.Thai.{is_above_base, is_sara_am, is_thai, joins_before, nikhahit, sara_aa, sara_am_stretches, sara_am_sources, wants_forms}
 
 -- 0E33 and 0EB3 alone
 sara_am : map is_sara_am (0x0E30 ∷ 0x0E31 ∷ 0x0E32 ∷ 0x0E33 ∷ 0x0E34 ∷ 0x0E35 ∷ 0x0E36 ∷ 0x0EB0 ∷ 0x0EB1 ∷ 0x0EB2 ∷ 0x0EB3 ∷ 0x0EB4 ∷ 0x0EB5 ∷ 0x0EB6 ∷ 0x0033 ∷ 0x00B3 ∷ 0x0D33 ∷ 0x0F33 ∷ 0x10E33 ∷ 0x10EB3 ∷ 0x0E73 ∷ 0x0EF3 ∷ []) ≡ false ∷ false ∷ false ∷ true ∷ false ∷ false ∷ false ∷ false ∷ false ∷ false ∷ true ∷ false ∷ false ∷ false ∷ false ∷ false ∷ false ∷ false ∷ false ∷ false ∷ false ∷ false ∷ []
@@ -50,7 +50,7 @@ stretches : map (λ level. sara_am_stretches level some_text) (MonotoneGraphemes
 stretches = refl
 
 -- and the old place that each glyph of the result copies
-copied : sources some_text ≡ 0 ∷ 0 ∷ 1 ∷ 4 ∷ 2 ∷ 3 ∷ 4 ∷ 5 ∷ 6 ∷ 6 ∷ 8 ∷ 7 ∷ 8 ∷ []
+copied : sara_am_sources some_text ≡ 0 ∷ 0 ∷ 1 ∷ 4 ∷ 2 ∷ 3 ∷ 4 ∷ 5 ∷ 6 ∷ 6 ∷ 8 ∷ 7 ∷ 8 ∷ []
 copied = refl
 
 -- the private use forms: the script is Thai, and GSUB hasn't found it

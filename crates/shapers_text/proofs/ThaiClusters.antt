@@ -19,7 +19,7 @@ use Rattle.shapers_clusters.specs.Cuts.{ShareCluster}
 use Rattle.shapers_clusters.proofs.MadeGlyphs.{Made, all_standing, glyphs-standing, numbered-standing}
 use Rattle.shapers_clusters.specs.Laws.{ClustersMade}
 use Rattle.shapers_clusters.proofs.Proved.{made_hold_by, part_shares}
-use Rattle.shapers_text.specs.Thai.{is_sara_am, is_above_base, SaraAmRule, in_two, glyph_rule, place_rule, nikhahit, sara_aa, glyphs_in_two, sources, sara_am_stretches, stretches_at}
+use Rattle.shapers_text.specs.Thai.{is_sara_am, is_above_base, SaraAmRule, in_two, glyph_rule, place_rule, nikhahit, sara_aa, glyphs_in_two, sara_am_sources, sara_am_stretches, stretches_at}
 use Rattle.shapers_text.specs.ThaiLaws.{without_name, new_place, ClustersInTwo, InTwoLaw}
 use Rattle.shapers_text.specs.ThaiForms.{preprocessed_text, pua_shaped}
 use Rattle.shapers_text.proofs.ThaiInTwo.{kept, none_lost, read_by, in_two-map, sources_at}
@@ -35,7 +35,7 @@ abbrev made_in_two : (gs : List hb_glyph_info_t) → SaraAmRule (Made without_na
 made_in_two gs = read_by (λ m. m.glyph) (λ m. record m { glyph = nikhahit m.glyph; same = unnamed_nikhahit m.glyph ∙ m.same }) (λ m. record m { glyph = sara_aa m.glyph; same = m.same }) glyph_rule
 
 -- a SARA AM with marks merges with them, and that stretch holds together what comes of them
-shares : (level : BufferClusterLevel) (us cs js : List ℕ) → ClustersMade level (sara_am_stretches level us) (sources us) cs js → merges level ≡ true → (xs : List ℕ) (u : ℕ) (ys : List ℕ) → us ≡ xs ++ u ∷ ys → is_sara_am u ≡ true → ShareCluster js (new_place xs) (new_place xs + suffix_len is_above_base xs)
+shares : (level : BufferClusterLevel) (us cs js : List ℕ) → ClustersMade level (sara_am_stretches level us) (sara_am_sources us) cs js → merges level ≡ true → (xs : List ℕ) (u : ℕ) (ys : List ℕ) → us ≡ xs ++ u ∷ ys → is_sara_am u ≡ true → ShareCluster js (new_place xs) (new_place xs + suffix_len is_above_base xs)
 shares level us cs js made m xs u ys split is_am =
     let n = length xs in
     let w = suffix_len is_above_base xs in
@@ -45,9 +45,9 @@ shares level us cs js made m xs u ys split is_am =
     let (behind, parts) = sources_at xs u ys is_am in
     let long = length-range_with_len (n - w) w in
     let merged : 0 < w → Contains (stretches_at level n u w) st = λ some. let test = lt-ltb 0 w some in rw (is_am, test) (0, omega arith, refl) in
-    part_shares made m st (sources (before_last_run is_above_base xs)) (n ∷ range_with_len (n - w) w) behind
+    part_shares made m st (sara_am_sources (before_last_run is_above_base xs)) (n ∷ range_with_len (n - w) w) behind
     (λ some. subst (λ vs. Contains (sara_am_stretches level vs) st) (sym split) (Contains-flat_map _ (each_after [] (xs ++ u ∷ ys)) (xs, u) st (Contains-each_after [] xs u ys) (merged (omega arith))))
-    (ap sources split ∙ parts)
+    (ap sara_am_sources split ∙ parts)
     (All-cons P n (range_with_len (n - w) w) (omega arith, omega arith) (All-from_recursion P (range_with_len (n - w) w) (all-range P (n - w) w (λ p low high. (omega arith, omega arith)))))
     (new_place xs) (new_place xs + w) refl (omega arith)
 
@@ -63,7 +63,7 @@ in_two_holds level gs =
     let numbered = numbered-standing (λ g. g.glyph_id) without_name ms ∙ ap (enumerate_from 0) (characters-merge_all level sts gs) in
     let pairs : map (λ m. (m.place, m.glyph.glyph_id)) made ≡ in_two place_rule (enumerate_from 0 us) = in_two-map (λ m. (m.place, m.glyph.glyph_id)) _ _ place_rule (λ m. refl) (λ m. refl) standing ∙ ap (in_two place_rule) numbered in
     let places = sym (map-map (λ p. p.0) (λ m. (m.place, m.glyph.glyph_id)) made) ∙ ap (map (λ p. p.0)) pairs in
-    let (same, h) = made_hold_by without_name (record { cluster = λ g. refl; flags = λ g. refl }) level sts (sources us) gs (glyphs_in_two ms) (stretches_within level gs) made places glyphs in
+    let (same, h) = made_hold_by without_name (record { cluster = λ g. refl; flags = λ g. refl }) level sts (sara_am_sources us) gs (glyphs_in_two ms) (stretches_within level gs) made places glyphs in
     record {
       made = same;
       kept = (kept glyph_rule ms).whole;

@@ -9,7 +9,7 @@ use Rattle.shapers_buffer.specs.Lists.{each_after}
 use Rattle.shapers_buffer.specs.Places.{pick}
 use Rattle.shapers_clusters.specs.FlagLaw.{AllFlagsStay}
 use Rattle.shapers_clusters.proofs.FlagLaw.{all_fallen, all_stay_as, all_stay_on, unsafe_all_stays}
-use Rattle.shapers_text.specs.Thai.{sources}
+use Rattle.shapers_text.specs.Thai.{sara_am_sources}
 use Rattle.shapers_text.specs.ThaiForms.{forms_between, mark_stretches, preprocessed_text, pua_shaped, with_character, with_characters}
 use Rattle.shapers_text.specs.ThaiLaws.{FlagsInTwo}
 use Rattle.shapers_text.proofs.ThaiClusters.{in_two_holds}
@@ -35,8 +35,8 @@ forms_stay has gs =
 pub plain_flags : (level : BufferClusterLevel) (gs text : List hb_glyph_info_t) → text ≡ preprocessed_text false (λ _. false) level gs → FlagsInTwo gs text
 plain_flags level gs text is =
     let made = preprocessed_text false (λ _. false) level gs in
-    subst (FlagsInTwo gs) (sym is) (all_fallen (pick (sources (characters gs)) gs) made (in_two_holds level gs).falls)
+    subst (FlagsInTwo gs) (sym is) (all_fallen (pick (sara_am_sources (characters gs)) gs) made (in_two_holds level gs).falls)
 
 pub shaped_flags : (has : ℕ → Bool) (level : BufferClusterLevel) (gs text shaped : List hb_glyph_info_t) → text ≡ preprocessed_text false has level gs → shaped ≡ pua_shaped has text → FlagsInTwo gs shaped
 shaped_flags has level gs text shaped is forms =
-    all_stay_on (pick (sources (characters gs)) gs) text shaped (plain_flags level gs text is) (subst (AllFlagsStay text) (sym forms) (forms_stay has text))
+    all_stay_on (pick (sara_am_sources (characters gs)) gs) text shaped (plain_flags level gs text is) (subst (AllFlagsStay text) (sym forms) (forms_stay has text))

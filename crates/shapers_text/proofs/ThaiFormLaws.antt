@@ -15,7 +15,7 @@ use Rattle.shapers_text.specs.declared.ot_shaper_thai.forms.Action.{Action}
 use Rattle.shapers_text.specs.declared.ot_shaper_thai.forms.Action.TheVariants.{NOP, SD, SL, SDL, RD}
 use Rattle.shapers_text.specs.declared.ot_shaper_thai.forms.Base.{Base}
 use Rattle.shapers_text.specs.ThaiWalk.{counted_base, base_after, target}
-use Rattle.shapers_text.specs.ThaiForms.{consonant_type, mark_type, stands_above, stands_below, is_thai_mark, action_of, shaped_by, last_type, base_type, marks_above, marks_below, action_after, has_below, is_removable, form_between, forms_between, base_place}
+use Rattle.shapers_text.specs.ThaiForms.{consonant_type, mark_type, stands_above, stands_below, is_thai_mark, action_of, shaped_by, last_type, base_type, marks_above, marks_below, action_after, has_below, is_removable, form_between, forms_between, thai_base_place}
 
 -- as many forms as characters
 pub length-forms : (has : ℕ → Bool) (before us after : List ℕ) → length (forms_between has before us after) ≡ length us
@@ -188,7 +188,7 @@ zero_count test xs =
 record AtMarks (xs ys : List ℕ) (base : ℕ) (ms : List ℕ) : Type 0 where
   pub type_is : base_type xs ≡ consonant_type base
   pub below_is : (marks_below xs == 0) ≡ not (has_below ms)
-  pub place_is : base_place xs ≡ length ys
+  pub place_is : thai_base_place xs ≡ length ys
 
 at_marks : (ys : List ℕ) (base : ℕ) (ms : List ℕ) → is_thai_mark base ≡ false → list_any (λ u. not (is_thai_mark u)) ms ≡ false → AtMarks (ys ++ base ∷ ms) ys base ms
 at_marks ys base ms none marks =
@@ -223,14 +223,14 @@ set_base has ps base ms u rest n action long =
     ∙ sym (append_assoc (ps ++ shaped_by has base action ∷ ms) (u ∷ []) rest)
 
 -- a character shaped in place
-abbrev pub put : (ℕ → Bool) → ℕ → Action → List ℕ → List ℕ
-put has place action us = set us place (shaped_by has (get_or us place 0) action)
+abbrev pub action_put : (ℕ → Bool) → ℕ → Action → List ℕ → List ℕ
+action_put has place action us = set us place (shaped_by has (get_or us place 0) action)
 
 -- one more mark: what it does to the forms so far
 abbrev Shapes : (ℕ → Bool) → List ℕ → ℕ → List ℕ → Type 0
 Shapes has xs u rest =
     let action = action_after xs u in
-    put has (target action (base_place xs) (length xs)) action (forms_between has [] xs [] ++ u ∷ rest) ≡ forms_between has [] (xs ++ u ∷ []) [] ++ rest
+    action_put has (target action (thai_base_place xs) (length xs)) action (forms_between has [] xs [] ++ u ∷ rest) ≡ forms_between has [] (xs ++ u ∷ []) [] ++ rest
 
 -- the last form, behind the others
 last_form : (has : ℕ → Bool) (xs : List ℕ) (u : ℕ) → forms_between has [] (xs ++ u ∷ []) [] ≡ forms_between has [] xs (u ∷ []) ++ form_between has xs u [] ∷ []
@@ -249,7 +249,7 @@ shapes_own : (has : ℕ → Bool) (xs : List ℕ) (u : ℕ) (rest : List ℕ) �
 shapes_own has xs u rest own same formed =
     let action = action_after xs u in
     let fs = forms_between has [] xs [] in
-    ap (λ n. put has n action (fs ++ u ∷ rest)) (own (base_place xs) (length xs))
+    ap (λ n. action_put has n action (fs ++ u ∷ rest)) (own (thai_base_place xs) (length xs))
     ∙ set_last has fs u rest (length xs) action (length-forms has [] xs [])
     ∙ ap (λ v. (fs ++ v ∷ []) ++ rest) (sym formed)
     ∙ ap (λ zs. (zs ++ form_between has xs u [] ∷ []) ++ rest) (sym same)
@@ -302,9 +302,9 @@ shapes_with has ys base ms u rest none marks is_one =
           ∙ ap (λ b. ps ++ (cond (h || b) (shaped_by has base RD) base ∷ behind)) takes.1.1.0
           ∙ ap (λ b. ps ++ (cond (b || true) (shaped_by has base RD) base ∷ behind)) takes.1.1.1 in
           let itself : form_between has xs u [] ≡ u = mark_form has xs u is_one ∙ ap (shaped_by has u) takes.0 ∙ below_keeps has u takes.1.1.0 in
-          ap (λ a. put has (target a (base_place xs) (length xs)) a (forms_between has [] xs [] ++ u ∷ rest)) takes.0
-          ∙ ap (λ n. put has n RD (forms_between has [] xs [] ++ u ∷ rest)) at.place_is
-          ∙ ap (λ zs. put has (length ys) RD (zs ++ u ∷ rest)) without_form
+          ap (λ a. action_put has (target a (thai_base_place xs) (length xs)) a (forms_between has [] xs [] ++ u ∷ rest)) takes.0
+          ∙ ap (λ n. action_put has n RD (forms_between has [] xs [] ++ u ∷ rest)) at.place_is
+          ∙ ap (λ zs. action_put has (length ys) RD (zs ++ u ∷ rest)) without_form
           ∙ set_base has ps base behind u rest (length ys) RD (length-forms has [] ys [])
           ∙ ap (λ v. ((ps ++ shaped_by has base RD ∷ behind) ++ v ∷ []) ++ rest) (sym itself)
           ∙ ap (λ zs. (zs ++ form_between has xs u [] ∷ []) ++ rest) (sym shaped)
@@ -323,21 +323,21 @@ shapes has xs u rest =
 
 -- the base and its counts, as the walk keeps them
 pub record IsBase (xs : List ℕ) (base : Base) : Type 0 where
-  pub place_is : base.place ≡ base_place xs
+  pub place_is : base.place ≡ thai_base_place xs
   pub type_is : base.consonant ≡ base_type xs
   pub above_is : base.above ≡ marks_above xs
   pub below_is : base.below ≡ marks_below xs
 
-pub base_place_push : (xs : List ℕ) (u : ℕ) → base_place (xs ++ u ∷ []) ≡ cond (is_thai_mark u) (base_place xs) (length xs)
+pub base_place_push : (xs : List ℕ) (u : ℕ) → thai_base_place (xs ++ u ∷ []) ≡ cond (is_thai_mark u) (thai_base_place xs) (length xs)
 base_place_push xs u =
-    elim (is_thai_mark u) as (λ b. is_thai_mark u ≡ b → base_place (xs ++ u ∷ []) ≡ cond b (base_place xs) (length xs)) [
+    elim (is_thai_mark u) as (λ b. is_thai_mark u ≡ b → thai_base_place (xs ++ u ∷ []) ≡ cond b (thai_base_place xs) (length xs)) [
       | true ↦ λ h. omega (arith, length_push xs u, suffix_len_yes is_thai_mark xs u h)
       | false ↦ λ h. omega (arith, length_push xs u, suffix_len_no is_thai_mark xs u h)
     ] refl
 
 base_at : (xs : List ℕ) (u : ℕ) → is_thai_mark u ≡ false → IsBase (xs ++ u ∷ []) (record { place = length xs; consonant = consonant_type u; above = 0; below = 0 })
 base_at xs u none = record {
-  place_is = sym (base_place_push xs u ∙ ap (λ b. cond b (base_place xs) (length xs)) none);
+  place_is = sym (base_place_push xs u ∙ ap (λ b. cond b (thai_base_place xs) (length xs)) none);
   type_is = sym (ap (λ zs. last_type (reverse zs)) (before_last_run_no is_thai_mark xs u none) ∙ ap last_type (reverse-append xs (u ∷ [])));
   above_is = sym (ap (count_by (λ v. stands_above (mark_type v))) (last_run_no is_thai_mark xs u none));
   below_is = sym (ap (count_by (λ v. stands_below (mark_type v))) (last_run_no is_thai_mark xs u none));
@@ -349,7 +349,7 @@ base_counting base above below = record base { above = base.above + cond above 1
 
 base_kept : (xs : List ℕ) (u : ℕ) (base : Base) → IsBase xs base → is_thai_mark u ≡ true → IsBase (xs ++ u ∷ []) (base_counting base (stands_above (mark_type u)) (stands_below (mark_type u)))
 base_kept xs u base is is_one = record {
-  place_is = is.place_is ∙ sym (base_place_push xs u ∙ ap (λ b. cond b (base_place xs) (length xs)) is_one);
+  place_is = is.place_is ∙ sym (base_place_push xs u ∙ ap (λ b. cond b (thai_base_place xs) (length xs)) is_one);
   type_is = is.type_is ∙ sym (ap (λ zs. last_type (reverse zs)) (before_last_run_yes is_thai_mark xs u is_one));
   above_is =
       ap (λ n. n + cond (stands_above (mark_type u)) 1 0) is.above_is

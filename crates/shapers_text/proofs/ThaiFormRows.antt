@@ -9,7 +9,7 @@ use Rattle.shapers_text.specs.declared.ot_shaper_thai.forms.Consonant.{Consonant
 use Rattle.shapers_text.specs.declared.ot_shaper_thai.forms.Consonant.TheVariants.{NC, AC, RC, DC, NotConsonant}
 use Rattle.shapers_text.specs.declared.ot_shaper_thai.forms.Mark.{Mark}
 use Rattle.shapers_text.specs.declared.ot_shaper_thai.forms.Mark.TheVariants.{AV, BV, T, NotMark}
-use Rattle.shapers_text.specs.ThaiForms.{action_after, action_of, base_place, base_type, consonant_type, form_between, forms_between, mark_stretches, mark_type, marks_above, marks_below, pua_shaped, shaped_by}
+use Rattle.shapers_text.specs.ThaiForms.{action_after, action_of, thai_base_place, base_type, consonant_type, form_between, forms_between, mark_stretches, mark_type, marks_above, marks_below, pua_shaped, shaped_by}
 
 -- the forms of characters under an action with a font that has them all, and with one that has but these
 abbrev all_forms : Action → List ℕ → List ℕ
@@ -239,7 +239,7 @@ above_since = refl
 below_since : map marks_below ([] ∷ (0x0E38 ∷ []) ∷ (0x0E39 ∷ 0x0E0D ∷ []) ∷ (0x0E0D ∷ 0x0E34 ∷ 0x0E38 ∷ 0x0E48 ∷ []) ∷ (0x0E3A ∷ 0x0E48 ∷ 0x0E38 ∷ []) ∷ []) ≡ 0 ∷ 1 ∷ 0 ∷ 1 ∷ 2 ∷ []
 below_since = refl
 
-base_places : map base_place ([] ∷ (0x0E38 ∷ []) ∷ (0x0E0D ∷ []) ∷ (0x0E1B ∷ 0x0E0D ∷ 0x0E38 ∷ 0x0E48 ∷ []) ∷ (0x0E0D ∷ 0x0ECD ∷ 0x0E38 ∷ []) ∷ []) ≡ 0 ∷ 0 ∷ 0 ∷ 1 ∷ 1 ∷ []
+base_places : map thai_base_place ([] ∷ (0x0E38 ∷ []) ∷ (0x0E0D ∷ []) ∷ (0x0E1B ∷ 0x0E0D ∷ 0x0E38 ∷ 0x0E48 ∷ []) ∷ (0x0E0D ∷ 0x0ECD ∷ 0x0E38 ∷ []) ∷ []) ≡ 0 ∷ 0 ∷ 0 ∷ 1 ∷ 1 ∷ []
 base_places = refl
 
 -- a mark before any base: a vowel below goes down, the others do nothing

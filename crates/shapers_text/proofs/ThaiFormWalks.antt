@@ -16,14 +16,14 @@ use Rattle.shapers_text.specs.declared.ot_shaper_thai.forms.Base.{Base}
 use Rattle.shapers_text.specs.declared.ot_shaper_thai.forms.Consonant.TheVariants.{NotConsonant}
 use Rattle.shapers_text.specs.declared.ot_shaper_thai.forms.Mark.{Mark}
 use Rattle.shapers_text.specs.declared.ot_shaper_thai.forms.Mark.TheVariants.{AV, BV, T, NotMark}
-use Rattle.shapers_text.specs.ThaiForms.{mark_type, stands_above, stands_below, is_thai_mark, base_type, marks_above, action_of, action_after, forms_between, with_character, with_characters, base_place, stretch_of_mark, mark_stretches_of_each, mark_stretches, pua_shaped, preprocessed_text}
+use Rattle.shapers_text.specs.ThaiForms.{mark_type, stands_above, stands_below, is_thai_mark, base_type, marks_above, action_of, action_after, forms_between, with_character, with_characters, thai_base_place, stretch_of_mark, mark_stretches_of_each, mark_stretches, pua_shaped, preprocessed_text}
 use Rattle.shapers_text.specs.ThaiWalk.{target, form_set, counted_base, base_after, after_action, after_character}
 use Rattle.shapers_text.specs.ThaiLaws.{without_form, FormsLaw}
-use Rattle.shapers_text.proofs.ThaiFormLaws.{IsBase, base_none, base_push, base_place_push, length-forms, no_action, put, shapes}
+use Rattle.shapers_text.proofs.ThaiFormLaws.{IsBase, base_none, base_push, base_place_push, length-forms, no_action, action_put, shapes}
 
-in_order_at : (before : List ℕ) (u : ℕ) (rest : List (ℕ × ℕ)) → AllByRecursion (λ st. st.0 ≤ st.1) rest → AllByRecursion (λ st. st.0 ≤ st.1) (stretch_of_mark (base_place before) (length before) u ++ rest)
+in_order_at : (before : List ℕ) (u : ℕ) (rest : List (ℕ × ℕ)) → AllByRecursion (λ st. st.0 ≤ st.1) rest → AllByRecursion (λ st. st.0 ≤ st.1) (stretch_of_mark (thai_base_place before) (length before) u ++ rest)
 in_order_at before u rest all =
-    elim (is_thai_mark u) as (λ b. AllByRecursion (λ st. st.0 ≤ st.1) (cond b ((base_place before, length before) ∷ []) [] ++ rest)) [
+    elim (is_thai_mark u) as (λ b. AllByRecursion (λ st. st.0 ≤ st.1) (cond b ((thai_base_place before, length before) ∷ []) [] ++ rest)) [
       | true ↦ (omega arith, all)
       | false ↦ all
     ]
@@ -35,7 +35,7 @@ in_order (p ∷ each) = in_order_at p.0 p.1 (mark_stretches_of_each each) (in_or
 -- the walk of the flags: those of the last base go to the place before this one
 pub record Flagging (start now : List hb_glyph_info_t) (i base : ℕ) : Type 0 where
   pub same_text : characters now ≡ characters start
-  pub base_is : base ≡ base_place (take i (characters start))
+  pub base_is : base ≡ thai_base_place (take i (characters start))
   pub rest : unsafe_all (mark_stretches_of_each (each_after (take i (characters start)) (drop i (characters start)))) (unsafe_inside base (i - 1) now) ≡ unsafe_all (mark_stretches (characters start)) start
 
 flagging_none : (start : List hb_glyph_info_t) → Flagging start start 0 0
@@ -93,16 +93,16 @@ flagging_next start now i base u inside f read =
     let back : i + 1 - 1 ≡ i = omega arith in
     let stretches : mark_stretches_of_each (each_after before (drop i us)) ≡ stretch_of_mark base i u ++ to_come =
     ap (λ vs. mark_stretches_of_each (each_after before vs)) s.rest_is
-    ∙ ap (λ n. stretch_of_mark (base_place before) n u ++ mark_stretches_of_each (each_after (before ++ u ∷ []) (drop (i + 1) us))) s.length_is
+    ∙ ap (λ n. stretch_of_mark (thai_base_place before) n u ++ mark_stretches_of_each (each_after (before ++ u ∷ []) (drop (i + 1) us))) s.length_is
     ∙ ap (λ n. stretch_of_mark n i u ++ mark_stretches_of_each (each_after (before ++ u ∷ []) (drop (i + 1) us))) (sym f.base_is)
     ∙ ap (λ vs. stretch_of_mark base i u ++ mark_stretches_of_each (each_after vs (drop (i + 1) us))) (sym s.front_is) in
     record {
       same_text = characters-flags_at u base i now low ∙ f.same_text;
       base_is =
           ap (λ n. cond (is_thai_mark u) n i) f.base_is
-          ∙ ap (λ n. cond (is_thai_mark u) (base_place before) n) (sym s.length_is)
+          ∙ ap (λ n. cond (is_thai_mark u) (thai_base_place before) n) (sym s.length_is)
           ∙ sym (base_place_push before u)
-          ∙ ap base_place (sym s.front_is);
+          ∙ ap thai_base_place (sym s.front_is);
       rest =
           ap (λ n. unsafe_all to_come (unsafe_inside base' n after)) back
           ∙ ap (unsafe_all to_come) (sym (still u base (i - 1) i now low (omega arith) (omega arith)))
@@ -125,7 +125,7 @@ blank-form_set has [] place action = refl
 blank-form_set has (g ∷ gs) zero action = refl
 blank-form_set has (g ∷ gs) (suc place) action = ap (λ hs. with_character g 0 ∷ hs) (blank-form_set has gs place action)
 
-characters-form_set : (has : ℕ → Bool) (gs : List hb_glyph_info_t) (place : ℕ) (action : Action) → characters (form_set has place action gs) ≡ put has place action (characters gs)
+characters-form_set : (has : ℕ → Bool) (gs : List hb_glyph_info_t) (place : ℕ) (action : Action) → characters (form_set has place action gs) ≡ action_put has place action (characters gs)
 characters-form_set has [] place action = refl
 characters-form_set has (g ∷ gs) zero action = refl
 characters-form_set has (g ∷ gs) (suc place) action = ap (λ us. g.glyph_id ∷ us) (characters-form_set has gs place action)
@@ -187,7 +187,7 @@ shaping_read has us now i base inside s =
 
 -- what the code's action does to the characters
 abbrev after_mark : (ℕ → Bool) → Base → ℕ → ℕ → List ℕ → List ℕ
-after_mark has base i u us = let action = action_of base.consonant (mark_type u) base.above base.below in put has (target action base.place i) action us
+after_mark has base i u us = let action = action_of base.consonant (mark_type u) base.above base.below in action_put has (target action base.place i) action us
 
 shaping_next : (has : ℕ → Bool) (us now : List ℕ) (i u : ℕ) (base : Base) → i < length us → Shaping has us now i base → u ≡ get_or us i 0 → Shaping has us (after_mark has base i u now) (i + 1) (base_after base i u)
 shaping_next has us now i u base inside s read =
@@ -201,10 +201,10 @@ shaping_next has us now i u base inside s read =
     ∙ ap (λ n. action_of (base_type front) (mark_type u) (marks_above front) n) b.below_is in
     record {
       text_is =
-          ap (λ a. put has (target a base.place i) a now) action
-          ∙ ap (λ n. put has (target (action_after front u) n i) (action_after front u) now) b.place_is
-          ∙ ap (λ n. put has (target (action_after front u) (base_place front) n) (action_after front u) now) (sym p.length_is)
-          ∙ ap (put has (target (action_after front u) (base_place front) (length front)) (action_after front u)) (s.text_is ∙ ap (λ vs. fs ++ vs) p.rest_is)
+          ap (λ a. action_put has (target a base.place i) a now) action
+          ∙ ap (λ n. action_put has (target (action_after front u) n i) (action_after front u) now) b.place_is
+          ∙ ap (λ n. action_put has (target (action_after front u) (thai_base_place front) n) (action_after front u) now) (sym p.length_is)
+          ∙ ap (action_put has (target (action_after front u) (thai_base_place front) (length front)) (action_after front u)) (s.text_is ∙ ap (λ vs. fs ++ vs) p.rest_is)
           ∙ shapes has front u (drop (i + 1) us)
           ∙ ap (λ vs. forms_between has [] vs [] ++ drop (i + 1) us) (sym p.front_is);
       base_is = subst (λ vs. IsBase vs (base_after base i u)) (sym p.front_is) (base_push front u base i (sym p.length_is) b);
@@ -246,7 +246,7 @@ place_after BV base i u = refl
 place_after T base i u = refl
 place_after NotMark base i u = refl
 
-put_nop : (has : ℕ → Bool) (us : List ℕ) (i : ℕ) → put has i NOP us ≡ us
+put_nop : (has : ℕ → Bool) (us : List ℕ) (i : ℕ) → action_put has i NOP us ≡ us
 put_nop has [] i = refl
 put_nop has (u ∷ us) zero = refl
 put_nop has (u ∷ us) (suc i) = ap (λ vs. u ∷ vs) (put_nop has us i)
@@ -258,7 +258,7 @@ characters-after has base i u gs low =
       | false ↦ λ none.
           map-unsafe_inside (λ g. g.glyph_id) (λ g. refl) base.place (i - 1) gs low
           ∙ sym (put_nop has (characters gs) i)
-          ∙ ap (λ a. put has (target a base.place i) a (characters gs)) (sym (no_action base.consonant (mark_type u) base.above base.below none))
+          ∙ ap (λ a. action_put has (target a base.place i) a (characters gs)) (sym (no_action base.consonant (mark_type u) base.above base.below none))
     ] refl
 
 blank-after : (has : ℕ → Bool) (base : Base) (i u : ℕ) (gs hs : List hb_glyph_info_t) → blank gs ≡ blank hs → blank (after_character has base i u gs) ≡ blank (flags_at u base.place i hs)

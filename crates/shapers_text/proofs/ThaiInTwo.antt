@@ -14,7 +14,7 @@ use Rattle.shapers_buffer.specs.Lists.{last_run, before_last_run}
 use Rattle.shapers_buffer.proofs.ListLaws.{from_end, count_push, last_pass, none_in_front, last_run_yes, before_last_run_yes, last_run_no, before_last_run_no, last_run_stop, before_last_run_stop}
 use Rattle.shapers_buffer.proofs.PieceLaws.{one_piece, opened_pieces-none, opened_pieces-append, opened_pieces-push, opened_pieces-map}
 use Rattle.shapers_buffer.proofs.MappedLists.{Contains-map, Contains-flat_map, suffix_len-map, last_run-map, before_last_run-map, enumerate-append, before_last_run-enumerate_from, places-last_run}
-use Rattle.shapers_text.specs.Thai.{is_sara_am, is_above_base, is_am, is_above, SaraAmRule, piece_in_two, in_parts, in_two, place_rule, sources}
+use Rattle.shapers_text.specs.Thai.{is_sara_am, is_above_base, is_am, is_above, SaraAmRule, piece_in_two, in_parts, in_two, place_rule, sara_am_sources}
 use Rattle.shapers_text.specs.ThaiWalk.{above_marks_before, text_with_pending}
 
 -- a SARA AM is no above-base mark
@@ -109,7 +109,7 @@ in_two-map f nikhahit sara_aa rule first second xs =
     (λ before x. simp (map-append, before_last_run-map (is_above rule) f before, last_run-map (is_above rule) f before, first x, second x)) xs
 
 -- the sources at a SARA AM: those of the text before its marks, the SARA AM, its marks, the SARA AM again, and so on
-pub sources_at : (xs : List ℕ) (u : ℕ) (ys : List ℕ) → is_sara_am u ≡ true → (behind : List ℕ) × (sources (xs ++ u ∷ ys) ≡ sources (before_last_run is_above_base xs) ++ ((length xs ∷ range_with_len (length xs - suffix_len is_above_base xs) (suffix_len is_above_base xs)) ++ behind))
+pub sources_at : (xs : List ℕ) (u : ℕ) (ys : List ℕ) → is_sara_am u ≡ true → (behind : List ℕ) × (sara_am_sources (xs ++ u ∷ ys) ≡ sara_am_sources (before_last_run is_above_base xs) ++ ((length xs ∷ range_with_len (length xs - suffix_len is_above_base xs) (suffix_len is_above_base xs)) ++ behind))
 sources_at xs u ys passes =
     let place : ℕ × ℕ → ℕ = λ p. p.0 in
     let rest = enumerate_from (length xs + 1) ys in (
@@ -190,7 +190,7 @@ kept rule xs =
     from_end (Kept rule) (record { whole = IsPermutation-refl []; pending = λ n. IsPermutation-refl (n ∷ []) }) (λ xs x k. record { whole = kept_push rule xs x k; pending = λ n. kept_push_held rule xs x n k }) xs
 
 -- so each place has a glyph that comes of it
-pub none_lost : (us : List ℕ) (p : ℕ) → p < length us → Contains (sources us) p
+pub none_lost : (us : List ℕ) (p : ℕ) → p < length us → Contains (sara_am_sources us) p
 none_lost us p inside =
     let es = enumerate_from 0 us in
     let u = get_or us p 0 in
@@ -198,7 +198,7 @@ none_lost us p inside =
     let among : Contains es (p, u) = subst (Contains es) (get_or-enumerate_from 0 us p (0, 0) inside ∙ ap (λ k. (k, u)) same) (Contains-get_or es p (0, 0) (omega (arith, length-enumerate_from 0 us))) in
     let made : (y : ℕ × ℕ) → Contains (in_parts place_rule (p, u)) y → Contains (map (λ q. q.0) (in_two place_rule es)) y.0 =
     λ y part. Contains-map (λ q. q.0) (in_two place_rule es) y (Contains-permutation _ (in_two place_rule es) y (kept place_rule es).whole (Contains-flat_map (in_parts place_rule) es (p, u) y among part)) in
-    elim (is_sara_am u) as (λ b. ((y : ℕ × ℕ) → Contains (cond b ((p, u + 0x1A) ∷ ((p, u - 1) ∷ [])) ((p, u) ∷ [])) y → Contains (sources us) y.0) → Contains (sources us) p) [
+    elim (is_sara_am u) as (λ b. ((y : ℕ × ℕ) → Contains (cond b ((p, u + 0x1A) ∷ ((p, u - 1) ∷ [])) ((p, u) ∷ [])) y → Contains (sara_am_sources us) y.0) → Contains (sara_am_sources us) p) [
       | true ↦ λ made. made (p, u + 0x1A) (0, omega arith, refl)
       | false ↦ λ made. made (p, u) (0, omega arith, refl)
     ] made

@@ -9,7 +9,7 @@ use Rattle.shapers_buffer.specs.declared.buffer.level.BufferClusterLevel.{Buffer
 use Rattle.shapers_buffer.specs.declared.buffer.level.BufferClusterLevel.TheVariants.{MonotoneGraphemes, MonotoneCharacters}
 use Rattle.shapers_buffer.specs.Glyph.{default_glyph, clusters, characters}
 use Rattle.shapers_buffer.specs.Marks.{is_continuation}
-use Rattle.shapers_text.specs.Thai.{sources, sara_am_stretches}
+use Rattle.shapers_text.specs.Thai.{sara_am_sources, sara_am_stretches}
 use Rattle.shapers_buffer.specs.Buffer.{new_buffer}
 use Rattle.shapers_base.specs.Font.{Font}
 use Rattle.shapers_base.specs.declared.plan.hb_ot_shape_plan_t.{hb_ot_shape_plan_t}
@@ -40,7 +40,7 @@ tone = refl
 tone-clusters : clusters (found MonotoneGraphemes (0x0E14 ∷ 0x0E4B ∷ 0x0E33 ∷ [])) ≡ 0 ∷ 1 ∷ 1 ∷ 1 ∷ []
 tone-clusters = refl
 
-tone-sources : sources (0x0E14 ∷ 0x0E4B ∷ 0x0E33 ∷ []) ≡ 0 ∷ 2 ∷ 1 ∷ 2 ∷ []
+tone-sources : sara_am_sources (0x0E14 ∷ 0x0E4B ∷ 0x0E33 ∷ []) ≡ 0 ∷ 2 ∷ 1 ∷ 2 ∷ []
 tone-sources = refl
 
 -- behind the consonant

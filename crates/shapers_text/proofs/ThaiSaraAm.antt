@@ -6,7 +6,7 @@ use Rattle.std.specs.List.{suffix_len}
 use Rattle.shapers_buffer.specs.declared.buffer.glyph.hb_glyph_info_t.{hb_glyph_info_t}
 use Rattle.shapers_buffer.proofs.ListLaws.{none_from_count}
 use Rattle.shapers_text.specs.Thai.{is_sara_am, is_above_base, in_two, nikhahit, sara_aa, glyph_rule, glyphs_in_two}
-use Rattle.shapers_text.specs.ThaiWalk.{above_marks_before, IsUnwritten, Written, whole_of, text_to_write}
+use Rattle.shapers_text.specs.ThaiWalk.{above_marks_before, IsUnwritten, Written, rewritten_whole, text_to_write}
 use Rattle.shapers_text.proofs.ThaiInTwo.{in_two_plain, in_two_push, in_two_push_am, pending_push_mark, lengths}
 
 -- what is read at a place is there whatever stands for none
@@ -80,13 +80,13 @@ some_place_pending gs end place nikhahit u =
     omega (arith, u.room, u.ahead, u.within, (lengths glyph_rule (take end gs)).pending nikhahit, length-take-le end gs (omega (arith, u.ahead, u.within)))
 
 -- the last glyph is another than SARA AM
-pub written_other : (gs : List hb_glyph_info_t) (end place : ℕ) (g : hb_glyph_info_t) → 0 < end → IsUnwritten gs end None place → g ≡ get_or gs (end - 1) g → is_sara_am g.glyph_id ≡ false → Written (whole_of gs end None place) (set gs (place - 1) g) (end - 1) None (place - 1)
+pub written_other : (gs : List hb_glyph_info_t) (end place : ℕ) (g : hb_glyph_info_t) → 0 < end → IsUnwritten gs end None place → g ≡ get_or gs (end - 1) g → is_sara_am g.glyph_id ≡ false → Written (rewritten_whole gs end None place) (set gs (place - 1) g) (end - 1) None (place - 1)
 written_other gs end place g some u at fails =
     let within : end ≤ length gs = omega (arith, u.ahead, u.within) in
     written_next _ gs end None place (end - 1) None g (record { left = u; joined = refl }) (ap (λ xs. text_to_write xs None) (take_pushed gs end g some within at) ∙ in_two_push glyph_rule (take (end - 1) gs) g fails) (omega arith)
 
 -- it is a SARA AM: its SARA AA is written, and a NIKHAHIT pending
-pub written_am : (gs now : List hb_glyph_info_t) (end place : ℕ) (g first second : hb_glyph_info_t) → 0 < end → IsUnwritten gs end None place → g ≡ get_or gs (end - 1) g → is_sara_am g.glyph_id ≡ true → first ≡ nikhahit g → second ≡ sara_aa g → now ≡ set gs (place - 1) second → Written (whole_of gs end None place) now (end - 1) (Some first) (place - 1)
+pub written_am : (gs now : List hb_glyph_info_t) (end place : ℕ) (g first second : hb_glyph_info_t) → 0 < end → IsUnwritten gs end None place → g ≡ get_or gs (end - 1) g → is_sara_am g.glyph_id ≡ true → first ≡ nikhahit g → second ≡ sara_aa g → now ≡ set gs (place - 1) second → Written (rewritten_whole gs end None place) now (end - 1) (Some first) (place - 1)
 written_am gs now end place g first second some u at passes is_first is_second changed =
     let within : end ≤ length gs = omega (arith, u.ahead, u.within) in
     let last : text_to_write (take end gs) None ≡ text_to_write (take (end - 1) gs) (Some first) ++ second ∷ [] =
@@ -94,7 +94,7 @@ written_am gs now end place g first second some u at passes is_first is_second c
     ∙ in_two_push_am glyph_rule (take (end - 1) gs) g passes
     ∙ ap (λ n. text_to_write (take (end - 1) gs) (Some n) ++ sara_aa g ∷ []) (sym is_first)
     ∙ ap (λ n. text_to_write (take (end - 1) gs) (Some first) ++ n ∷ []) (sym is_second) in
-    subst (λ xs. Written (whole_of gs end None place) xs (end - 1) (Some first) (place - 1)) (sym changed) (written_next _ gs end None place (end - 1) (Some first) second (record { left = u; joined = refl }) last (omega arith))
+    subst (λ xs. Written (rewritten_whole gs end None place) xs (end - 1) (Some first) (place - 1)) (sym changed) (written_next _ gs end None place (end - 1) (Some first) second (record { left = u; joined = refl }) last (omega arith))
 
 -- the walk over the marks of a SARA AM: so many are left
 pub record MarksLeft (whole gs : List hb_glyph_info_t) (end place marks : ℕ) (nikhahit : hb_glyph_info_t) : Type 0 where
@@ -102,12 +102,12 @@ pub record MarksLeft (whole gs : List hb_glyph_info_t) (end place marks : ℕ) (
   pub left : marks ≡ above_marks_before gs end
 
 -- while marks are left, there is text before, and reading stays ahead
-pub record MarksFit (gs : List hb_glyph_info_t) (end place marks : ℕ) : Type 0 where
+pub record SaraAmMarksFit (gs : List hb_glyph_info_t) (end place marks : ℕ) : Type 0 where
   pub few : marks ≤ end
   pub ahead : end < place
   pub within : place ≤ length gs
 
-pub marks_fit : (whole gs : List hb_glyph_info_t) (end place marks : ℕ) (nikhahit : hb_glyph_info_t) → MarksLeft whole gs end place marks nikhahit → MarksFit gs end place marks
+pub marks_fit : (whole gs : List hb_glyph_info_t) (end place marks : ℕ) (nikhahit : hb_glyph_info_t) → MarksLeft whole gs end place marks nikhahit → SaraAmMarksFit gs end place marks
 marks_fit whole gs end place marks nikhahit m =
     let u = m.written.left in
     record {

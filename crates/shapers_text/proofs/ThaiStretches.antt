@@ -19,7 +19,7 @@ use Rattle.shapers_buffer.specs.ClusterRuns.{RunFits, with_run}
 use Rattle.shapers_clusters.proofs.Merging.{length-merge_all, merge_all-append, map-merge_all, map-with_run}
 use Rattle.shapers_clusters.proofs.Appended.{merge_all-appended}
 use Rattle.shapers_text.specs.Thai.{is_sara_am, is_above_base, glyph_rule, glyphs_in_two, stretch_of_sara_am, stretches_at, stretches_of_each, sara_am_stretches, joins_before}
-use Rattle.shapers_text.specs.ThaiWalk.{above_marks_before, merged_front, HasRoom}
+use Rattle.shapers_text.specs.ThaiWalk.{above_marks_before, merged_front, HasRoomForSaraAms}
 use Rattle.shapers_text.proofs.ThaiInTwo.{in_two_plain, lengths, above_marks_before-characters}
 use Rattle.shapers_text.specs.ThaiForms.{preprocessed_text}
 
@@ -138,7 +138,7 @@ pub length-glyphs_in_two : (gs : List hb_glyph_info_t) → length (glyphs_in_two
 length-glyphs_in_two gs = (lengths glyph_rule gs).whole
 
 -- the grown text has just the room that is wanted
-pub room_made : (gs : List hb_glyph_info_t) (n len : ℕ) → len ≡ length gs → n ≡ count_by (λ g. is_sara_am g.glyph_id) gs → HasRoom len (gs ++ replicate n default_glyph)
+pub room_made : (gs : List hb_glyph_info_t) (n len : ℕ) → len ≡ length gs → n ≡ count_by (λ g. is_sara_am g.glyph_id) gs → HasRoomForSaraAms len (gs ++ replicate n default_glyph)
 room_made gs n len long counted =
     let rest = replicate n default_glyph in
     let front : take len (gs ++ rest) ≡ gs = take_at gs rest len (sym long) in
@@ -151,7 +151,7 @@ characters-front level len gs =
     ∙ ap (take len) (characters-merge_all level (sara_am_stretches level (take len (characters gs))) gs)
     ∙ take-map (λ g. g.glyph_id) len gs
 
-pub room_stays : (level : BufferClusterLevel) (len : ℕ) (gs : List hb_glyph_info_t) → HasRoom len gs → HasRoom len (merged_front level len gs)
+pub room_stays : (level : BufferClusterLevel) (len : ℕ) (gs : List hb_glyph_info_t) → HasRoomForSaraAms len gs → HasRoomForSaraAms len (merged_front level len gs)
 room_stays level len gs room =
     let now = merged_front level len gs in
     let long : length now ≡ length gs =

@@ -46,14 +46,14 @@ abbrev pub step_at : ℕ → Option ℕ → Step
 step_at n None = still_step n
 step_at n (Some i) = swap_step n i
 
-abbrev pub mark_step : ℕ → ℕ → List hb_glyph_info_t → Step
-mark_step start end gs = step_at (length gs) (second_of_triple start end gs)
+abbrev pub hebrew_mark_step : ℕ → ℕ → List hb_glyph_info_t → Step
+hebrew_mark_step start end gs = step_at (length gs) (second_of_triple start end gs)
 
 -- what the reordering promises, of the buffer before and after it: no glyph is lost, and the laws
 -- of clusters and flags hold
-abbrev pub MarksReordered : ℕ → ℕ → Buffer → Buffer → Type 0
-MarksReordered start end old new =
-    ReorderedHold whole old.level (mark_step start end old.glyphs ∷ []) old.glyphs new.glyphs
+abbrev pub HebrewMarksReordered : ℕ → ℕ → Buffer → Buffer → Type 0
+HebrewMarksReordered start end old new =
+    ReorderedHold whole old.level (hebrew_mark_step start end old.glyphs ∷ []) old.glyphs new.glyphs
 
 -- a letter, a point, and the form that they compose to (Unicode's presentation forms FB1D to FB4E)
 abbrev pub pairs : List (ℕ × ℕ × ℕ)

@@ -85,8 +85,8 @@ place_rule = record {
 }
 
 -- for each glyph of the result the old place that it copies
-abbrev pub sources : List ℕ → List ℕ
-sources us = map (λ p. p.0) (in_two place_rule (enumerate_from 0 us))
+abbrev pub sara_am_sources : List ℕ → List ℕ
+sara_am_sources us = map (λ p. p.0) (in_two place_rule (enumerate_from 0 us))
 
 -- whether a SARA AM without marks joins the glyph before it: where clusters are whole graphemes
 -- (Unicode's UAX 29: SARA AM is a spacing mark)

@@ -175,12 +175,12 @@ abbrev pub with_characters : List ℕ → List hb_glyph_info_t → List hb_glyph
 with_characters us gs = map (λ p. with_character p.1 p.0) (zip us gs)
 
 -- the glyphs with their private use forms
-abbrev pub with_forms : (ℕ → Bool) → List hb_glyph_info_t → List hb_glyph_info_t
-with_forms has gs = with_characters (forms_between has [] (characters gs) []) gs
+abbrev pub with_thai_forms : (ℕ → Bool) → List hb_glyph_info_t → List hb_glyph_info_t
+with_thai_forms has gs = with_characters (forms_between has [] (characters gs) []) gs
 
 -- the place of the base of what follows a text, 0 where there is none
-abbrev pub base_place : List ℕ → ℕ
-base_place before = length before - suffix_len is_thai_mark before - 1
+abbrev pub thai_base_place : List ℕ → ℕ
+thai_base_place before = length before - suffix_len is_thai_mark before - 1
 
 -- from each mark's base to the mark, in turn, of a text given with what stands before each
 -- character
@@ -188,7 +188,8 @@ abbrev pub stretch_of_mark : ℕ → ℕ → ℕ → List (ℕ × ℕ)
 stretch_of_mark base place u = if is_thai_mark u then (base, place) ∷ [] else []
 
 abbrev pub mark_stretches_of_each : List (List ℕ × ℕ) → List (ℕ × ℕ)
-mark_stretches_of_each each = flat_map (λ p. stretch_of_mark (base_place p.0) (length p.0) p.1) each
+mark_stretches_of_each each =
+    flat_map (λ p. stretch_of_mark (thai_base_place p.0) (length p.0) p.1) each
 
 abbrev pub mark_stretches : List ℕ → List (ℕ × ℕ)
 mark_stretches us = mark_stretches_of_each (each_after [] us)
@@ -196,7 +197,7 @@ mark_stretches us = mark_stretches_of_each (each_after [] us)
 -- forms and flags (HarfBuzz's glyph flags): a break between a base and its marks would change the
 -- forms
 abbrev pub pua_shaped : (ℕ → Bool) → List hb_glyph_info_t → List hb_glyph_info_t
-pua_shaped has gs = with_forms has (unsafe_all (mark_stretches (characters gs)) gs)
+pua_shaped has gs = with_thai_forms has (unsafe_all (mark_stretches (characters gs)) gs)
 
 -- the whole rewriting, with the private use forms or without
 abbrev pub preprocessed_text : Bool → (ℕ → Bool) → BufferClusterLevel → List hb_glyph_info_t →

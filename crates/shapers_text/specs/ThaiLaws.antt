@@ -15,12 +15,12 @@ use Rattle.shapers_clusters.specs.Flags.{FlagsFall}
 use Rattle.shapers_clusters.specs.FlagLaw.{AllFlagsStay}
 use Rattle.shapers_clusters.specs.Laws.{ClustersMade}
 use Rattle.shapers_text.specs.ThaiForms.{preprocessed_text}
-use Rattle.shapers_text.specs.Thai.{is_sara_am, is_above_base, in_parts, glyph_rule, glyphs_in_two, sources, sara_am_stretches}
+use Rattle.shapers_text.specs.Thai.{is_sara_am, is_above_base, in_parts, glyph_rule, glyphs_in_two, sara_am_sources, sara_am_stretches}
 
 -- where the NIKHAHIT of a SARA AM stands in the result, if xs is the text before it: behind what
 -- comes of the text before its marks
 abbrev pub new_place : List ℕ → ℕ
-new_place xs = length (sources (before_last_run is_above_base xs))
+new_place xs = length (sara_am_sources (before_last_run is_above_base xs))
 
 -- What the rewriting of the characters us makes of their clusters cs: js. They are the clusters of
 -- made glyphs, each having that of its source after the merges, with exact cuts; and each place of
@@ -28,8 +28,8 @@ new_place xs = length (sources (before_last_run is_above_base xs))
 -- AM and ys, all places between its NIKHAHIT and where that stood before its move share one
 -- cluster.
 pub record ClustersInTwo (level : BufferClusterLevel) (us cs js : List ℕ) : Type 0 where
-  pub made : ClustersMade level (sara_am_stretches level us) (sources us) cs js
-  pub none_lost : (p : ℕ) → p < length us → Contains (sources us) p
+  pub made : ClustersMade level (sara_am_stretches level us) (sara_am_sources us) cs js
+  pub none_lost : (p : ℕ) → p < length us → Contains (sara_am_sources us) p
   pub cluster_law : merges level ≡ true → (xs : List ℕ) (u : ℕ) (ys : List ℕ) → us ≡ xs ++ u ∷ ys →
       is_sara_am u ≡ true →
       ShareCluster js (new_place xs) (new_place xs + suffix_len is_above_base xs)
@@ -44,12 +44,12 @@ without_name g =
 -- cluster rises, and glyph flags stay unless it fell.
 pub record InTwoHolds (level : BufferClusterLevel) (gs rs : List hb_glyph_info_t) : Type 0 where
   pub made : map without_name rs
-      ≡ map without_name (pick (sources (characters gs))
+      ≡ map without_name (pick (sara_am_sources (characters gs))
       (merge_all level (sara_am_stretches level (characters gs)) gs))
   pub kept : IsPermutation (flat_map (in_parts glyph_rule)
       (merge_all level (sara_am_stretches level (characters gs)) gs)) rs
   pub in_clusters : ClustersInTwo level (characters gs) (clusters gs) (clusters rs)
-  pub falls : AllZip FlagsFall (pick (sources (characters gs)) gs) rs
+  pub falls : AllZip FlagsFall (pick (sara_am_sources (characters gs)) gs) rs
 
 abbrev pub InTwoLaw : Type 0
 InTwoLaw = (level : BufferClusterLevel) (gs : List hb_glyph_info_t) →
@@ -59,7 +59,7 @@ InTwoLaw = (level : BufferClusterLevel) (gs : List hb_glyph_info_t) →
 -- The flag law, of each glyph by its source, the flags of the private use forms included: no
 -- cluster rises, and unless it fell, no glyph flag of the source is lost.
 abbrev pub FlagsInTwo : List hb_glyph_info_t → List hb_glyph_info_t → Type 0
-FlagsInTwo gs rs = AllFlagsStay (pick (sources (characters gs)) gs) rs
+FlagsInTwo gs rs = AllFlagsStay (pick (sara_am_sources (characters gs)) gs) rs
 
 -- a glyph without what the private use forms change
 abbrev pub without_form : hb_glyph_info_t → hb_glyph_info_t

@@ -68,8 +68,8 @@ abbrev pub merged_front : BufferClusterLevel → ℕ → List hb_glyph_info_t �
 merged_front level len gs = merge_all level (sara_am_stretches level (take len (characters gs))) gs
 
 -- the first len glyphs with each SARA AM in two take just the room that there is
-abbrev pub HasRoom : ℕ → List hb_glyph_info_t → Type 0
-HasRoom len gs = (len ≤ length gs) × (length gs ≡ length (glyphs_in_two (take len gs)))
+abbrev pub HasRoomForSaraAms : ℕ → List hb_glyph_info_t → Type 0
+HasRoomForSaraAms len gs = (len ≤ length gs) × (length gs ≡ length (glyphs_in_two (take len gs)))
 
 -- what the text so far becomes: with a NIKHAHIT pending, that stands before its last above-base
 -- marks
@@ -91,11 +91,13 @@ pub record IsUnwritten (glyphs : List hb_glyph_info_t) (end : ℕ) (pending : Op
   pub within : place ≤ length glyphs
 
 -- what it becomes, and what stands behind it
-abbrev pub whole_of : List hb_glyph_info_t → ℕ → Option hb_glyph_info_t → ℕ → List hb_glyph_info_t
-whole_of glyphs end pending place = text_to_write (take end glyphs) pending ++ drop place glyphs
+abbrev pub rewritten_whole : List hb_glyph_info_t → ℕ → Option hb_glyph_info_t → ℕ →
+    List hb_glyph_info_t
+rewritten_whole glyphs end pending place =
+    text_to_write (take end glyphs) pending ++ drop place glyphs
 
 -- in the middle of writing the whole
 pub record Written (whole glyphs : List hb_glyph_info_t) (end : ℕ) (pending : Option
     hb_glyph_info_t) (place : ℕ) : Type 0 where
   pub left : IsUnwritten glyphs end pending place
-  pub joined : whole_of glyphs end pending place ≡ whole
+  pub joined : rewritten_whole glyphs end pending place ≡ whole

@@ -4,7 +4,7 @@ ghost use Rattle.std.specs.Prelude.{◌≡◌, ◌==◌, ◌&&◌, ◌≤◌, fi
 ghost use Rattle.shapers_buffer.specs.Clusters.{merge};
 ghost use Rattle.shapers_buffer.specs.Glyph.{order_view};
 ghost use Rattle.shapers_clusters.specs.Steps.{run_step};
-ghost use Rattle.shapers_text.specs.Hebrew.{mark_step, marks_swapped, MarksReordered, second_of_triple, opens_triple, hebrew_form, composed_in_hebrew, lacks_dagesh, is_in_dagesh_row, pairs};
+ghost use Rattle.shapers_text.specs.Hebrew.{hebrew_mark_step, marks_swapped, HebrewMarksReordered, second_of_triple, opens_triple, hebrew_form, composed_in_hebrew, lacks_dagesh, is_in_dagesh_row, pairs};
 
 use shapers_base::buffer::modified_combining_class::{BELOW, CCC10, CCC14, CCC17, CCC18, CCC22};
 use shapers_base::buffer::{
@@ -20,12 +20,12 @@ use shapers_base::plan::hb_ot_shape_plan_t;
 pub fn reorder_marks(_plan: &hb_ot_shape_plan_t, buffer: &mut hb_buffer_t, start: usize, end: usize)
     requires in_order { start ≤ end }
     requires in_range { end ≤ length buffer.old.glyphs }
-    ensures step { let step = mark_step start end buffer.old.glyphs in
+    ensures step { let step = hebrew_mark_step start end buffer.old.glyphs in
         let moved = run_step buffer.old.level step buffer.old.glyphs in
         buffer.new ≡ record buffer.old { glyphs = moved } }
     ensures order { let old = order_view buffer.old.glyphs in
         order_view buffer.new.glyphs ≡ marks_swapped start end old }
-    ensures laws { MarksReordered start end buffer.old buffer.new }
+    ensures laws { HebrewMarksReordered start end buffer.old buffer.new }
 {
     let level = buffer.cluster_level();
     buffer.walk(&mut MarkOrder { level, start, end });
@@ -41,7 +41,7 @@ pub fn reorder_marks_in(
 ) -> bool
     requires in_order { start ≤ end }
     requires in_range { end ≤ length glyphs.old }
-    ensures step { glyphs.new ≡ run_step level (mark_step start end glyphs.old) glyphs.old }
+    ensures step { glyphs.new ≡ run_step level (hebrew_mark_step start end glyphs.old) glyphs.old }
     ensures moved { result ≡ is_some (second_of_triple start end glyphs.old) }
     ensures unchanged { result ≡ false → glyphs.new ≡ glyphs.old }
 {
@@ -63,11 +63,11 @@ struct MarkOrder {
 impl GlyphWalk for MarkOrder {
     ghost use Rattle.std.specs.Prelude.{◌≡◌, ◌≤◌, length};
     ghost use Rattle.shapers_clusters.specs.Steps.{run_step};
-    ghost use Rattle.shapers_text.specs.Hebrew.{mark_step};
+    ghost use Rattle.shapers_text.specs.Hebrew.{hebrew_mark_step};
 
     ghost can_walk = { λ w gs. (w.start ≤ w.end) × (w.end ≤ length gs) };
 
-    ghost walks = { λ v w gs hs. hs ≡ run_step v.level (mark_step v.start v.end gs) gs };
+    ghost walks = { λ v w gs hs. hs ≡ run_step v.level (hebrew_mark_step v.start v.end gs) gs };
 
     #[inline]
     fn walk(&mut self, glyphs: &mut [hb_glyph_info_t]) {

@@ -7,14 +7,14 @@ use Rattle.shapers_buffer.specs.GlyphFlags.{with_bits}
 use Rattle.shapers_buffer.specs.Syllables.{syllables}
 use Rattle.shapers_buffer.specs.declared.buffer.glyph.hb_glyph_info_t.{hb_glyph_info_t}
 use Rattle.shapers_syllabic.proofs.CircleLaws.{joined-syllables}
-use Rattle.shapers_universal.specs.UniversalSyllables.{reph_len, with_rphf}
+use Rattle.shapers_universal.specs.UniversalSyllables.{rphf_len, with_rphf}
 
 no_bits : (gs : List hb_glyph_info_t) → map (with_bits 0) gs ≡ gs
 no_bits [] = refl
 no_bits (g ∷ gs) = ap (λ (m : ℕ). record g { mask = m } ∷ map (with_bits 0) gs) (or_zero_r g.mask) ∙ ap (λ xs. g ∷ xs) (no_bits gs)
 
 syllable_stays : (gs : List hb_glyph_info_t) → with_rphf 0 gs ≡ gs
-syllable_stays gs = ap (λ xs. xs ++ drop (reph_len gs) gs) (no_bits (take (reph_len gs) gs)) ∙ take-append-drop (reph_len gs) gs
+syllable_stays gs = ap (λ xs. xs ++ drop (rphf_len gs) gs) (no_bits (take (rphf_len gs) gs)) ∙ take-append-drop (rphf_len gs) gs
 
 all_stay : (pieces : List (List hb_glyph_info_t)) → flat_map (with_rphf 0) pieces ≡ flat_map (λ piece. piece) pieces
 all_stay [] = refl

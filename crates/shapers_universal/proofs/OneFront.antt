@@ -16,12 +16,12 @@ use Rattle.shapers_clusters.proofs.Merging.{length-merge}
 use Rattle.shapers_clusters.proofs.Picks.{pick-append, pick-range}
 use Rattle.shapers_clusters.proofs.Widened.{range-append}
 use Rattle.shapers_syllabic.specs.Reordering.{SyllableReordered}
-use Rattle.shapers_universal.specs.Universal.{goes_front, goes_front_at, is_halant, is_reordered, reph_run, reversed_first, universal_order, universal_steps}
-use Rattle.shapers_universal.specs.UniversalWalk.{MergesFirst, fronts_from, has_reph, is_halant_at, last_first, places_in_order, start_from}
+use Rattle.shapers_universal.specs.Universal.{goes_front, goes_front_at, is_universal_halant, is_reordered_in_universal, reph_run, reversed_first, universal_order, universal_steps}
+use Rattle.shapers_universal.specs.UniversalWalk.{MergesFirst, fronts_from, has_universal_reph, is_halant_at, last_place_first, syllable_places_in_order, start_from}
 use Rattle.shapers_universal.proofs.Reordered.{merge_nothing, no_reph, still_pieces, still_reordered, syllable_ran, syllable_reordered}
 use Rattle.shapers_universal.proofs.UniversalFronts.{fronts_next}
 use Rattle.shapers_universal.proofs.UniversalLists.{cut_after-concat, filter-none, filter_not-none, reversed_first-no, reversed_first-yes}
-use Rattle.shapers_universal.proofs.UniversalPlaces.{at, front_at, halant_at, labels_any, nothing_behind, stretch_at}
+use Rattle.shapers_universal.proofs.UniversalPlaces.{at, goes_front_is, halant_at, labels_any, nothing_behind, stretch_at}
 
 -- a piece with no place to cut but its end
 cut_none : {X : Type 0} (cut : X → Bool) (xs : List X) (x : X) → list_any cut xs ≡ false → cut x ≡ false → cut_after cut (xs ++ x ∷ []) ≡ (xs ++ x ∷ []) ∷ []
@@ -77,11 +77,11 @@ pub none_from : (a i : ℕ) (gs : List hb_glyph_info_t) → fronts_from a i gs �
 none_from a i [] h = refl
 none_from a i (g ∷ gs) h = elim (cases_Bool (goes_front g)) [
   | inl holds ↦
-      let some : (let k : ℕ = length ((a, suc i) ∷ fronts_from a (suc i) gs) in k) ≡ 0 = ap (λ b. length (if b then (a, suc i) ∷ fronts_from a (suc i) gs else fronts_from (if is_halant g then suc i else a) (suc i) gs)) (sym holds) ∙ ap length h in
+      let some : (let k : ℕ = length ((a, suc i) ∷ fronts_from a (suc i) gs) in k) ≡ 0 = ap (λ b. length (if b then (a, suc i) ∷ fronts_from a (suc i) gs else fronts_from (if is_universal_halant g then suc i else a) (suc i) gs)) (sym holds) ∙ ap length h in
       absurd (omega arith)
   | inr fails ↦
-      let on : fronts_from (if is_halant g then suc i else a) (suc i) gs ≡ [] = ap (λ b. if b then (a, suc i) ∷ fronts_from a (suc i) gs else fronts_from (if is_halant g then suc i else a) (suc i) gs) (sym fails) ∙ h in
-      rw fails (none_from (if is_halant g then suc i else a) (suc i) gs on)
+      let on : fronts_from (if is_universal_halant g then suc i else a) (suc i) gs ≡ [] = ap (λ b. if b then (a, suc i) ∷ fronts_from a (suc i) gs else fronts_from (if is_universal_halant g then suc i else a) (suc i) gs) (sym fails) ∙ h in
+      rw fails (none_from (if is_universal_halant g then suc i else a) (suc i) gs on)
 ]
 
 -- What one merge alone says: from `st` to `e` one glyph goes to the front, that before z, of the piece that starts at a.
@@ -103,10 +103,10 @@ range_joined a b c h l =
     let m : a + (b - a) ≡ b = omega arith in
     ap (range_with_len a) n ∙ range-append a (b - a) (c - b) ∙ ap (λ k. range_with_len a (b - a) ++ range_with_len k (c - b)) m
 
-halt : (g : hb_glyph_info_t) → goes_front g ≡ true → is_halant g ≡ false
+halt : (g : hb_glyph_info_t) → goes_front g ≡ true → is_universal_halant g ≡ false
 halt g h = grind (arith, nat_tests, h)
 
-halts : (g : hb_glyph_info_t) → is_halant g ≡ true → goes_front g ≡ false
+halts : (g : hb_glyph_info_t) → is_universal_halant g ≡ true → goes_front g ≡ false
 halts g h = grind (arith, nat_tests, h)
 
 pub one_front : (gs : List hb_glyph_info_t) (n i st e a z : ℕ) → st ≤ i → i + n ≡ e → list_any (is_halant_at gs) (range_with_len st (i - st)) ≡ false → list_any (goes_front_at gs) (range_with_len st (i - st)) ≡ false → fronts_from st i (map (at gs) (range_with_len i n)) ≡ (a, z) ∷ [] → OneFront gs st e a z
@@ -122,11 +122,11 @@ one_front gs (suc n) i st e a z h up calm still is =
     let whole : range_with_len st (e - st) ≡ pre ++ i ∷ ys = range_joined st i e h (omega arith) ∙ (let m : e - i ≡ suc n = omega arith in ap (λ k. pre ++ range_with_len i k) m) in
     elim (cases_Bool (goes_front (at gs i))) [
       | inl front ↦
-          let here : (st, suc i) ∷ fronts_from st (suc i) zs ≡ (a, z) ∷ [] = ap (λ b. if b then (st, suc i) ∷ fronts_from st (suc i) zs else fronts_from (if is_halant (at gs i) then suc i else st) (suc i) zs) (sym front) ∙ is in
+          let here : (st, suc i) ∷ fronts_from st (suc i) zs ≡ (a, z) ∷ [] = ap (λ b. if b then (st, suc i) ∷ fronts_from st (suc i) zs else fronts_from (if is_universal_halant (at gs i) then suc i else st) (suc i) zs) (sym front) ∙ is in
           let start : st ≡ a = ap (λ (ps : List (ℕ × ℕ)). (get_or ps 0 (0, 0)).0) here in
           let place : suc i ≡ z = ap (λ (ps : List (ℕ × ℕ)). (get_or ps 0 (0, 0)).1) here in
           let rest : fronts_from st (suc i) zs ≡ [] = ap (drop 1) here in
-          let behind : list_any T ys ≡ false = labels_any goes_front T gs (front_at gs) ys ∙ none_from st (suc i) zs rest in
+          let behind : list_any T ys ≡ false = labels_any goes_front T gs (goes_front_is gs) ys ∙ none_from st (suc i) zs rest in
           let m : a - st ≡ 0 = omega arith in
           let last : z - 1 ≡ i = omega arith in
           let long : z - 1 - a ≡ i - st = omega arith in
@@ -135,7 +135,7 @@ one_front gs (suc n) i st e a z h up calm still is =
           record {
             order = ap (in_order H T) (whole ∙ sym (append_assoc pre (i ∷ []) ys))
                 ∙ in_order-last H T pre i ys calm (halant_at gs i ∙ halt (at gs i) front) behind
-                ∙ ap (λ xs. xs ++ ys) (reversed_first-yes T pre i (front_at gs i ∙ front) ∙ ap (λ xs. i ∷ xs) (none_first T pre still))
+                ∙ ap (λ xs. xs ++ ys) (reversed_first-yes T pre i (goes_front_is gs i ∙ front) ∙ ap (λ xs. i ∷ xs) (none_first T pre still))
                 ∙ sym (ap (λ k. range_with_len st k ++ (((z - 1) ∷ range_with_len a (z - 1 - a)) ++ range_with_len z (e - z))) m
                 ∙ ap (λ k. (k ∷ range_with_len a (z - 1 - a)) ++ range_with_len z (e - z)) last
                 ∙ ap (λ k. (i ∷ range_with_len a k) ++ range_with_len z (e - z)) long
@@ -147,9 +147,9 @@ one_front gs (suc n) i st e a z h up calm still is =
             within = omega (arith, place, up);
           }
       | inr other ↦
-          let here : fronts_from (if is_halant (at gs i) then suc i else st) (suc i) zs ≡ (a, z) ∷ [] = ap (λ b. if b then (st, suc i) ∷ fronts_from st (suc i) zs else fronts_from (if is_halant (at gs i) then suc i else st) (suc i) zs) (sym other) ∙ is in
-          let stays : T i ≡ false = front_at gs i ∙ other in
-          elim (cases_Bool (is_halant (at gs i))) [
+          let here : fronts_from (if is_universal_halant (at gs i) then suc i else st) (suc i) zs ≡ (a, z) ∷ [] = ap (λ b. if b then (st, suc i) ∷ fronts_from st (suc i) zs else fronts_from (if is_universal_halant (at gs i) then suc i else st) (suc i) zs) (sym other) ∙ is in
+          let stays : T i ≡ false = goes_front_is gs i ∙ other in
+          elim (cases_Bool (is_universal_halant (at gs i))) [
             | inl ends ↦
                 let there : fronts_from (i + 1) (i + 1) zs ≡ (a, z) ∷ [] = ap (λ k. fronts_from k k zs) (sym next) ∙ ap (λ b. fronts_from (if b then suc i else st) (suc i) zs) (sym ends) ∙ here in
                 let none : i + 1 - (i + 1) ≡ 0 = omega arith in
@@ -191,16 +191,16 @@ drop_on z e xs h =
     ap (λ ys. stretch_of z e xs ++ ys) (ap (λ k. drop k xs) (sym n) ∙ sym (drop-drop (e - z) z xs))
     ∙ take-append-drop (e - z) (drop z xs)
 
-one_written : (s e a z : ℕ) (gs ms : List hb_glyph_info_t) → e ≤ length ms → OneFront gs s e a z → with_stretch s e (λ _. pick (places_in_order s s e gs) ms) ms ≡ with_stretch a z (λ _. pick (last_first a z) ms) ms
+one_written : (s e a z : ℕ) (gs ms : List hb_glyph_info_t) → e ≤ length ms → OneFront gs s e a z → with_stretch s e (λ _. pick (syllable_places_in_order s s e gs) ms) ms ≡ with_stretch a z (λ _. pick (last_place_first a z) ms) ms
 one_written s e a z gs ms l one =
     let from = one.from in
     let some = one.some in
     let within = one.within in
-    let moved = last_first a z in
+    let moved = last_place_first a z in
     let first = range_with_len s (a - s) in
     let last = range_with_len z (e - z) in
-    let order : places_in_order s s e gs ≡ first ++ (moved ++ last) = ap (in_order (is_halant_at gs) (goes_front_at gs)) (nothing_behind s e) ∙ one.order in
-    let picked : pick (places_in_order s s e gs) ms ≡ stretch_of s a ms ++ (pick moved ms ++ stretch_of z e ms) =
+    let order : syllable_places_in_order s s e gs ≡ first ++ (moved ++ last) = ap (in_order (is_halant_at gs) (goes_front_at gs)) (nothing_behind s e) ∙ one.order in
+    let picked : pick (syllable_places_in_order s s e gs) ms ≡ stretch_of s a ms ++ (pick moved ms ++ stretch_of z e ms) =
     ap (λ ps. pick ps ms) order
     ∙ pick-append first (moved ++ last) ms
     ∙ ap (λ xs. pick first ms ++ xs) (pick-append moved last ms)
@@ -213,7 +213,7 @@ one_written s e a z gs ms l one =
     ∙ ap (λ ys. take a ms ++ ys) (append_assoc (pick moved ms) (stretch_of z e ms) (drop e ms) ∙ ap (λ ys. pick moved ms ++ ys) (drop_on z e ms within))
 
 -- a syllable that is written so is reordered
-pub one_reordered : (s e a z : ℕ) (b0 b1 : Buffer) → s ≤ e → e ≤ length b0.glyphs → is_reordered (stretch_of s e b0.glyphs) ≡ true → has_reph (stretch_of s e b0.glyphs) ≡ false → fronts_from s s (stretch_of s e b0.glyphs) ≡ (a, z) ∷ [] → b1 ≡ record b0 { glyphs = (let ms = merge b0.level a z b0.glyphs in with_stretch a z (λ _. pick (last_first a z) ms) ms); places = b1.places } → SyllableReordered universal_order universal_steps s e b0 b1
+pub one_reordered : (s e a z : ℕ) (b0 b1 : Buffer) → s ≤ e → e ≤ length b0.glyphs → is_reordered_in_universal (stretch_of s e b0.glyphs) ≡ true → has_universal_reph (stretch_of s e b0.glyphs) ≡ false → fronts_from s s (stretch_of s e b0.glyphs) ≡ (a, z) ∷ [] → b1 ≡ record b0 { glyphs = (let ms = merge b0.level a z b0.glyphs in with_stretch a z (λ _. pick (last_place_first a z) ms) ms); places = b1.places } → SyllableReordered universal_order universal_steps s e b0 b1
 one_reordered s e a z b0 b1 h l kind reph is done =
     let gs = b0.glyphs in
     let zs = stretch_of s e gs in
@@ -224,28 +224,28 @@ one_reordered s e a z b0 b1 h l kind reph is done =
     let one = one_front gs (e - s) s s e a z (omega arith) (omega (arith, h)) (ap (λ k. list_any (is_halant_at gs) (range_with_len s k)) none) (ap (λ k. list_any (goes_front_at gs) (range_with_len s k)) none) (ap (fronts_from s s) (sym (stretch_at s e gs l)) ∙ is) in
     let merges : all ≡ ms = ap (λ sts. merge_all b0.level sts (merge b0.level s s gs)) is ∙ ap (merge b0.level a z) (merge_nothing b0.level s gs) in
     let long : length ms ≡ length gs = length-merge b0.level a z gs (omega (arith, l, one.within)) in
-    let glyphs : b1.glyphs ≡ with_stretch a z (λ _. pick (last_first a z) ms) ms = ap (λ (x : Buffer). x.glyphs) done in
+    let glyphs : b1.glyphs ≡ with_stretch a z (λ _. pick (last_place_first a z) ms) ms = ap (λ (x : Buffer). x.glyphs) done in
     syllable_reordered s e b0 b1 h l
     (ap but_places done ∙ ap (λ xs. let y : Buffer = record (but_places b0) { glyphs = xs } in y) (sym glyphs))
     (glyphs
     ∙ sym (one_written s e a z gs ms (omega (arith, l, long)) one)
-    ∙ ap (λ xs. with_stretch s e (λ _. pick (places_in_order s s e gs) xs) xs) (sym merges)
+    ∙ ap (λ xs. with_stretch s e (λ _. pick (syllable_places_in_order s s e gs) xs) xs) (sym merges)
     ∙ sym (syllable_ran b0.level s e s gs h l kind behind))
 
 -- where pieces start, one glyph on
-start_push : (st i : ℕ) (gs : List hb_glyph_info_t) (g : hb_glyph_info_t) → start_from st i (gs ++ g ∷ []) ≡ (if is_halant g then suc (i + length gs) else start_from st i gs)
-start_push st i [] g = let none : suc i ≡ suc (i + 0) = omega arith in ap (λ k. if is_halant g then k else st) none
+start_push : (st i : ℕ) (gs : List hb_glyph_info_t) (g : hb_glyph_info_t) → start_from st i (gs ++ g ∷ []) ≡ (if is_universal_halant g then suc (i + length gs) else start_from st i gs)
+start_push st i [] g = let none : suc i ≡ suc (i + 0) = omega arith in ap (λ k. if is_universal_halant g then k else st) none
 start_push st i (x ∷ xs) g =
     let up : suc (suc i + length xs) ≡ suc (i + suc (length xs)) = omega arith in
-    let st1 = if is_halant x then suc i else st in
-    start_push st1 (suc i) xs g ∙ ap (λ k. if is_halant g then k else start_from st1 (suc i) xs) up
+    let st1 = if is_universal_halant x then suc i else st in
+    start_push st1 (suc i) xs g ∙ ap (λ k. if is_universal_halant g then k else start_from st1 (suc i) xs) up
 
-pub start_on : (s i : ℕ) (gs : List hb_glyph_info_t) → s ≤ i → i < length gs → start_from s s (stretch_of s (i + 1) gs) ≡ (if is_halant (at gs i) then i + 1 else start_from s s (stretch_of s i gs))
+pub start_on : (s i : ℕ) (gs : List hb_glyph_info_t) → s ≤ i → i < length gs → start_from s s (stretch_of s (i + 1) gs) ≡ (if is_universal_halant (at gs i) then i + 1 else start_from s s (stretch_of s i gs))
 start_on s i gs h l =
     let long : suc (s + length (stretch_of s i gs)) ≡ i + 1 = omega (arith, length-stretch s i gs (omega (arith, l)), h) in
     ap (start_from s s) (stretch_at s (i + 1) gs (omega (arith, l)) ∙ ap (map (at gs)) (range_on s i h) ∙ map-append (at gs) (range_with_len s (i - s)) (i ∷ []) ∙ ap (λ xs. xs ++ at gs i ∷ []) (sym (stretch_at s i gs (omega (arith, l)))))
     ∙ start_push s s (stretch_of s i gs) (at gs i)
-    ∙ ap (λ k. if is_halant (at gs i) then k else start_from s s (stretch_of s i gs)) long
+    ∙ ap (λ k. if is_universal_halant (at gs i) then k else start_from s s (stretch_of s i gs)) long
 
 -- the look for the first
 pub seen_on : (s i e : ℕ) (gs : List hb_glyph_info_t) → s ≤ i → i < e → e ≤ length gs → goes_front (at gs i) ≡ false → fronts_from s s (stretch_of s e gs) ≡ fronts_from (start_from s s (stretch_of s i gs)) i (stretch_of i e gs) → fronts_from s s (stretch_of s e gs) ≡ fronts_from (start_from s s (stretch_of s (i + 1) gs)) (i + 1) (stretch_of (i + 1) e gs)
@@ -254,8 +254,8 @@ seen_on s i e gs h m l stays so =
     let next : suc i ≡ i + 1 = omega arith in
     so
     ∙ fronts_next st i e gs m l
-    ∙ ap (λ b. if b then (st, suc i) ∷ fronts_from st (suc i) (stretch_of (suc i) e gs) else fronts_from (if is_halant (at gs i) then suc i else st) (suc i) (stretch_of (suc i) e gs)) stays
-    ∙ ap (λ k. fronts_from (if is_halant (at gs i) then k else st) k (stretch_of k e gs)) next
+    ∙ ap (λ b. if b then (st, suc i) ∷ fronts_from st (suc i) (stretch_of (suc i) e gs) else fronts_from (if is_universal_halant (at gs i) then suc i else st) (suc i) (stretch_of (suc i) e gs)) stays
+    ∙ ap (λ k. fronts_from (if is_universal_halant (at gs i) then k else st) k (stretch_of k e gs)) next
     ∙ ap (λ k. fronts_from k (i + 1) (stretch_of (i + 1) e gs)) (sym (start_on s i gs h (omega (arith, m, l))))
 
 pub seen_first : (s i e a : ℕ) (gs : List hb_glyph_info_t) → i < e → e ≤ length gs → goes_front (at gs i) ≡ true → a ≡ start_from s s (stretch_of s i gs) → fronts_from s s (stretch_of s e gs) ≡ fronts_from (start_from s s (stretch_of s i gs)) i (stretch_of i e gs) → MergesFirst s e gs (Some (a, i + 1))
@@ -264,12 +264,12 @@ seen_first s i e a gs m l goes is so =
     let next : suc i ≡ i + 1 = omega arith in
     so
     ∙ fronts_next st i e gs m l
-    ∙ ap (λ b. if b then (st, suc i) ∷ fronts_from st (suc i) (stretch_of (suc i) e gs) else fronts_from (if is_halant (at gs i) then suc i else st) (suc i) (stretch_of (suc i) e gs)) goes
+    ∙ ap (λ b. if b then (st, suc i) ∷ fronts_from st (suc i) (stretch_of (suc i) e gs) else fronts_from (if is_universal_halant (at gs i) then suc i else st) (suc i) (stretch_of (suc i) e gs)) goes
     ∙ ap (λ k. (st, k) ∷ fronts_from st k (stretch_of k e gs)) next
     ∙ ap (λ k. (k, i + 1) ∷ fronts_from k (i + 1) (stretch_of (i + 1) e gs)) (sym is)
 
 -- the merge and the move
-pub turned_is : (s e : ℕ) (xs : List hb_glyph_info_t) → s < e → e ≤ length xs → with_stretch s e (λ ys. slice_rotate_right ys 1) xs ≡ with_stretch s e (λ _. pick (last_first s e) xs) xs
+pub turned_is : (s e : ℕ) (xs : List hb_glyph_info_t) → s < e → e ≤ length xs → with_stretch s e (λ ys. slice_rotate_right ys 1) xs ≡ with_stretch s e (λ _. pick (last_place_first s e) xs) xs
 turned_is s e xs h l =
     let ys = stretch_of s e xs in
     let k = e - 1 - s in
@@ -279,16 +279,16 @@ turned_is s e xs h l =
     let front : take k ys ≡ take k (drop s xs) = take-take k (e - s) (drop s xs) (omega arith) in
     let last : drop k ys ≡ take 1 (drop (e - 1) xs) = ap (λ n. drop k (take n (drop s xs))) up ∙ drop-take k 1 (drop s xs) ∙ ap (take 1) (drop-drop k s xs ∙ ap (λ n. drop n xs) to) in
     let turned : slice_rotate_right ys 1 ≡ take 1 (drop (e - 1) xs) ++ take k (drop s xs) = ap (λ n. drop n ys ++ take n ys) size ∙ ap (λ zs. zs ++ take k ys) last ∙ ap (λ zs. take 1 (drop (e - 1) xs) ++ zs) front in
-    let picked : pick (last_first s e) xs ≡ take 1 (drop (e - 1) xs) ++ take k (drop s xs) =
+    let picked : pick (last_place_first s e) xs ≡ take 1 (drop (e - 1) xs) ++ take k (drop s xs) =
     pick-append (range_with_len (e - 1) 1) (range_with_len s k) xs
     ∙ ap (λ zs. zs ++ pick (range_with_len s k) xs) (pick-range (e - 1) 1 xs (omega arith))
     ∙ ap (λ zs. take 1 (drop (e - 1) xs) ++ zs) (pick-range s k xs (omega arith)) in
     ap (λ zs. take s xs ++ (zs ++ drop e xs)) (turned ∙ sym picked)
 
-pub front_moved : (s e : ℕ) (b0 b1 b2 : Buffer) → s < e → e ≤ length b0.glyphs → b1 ≡ record b0 { glyphs = merge b0.level s e b0.glyphs } → b2.glyphs ≡ with_stretch s e (λ ys. slice_rotate_right ys 1) b1.glyphs → b2 ≡ record b1 { glyphs = b2.glyphs } → b2 ≡ record b0 { glyphs = (let ms = merge b0.level s e b0.glyphs in with_stretch s e (λ _. pick (last_first s e) ms) ms); places = b2.places }
+pub front_moved : (s e : ℕ) (b0 b1 b2 : Buffer) → s < e → e ≤ length b0.glyphs → b1 ≡ record b0 { glyphs = merge b0.level s e b0.glyphs } → b2.glyphs ≡ with_stretch s e (λ ys. slice_rotate_right ys 1) b1.glyphs → b2 ≡ record b1 { glyphs = b2.glyphs } → b2 ≡ record b0 { glyphs = (let ms = merge b0.level s e b0.glyphs in with_stretch s e (λ _. pick (last_place_first s e) ms) ms); places = b2.places }
 front_moved s e b0 b1 b2 h l joined walked others =
     let ms = merge b0.level s e b0.glyphs in
-    let moved = with_stretch s e (λ _. pick (last_first s e) ms) ms in
+    let moved = with_stretch s e (λ _. pick (last_place_first s e) ms) ms in
     let glyphs : b2.glyphs ≡ moved = walked ∙ ap (λ (x : Buffer). with_stretch s e (λ ys. slice_rotate_right ys 1) x.glyphs) joined ∙ turned_is s e ms h (omega (arith, length-merge b0.level s e b0.glyphs l)) in
     let whole : b2 ≡ record b0 { glyphs = moved } = others ∙ ap (λ (x : Buffer). let y : Buffer = record x { glyphs = b2.glyphs } in y) joined ∙ ap (λ xs. let y : Buffer = record b0 { glyphs = xs } in y) glyphs in
     whole ∙ ap (λ qs. let y : Buffer = record b0 { glyphs = moved; places = qs } in y) (sym (ap (λ (x : Buffer). x.places) whole))
@@ -299,18 +299,18 @@ merge_one level s gs =
     let few : nat_lt (s + 1 - s) 2 ≡ true = grind (arith, nat_tests) in
     rw few (elim (merges level) as (λ b. (if b && false then merged s (s + 1) gs else gs) ≡ gs) [ true ↦ refl | false ↦ refl ])
 
-nothing_moved : (s : ℕ) (b : Buffer) → s + 1 ≤ length b.glyphs → b ≡ record b { glyphs = (let ms = merge b.level s (s + 1) b.glyphs in with_stretch s (s + 1) (λ _. pick (last_first s (s + 1)) ms) ms) }
+nothing_moved : (s : ℕ) (b : Buffer) → s + 1 ≤ length b.glyphs → b ≡ record b { glyphs = (let ms = merge b.level s (s + 1) b.glyphs in with_stretch s (s + 1) (λ _. pick (last_place_first s (s + 1)) ms) ms) }
 nothing_moved s b l =
     let gs = b.glyphs in
     let n : s + 1 - s ≡ 1 = omega arith in
     let m : s + 1 - 1 ≡ s = omega arith in
     let k : s - s ≡ 0 = omega arith in
-    let order : last_first s (s + 1) ≡ range_with_len s 1 = ap (λ i. i ∷ range_with_len s (i - s)) m ∙ ap (λ i. s ∷ range_with_len s i) k in
-    let picked : pick (last_first s (s + 1)) gs ≡ stretch_of s (s + 1) gs = ap (λ ps. pick ps gs) order ∙ pick-range s 1 gs l ∙ ap (λ i. take i (drop s gs)) (sym n) in
-    let same : with_stretch s (s + 1) (λ _. pick (last_first s (s + 1)) gs) gs ≡ gs = ap (λ ys. take s gs ++ (ys ++ drop (s + 1) gs)) picked ∙ three_parts s (s + 1) gs (omega arith) in
-    sym (ap (λ ms. let y : Buffer = record b { glyphs = with_stretch s (s + 1) (λ _. pick (last_first s (s + 1)) ms) ms } in y) (merge_one b.level s gs) ∙ ap (λ xs. let y : Buffer = record b { glyphs = xs } in y) same)
+    let order : last_place_first s (s + 1) ≡ range_with_len s 1 = ap (λ i. i ∷ range_with_len s (i - s)) m ∙ ap (λ i. s ∷ range_with_len s i) k in
+    let picked : pick (last_place_first s (s + 1)) gs ≡ stretch_of s (s + 1) gs = ap (λ ps. pick ps gs) order ∙ pick-range s 1 gs l ∙ ap (λ i. take i (drop s gs)) (sym n) in
+    let same : with_stretch s (s + 1) (λ _. pick (last_place_first s (s + 1)) gs) gs ≡ gs = ap (λ ys. take s gs ++ (ys ++ drop (s + 1) gs)) picked ∙ three_parts s (s + 1) gs (omega arith) in
+    sym (ap (λ ms. let y : Buffer = record b { glyphs = with_stretch s (s + 1) (λ _. pick (last_place_first s (s + 1)) ms) ms } in y) (merge_one b.level s gs) ∙ ap (λ xs. let y : Buffer = record b { glyphs = xs } in y) same)
 
-short_front : (s e : ℕ) (b : Buffer) → s ≤ e → e < s + 2 → e ≤ length b.glyphs → is_reordered (stretch_of s e b.glyphs) ≡ true → has_reph (stretch_of s e b.glyphs) ≡ false → list_any goes_front (stretch_of s e b.glyphs) ≡ true → SyllableReordered universal_order universal_steps s e b b
+short_front : (s e : ℕ) (b : Buffer) → s ≤ e → e < s + 2 → e ≤ length b.glyphs → is_reordered_in_universal (stretch_of s e b.glyphs) ≡ true → has_universal_reph (stretch_of s e b.glyphs) ≡ false → list_any goes_front (stretch_of s e b.glyphs) ≡ true → SyllableReordered universal_order universal_steps s e b b
 short_front s e b h few l kind reph goes =
     let gs = b.glyphs in
     let g = at gs s in
@@ -322,7 +322,7 @@ short_front s e b h few l kind reph goes =
           let seen : list_any goes_front (g ∷ []) ≡ true = ap (list_any goes_front) (sym alone) ∙ goes in
           elim (cases_Bool (goes_front g)) [
             | inl on ↦
-                let fronts : fronts_from s s (stretch_of s e gs) ≡ (s, s + 1) ∷ [] = ap (fronts_from s s) alone ∙ ap (λ k. if k then (s, suc s) ∷ [] else fronts_from (if is_halant g then suc s else s) (suc s) []) on ∙ ap (λ k. (s, k) ∷ []) next in
+                let fronts : fronts_from s s (stretch_of s e gs) ≡ (s, s + 1) ∷ [] = ap (fronts_from s s) alone ∙ ap (λ k. if k then (s, suc s) ∷ [] else fronts_from (if is_universal_halant g then suc s else s) (suc s) []) on ∙ ap (λ k. (s, k) ∷ []) next in
                 one_reordered s e s (s + 1) b b h l kind reph fronts (nothing_moved s b (omega arith))
             | inr off ↦ absurd (let none : list_any goes_front (g ∷ []) ≡ false = rw off refl in cc)
           ]
@@ -332,11 +332,11 @@ short_front s e b h few l kind reph goes =
           absurd (cc)
     ]
 
-pub short_reordered : (s e : ℕ) (b : Buffer) → s ≤ e → e < s + 2 → e ≤ length b.glyphs → has_reph (stretch_of s e b.glyphs) ≡ false → SyllableReordered universal_order universal_steps s e b b
+pub short_reordered : (s e : ℕ) (b : Buffer) → s ≤ e → e < s + 2 → e ≤ length b.glyphs → has_universal_reph (stretch_of s e b.glyphs) ≡ false → SyllableReordered universal_order universal_steps s e b b
 short_reordered s e b h few l reph =
     let gs = b.glyphs in
     let zs = stretch_of s e gs in
-    elim (cases_Bool (is_reordered zs)) [
+    elim (cases_Bool (is_reordered_in_universal zs)) [
       | inl kind ↦ elim (cases_Bool (list_any goes_front zs)) [
         | inl goes ↦ short_front s e b h few l kind reph goes
         | inr stays ↦ still_reordered s e b h l (rw (reph, stays, kind) refl)
@@ -344,9 +344,9 @@ short_reordered s e b h few l reph =
       | inr other ↦ still_reordered s e b h l (rw other refl)
     ]
 
-pub start_back : (s k : ℕ) (gs : List hb_glyph_info_t) → s + 1 < k → k ≤ length gs + 1 → start_from s s (stretch_of s (k - 1) gs) ≡ (if is_halant (at gs (k - 1 - 1)) then k - 1 else start_from s s (stretch_of s (k - 1 - 1) gs))
+pub start_back : (s k : ℕ) (gs : List hb_glyph_info_t) → s + 1 < k → k ≤ length gs + 1 → start_from s s (stretch_of s (k - 1) gs) ≡ (if is_universal_halant (at gs (k - 1 - 1)) then k - 1 else start_from s s (stretch_of s (k - 1 - 1) gs))
 start_back s k gs h l =
     let back : k - 1 ≡ k - 1 - 1 + 1 = omega (arith, h) in
     ap (λ j. start_from s s (stretch_of s j gs)) back
     ∙ start_on s (k - 1 - 1) gs (omega (arith, h)) (omega (arith, h, l))
-    ∙ ap (λ j. if is_halant (at gs (k - 1 - 1)) then j else start_from s s (stretch_of s (k - 1 - 1) gs)) (sym back)
+    ∙ ap (λ j. if is_universal_halant (at gs (k - 1 - 1)) then j else start_from s s (stretch_of s (k - 1 - 1) gs)) (sym back)

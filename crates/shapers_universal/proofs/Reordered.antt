@@ -24,12 +24,12 @@ use Rattle.shapers_clusters.proofs.Moves.{within-old_places}
 use Rattle.shapers_clusters.proofs.Picks.{pick-pick, pick-range, within_range}
 use Rattle.shapers_clusters.proofs.Widened.{all_moves-widened, old_places-widened, order_view-widened, pick-widened}
 use Rattle.shapers_syllabic.specs.Reordering.{SyllableReordered, carried}
-use Rattle.shapers_universal.specs.Universal.{goes_front, goes_front_at, is_reordered, reph_run, reversed_first, universal_order, universal_steps}
-use Rattle.shapers_universal.specs.UniversalWalk.{fronts_from, has_reph, is_halant_at, places_in_order}
+use Rattle.shapers_universal.specs.Universal.{goes_front, goes_front_at, is_reordered_in_universal, reph_run, reversed_first, universal_order, universal_steps}
+use Rattle.shapers_universal.specs.UniversalWalk.{fronts_from, has_universal_reph, is_halant_at, syllable_places_in_order}
 use Rattle.shapers_universal.proofs.StepsAtOnce.{run_at_once}
 use Rattle.shapers_universal.proofs.UniversalFronts.{all_merges, fronts_from-none, fronts_from-view}
 use Rattle.shapers_universal.proofs.UniversalLists.{cut_after-concat, filter-none, filter_not-none}
-use Rattle.shapers_universal.proofs.UniversalPlaces.{front_at, labels_any, nothing_behind, order-permuted, steps_place, stretch_at}
+use Rattle.shapers_universal.proofs.UniversalPlaces.{goes_front_is, labels_any, nothing_behind, order-permuted, steps_place, stretch_at}
 use Rattle.shapers_universal.proofs.UniversalSteps.{universal_fits, universal_moves}
 use Rattle.shapers_universal.proofs.UniversalView.{picked_order, universal_order-view, universal_steps-view}
 
@@ -66,7 +66,7 @@ length-merged level sts gs = sym (length-map (merge_all level sts gs) plain) ∙
 abbrev pub syllable_merges : ℕ → ℕ → ℕ → List hb_glyph_info_t → List (ℕ × ℕ)
 syllable_merges s behind e gs = (s, behind) ∷ fronts_from s behind (stretch_of behind e gs)
 
-pub syllable_ran : (level : BufferClusterLevel) (s e behind : ℕ) (gs : List hb_glyph_info_t) → s ≤ e → e ≤ length gs → is_reordered (stretch_of s e gs) ≡ true → behind ≡ s + reph_run (stretch_of s e gs) → run_steps level (map (widened s e (length gs)) (universal_steps (stretch_of s e gs))) gs ≡ with_stretch s e (λ _. pick (places_in_order s behind e gs) (merge_all level (syllable_merges s behind e gs) gs)) (merge_all level (syllable_merges s behind e gs) gs)
+pub syllable_ran : (level : BufferClusterLevel) (s e behind : ℕ) (gs : List hb_glyph_info_t) → s ≤ e → e ≤ length gs → is_reordered_in_universal (stretch_of s e gs) ≡ true → behind ≡ s + reph_run (stretch_of s e gs) → run_steps level (map (widened s e (length gs)) (universal_steps (stretch_of s e gs))) gs ≡ with_stretch s e (λ _. pick (syllable_places_in_order s behind e gs) (merge_all level (syllable_merges s behind e gs) gs)) (merge_all level (syllable_merges s behind e gs) gs)
 syllable_ran level s e behind gs h l kind is =
     let zs = stretch_of s e gs in
     let n = length gs in
@@ -81,7 +81,7 @@ syllable_ran level s e behind gs h l kind is =
     let labels = range_with_len s (e - s) in
     let within = within_range s (e - s) (length ms) (omega arith) in
     let stretch : pick labels ms ≡ stretch_of s e ms = pick-range s (e - s) ms (omega arith) in
-    let order : pick olds (stretch_of s e ms) ≡ pick (places_in_order s behind e gs) ms = ap (pick olds) (sym stretch) ∙ pick-pick olds labels ms within ∙ ap (λ ps. pick ps ms) (steps_place s e behind gs h l kind is) in
+    let order : pick olds (stretch_of s e ms) ≡ pick (syllable_places_in_order s behind e gs) ms = ap (pick olds) (sym stretch) ∙ pick-pick olds labels ms within ∙ ap (λ ps. pick ps ms) (steps_place s e behind gs h l kind is) in
     run_at_once level W gs (all_moves-widened s e n steps h l moves)
     ∙ ap (λ sts. pick (old_places n W) (merge_all level sts gs)) (all_merges s e behind gs h l kind is)
     ∙ ap (λ ps. pick ps ms) (old_places-widened s e n steps h l fits)
@@ -93,19 +93,19 @@ syllable_ran level s e behind gs h l kind is =
 pub record Parts (s e behind : ℕ) (b0 b1 b2 b3 : Buffer) : Type 0 where
   pub in_order : s ≤ e
   pub in_range : e ≤ length b0.glyphs
-  pub listed : b1 ≡ record b0 { places = with_listed s (places_in_order s behind e b0.glyphs) b0.places }
+  pub listed : b1 ≡ record b0 { places = with_listed s (syllable_places_in_order s behind e b0.glyphs) b0.places }
   pub joined : b2 ≡ record b1 { glyphs = merge b1.level s behind b1.glyphs }
   pub merged : b3 ≡ record b2 { glyphs = merge_all b2.level (fronts_from s behind (stretch_of behind e b2.glyphs)) b2.glyphs }
 
 pub record PartsMake (s e behind : ℕ) (b0 b3 : Buffer) : Type 0 where
   pub is : b3 ≡ record b0 { glyphs = merge_all b0.level (syllable_merges s behind e b0.glyphs) b0.glyphs; places = b3.places }
-  pub reads : listed s e b3.places ≡ places_in_order s behind e b0.glyphs
+  pub reads : listed s e b3.places ≡ syllable_places_in_order s behind e b0.glyphs
   pub as_long : length b3.glyphs ≡ length b0.glyphs
 
 pub parts_make : (s e behind : ℕ) (b0 b1 b2 b3 : Buffer) → Parts s e behind b0 b1 b2 b3 → PartsMake s e behind b0 b3
 parts_make s e behind b0 b1 b2 b3 p =
     let gs = b0.glyphs in
-    let order = places_in_order s behind e gs in
+    let order = syllable_places_in_order s behind e gs in
     let long : length order ≡ e - s = length_permutation (range_with_len s (e - s)) order (order-permuted s behind e gs) ∙ length-range_with_len s (e - s) in
     let ps = with_listed s order b0.places in
     let hs = merge b0.level s behind gs in
@@ -124,7 +124,7 @@ parts_make s e behind b0 b1 b2 b3 p =
 pub parts_permute : (s e behind : ℕ) (b0 b3 : Buffer) → PartsMake s e behind b0 b3 → ListsEachOnce s e b3.places
 parts_permute s e behind b0 b3 m = subst (IsPermutation (range_with_len s (e - s))) (sym m.reads) (order-permuted s behind e b0.glyphs)
 
-pub parts_reordered : (s e behind : ℕ) (b0 b3 b4 : Buffer) → s ≤ e → e ≤ length b0.glyphs → is_reordered (stretch_of s e b0.glyphs) ≡ true → behind ≡ s + reph_run (stretch_of s e b0.glyphs) → PartsMake s e behind b0 b3 → b4 ≡ record b3 { glyphs = placed s e b3.places b3.glyphs } → SyllableReordered universal_order universal_steps s e b0 b4
+pub parts_reordered : (s e behind : ℕ) (b0 b3 b4 : Buffer) → s ≤ e → e ≤ length b0.glyphs → is_reordered_in_universal (stretch_of s e b0.glyphs) ≡ true → behind ≡ s + reph_run (stretch_of s e b0.glyphs) → PartsMake s e behind b0 b3 → b4 ≡ record b3 { glyphs = placed s e b3.places b3.glyphs } → SyllableReordered universal_order universal_steps s e b0 b4
 parts_reordered s e behind b0 b3 b4 h l kind is m done =
     let gs = b0.glyphs in
     let ms = merge_all b0.level (syllable_merges s behind e gs) gs in
@@ -143,17 +143,17 @@ still_pieces t (q ∷ qs) h =
     ∙ ap (λ ys. ys ++ flat_map (reversed_first t) qs) (filter_not-none t q parts.0)
     ∙ ap (λ ys. q ++ ys) (still_pieces t qs parts.1)
 
-still_order : (s e : ℕ) (gs : List hb_glyph_info_t) → e ≤ length gs → list_any goes_front (stretch_of s e gs) ≡ false → places_in_order s s e gs ≡ range_with_len s (e - s)
+still_order : (s e : ℕ) (gs : List hb_glyph_info_t) → e ≤ length gs → list_any goes_front (stretch_of s e gs) ≡ false → syllable_places_in_order s s e gs ≡ range_with_len s (e - s)
 still_order s e gs l none =
     let all = range_with_len s (e - s) in
     let qs = cut_after (is_halant_at gs) all in
     let whole : flat_map (λ q. q) qs ≡ all = cut_after-concat (is_halant_at gs) all in
-    let calm : list_any (goes_front_at gs) all ≡ false = labels_any goes_front (goes_front_at gs) gs (front_at gs) all ∙ ap (list_any goes_front) (sym (stretch_at s e gs l)) ∙ none in
+    let calm : list_any (goes_front_at gs) all ≡ false = labels_any goes_front (goes_front_at gs) gs (goes_front_is gs) all ∙ ap (list_any goes_front) (sym (stretch_at s e gs l)) ∙ none in
     ap (λ xs. flat_map (reversed_first (goes_front_at gs)) (cut_after (is_halant_at gs) xs)) (nothing_behind s e)
     ∙ still_pieces (goes_front_at gs) qs (ap (list_any (goes_front_at gs)) whole ∙ calm)
     ∙ whole
 
-pub no_reph : (gs : List hb_glyph_info_t) → has_reph gs ≡ false → reph_run gs ≡ 0
+pub no_reph : (gs : List hb_glyph_info_t) → has_universal_reph gs ≡ false → reph_run gs ≡ 0
 no_reph [] h = refl
 no_reph (g ∷ gs) h = rw h refl
 
@@ -162,26 +162,26 @@ merge_nothing level s gs =
     let few : nat_lt (s - s) 2 ≡ true = grind (arith, nat_tests) in
     rw few (elim (merges level) as (λ b. (if b && false then merged s s gs else gs) ≡ gs) [ true ↦ refl | false ↦ refl ])
 
-still_ran : (level : BufferClusterLevel) (s e : ℕ) (gs : List hb_glyph_info_t) → s ≤ e → e ≤ length gs → is_reordered (stretch_of s e gs) ≡ true → has_reph (stretch_of s e gs) ≡ false → list_any goes_front (stretch_of s e gs) ≡ false → gs ≡ run_steps level (map (widened s e (length gs)) (universal_steps (stretch_of s e gs))) gs
+still_ran : (level : BufferClusterLevel) (s e : ℕ) (gs : List hb_glyph_info_t) → s ≤ e → e ≤ length gs → is_reordered_in_universal (stretch_of s e gs) ≡ true → has_universal_reph (stretch_of s e gs) ≡ false → list_any goes_front (stretch_of s e gs) ≡ false → gs ≡ run_steps level (map (widened s e (length gs)) (universal_steps (stretch_of s e gs))) gs
 still_ran level s e gs h l kind reph none =
     let is : s ≡ s + reph_run (stretch_of s e gs) = omega (arith, no_reph (stretch_of s e gs) reph) in
     let nothing : merge_all level (syllable_merges s s e gs) gs ≡ gs = ap (λ sts. merge_all level sts (merge level s s gs)) (fronts_from-none s s (stretch_of s e gs) none) ∙ merge_nothing level s gs in
     sym (syllable_ran level s e s gs h l kind is
-    ∙ ap (λ ms. with_stretch s e (λ _. pick (places_in_order s s e gs) ms) ms) nothing
+    ∙ ap (λ ms. with_stretch s e (λ _. pick (syllable_places_in_order s s e gs) ms) ms) nothing
     ∙ ap (λ ps. with_stretch s e (λ _. pick ps gs) gs) (still_order s e gs l none)
     ∙ ap (λ ys. take s gs ++ (ys ++ drop e gs)) (pick-range s (e - s) gs (omega arith))
     ∙ three_parts s e gs h)
 
-other_kind : (level : BufferClusterLevel) (s e : ℕ) (gs : List hb_glyph_info_t) → is_reordered (stretch_of s e gs) ≡ false → gs ≡ run_steps level (map (widened s e (length gs)) (universal_steps (stretch_of s e gs))) gs
+other_kind : (level : BufferClusterLevel) (s e : ℕ) (gs : List hb_glyph_info_t) → is_reordered_in_universal (stretch_of s e gs) ≡ false → gs ≡ run_steps level (map (widened s e (length gs)) (universal_steps (stretch_of s e gs))) gs
 other_kind level s e gs kind = rw kind refl
 
-pub still_reordered : (s e : ℕ) (b : Buffer) → s ≤ e → e ≤ length b.glyphs → (is_reordered (stretch_of s e b.glyphs) && (has_reph (stretch_of s e b.glyphs) || list_any goes_front (stretch_of s e b.glyphs))) ≡ false → SyllableReordered universal_order universal_steps s e b b
+pub still_reordered : (s e : ℕ) (b : Buffer) → s ≤ e → e ≤ length b.glyphs → (is_reordered_in_universal (stretch_of s e b.glyphs) && (has_universal_reph (stretch_of s e b.glyphs) || list_any goes_front (stretch_of s e b.glyphs))) ≡ false → SyllableReordered universal_order universal_steps s e b b
 still_reordered s e b h l still =
     let zs = stretch_of s e b.glyphs in
-    syllable_reordered s e b b h l refl (elim (cases_Bool (is_reordered zs)) [
+    syllable_reordered s e b b h l refl (elim (cases_Bool (is_reordered_in_universal zs)) [
       | inr other ↦ other_kind b.level s e b.glyphs other
       | inl kind ↦
-          let none : (has_reph zs || list_any goes_front zs) ≡ false = ap (λ c. c && (has_reph zs || list_any goes_front zs)) (sym kind) ∙ still in
-          let parts : (has_reph zs ≡ false) × (list_any goes_front zs ≡ false) = or_parts (has_reph zs) (list_any goes_front zs) none in
+          let none : (has_universal_reph zs || list_any goes_front zs) ≡ false = ap (λ c. c && (has_universal_reph zs || list_any goes_front zs)) (sym kind) ∙ still in
+          let parts : (has_universal_reph zs ≡ false) × (list_any goes_front zs ≡ false) = or_parts (has_universal_reph zs) (list_any goes_front zs) none in
           still_ran b.level s e b.glyphs h l kind parts.0 parts.1
     ])

@@ -20,7 +20,7 @@ use Rattle.shapers_universal.specs.declared.ot_shaper_use.forms.FormMasks.{FormM
 use Rattle.shapers_universal.specs.PlanData.{joins_letters, universal_plan}
 use Rattle.shapers_universal.specs.UniversalMasks.{categorized}
 use Rattle.shapers_universal.specs.UniversalCuts.{formless_for}
-use Rattle.shapers_universal.specs.UniversalSyllables.{all_forms, form_masks, mask_between, rphf_recorded, set_up_by_its_bytes, syllables_set_up, with_forms, with_instead, with_pref_recorded, with_rphf, with_rphf_recorded}
+use Rattle.shapers_universal.specs.UniversalSyllables.{all_forms, form_masks, mask_between, rphf_recorded, set_up_by_its_bytes, syllables_set_up, with_form_masks, with_instead, with_pref_recorded, with_rphf, with_rphf_recorded}
 
 -- a glyph whose fields are all set
 abbrev full : hb_glyph_info_t
@@ -38,7 +38,7 @@ abbrev of_byte : ℕ → hb_glyph_info_t
 of_byte byte = record default_glyph { syllable = byte }
 
 abbrev masks_in : FormMasks → List ℕ → List ℕ
-masks_in masks bytes = map (λ g. g.mask) (with_forms masks (map of_byte bytes))
+masks_in masks bytes = map (λ g. g.mask) (with_form_masks masks (map of_byte bytes))
 
 -- the form by its place in a run: a lone one, two, three, four
 runs : map (masks_in four) ((0x12 ∷ []) ∷ (0x12 ∷ 0x22 ∷ []) ∷ (0x12 ∷ 0x22 ∷ 0x32 ∷ []) ∷ (0x12 ∷ 0x22 ∷ 0x32 ∷ 0x42 ∷ []) ∷ []) ≡ (0x10 ∷ []) ∷ (0x20 ∷ 0x80 ∷ []) ∷ (0x20 ∷ 0x40 ∷ 0x80 ∷ []) ∷ (0x20 ∷ 0x40 ∷ 0x40 ∷ 0x80 ∷ []) ∷ []
@@ -57,10 +57,10 @@ whole_syllables : masks_in four (0x12 ∷ 0x12 ∷ 0x22 ∷ 0x22 ∷ 0x22 ∷ 0x
 whole_syllables = refl
 
 -- without masks nothing changes; the bits of all forms go, other bits and fields stay
-without_masks : with_forms no_forms (full ∷ full ∷ []) ≡ full ∷ full ∷ []
+without_masks : with_form_masks no_forms (full ∷ full ∷ []) ≡ full ∷ full ∷ []
 without_masks = refl
 
-bits_of_forms : with_forms (record no_forms { fina = 0x18 }) (full ∷ full ∷ []) ≡ record full { mask = 0x27 } ∷ record full { mask = 0x27 } ∷ []
+bits_of_forms : with_form_masks (record no_forms { fina = 0x18 }) (full ∷ full ∷ []) ≡ record full { mask = 0x27 } ∷ record full { mask = 0x27 } ∷ []
 bits_of_forms = refl
 
 instead : with_instead 0xF0 0x20 (record full { mask = 0xFFFFFFFF }) ≡ record full { mask = 0xFFFFFF2F }

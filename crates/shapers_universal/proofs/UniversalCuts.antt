@@ -30,7 +30,7 @@ use Rattle.shapers_syllabic.proofs.Serials.{KeepsSame, pieces_same}
 use Rattle.shapers_syllabic.proofs.SpanCuts.{spans_cut}
 use Rattle.shapers_universal.specs.PlanData.{arabic_of, rphf_of}
 use Rattle.shapers_universal.specs.UniversalCuts.{UniversalSetUpCutsAtSpans, formless_for}
-use Rattle.shapers_universal.specs.UniversalSyllables.{all_forms, first_joins, form_masks, formed, in_forms, joins_runs, mask_between, reph_len, syllables_set_up, with_forms_for, with_instead, with_rphf, with_syllable_masks}
+use Rattle.shapers_universal.specs.UniversalSyllables.{all_forms, first_joins, form_masks, formed, in_forms, joins_runs, mask_between, rphf_len, syllables_set_up, with_forms_for, with_instead, with_rphf, with_syllable_masks}
 use Rattle.shapers_universal.specs.declared.ot_shaper_use.forms.FormMasks.{FormMasks}
 
 -- bits among those that are hidden don't show
@@ -120,12 +120,12 @@ formless_keeps None m byte gs h = All-map (λ g. g.syllable ≡ byte) (formless_
 rphf_keeps : (rphf byte : ℕ) (gs : List hb_glyph_info_t) → All (λ g. g.syllable ≡ byte) gs → All (λ g. g.syllable ≡ byte) (with_rphf rphf gs)
 rphf_keeps rphf byte gs h =
     let P : hb_glyph_info_t → Type 0 = λ g. g.syllable ≡ byte in
-    let n = reph_len gs in
+    let n = rphf_len gs in
     All-append P (map (with_bits rphf) (take n gs)) (drop n gs) (All-map P (with_bits rphf) (take n gs) (All-take P n gs h)) (All-drop P n gs h)
 
 length-rphf : (rphf : ℕ) (gs : List hb_glyph_info_t) → length (with_rphf rphf gs) ≡ length gs
 length-rphf rphf gs =
-    let n = reph_len gs in
+    let n = rphf_len gs in
     length-append (map (with_bits rphf) (take n gs)) (drop n gs) ∙ ap (λ k. k + length (drop n gs)) (length-map (take n gs) (with_bits rphf)) ∙ sym (length-append (take n gs) (drop n gs)) ∙ ap length (take-append-drop n gs)
 
 set_on_keeps : (arabic : Option arabic_shape_plan_t) (m : Map) (rphf byte : ℕ) (gs : List hb_glyph_info_t) → OfByte byte gs → OfByte byte (set_on arabic m rphf gs)
@@ -140,13 +140,13 @@ formless_same arabic m [] = refl
 formless_same (Some p) m (g ∷ gs) = ap (λ l. unnumbered g ∷ l) (formless_same (Some p) m gs)
 formless_same None m (g ∷ gs) = ap (λ l. unnumbered (formless_for None m g) ∷ l) (formless_same None m gs)
 
-len_same : (gs : List hb_glyph_info_t) → reph_len (map unnumbered gs) ≡ reph_len gs
+len_same : (gs : List hb_glyph_info_t) → rphf_len (map unnumbered gs) ≡ rphf_len gs
 len_same [] = refl
 len_same (g ∷ gs) = ap (λ n. if g.category == R then 1 else min 3 (suc n)) (length-map gs unnumbered)
 
 rphf_same : (rphf : ℕ) (gs : List hb_glyph_info_t) → map unnumbered (with_rphf rphf gs) ≡ with_rphf rphf (map unnumbered gs)
 rphf_same rphf gs =
-    let n = reph_len gs in
+    let n = rphf_len gs in
     map-append unnumbered (map (with_bits rphf) (take n gs)) (drop n gs)
     ∙ ap (λ l. l ++ map unnumbered (drop n gs)) (map-seen unnumbered (with_bits rphf) (λ g. refl) (take n gs) ∙ ap (map (with_bits rphf)) (sym (take-map unnumbered n gs)))
     ∙ ap (λ l. map (with_bits rphf) (take n (map unnumbered gs)) ++ l) (sym (drop-map unnumbered n gs))
@@ -167,7 +167,7 @@ clusters-formless None m (g ∷ gs) = ap (λ cs. g.cluster ∷ cs) (clusters-for
 clusters-rphf : (rphf : ℕ) (gs : List hb_glyph_info_t) → clusters (with_rphf rphf gs) ≡ clusters gs
 clusters-rphf rphf gs =
     let cluster : hb_glyph_info_t → ℕ = λ g. g.cluster in
-    let n = reph_len gs in
+    let n = rphf_len gs in
     map-append cluster (map (with_bits rphf) (take n gs)) (drop n gs)
     ∙ ap (λ cs. cs ++ clusters (drop n gs)) (map-map cluster (with_bits rphf) (take n gs))
     ∙ sym (map-append cluster (take n gs) (drop n gs))

@@ -11,7 +11,7 @@ use Rattle.shapers_clusters.proofs.FlagCalls.{flags-or}
 use Rattle.shapers_clusters.proofs.FlagLaw.{added_on, changed_added, flags_kept}
 use Rattle.shapers_syllabic.proofs.CircleLaws.{joined-syllables}
 use Rattle.shapers_syllabic.proofs.SetUpFlags.{bits_added, by_syllables, same_added}
-use Rattle.shapers_universal.specs.UniversalSyllables.{all_forms, first_joins, formed, in_forms, joins_runs, mask_between, reph_len, with_instead, with_rphf}
+use Rattle.shapers_universal.specs.UniversalSyllables.{all_forms, first_joins, formed, in_forms, joins_runs, mask_between, rphf_len, with_instead, with_rphf}
 use Rattle.shapers_universal.specs.declared.ot_shaper_use.forms.FormMasks.{FormMasks}
 
 -- masks of forms off the flags are so together
@@ -55,7 +55,7 @@ in_forms_added masks off fits gs = subst (λ xs. OnlyFlagsAdded xs (in_forms mas
 -- the mask of rphf
 rphf_syllable_added : (mask : ℕ) (gs : List hb_glyph_info_t) → OnlyFlagsAdded gs (with_rphf mask gs)
 rphf_syllable_added mask gs =
-    let n = reph_len gs in
+    let n = rphf_len gs in
     subst (λ xs. OnlyFlagsAdded xs (map (with_bits mask) (take n gs) ++ drop n gs)) (take-append-drop n gs)
     (all_append FlagsAdded (take n gs) (map (with_bits mask) (take n gs)) (drop n gs) (drop n gs) (changed_added (with_bits mask) (bits_added mask) (take n gs)) (same_added (drop n gs)))
 

@@ -15,7 +15,7 @@ use Rattle.shapers_buffer.specs.Lists.{cut_after, first_last}
 use Rattle.shapers_buffer.proofs.ClusterLemmas.{length-stretch}
 use Rattle.shapers_clusters.specs.Steps.{all_first, shifted, steps_along, widened}
 use Rattle.shapers_clusters.proofs.Merging.{order_view-merge, order_view-with_run}
-use Rattle.shapers_universal.specs.Universal.{goes_front, goes_front_at, is_halant, is_reordered, piece_step, piece_steps, reph_run, universal_steps}
+use Rattle.shapers_universal.specs.Universal.{goes_front, goes_front_at, is_universal_halant, is_reordered_in_universal, piece_step, piece_steps, reph_run, universal_steps}
 use Rattle.shapers_universal.specs.UniversalWalk.{fronts_from}
 use Rattle.shapers_universal.proofs.UniversalLists.{length-first_last}
 use Rattle.shapers_universal.proofs.UniversalPlaces.{at, first_last-any, reph_calm, rest_of, stretch_more}
@@ -73,31 +73,31 @@ fronts_of-none a i (x ∷ xs) h =
     rw parts.0 (fronts_of-none a (suc i) xs parts.1)
 
 -- lists with no place to cut in front
-cut_one : (xs : List hb_glyph_info_t) (x : hb_glyph_info_t) → list_any is_halant xs ≡ false → is_halant x ≡ false → cut_after is_halant (x ∷ xs) ≡ (x ∷ xs) ∷ []
+cut_one : (xs : List hb_glyph_info_t) (x : hb_glyph_info_t) → list_any is_universal_halant xs ≡ false → is_universal_halant x ≡ false → cut_after is_universal_halant (x ∷ xs) ≡ (x ∷ xs) ∷ []
 cut_one [] x none h = rw h refl
 cut_one (y ∷ ys) x none h =
-    let parts : (is_halant y ≡ false) × (list_any is_halant ys ≡ false) = or_parts (is_halant y) (list_any is_halant ys) none in
+    let parts : (is_universal_halant y ≡ false) × (list_any is_universal_halant ys ≡ false) = or_parts (is_universal_halant y) (list_any is_universal_halant ys) none in
     rw h (ap (onto_first x) (cut_one ys y parts.1 parts.0))
 
-cut_behind : (xs ys : List hb_glyph_info_t) (y : hb_glyph_info_t) → list_any is_halant xs ≡ false → is_halant y ≡ true → cut_after is_halant (xs ++ y ∷ ys) ≡ (xs ++ y ∷ []) ∷ cut_after is_halant ys
+cut_behind : (xs ys : List hb_glyph_info_t) (y : hb_glyph_info_t) → list_any is_universal_halant xs ≡ false → is_universal_halant y ≡ true → cut_after is_universal_halant (xs ++ y ∷ ys) ≡ (xs ++ y ∷ []) ∷ cut_after is_universal_halant ys
 cut_behind [] ys y none h = rw h refl
 cut_behind (x ∷ xs) ys y none h =
-    let parts : (is_halant x ≡ false) × (list_any is_halant xs ≡ false) = or_parts (is_halant x) (list_any is_halant xs) none in
+    let parts : (is_universal_halant x ≡ false) × (list_any is_universal_halant xs ≡ false) = or_parts (is_universal_halant x) (list_any is_universal_halant xs) none in
     rw parts.0 (ap (onto_first x) (cut_behind xs ys y parts.1 h))
 
-one_test : (g : hb_glyph_info_t) → is_halant g ≡ true → goes_front g ≡ false
+one_test : (g : hb_glyph_info_t) → is_universal_halant g ≡ true → goes_front g ≡ false
 one_test g h = grind (arith, nat_tests, h)
 
 abbrev merges_along : ℕ → ℕ → List hb_glyph_info_t → List (ℕ × ℕ)
-merges_along n a gs = all_first (steps_along n a (piece_steps (cut_after is_halant gs)))
+merges_along n a gs = all_first (steps_along n a (piece_steps (cut_after is_universal_halant gs)))
 
 merges_one : (n a : ℕ) (piece : List hb_glyph_info_t) (ps : List (List hb_glyph_info_t)) → all_first (steps_along n a (piece_steps (piece ∷ ps))) ≡ fronts_of a a piece ++ all_first (steps_along n (a + length piece) (piece_steps ps))
 merges_one n a piece ps = ap (λ xs. xs ++ all_first (steps_along n (a + length piece) (piece_steps ps))) (piece_fronts a piece)
 
-fronts_pieces : (n a : ℕ) (xs ys : List hb_glyph_info_t) → list_any is_halant xs ≡ false → merges_along n a (xs ++ ys) ≡ fronts_of a a xs ++ fronts_from a (a + length xs) ys
+fronts_pieces : (n a : ℕ) (xs ys : List hb_glyph_info_t) → list_any is_universal_halant xs ≡ false → merges_along n a (xs ++ ys) ≡ fronts_of a a xs ++ fronts_from a (a + length xs) ys
 fronts_pieces n a [] [] none = refl
 fronts_pieces n a (x ∷ xs) [] none =
-    let parts : (is_halant x ≡ false) × (list_any is_halant xs ≡ false) = or_parts (is_halant x) (list_any is_halant xs) none in
+    let parts : (is_universal_halant x ≡ false) × (list_any is_universal_halant xs ≡ false) = or_parts (is_universal_halant x) (list_any is_universal_halant xs) none in
     ap (merges_along n a) (append-nil (x ∷ xs))
     ∙ ap (λ ps. all_first (steps_along n a (piece_steps ps))) (cut_one xs x parts.1 parts.0)
     ∙ merges_one n a (x ∷ xs) []
@@ -108,31 +108,31 @@ fronts_pieces n a xs (y ∷ ys) none =
     let next : a + length (xs ++ y ∷ []) ≡ suc (a + length xs) = omega arith in
     let none_here : suc (a + length xs) + 0 ≡ suc (a + length xs) = omega arith in
     let front : fronts_of a a (xs ++ y ∷ []) ≡ fronts_of a a xs ++ (if goes_front y then (a, suc (a + length xs)) ∷ [] else []) = fronts_of-append a a xs (y ∷ []) in
-    elim (cases_Bool (is_halant y)) [
+    elim (cases_Bool (is_universal_halant y)) [
       | inl halant ↦
           let fails = one_test y halant in
           ap (λ ps. all_first (steps_along n a (piece_steps ps))) (cut_behind xs ys y none halant)
-          ∙ merges_one n a (xs ++ y ∷ []) (cut_after is_halant ys)
+          ∙ merges_one n a (xs ++ y ∷ []) (cut_after is_universal_halant ys)
           ∙ ap (λ k. fronts_of a a (xs ++ y ∷ []) ++ merges_along n k ys) next
           ∙ ap (λ ps. fronts_of a a (xs ++ y ∷ []) ++ ps) (fronts_pieces n (suc (a + length xs)) [] ys refl ∙ ap (λ k. fronts_from (suc (a + length xs)) k ys) none_here)
           ∙ ap (λ ps. ps ++ fronts_from (suc (a + length xs)) (suc (a + length xs)) ys) (front ∙ ap (λ b. fronts_of a a xs ++ (if b then (a, suc (a + length xs)) ∷ [] else [])) fails ∙ append-nil (fronts_of a a xs))
-          ∙ ap (λ ps. fronts_of a a xs ++ ps) (sym (ap (λ b. if b then (a, suc (a + length xs)) ∷ fronts_from a (suc (a + length xs)) ys else fronts_from (if is_halant y then suc (a + length xs) else a) (suc (a + length xs)) ys) fails ∙ ap (λ b. fronts_from (if b then suc (a + length xs) else a) (suc (a + length xs)) ys) halant))
+          ∙ ap (λ ps. fronts_of a a xs ++ ps) (sym (ap (λ b. if b then (a, suc (a + length xs)) ∷ fronts_from a (suc (a + length xs)) ys else fronts_from (if is_universal_halant y then suc (a + length xs) else a) (suc (a + length xs)) ys) fails ∙ ap (λ b. fronts_from (if b then suc (a + length xs) else a) (suc (a + length xs)) ys) halant))
       | inr other ↦
-          let calm : list_any is_halant (xs ++ y ∷ []) ≡ false = list_any-append is_halant xs (y ∷ []) ∙ rw (none, other) refl in
-          let rest : fronts_from a (suc (a + length xs)) ys ≡ fronts_from (if is_halant y then suc (a + length xs) else a) (suc (a + length xs)) ys = sym (ap (λ b. fronts_from (if b then suc (a + length xs) else a) (suc (a + length xs)) ys) other) in
+          let calm : list_any is_universal_halant (xs ++ y ∷ []) ≡ false = list_any-append is_universal_halant xs (y ∷ []) ∙ rw (none, other) refl in
+          let rest : fronts_from a (suc (a + length xs)) ys ≡ fronts_from (if is_universal_halant y then suc (a + length xs) else a) (suc (a + length xs)) ys = sym (ap (λ b. fronts_from (if b then suc (a + length xs) else a) (suc (a + length xs)) ys) other) in
           ap (merges_along n a) (sym (append_assoc xs (y ∷ []) ys))
           ∙ fronts_pieces n a (xs ++ y ∷ []) ys calm
           ∙ ap (λ k. fronts_of a a (xs ++ y ∷ []) ++ fronts_from a k ys) next
           ∙ ap (λ ps. ps ++ fronts_from a (suc (a + length xs)) ys) front
           ∙ append_assoc (fronts_of a a xs) (if goes_front y then (a, suc (a + length xs)) ∷ [] else []) (fronts_from a (suc (a + length xs)) ys)
-          ∙ ap (λ ps. fronts_of a a xs ++ ps) (elim (goes_front y) as (λ b. (if b then (a, suc (a + length xs)) ∷ [] else []) ++ fronts_from a (suc (a + length xs)) ys ≡ (if b then (a, suc (a + length xs)) ∷ fronts_from a (suc (a + length xs)) ys else fronts_from (if is_halant y then suc (a + length xs) else a) (suc (a + length xs)) ys)) [
+          ∙ ap (λ ps. fronts_of a a xs ++ ps) (elim (goes_front y) as (λ b. (if b then (a, suc (a + length xs)) ∷ [] else []) ++ fronts_from a (suc (a + length xs)) ys ≡ (if b then (a, suc (a + length xs)) ∷ fronts_from a (suc (a + length xs)) ys else fronts_from (if is_universal_halant y then suc (a + length xs) else a) (suc (a + length xs)) ys)) [
             | true ↦ refl
             | false ↦ rest
           ])
     ]
 
 -- all that a syllable merges
-pub all_merges : (s e behind : ℕ) (gs : List hb_glyph_info_t) → s ≤ e → e ≤ length gs → is_reordered (stretch_of s e gs) ≡ true → behind ≡ s + reph_run (stretch_of s e gs) → all_first (map (widened s e (length gs)) (universal_steps (stretch_of s e gs))) ≡ (s, behind) ∷ fronts_from s behind (stretch_of behind e gs)
+pub all_merges : (s e behind : ℕ) (gs : List hb_glyph_info_t) → s ≤ e → e ≤ length gs → is_reordered_in_universal (stretch_of s e gs) ≡ true → behind ≡ s + reph_run (stretch_of s e gs) → all_first (map (widened s e (length gs)) (universal_steps (stretch_of s e gs))) ≡ (s, behind) ∷ fronts_from s behind (stretch_of behind e gs)
 all_merges s e behind gs h l kind is =
     let zs = stretch_of s e gs in
     let r = reph_run zs in
@@ -146,13 +146,13 @@ all_merges s e behind gs h l kind is =
     ap all_first (steps_widened s e gs h l kind)
     ∙ ap (λ k. (k, s + r) ∷ merges_along (length gs) s (first_last (take r zs) ++ drop r zs)) none
     ∙ ap (λ k. (s, k) ∷ merges_along (length gs) s (first_last (take r zs) ++ drop r zs)) (sym is)
-    ∙ ap (λ ps. (s, behind) ∷ ps) (fronts_pieces (length gs) s run (drop r zs) (first_last-any is_halant (take r zs) calm.no_halant)
+    ∙ ap (λ ps. (s, behind) ∷ ps) (fronts_pieces (length gs) s run (drop r zs) (first_last-any is_universal_halant (take r zs) calm.no_halant)
     ∙ ap (λ ps. ps ++ fronts_from s (s + length run) (drop r zs)) (fronts_of-none s s run (first_last-any goes_front (take r zs) calm.no_front))
     ∙ ap (λ k. fronts_from s k (drop r zs)) long
     ∙ ap (fronts_from s behind) rest)
 
 -- one glyph of the walk: it goes to the front, ends its piece, or stays
-pub fronts_next : (start i e : ℕ) (gs : List hb_glyph_info_t) → i < e → e ≤ length gs → fronts_from start i (stretch_of i e gs) ≡ (if goes_front (at gs i) then (start, suc i) ∷ fronts_from start (suc i) (stretch_of (suc i) e gs) else fronts_from (if is_halant (at gs i) then suc i else start) (suc i) (stretch_of (suc i) e gs))
+pub fronts_next : (start i e : ℕ) (gs : List hb_glyph_info_t) → i < e → e ≤ length gs → fronts_from start i (stretch_of i e gs) ≡ (if goes_front (at gs i) then (start, suc i) ∷ fronts_from start (suc i) (stretch_of (suc i) e gs) else fronts_from (if is_universal_halant (at gs i) then suc i else start) (suc i) (stretch_of (suc i) e gs))
 fronts_next start i e gs h l = ap (fronts_from start i) (stretch_more i e gs h l)
 
 pub fronts_end : (start i e : ℕ) (gs : List hb_glyph_info_t) → e ≤ i → fronts_from start i (stretch_of i e gs) ≡ []
@@ -190,7 +190,7 @@ merging_front s behind e start i run next b0 b b1 h l m passes others merged fit
     let level : b.level ≡ b0.level = ap (λ (x : Buffer). x.level) m.others in
     let there : goes_front (at gs i) ≡ true = sym (seen_at goes_front (λ g. refl) i gs b.glyphs (omega arith) m.view) ∙ passes in
     let here : fronts_from start i (stretch_of i e gs) ≡ (start, i + 1) ∷ fronts_from start (i + 1) (stretch_of (i + 1) e gs) =
-    fronts_next start i e gs h l ∙ ap (λ c. if c then (start, suc i) ∷ fronts_from start (suc i) (stretch_of (suc i) e gs) else fronts_from (if is_halant (at gs i) then suc i else start) (suc i) (stretch_of (suc i) e gs)) there
+    fronts_next start i e gs h l ∙ ap (λ c. if c then (start, suc i) ∷ fronts_from start (suc i) (stretch_of (suc i) e gs) else fronts_from (if is_universal_halant (at gs i) then suc i else start) (suc i) (stretch_of (suc i) e gs)) there
     ∙ ap (λ k. (start, k) ∷ fronts_from start k (stretch_of k e gs)) (next_is i) in
     record {
       others = others ∙ ap (λ (x : Buffer). let y : Buffer = record x { glyphs = b1.glyphs } in y) m.others;
@@ -201,14 +201,14 @@ merging_front s behind e start i run next b0 b b1 h l m passes others merged fit
       fits = fits;
     }
 
-pub merging_halant : (s behind e start i : ℕ) (run : ClusterRun) (b0 b b1 : Buffer) → i < e → e ≤ length b0.glyphs → Merging s behind e start i run b0 b → goes_front (at b.glyphs i) ≡ false → is_halant (at b.glyphs i) ≡ true → b1 ≡ b → Merging s behind e (i + 1) (i + 1) run b0 b1
+pub merging_halant : (s behind e start i : ℕ) (run : ClusterRun) (b0 b b1 : Buffer) → i < e → e ≤ length b0.glyphs → Merging s behind e start i run b0 b → goes_front (at b.glyphs i) ≡ false → is_universal_halant (at b.glyphs i) ≡ true → b1 ≡ b → Merging s behind e (i + 1) (i + 1) run b0 b1
 merging_halant s behind e start i run b0 b b1 h l m fails ends same =
     let gs = b0.glyphs in
     let here : goes_front (at gs i) ≡ false = sym (seen_at goes_front (λ g. refl) i gs b.glyphs (omega arith) m.view) ∙ fails in
-    let there : is_halant (at gs i) ≡ true = sym (seen_at is_halant (λ g. refl) i gs b.glyphs (omega arith) m.view) ∙ ends in
+    let there : is_universal_halant (at gs i) ≡ true = sym (seen_at is_universal_halant (λ g. refl) i gs b.glyphs (omega arith) m.view) ∙ ends in
     let on : fronts_from start i (stretch_of i e gs) ≡ fronts_from (i + 1) (i + 1) (stretch_of (i + 1) e gs) =
     fronts_next start i e gs h l
-    ∙ ap (λ c. if c then (start, suc i) ∷ fronts_from start (suc i) (stretch_of (suc i) e gs) else fronts_from (if is_halant (at gs i) then suc i else start) (suc i) (stretch_of (suc i) e gs)) here
+    ∙ ap (λ c. if c then (start, suc i) ∷ fronts_from start (suc i) (stretch_of (suc i) e gs) else fronts_from (if is_universal_halant (at gs i) then suc i else start) (suc i) (stretch_of (suc i) e gs)) here
     ∙ ap (λ c. fronts_from (if c then suc i else start) (suc i) (stretch_of (suc i) e gs)) there
     ∙ ap (λ k. fronts_from k k (stretch_of k e gs)) (next_is i) in
     subst (Merging s behind e (i + 1) (i + 1) run b0) (sym same) (record {
@@ -220,14 +220,14 @@ merging_halant s behind e start i run b0 b b1 h l m fails ends same =
       fits = m.fits;
     })
 
-pub merging_rest : (s behind e start i : ℕ) (run : ClusterRun) (b0 b b1 : Buffer) → i < e → e ≤ length b0.glyphs → Merging s behind e start i run b0 b → goes_front (at b.glyphs i) ≡ false → is_halant (at b.glyphs i) ≡ false → b1 ≡ b → Merging s behind e start (i + 1) run b0 b1
+pub merging_rest : (s behind e start i : ℕ) (run : ClusterRun) (b0 b b1 : Buffer) → i < e → e ≤ length b0.glyphs → Merging s behind e start i run b0 b → goes_front (at b.glyphs i) ≡ false → is_universal_halant (at b.glyphs i) ≡ false → b1 ≡ b → Merging s behind e start (i + 1) run b0 b1
 merging_rest s behind e start i run b0 b b1 h l m fails goes same =
     let gs = b0.glyphs in
     let here : goes_front (at gs i) ≡ false = sym (seen_at goes_front (λ g. refl) i gs b.glyphs (omega arith) m.view) ∙ fails in
-    let there : is_halant (at gs i) ≡ false = sym (seen_at is_halant (λ g. refl) i gs b.glyphs (omega arith) m.view) ∙ goes in
+    let there : is_universal_halant (at gs i) ≡ false = sym (seen_at is_universal_halant (λ g. refl) i gs b.glyphs (omega arith) m.view) ∙ goes in
     let on : fronts_from start i (stretch_of i e gs) ≡ fronts_from start (i + 1) (stretch_of (i + 1) e gs) =
     fronts_next start i e gs h l
-    ∙ ap (λ c. if c then (start, suc i) ∷ fronts_from start (suc i) (stretch_of (suc i) e gs) else fronts_from (if is_halant (at gs i) then suc i else start) (suc i) (stretch_of (suc i) e gs)) here
+    ∙ ap (λ c. if c then (start, suc i) ∷ fronts_from start (suc i) (stretch_of (suc i) e gs) else fronts_from (if is_universal_halant (at gs i) then suc i else start) (suc i) (stretch_of (suc i) e gs)) here
     ∙ ap (λ c. fronts_from (if c then suc i else start) (suc i) (stretch_of (suc i) e gs)) there
     ∙ ap (λ k. fronts_from start k (stretch_of k e gs)) (next_is i) in
     subst (Merging s behind e start (i + 1) run b0) (sym same) (record {
@@ -248,11 +248,11 @@ merging_ends s behind e start i run b0 b b1 h m is =
 pub fronts_from-view : (a i : ℕ) (gs : List hb_glyph_info_t) → fronts_from a i (order_view gs) ≡ fronts_from a i gs
 fronts_from-view a i [] = refl
 fronts_from-view a i (g ∷ gs) =
-    ap (λ sts. if goes_front g then (a, suc i) ∷ sts else fronts_from (if is_halant g then suc i else a) (suc i) (order_view gs)) (fronts_from-view a (suc i) gs)
-    ∙ ap (λ sts. if goes_front g then (a, suc i) ∷ fronts_from a (suc i) gs else sts) (fronts_from-view (if is_halant g then suc i else a) (suc i) gs)
+    ap (λ sts. if goes_front g then (a, suc i) ∷ sts else fronts_from (if is_universal_halant g then suc i else a) (suc i) (order_view gs)) (fronts_from-view a (suc i) gs)
+    ∙ ap (λ sts. if goes_front g then (a, suc i) ∷ fronts_from a (suc i) gs else sts) (fronts_from-view (if is_universal_halant g then suc i else a) (suc i) gs)
 
 pub fronts_from-none : (a i : ℕ) (gs : List hb_glyph_info_t) → list_any goes_front gs ≡ false → fronts_from a i gs ≡ []
 fronts_from-none a i [] h = refl
 fronts_from-none a i (g ∷ gs) h =
     let parts : (goes_front g ≡ false) × (list_any goes_front gs ≡ false) = or_parts (goes_front g) (list_any goes_front gs) h in
-    rw parts.0 (fronts_from-none (if is_halant g then suc i else a) (suc i) gs parts.1)
+    rw parts.0 (fronts_from-none (if is_universal_halant g then suc i else a) (suc i) gs parts.1)

@@ -24,8 +24,8 @@ use Rattle.shapers_clusters.proofs.Moves.{length-old_places, moved_by_old_places
 use Rattle.shapers_clusters.proofs.Picks.{length-pick}
 use Rattle.shapers_clusters.proofs.Widened.{old_places-widened, pick-widened, range-append}
 use Rattle.shapers_syllabic.proofs.ReorderingLemmas.{old_places_one}
-use Rattle.shapers_universal.specs.Universal.{first_behind, goes_front, goes_front_at, is_halant, is_passed, is_reordered, piece_step, piece_steps, pieces, reph_moved, reph_run, reph_step, reversed_first, universal_steps}
-use Rattle.shapers_universal.specs.UniversalWalk.{first_piece_len, is_halant_at, piece_places, places_in_order}
+use Rattle.shapers_universal.specs.Universal.{first_behind, goes_front, goes_front_at, is_universal_halant, reph_passes, is_reordered_in_universal, piece_step, piece_steps, pieces, reph_moved, reph_run, universal_reph_step, reversed_first, universal_steps}
+use Rattle.shapers_universal.specs.UniversalWalk.{first_piece_len, is_halant_at, piece_places, syllable_places_in_order}
 use Rattle.shapers_universal.proofs.UniversalLists.{cut_after-concat, filter-none, filter_not-none, first_behind-map, length-first_behind, length-first_last, permuted-first_behind, permuted-first_last, permuted-reversed_first, pick-first_behind, pick-reversed_first}
 use Rattle.shapers_universal.proofs.Pieces.{cut_first}
 use Rattle.shapers_universal.proofs.UniversalSteps.{all_pieces, piece_fits, pieces_sum, reph_run-within}
@@ -34,12 +34,12 @@ use Rattle.shapers_universal.proofs.UniversalSteps.{all_pieces, piece_fits, piec
 abbrev pub at : List hb_glyph_info_t → ℕ → hb_glyph_info_t
 at gs i = get_or gs i default_glyph
 
-pub front_at : (gs : List hb_glyph_info_t) (i : ℕ) → goes_front_at gs i ≡ goes_front (at gs i)
-front_at [] i = refl
-front_at (g ∷ gs) zero = refl
-front_at (g ∷ gs) (suc i) = front_at gs i
+pub goes_front_is : (gs : List hb_glyph_info_t) (i : ℕ) → goes_front_at gs i ≡ goes_front (at gs i)
+goes_front_is [] i = refl
+goes_front_is (g ∷ gs) zero = refl
+goes_front_is (g ∷ gs) (suc i) = goes_front_is gs i
 
-pub halant_at : (gs : List hb_glyph_info_t) (i : ℕ) → is_halant_at gs i ≡ is_halant (at gs i)
+pub halant_at : (gs : List hb_glyph_info_t) (i : ℕ) → is_halant_at gs i ≡ is_universal_halant (at gs i)
 halant_at [] i = refl
 halant_at (g ∷ gs) zero = refl
 halant_at (g ∷ gs) (suc i) = halant_at gs i
@@ -118,7 +118,7 @@ nothing_there (suc p) = refl
 
 told_by : (gs : List hb_glyph_info_t) (qs : List ℕ) (p x : ℕ) → slice_get qs p ≡ Some x → goes_front_at (map (at gs) qs) p ≡ goes_front_at gs x
 told_by gs [] p x h = let none : zero ≡ suc zero = ap (λ (o : Option ℕ). option_map_or (λ (y : ℕ). 1) o 0) (sym (nothing_there p) ∙ h) in absurd (omega arith)
-told_by gs (q ∷ qs) zero x h = let same : q ≡ x = ap (λ o. option_map_or (λ y. y) o 0) h in sym (front_at gs q) ∙ ap (goes_front_at gs) same
+told_by gs (q ∷ qs) zero x h = let same : q ≡ x = ap (λ o. option_map_or (λ y. y) o 0) h in sym (goes_front_is gs q) ∙ ap (goes_front_at gs) same
 told_by gs (q ∷ qs) (suc p) x h = told_by gs qs p x h
 
 along_places : (gs : List hb_glyph_info_t) (qs : List (List ℕ)) → reordered_along (piece_steps (map (map (at gs)) qs)) (flat_map (λ q. q) qs) ≡ flat_map (reversed_first (goes_front_at gs)) qs
@@ -137,7 +137,7 @@ along_places gs (q ∷ qs) =
     ∙ ap (λ ys. reversed_first (goes_front_at gs) q ++ ys) (along_places gs qs)
 
 -- the steps of a syllable lead to its places in order
-pub steps_place : (s e behind : ℕ) (gs : List hb_glyph_info_t) → s ≤ e → e ≤ length gs → is_reordered (stretch_of s e gs) ≡ true → behind ≡ s + reph_run (stretch_of s e gs) → pick (old_places (e - s) (universal_steps (stretch_of s e gs))) (range_with_len s (e - s)) ≡ places_in_order s behind e gs
+pub steps_place : (s e behind : ℕ) (gs : List hb_glyph_info_t) → s ≤ e → e ≤ length gs → is_reordered_in_universal (stretch_of s e gs) ≡ true → behind ≡ s + reph_run (stretch_of s e gs) → pick (old_places (e - s) (universal_steps (stretch_of s e gs))) (range_with_len s (e - s)) ≡ syllable_places_in_order s behind e gs
 steps_place s e behind gs h l kind is =
     let zs = stretch_of s e gs in
     let n = e - s in
@@ -150,14 +150,14 @@ steps_place s e behind gs h l kind is =
     let labels = first_behind r all in
     let longer : length labels ≡ n = length-first_behind r all ∙ long in
     let qs = cut_after (is_halant_at gs) labels in
-    let halants : cut_after (λ i. is_halant (at gs i)) labels ≡ qs = sym (cut_after-same (is_halant_at gs) (λ i. is_halant (at gs i)) labels (halant_at gs)) in
+    let halants : cut_after (λ i. is_universal_halant (at gs i)) labels ≡ qs = sym (cut_after-same (is_halant_at gs) (λ i. is_universal_halant (at gs i)) labels (halant_at gs)) in
     let moved : reph_moved zs ≡ map (at gs) labels = ap (first_behind r) (stretch_at s e gs l) ∙ first_behind-map (at gs) r all in
-    let cut : pieces zs ≡ map (map (at gs)) qs = ap (cut_after is_halant) moved ∙ cut_after-map is_halant (at gs) labels ∙ ap (map (map (at gs))) halants in
+    let cut : pieces zs ≡ map (map (at gs)) qs = ap (cut_after is_universal_halant) moved ∙ cut_after-map is_universal_halant (at gs) labels ∙ ap (map (map (at gs))) halants in
     let sts = piece_steps (pieces zs) in
     let fit = all_pieces FitsStep piece_fits (pieces zs) in
     let sum : 0 + sum_by (λ piece. piece.0) sts ≤ n = omega (arith, pieces_sum zs, size) in
-    let steps : universal_steps zs ≡ reph_step zs ∷ steps_along n 0 sts = ap (λ b. if b then reph_step zs ∷ steps_along (length zs) 0 sts else []) kind ∙ ap (λ k. reph_step zs ∷ steps_along k 0 sts) size in
-    let first : pick (reph_step zs).places all ≡ labels = ap (λ k. pick (first_behind r (range_with_len 0 k)) all) (size ∙ sym long) ∙ pick-first_behind r all within in
+    let steps : universal_steps zs ≡ universal_reph_step zs ∷ steps_along n 0 sts = ap (λ b. if b then universal_reph_step zs ∷ steps_along (length zs) 0 sts else []) kind ∙ ap (λ k. universal_reph_step zs ∷ steps_along k 0 sts) size in
+    let first : pick (universal_reph_step zs).places all ≡ labels = ap (λ k. pick (first_behind r (range_with_len 0 k)) all) (size ∙ sym long) ∙ pick-first_behind r all within in
     sym (moved_by_old_places n (universal_steps zs) all long)
     ∙ ap (λ st. moved_on st all) steps
     ∙ ap (moved_on (steps_along n 0 sts)) first
@@ -172,39 +172,39 @@ pieces-permuted : {X : Type 0} (t : X → Bool) (qs : List (List X)) → IsPermu
 pieces-permuted t [] = IsPermutation-refl []
 pieces-permuted t (q ∷ qs) = IsPermutation-append q (reversed_first t q) (flat_map (λ q. q) qs) (flat_map (reversed_first t) qs) (permuted-reversed_first t q) (pieces-permuted t qs)
 
-pub order-permuted : (s behind e : ℕ) (gs : List hb_glyph_info_t) → IsPermutation (range_with_len s (e - s)) (places_in_order s behind e gs)
+pub order-permuted : (s behind e : ℕ) (gs : List hb_glyph_info_t) → IsPermutation (range_with_len s (e - s)) (syllable_places_in_order s behind e gs)
 order-permuted s behind e gs =
     let all = range_with_len s (e - s) in
     let labels = first_behind (behind - s) all in
     let qs = cut_after (is_halant_at gs) labels in
-    IsPermutation-trans all labels (places_in_order s behind e gs) (permuted-first_behind (behind - s) all)
-    (subst (λ xs. IsPermutation xs (places_in_order s behind e gs)) (cut_after-concat (is_halant_at gs) labels) (pieces-permuted (goes_front_at gs) qs))
+    IsPermutation-trans all labels (syllable_places_in_order s behind e gs) (permuted-first_behind (behind - s) all)
+    (subst (λ xs. IsPermutation xs (syllable_places_in_order s behind e gs)) (cut_after-concat (is_halant_at gs) labels) (pieces-permuted (goes_front_at gs) qs))
 
 -- a reph and what it passes are no halants, and go to no front
-passed_is : (g : hb_glyph_info_t) → is_passed g ≡ true → (is_halant g ≡ false) × (goes_front g ≡ false)
+passed_is : (g : hb_glyph_info_t) → reph_passes g ≡ true → (is_universal_halant g ≡ false) × (goes_front g ≡ false)
 passed_is g h = (grind (arith, nat_tests, h), grind (arith, nat_tests, h))
 
-reph_is : (g : hb_glyph_info_t) → nat_eq g.category 18 ≡ true → (is_halant g ≡ false) × (goes_front g ≡ false)
+reph_is : (g : hb_glyph_info_t) → nat_eq g.category 18 ≡ true → (is_universal_halant g ≡ false) × (goes_front g ≡ false)
 reph_is g h = (grind (arith, nat_tests, h), grind (arith, nat_tests, h))
 
 pub record Calm (gs : List hb_glyph_info_t) : Type 0 where
-  pub no_halant : list_any is_halant gs ≡ false
+  pub no_halant : list_any is_universal_halant gs ≡ false
   pub no_front : list_any goes_front gs ≡ false
 
-calm_more : (g : hb_glyph_info_t) (gs : List hb_glyph_info_t) → (is_halant g ≡ false) × (goes_front g ≡ false) → Calm gs → Calm (g ∷ gs)
+calm_more : (g : hb_glyph_info_t) (gs : List hb_glyph_info_t) → (is_universal_halant g ≡ false) × (goes_front g ≡ false) → Calm gs → Calm (g ∷ gs)
 calm_more g gs h c = record { no_halant = rw h.0 c.no_halant; no_front = rw h.1 c.no_front }
 
-calm_passed : (gs : List hb_glyph_info_t) → Calm (take (prefix_len is_passed gs) gs)
+calm_passed : (gs : List hb_glyph_info_t) → Calm (take (prefix_len reph_passes gs) gs)
 calm_passed [] = record { no_halant = refl; no_front = refl }
-calm_passed (g ∷ gs) = elim (cases_Bool (is_passed g)) [
-  | inl passes ↦ let k : suc (prefix_len is_passed gs) ≡ 1 + prefix_len is_passed gs = omega arith in rw passes (subst (λ n. Calm (take n (g ∷ gs))) k (calm_more g (take (prefix_len is_passed gs) gs) (passed_is g passes) (calm_passed gs)))
+calm_passed (g ∷ gs) = elim (cases_Bool (reph_passes g)) [
+  | inl passes ↦ let k : suc (prefix_len reph_passes gs) ≡ 1 + prefix_len reph_passes gs = omega arith in rw passes (subst (λ n. Calm (take n (g ∷ gs))) k (calm_more g (take (prefix_len reph_passes gs) gs) (passed_is g passes) (calm_passed gs)))
   | inr fails ↦ rw fails (record { no_halant = refl; no_front = refl })
 ]
 
 pub reph_calm : (gs : List hb_glyph_info_t) → Calm (take (reph_run gs) gs)
 reph_calm [] = record { no_halant = refl; no_front = refl }
 reph_calm (g ∷ gs) = elim (cases_Bool (nat_eq g.category 18)) [
-  | inl passes ↦ rw passes (calm_more g (take (prefix_len is_passed gs) gs) (reph_is g passes) (calm_passed gs))
+  | inl passes ↦ rw passes (calm_more g (take (prefix_len reph_passes gs) gs) (reph_is g passes) (calm_passed gs))
   | inr fails ↦ rw fails (record { no_halant = refl; no_front = refl })
 ]
 
@@ -231,8 +231,8 @@ calm_places s e behind gs h l is =
     let calm = subst Calm first (reph_calm zs) in
     let run = range_with_len s (behind - s) in
     record {
-      no_halant = first_last-any (is_halant_at gs) run (labels_any is_halant (is_halant_at gs) gs (halant_at gs) run ∙ calm.no_halant);
-      no_front = first_last-any (goes_front_at gs) run (labels_any goes_front (goes_front_at gs) gs (front_at gs) run ∙ calm.no_front);
+      no_halant = first_last-any (is_halant_at gs) run (labels_any is_universal_halant (is_halant_at gs) gs (halant_at gs) run ∙ calm.no_halant);
+      no_front = first_last-any (goes_front_at gs) run (labels_any goes_front (goes_front_at gs) gs (goes_front_is gs) run ∙ calm.no_front);
     }
 
 pub calm_nothing : (s : ℕ) (gs : List hb_glyph_info_t) → CalmPlaces s s gs
@@ -285,17 +285,17 @@ labels_cut s behind e h l =
 pub nothing_behind : (s e : ℕ) → first_behind (s - s) (range_with_len s (e - s)) ≡ range_with_len s (e - s)
 nothing_behind s e = let m : s - s ≡ 0 = omega arith in ap (λ k. first_behind k (range_with_len s (e - s))) m
 
-pub order_first : (s behind e end : ℕ) (gs : List hb_glyph_info_t) → s ≤ behind → behind ≤ e → s < e → e ≤ length gs → CalmPlaces s behind gs → end ≡ behind + first_piece_len is_halant (stretch_of behind e gs) → places_in_order s behind e gs ≡ piece_places s behind end gs ++ places_in_order end end e gs
+pub order_first : (s behind e end : ℕ) (gs : List hb_glyph_info_t) → s ≤ behind → behind ≤ e → s < e → e ≤ length gs → CalmPlaces s behind gs → end ≡ behind + first_piece_len is_universal_halant (stretch_of behind e gs) → syllable_places_in_order s behind e gs ≡ piece_places s behind end gs ++ syllable_places_in_order end end e gs
 order_first s behind e end gs h l some inside calm is =
     let H = is_halant_at gs in
     let R = reversed_first (goes_front_at gs) in
     let run = first_last (range_with_len s (behind - s)) in
     let ys = range_with_len behind (e - behind) in
-    let m = first_piece_len is_halant (stretch_of behind e gs) in
+    let m = first_piece_len is_universal_halant (stretch_of behind e gs) in
     let size : length ys ≡ e - behind = length-range_with_len behind (e - behind) in
     let rn : length run ≡ behind - s = length-first_last (range_with_len s (behind - s)) ∙ length-range_with_len s (behind - s) in
-    let piece : first_piece_len H ys ≡ m = first_piece_len-map is_halant (at gs) H (halant_at gs) ys ∙ ap (first_piece_len is_halant) (sym (stretch_at behind e gs inside)) in
-    let within : m ≤ e - behind = omega (arith, first_piece_len-le is_halant (stretch_of behind e gs), length-stretch behind e gs inside) in
+    let piece : first_piece_len H ys ≡ m = first_piece_len-map is_universal_halant (at gs) H (halant_at gs) ys ∙ ap (first_piece_len is_universal_halant) (sym (stretch_at behind e gs inside)) in
+    let within : m ≤ e - behind = omega (arith, first_piece_len-le is_universal_halant (stretch_of behind e gs), length-stretch behind e gs inside) in
     let n : e - behind ≡ m + (e - end) = omega arith in
     let up : behind + m ≡ end = omega arith in
     let back : end - behind ≡ m = omega arith in
@@ -324,7 +324,7 @@ length-piece s behind e gs h l =
     let rest = filter (λ x. not (t x)) ys in
     omega (arith, length-append (reverse (filter t ys)) (run ++ rest), length-append run rest, length-reverse (filter t ys), length-filter_both t (λ x. not (t x)) (λ x. refl) ys, length-range_with_len behind (e - behind), length-first_last (range_with_len s (behind - s)), length-range_with_len s (behind - s))
 
-pub order_none : (s e : ℕ) (gs : List hb_glyph_info_t) → e ≤ s → places_in_order s s e gs ≡ []
+pub order_none : (s e : ℕ) (gs : List hb_glyph_info_t) → e ≤ s → syllable_places_in_order s s e gs ≡ []
 order_none s e gs h =
     let m : e - s ≡ 0 = omega arith in
     ap (λ xs. flat_map (reversed_first (goes_front_at gs)) (cut_after (is_halant_at gs) xs)) (nothing_behind s e ∙ ap (range_with_len s) m)

@@ -7,7 +7,7 @@ use Rattle.shapers_buffer.specs.declared.buffer.level.BufferClusterLevel.TheVari
 use Rattle.shapers_buffer.specs.Glyph.{clusters, default_glyph}
 use Rattle.shapers_clusters.specs.Steps.{run_steps}
 use Rattle.shapers_universal.specs.UniversalText.{universal_circles}
-use Rattle.shapers_universal.specs.Universal.{goes_front, is_halant, is_passed, is_reordered, universal_order, universal_steps}
+use Rattle.shapers_universal.specs.Universal.{goes_front, is_universal_halant, reph_passes, is_reordered_in_universal, universal_order, universal_steps}
 
 -- glyphs of one syllable of kind 2 by their categories, numbered from 0 in clusters of their own
 abbrev from_place : ℕ → List ℕ → List hb_glyph_info_t
@@ -45,7 +45,7 @@ reph_and_front : map ordered ((18 ∷ 1 ∷ 23 ∷ 1 ∷ 22 ∷ []) ∷ (18 ∷ 
 reph_and_front = refl
 
 -- which kinds are reordered, each of them and one above
-kinds : map (λ k. is_reordered (record default_glyph { syllable = k } ∷ [])) (0x10 ∷ 0x11 ∷ 0x12 ∷ 0x13 ∷ 0x14 ∷ 0x15 ∷ 0x16 ∷ 0x17 ∷ 0x18 ∷ 0x19 ∷ 0x1F ∷ []) ≡ true ∷ true ∷ true ∷ false ∷ false ∷ false ∷ false ∷ true ∷ false ∷ false ∷ false ∷ []
+kinds : map (λ k. is_reordered_in_universal (record default_glyph { syllable = k } ∷ [])) (0x10 ∷ 0x11 ∷ 0x12 ∷ 0x13 ∷ 0x14 ∷ 0x15 ∷ 0x16 ∷ 0x17 ∷ 0x18 ∷ 0x19 ∷ 0x1F ∷ []) ≡ true ∷ true ∷ true ∷ false ∷ false ∷ false ∷ false ∷ true ∷ false ∷ false ∷ false ∷ []
 kinds = refl
 
 abbrev of_kind_9 : hb_glyph_info_t → hb_glyph_info_t
@@ -71,24 +71,24 @@ of_category category = record default_glyph { category = category }
 abbrev that_pass : (hb_glyph_info_t → Bool) → List ℕ
 that_pass test = filter (λ category. test (of_category category)) (range_with_len 0 57)
 
-not_passed : that_pass (λ g. not (is_passed g)) ≡ 12 ∷ 22 ∷ 23 ∷ 24 ∷ 25 ∷ 26 ∷ 27 ∷ 28 ∷ 29 ∷ 30 ∷ 33 ∷ 34 ∷ 35 ∷ 37 ∷ 38 ∷ 39 ∷ 44 ∷ 45 ∷ 46 ∷ 47 ∷ 53 ∷ []
+not_passed : that_pass (λ g. not (reph_passes g)) ≡ 12 ∷ 22 ∷ 23 ∷ 24 ∷ 25 ∷ 26 ∷ 27 ∷ 28 ∷ 29 ∷ 30 ∷ 33 ∷ 34 ∷ 35 ∷ 37 ∷ 38 ∷ 39 ∷ 44 ∷ 45 ∷ 46 ∷ 47 ∷ 53 ∷ []
 not_passed = refl
 
-halants : that_pass is_halant ≡ 12 ∷ 44 ∷ 53 ∷ []
+halants : that_pass is_universal_halant ≡ 12 ∷ 44 ∷ 53 ∷ []
 halants = refl
 
 fronts : that_pass goes_front ≡ 22 ∷ 23 ∷ []
 fronts = refl
 
 -- a ligature is no halant; of several glyphs for one the first alone goes to the front
-ligatures : map (λ category. is_halant (record (of_category category) { marks = record { 0 = 2 } })) (12 ∷ 44 ∷ 53 ∷ []) ≡ false ∷ false ∷ false ∷ []
+ligatures : map (λ category. is_universal_halant (record (of_category category) { marks = record { 0 = 2 } })) (12 ∷ 44 ∷ 53 ∷ []) ≡ false ∷ false ∷ false ∷ []
 ligatures = refl
 
-other_marks : map (λ marks. is_halant (record (of_category 12) { marks = record { 0 = marks } })) (0 ∷ 1 ∷ 2 ∷ 4 ∷ 8 ∷ 16 ∷ 29 ∷ 31 ∷ []) ≡ true ∷ true ∷ false ∷ true ∷ true ∷ true ∷ true ∷ false ∷ []
+other_marks : map (λ marks. is_universal_halant (record (of_category 12) { marks = record { 0 = marks } })) (0 ∷ 1 ∷ 2 ∷ 4 ∷ 8 ∷ 16 ∷ 29 ∷ 31 ∷ []) ≡ true ∷ true ∷ false ∷ true ∷ true ∷ true ∷ true ∷ false ∷ []
 other_marks = refl
 
 -- a ligature of what stands after the base ends what a reph passes, one of a halant doesn't
-ligatures_passed : map (λ category. is_passed (record (of_category category) { marks = record { 0 = 2 } })) (22 ∷ 33 ∷ 12 ∷ 1 ∷ []) ≡ false ∷ false ∷ true ∷ true ∷ []
+ligatures_passed : map (λ category. reph_passes (record (of_category category) { marks = record { 0 = 2 } })) (22 ∷ 33 ∷ 12 ∷ 1 ∷ []) ≡ false ∷ false ∷ true ∷ true ∷ []
 ligatures_passed = refl
 
 components : map (λ comp. goes_front (record (of_category 22) { lig_comp = comp })) (0 ∷ 1 ∷ 15 ∷ []) ≡ true ∷ false ∷ false ∷ []

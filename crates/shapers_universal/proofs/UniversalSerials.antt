@@ -9,7 +9,7 @@ use Rattle.shapers_syllabic.specs.Borders.{MeetAtBorder, SameButSerials, spans_s
 use Rattle.shapers_syllabic.specs.ReorderingLaws.{paused_clusters, paused_order, with_mask_by}
 use Rattle.shapers_syllabic.specs.SpanCuts.{HalvesJoined}
 use Rattle.shapers_syllabic.specs.declared.ot_shaper_syllabic.kinds.use_syllable.TheConstants.{BROKEN_CLUSTER}
-use Rattle.shapers_syllabic.proofs.HiddenCuts.{KeepsFlags, SetUpParts, joined_halves, paused_clusters_are}
+use Rattle.shapers_syllabic.proofs.HiddenCuts.{MaskKeepsFlags, SetUpParts, joined_halves, paused_clusters_are}
 use Rattle.shapers_syllabic.proofs.LawsThen.{reads_by_view}
 use Rattle.shapers_syllabic.proofs.PauseCuts.{clusters-set_up}
 use Rattle.shapers_syllabic.proofs.Views.{KeepsKinds, masks_view, unnumbered_view}
@@ -51,7 +51,7 @@ flags-and a b =
     let same : x / 8 ≡ y / 8 = and_shr a b 3 ∙ ap (λ n. bit_and n (b / 8)) (sym front) ∙ sym (and_shr (without_flags a) b 3) in
     omega arith
 
-keeps_flags : (arabic : Option arabic_shape_plan_t) (m : Map) → KeepsFlags (without_forms arabic m)
+keeps_flags : (arabic : Option arabic_shape_plan_t) (m : Map) → MaskKeepsFlags (without_forms arabic m)
 keeps_flags None m mask = flags-and mask (0xFFFFFFFF - all_forms (form_masks m))
 keeps_flags (Some p) m mask = refl
 

@@ -20,7 +20,7 @@ use Rattle.shapers_clusters.proofs.Permuted.{permutes-widened}
 use Rattle.shapers_clusters.proofs.Picks.{within_at, within_range}
 use Rattle.shapers_clusters.proofs.Swaps.{still_moves_merged}
 use Rattle.shapers_clusters.proofs.Widened.{all_along, fits-widened, moves-widened}
-use Rattle.shapers_universal.specs.Universal.{first_behind, goes_front_at, is_halant, is_passed, is_reordered, piece_step, piece_steps, pieces, places_of, reph_moved, reph_run, reph_step, reversed_first, universal_steps}
+use Rattle.shapers_universal.specs.Universal.{first_behind, goes_front_at, is_universal_halant, reph_passes, is_reordered_in_universal, piece_step, piece_steps, pieces, places_within, reph_moved, reph_run, universal_reph_step, reversed_first, universal_steps}
 use Rattle.shapers_universal.proofs.UniversalLists.{all-filter, cut_after-concat, filter-none, filter_not-none, length-first_behind, length-first_last, permuted-first_last, permuted-first_behind, permuted-reversed_first, reversed_first-append, take-range}
 
 -- a step that takes each place once fits
@@ -64,19 +64,19 @@ one_holds k r a b = grind (arith, nat_tests)
 pub reph_run-within : (gs : List hb_glyph_info_t) → reph_run gs ≤ length gs
 reph_run-within [] = omega arith
 reph_run-within (g ∷ gs) =
-    let l = prefix_len-le-length is_passed gs in
-    elim (nat_eq g.category 18) as (λ b. (if b then suc (prefix_len is_passed gs) else 0) ≤ suc (length gs)) [
+    let l = prefix_len-le-length reph_passes gs in
+    elim (nat_eq g.category 18) as (λ b. (if b then suc (prefix_len reph_passes gs) else 0) ≤ suc (length gs)) [
       | true ↦ omega arith
       | false ↦ omega arith
     ]
 
-pub reph_permutes : (gs : List hb_glyph_info_t) → Permutes (length gs) (reph_step gs)
+pub reph_permutes : (gs : List hb_glyph_info_t) → Permutes (length gs) (universal_reph_step gs)
 reph_permutes gs = permuted-first_behind (reph_run gs) (range_with_len 0 (length gs))
 
-pub reph_fits : (gs : List hb_glyph_info_t) → FitsStep (length gs) (reph_step gs)
+pub reph_fits : (gs : List hb_glyph_info_t) → FitsStep (length gs) (universal_reph_step gs)
 reph_fits gs = permuted_fits (length gs) ((0, reph_run gs) ∷ []) (first_behind (reph_run gs) (range_with_len 0 (length gs))) (reph_permutes gs) (reph_run-within gs, tt)
 
-pub reph_moves : (gs : List hb_glyph_info_t) → MovesMerged (length gs) (reph_step gs)
+pub reph_moves : (gs : List hb_glyph_info_t) → MovesMerged (length gs) (universal_reph_step gs)
 reph_moves gs =
     let n = length gs in
     let k = reph_run gs in
@@ -89,12 +89,12 @@ reph_moves gs =
 
 -- the step of a piece
 pub piece_permutes : (gs : List hb_glyph_info_t) → Permutes (length gs) (piece_step gs)
-piece_permutes gs = permuted-reversed_first (goes_front_at gs) (places_of gs)
+piece_permutes gs = permuted-reversed_first (goes_front_at gs) (places_within gs)
 
 fronts_within : (gs : List hb_glyph_info_t) → EndWithin (length gs) (piece_step gs).merged_first
 fronts_within gs =
     let n = length gs in
-    all-mapped (λ i. i < n) (λ st. st.1 ≤ n) (λ i. (0, suc i)) (filter (goes_front_at gs) (places_of gs)) (λ i h. omega arith) (all-filter (λ i. i < n) (goes_front_at gs) (places_of gs) (within_range 0 n n (omega arith)))
+    all-mapped (λ i. i < n) (λ st. st.1 ≤ n) (λ i. (0, suc i)) (filter (goes_front_at gs) (places_within gs)) (λ i h. omega arith) (all-filter (λ i. i < n) (goes_front_at gs) (places_within gs) (within_range 0 n n (omega arith)))
 
 pub piece_fits : (gs : List hb_glyph_info_t) → FitsStep (length gs) (piece_step gs)
 piece_fits gs = permuted_fits (length gs) (piece_step gs).merged_first (piece_step gs).places (piece_permutes gs) (fronts_within gs)
@@ -112,11 +112,11 @@ held_one t before after m r passes a b =
     ∙ list_any-append test front ((0, suc m) ∷ rest)
     ∙ or_right (list_any test front) (test (0, suc m) || list_any test rest) (or_left (test (0, suc m)) (list_any test rest) (one_holds (suc m) r a b))
 
-piece_moves_by : (gs : List hb_glyph_info_t) → LastPass (goes_front_at gs) (places_of gs) → MovesMerged (length gs) (piece_step gs)
+piece_moves_by : (gs : List hb_glyph_info_t) → LastPass (goes_front_at gs) (places_within gs) → MovesMerged (length gs) (piece_step gs)
 piece_moves_by gs p =
     let n = length gs in
     let t = goes_front_at gs in
-    let ps = places_of gs in
+    let ps = places_within gs in
     let m = length p.before in
     let h = suc m in
     let size : length ps ≡ n = length-range_with_len 0 n in
@@ -138,7 +138,7 @@ piece_moves_by gs p =
 pub piece_moves : (gs : List hb_glyph_info_t) → MovesMerged (length gs) (piece_step gs)
 piece_moves gs =
     let t = goes_front_at gs in
-    let ps = places_of gs in
+    let ps = places_within gs in
     elim (last_pass t ps) [
       | inl none ↦
           let sts : (piece_step gs).merged_first ≡ [] = ap (map (λ i. (0, suc i))) (filter-none t ps none) in
@@ -154,15 +154,15 @@ sum_pieces [] = refl
 sum_pieces (piece ∷ ps) = sum_by-cons (λ (p : ℕ × List Step). p.0) (length piece, piece_step piece ∷ []) (piece_steps ps) ∙ ap (λ k. length piece + k) (sum_pieces ps) ∙ sym (length-append piece (flat_map (λ p. p) ps))
 
 pub pieces_sum : (gs : List hb_glyph_info_t) → sum_by (λ piece. piece.0) (piece_steps (pieces gs)) ≡ length gs
-pieces_sum gs = sum_pieces (pieces gs) ∙ ap length (cut_after-concat is_halant (reph_moved gs)) ∙ length-first_behind (reph_run gs) gs
+pieces_sum gs = sum_pieces (pieces gs) ∙ ap length (cut_after-concat is_universal_halant (reph_moved gs)) ∙ length-first_behind (reph_run gs) gs
 
 pub all_pieces : (P : ℕ → Step → Type 0) → ((gs : List hb_glyph_info_t) → P (length gs) (piece_step gs)) → (ps : List (List hb_glyph_info_t)) → AllByRecursion (λ piece. AllByRecursion (P piece.0) piece.1) (piece_steps ps)
 all_pieces P holds [] = tt
 all_pieces P holds (piece ∷ ps) = ((holds piece, tt), all_pieces P holds ps)
 
-all_steps : (P : ℕ → Step → Type 0) → ((s e n : ℕ) (step : Step) → s ≤ e → e ≤ n → P (e - s) step → P n (widened s e n step)) → ((gs : List hb_glyph_info_t) → P (length gs) (reph_step gs)) → ((gs : List hb_glyph_info_t) → P (length gs) (piece_step gs)) → (gs : List hb_glyph_info_t) → AllByRecursion (P (length gs)) (universal_steps gs)
+all_steps : (P : ℕ → Step → Type 0) → ((s e n : ℕ) (step : Step) → s ≤ e → e ≤ n → P (e - s) step → P n (widened s e n step)) → ((gs : List hb_glyph_info_t) → P (length gs) (universal_reph_step gs)) → ((gs : List hb_glyph_info_t) → P (length gs) (piece_step gs)) → (gs : List hb_glyph_info_t) → AllByRecursion (P (length gs)) (universal_steps gs)
 all_steps P widens reph piece gs =
-    elim (is_reordered gs) as (λ b. AllByRecursion (P (length gs)) (if b then reph_step gs ∷ steps_along (length gs) 0 (piece_steps (pieces gs)) else [])) [
+    elim (is_reordered_in_universal gs) as (λ b. AllByRecursion (P (length gs)) (if b then universal_reph_step gs ∷ steps_along (length gs) 0 (piece_steps (pieces gs)) else [])) [
       | true ↦ (reph gs, all_along P widens (length gs) 0 (piece_steps (pieces gs)) (omega (arith, pieces_sum gs)) (all_pieces P piece (pieces gs)))
       | false ↦ tt
     ]

@@ -11,7 +11,7 @@ use Rattle.shapers_buffer.specs.Glyph.{order_view, plain}
 use Rattle.shapers_buffer.proofs.ClusterLemmas.{length-stretch}
 use Rattle.shapers_clusters.specs.Steps.{Step, shifted, steps_along, widened}
 use Rattle.shapers_clusters.proofs.Widened.{map-range, range-append}
-use Rattle.shapers_universal.specs.Universal.{goes_front, goes_front_at, is_reordered, piece_steps, pieces, reph_step, universal_steps}
+use Rattle.shapers_universal.specs.Universal.{goes_front, goes_front_at, is_reordered_in_universal, piece_steps, pieces, universal_reph_step, universal_steps}
 use Rattle.shapers_universal.proofs.UniversalSteps.{pieces_sum}
 
 -- one merge more of a piece
@@ -81,11 +81,11 @@ along-widened s e n a (piece ∷ ps) h l fits =
     ∙ ap (λ xs. map (widened (s + a) (s + a + piece.0) n) piece.1 ++ xs) (along-widened s e n (a + piece.0) ps h l (omega arith) ∙ ap (λ j. steps_along n j ps) i)
 
 -- the steps of a syllable that is reordered, over a text: its reph, then its pieces
-pub steps_widened : (s e : ℕ) (gs : List hb_glyph_info_t) → s ≤ e → e ≤ length gs → is_reordered (stretch_of s e gs) ≡ true → map (widened s e (length gs)) (universal_steps (stretch_of s e gs)) ≡ widened s e (length gs) (reph_step (stretch_of s e gs)) ∷ steps_along (length gs) s (piece_steps (pieces (stretch_of s e gs)))
+pub steps_widened : (s e : ℕ) (gs : List hb_glyph_info_t) → s ≤ e → e ≤ length gs → is_reordered_in_universal (stretch_of s e gs) ≡ true → map (widened s e (length gs)) (universal_steps (stretch_of s e gs)) ≡ widened s e (length gs) (universal_reph_step (stretch_of s e gs)) ∷ steps_along (length gs) s (piece_steps (pieces (stretch_of s e gs)))
 steps_widened s e gs h l test =
     let zs = stretch_of s e gs in
     let n = length gs in
-    let st = reph_step zs in
+    let st = universal_reph_step zs in
     let size = length-stretch s e gs l in
     let ps = piece_steps (pieces zs) in
     let none : s + 0 ≡ s = omega arith in

@@ -12,12 +12,12 @@ use Rattle.shapers_syllabic.specs.declared.ot_shaper_syllabic.kinds.use_syllable
 use Rattle.shapers_universal.specs.declared.ot_shaper_use.category.TheConstants.{FAbv, FBlw, FMAbv, FMBlw, FMPst, FPst, H, HVM, IS, MAbv, MBlw, MPre, MPst, R, VAbv, VBlw, VMAbv, VMBlw, VMPre, VMPst, VPre, VPst}
 
 -- a category among some
-abbrev pub is_one_of : List ℕ → hb_glyph_info_t → Bool
-is_one_of cs g = list_any (λ c. c == g.category) cs
+abbrev pub is_of_categories : List ℕ → hb_glyph_info_t → Bool
+is_of_categories cs g = list_any (λ c. c == g.category) cs
 
 -- a halant: H, HVM or IS that is no ligature
-abbrev pub is_halant : hb_glyph_info_t → Bool
-is_halant g = is_one_of (H ∷ HVM ∷ IS ∷ []) g && not (is_ligated g.marks)
+abbrev pub is_universal_halant : hb_glyph_info_t → Bool
+is_universal_halant g = is_of_categories (H ∷ HVM ∷ IS ∷ []) g && not (is_ligated g.marks)
 
 -- the categories of what stands after the base
 abbrev pub post_base : List ℕ
@@ -25,13 +25,13 @@ post_base = FAbv ∷ FBlw ∷ FPst ∷ FMAbv ∷ FMBlw ∷ FMPst ∷ MAbv ∷ MB
     ∷ VPst ∷ VPre ∷ VMAbv ∷ VMBlw ∷ VMPst ∷ VMPre ∷ []
 
 -- what a reph moves behind: all but a halant and what stands after the base
-abbrev pub is_passed : hb_glyph_info_t → Bool
-is_passed g = not (is_one_of post_base g || is_halant g)
+abbrev pub reph_passes : hb_glyph_info_t → Bool
+reph_passes g = not (is_of_categories post_base g || is_universal_halant g)
 
 -- how many glyphs the reph in front and what it moves behind are, 0 where no reph stands in front
 abbrev pub reph_run : List hb_glyph_info_t → ℕ
 reph_run [] = 0
-reph_run (g ∷ gs) = if g.category == R then suc (prefix_len is_passed gs) else 0
+reph_run (g ∷ gs) = if g.category == R then suc (prefix_len reph_passes gs) else 0
 
 -- the list with the first of its first n elements as the last of them
 abbrev pub first_behind : {X : Type 0} → ℕ → List X → List X
@@ -44,37 +44,37 @@ reph_moved gs = first_behind (reph_run gs) gs
 -- what goes to the front of its piece: a vowel or modifier before the base, of those that a lookup
 -- put in for one glyph the first
 abbrev pub goes_front : hb_glyph_info_t → Bool
-goes_front g = is_one_of (VPre ∷ VMPre ∷ []) g && g.lig_comp == 0
+goes_front g = is_of_categories (VPre ∷ VMPre ∷ []) g && g.lig_comp == 0
 
 -- a list with what passes a test in front, reversed
 abbrev pub reversed_first : {X : Type 0} → (X → Bool) → List X → List X
 reversed_first test xs = reverse (filter test xs) ++ filter (λ x. not (test x)) xs
 
 -- whether syllables of this kind are reordered
-abbrev pub is_reordered : List hb_glyph_info_t → Bool
-is_reordered gs = is_of_kinds (VIRAMA_TERMINATED_CLUSTER ∷ SAKOT_TERMINATED_CLUSTER
+abbrev pub is_reordered_in_universal : List hb_glyph_info_t → Bool
+is_reordered_in_universal gs = is_of_kinds (VIRAMA_TERMINATED_CLUSTER ∷ SAKOT_TERMINATED_CLUSTER
     ∷ STANDARD_CLUSTER ∷ BROKEN_CLUSTER ∷ []) gs
 
 -- the pieces of a syllable: once its reph has moved it is cut after each halant
 abbrev pub pieces : List hb_glyph_info_t → List (List hb_glyph_info_t)
-pieces gs = cut_after is_halant (reph_moved gs)
+pieces gs = cut_after is_universal_halant (reph_moved gs)
 
 -- the order: each piece with what goes to its front in front, reversed
 abbrev pub universal_order : List hb_glyph_info_t → List hb_glyph_info_t
 universal_order gs =
-    if is_reordered gs then flat_map (reversed_first goes_front) (pieces gs) else gs
+    if is_reordered_in_universal gs then flat_map (reversed_first goes_front) (pieces gs) else gs
 
 -- the step of the reph: it merges with what it passes
-abbrev pub reph_step : List hb_glyph_info_t → Step
-reph_step gs = record {
+abbrev pub universal_reph_step : List hb_glyph_info_t → Step
+universal_reph_step gs = record {
   merged_first = (0, reph_run gs) ∷ [];
   places = first_behind (reph_run gs) (range_with_len 0 (length gs));
   merged_then = [];
 }
 
 -- the places of a piece, and whether what stands at one goes to the front
-abbrev pub places_of : List hb_glyph_info_t → List ℕ
-places_of gs = range_with_len 0 (length gs)
+abbrev pub places_within : List hb_glyph_info_t → List ℕ
+places_within gs = range_with_len 0 (length gs)
 
 abbrev pub goes_front_at : List hb_glyph_info_t → ℕ → Bool
 goes_front_at gs i = option_map_or goes_front (slice_get gs i) false
@@ -84,8 +84,8 @@ goes_front_at gs i = option_map_or goes_front (slice_get gs i) false
 abbrev pub piece_step : List hb_glyph_info_t → Step
 piece_step gs = record {
   merged_first = map (λ i. (0, suc i))
-      (filter (goes_front_at gs) (places_of gs));
-  places = reversed_first (goes_front_at gs) (places_of gs);
+      (filter (goes_front_at gs) (places_within gs));
+  places = reversed_first (goes_front_at gs) (places_within gs);
   merged_then = [];
 }
 
@@ -96,5 +96,6 @@ piece_steps ps = map (λ piece. (length piece, piece_step piece ∷ [])) ps
 -- the steps of a syllable: that of its reph, and then those of its pieces
 abbrev pub universal_steps : List hb_glyph_info_t → List Step
 universal_steps gs =
-    if is_reordered gs then reph_step gs ∷ steps_along (length gs) 0 (piece_steps (pieces gs))
+    if is_reordered_in_universal gs then universal_reph_step gs
+    ∷ steps_along (length gs) 0 (piece_steps (pieces gs))
     else []

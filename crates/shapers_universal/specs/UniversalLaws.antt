@@ -40,8 +40,8 @@ set_up_by_spans kept m spans gs = with_syllable_masks kept m (unsafe_spans spans
 
 -- the glyph without what differs between a text and its halves: the serial of its byte and the
 -- masks of forms
-abbrev pub unjoined : PlanData → Map → hb_glyph_info_t → hb_glyph_info_t
-unjoined kept m g = unnumbered (formless_for (arabic_of kept) m g)
+abbrev pub without_serial_or_forms : PlanData → Map → hb_glyph_info_t → hb_glyph_info_t
+without_serial_or_forms kept m g = unnumbered (formless_for (arabic_of kept) m g)
 
 -- A set-up and a reordering pause directly after it may be cut between any two spans.
 abbrev pub UniversalCutsBetweenSpans : Type 0
@@ -50,6 +50,6 @@ UniversalCutsBetweenSpans =
     (old new : Buffer) →
     All (λ span. span.kind ≤ 15) spans →
     PauseReordered circles universal_order universal_steps (syllables_set_up kept m spans old) new →
-    CutsBetweenSpans (unjoined kept m) (set_up_by_spans kept m)
+    CutsBetweenSpans (without_serial_or_forms kept m) (set_up_by_spans kept m)
     (paused_order circles universal_order) (paused_clusters circles universal_steps old.level)
     spans old.glyphs new.glyphs

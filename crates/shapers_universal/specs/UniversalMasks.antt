@@ -7,7 +7,7 @@ use Rattle.shapers_base.specs.declared.plan.arabic.arabic_shape_plan_t.{arabic_s
 use Rattle.shapers_buffer.specs.Buffer.{Buffer}
 use Rattle.shapers_arabic.specs.Breaks.{BreaksWhereClear, NoneNeedless}
 use Rattle.shapers_arabic.specs.FirstPiece.{FirstKeepsAsFlagged}
-use Rattle.shapers_arabic.specs.JoinedText.{AreCharacters, CutsAsHalves, joined}
+use Rattle.shapers_arabic.specs.JoinedText.{AreCharacters, CutsAsHalves, buffer_joined}
 
 -- the glyph with the category that the tables give its character
 abbrev pub categorized : (ℕ → ℕ) → hb_glyph_info_t → hb_glyph_info_t
@@ -29,7 +29,7 @@ abbrev pub MasksAreSet :
 MasksAreSet None script tables old new = new ≡ with_categories tables old
 MasksAreSet (Some p) script tables old new =
     let before = with_categories tables old in
-    (new ≡ joined p.break_flags p.mask_array script tables.joining tables.general before)
+    (new ≡ buffer_joined p.break_flags p.mask_array script tables.joining tables.general before)
     × CutsAsHalves script tables.joining tables.general old new
 
 -- where there is a plan of Arabic, the buffer with the categories may be broken at each clear

@@ -20,13 +20,13 @@ use Rattle.shapers_universal.specs.PlanData.{arabic_of, rphf_of}
 
 -- how many glyphs in front of a syllable get the mask of rphf: a reph alone, else three, or as many
 -- as there are
-abbrev pub reph_len : List hb_glyph_info_t → ℕ
-reph_len [] = 0
-reph_len (g ∷ gs) = if g.category == R then 1 else min 3 (length (g ∷ gs))
+abbrev pub rphf_len : List hb_glyph_info_t → ℕ
+rphf_len [] = 0
+rphf_len (g ∷ gs) = if g.category == R then 1 else min 3 (length (g ∷ gs))
 
 -- the syllable with the mask of rphf in front
 abbrev pub with_rphf : ℕ → List hb_glyph_info_t → List hb_glyph_info_t
-with_rphf mask gs = map (with_bits mask) (take (reph_len gs) gs) ++ drop (reph_len gs) gs
+with_rphf mask gs = map (with_bits mask) (take (rphf_len gs) gs) ++ drop (rphf_len gs) gs
 
 -- the mask of one of the features of forms in a map, 0 where it holds for the whole text
 abbrev pub form_mask : Map → List ℕ → ℕ
@@ -81,13 +81,13 @@ in_forms masks before (syl ∷ syls) =
     formed masks before (first_joins syls) syl ++ in_forms masks (joins_runs syl) syls
 
 -- the text in its forms, where there is a mask for one
-abbrev pub with_forms : FormMasks → List hb_glyph_info_t → List hb_glyph_info_t
-with_forms masks gs = if all_forms masks == 0 then gs else in_forms masks false (syllables gs)
+abbrev pub with_form_masks : FormMasks → List hb_glyph_info_t → List hb_glyph_info_t
+with_form_masks masks gs = if all_forms masks == 0 then gs else in_forms masks false (syllables gs)
 
 -- the same where the plan has no plan of Arabic
 abbrev pub with_forms_for : Option arabic_shape_plan_t → Map → List hb_glyph_info_t →
     List hb_glyph_info_t
-with_forms_for None m gs = with_forms (form_masks m) gs
+with_forms_for None m gs = with_form_masks (form_masks m) gs
 with_forms_for (Some p) m gs = gs
 
 -- the text with the masks of rphf and of forms

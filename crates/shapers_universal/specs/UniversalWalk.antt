@@ -5,14 +5,14 @@ use Rattle.std.specs.Option.{option_map_or}
 use Rattle.shapers_buffer.specs.declared.buffer.glyph.hb_glyph_info_t.{hb_glyph_info_t}
 use Rattle.shapers_buffer.specs.Clusters.{stretch_of}
 use Rattle.shapers_buffer.specs.Lists.{cut_after, first_last}
-use Rattle.shapers_universal.specs.Universal.{first_behind, goes_front, goes_front_at, is_halant, reversed_first}
+use Rattle.shapers_universal.specs.Universal.{first_behind, goes_front, goes_front_at, is_universal_halant, reversed_first}
 use Rattle.shapers_universal.specs.declared.ot_shaper_use.category.TheConstants.{R}
 use Rattle.shapers_buffer.specs.Syllables.{has_byte, syllables}
 
 -- whether a reph stands in front
-abbrev pub has_reph : List hb_glyph_info_t → Bool
-has_reph [] = false
-has_reph (g ∷ gs) = g.category == R
+abbrev pub has_universal_reph : List hb_glyph_info_t → Bool
+has_universal_reph [] = false
+has_universal_reph (g ∷ gs) = g.category == R
 
 -- how long the first piece is of a list that is cut after each element that passes the test
 abbrev pub first_piece_len : {X : Type 0} → (X → Bool) → List X → ℕ
@@ -21,7 +21,7 @@ first_piece_len test (x ∷ xs) = if test x then 1 else suc (first_piece_len tes
 
 -- whether a halant stands at a place
 abbrev pub is_halant_at : List hb_glyph_info_t → ℕ → Bool
-is_halant_at gs i = option_map_or is_halant (slice_get gs i) false
+is_halant_at gs i = option_map_or is_universal_halant (slice_get gs i) false
 
 -- whether a glyph stays behind what goes to the front of its piece
 abbrev pub stays_at : List hb_glyph_info_t → ℕ → Bool
@@ -29,8 +29,8 @@ stays_at gs i = not (goes_front_at gs i)
 
 -- the places of a syllable from s to e in their new order, where the reph and what it passes end at
 -- `behind`
-abbrev pub places_in_order : ℕ → ℕ → ℕ → List hb_glyph_info_t → List ℕ
-places_in_order s behind e gs =
+abbrev pub syllable_places_in_order : ℕ → ℕ → ℕ → List hb_glyph_info_t → List ℕ
+syllable_places_in_order s behind e gs =
     let places = first_behind (behind - s) (range_with_len s (e - s)) in
     flat_map (reversed_first (goes_front_at gs)) (cut_after (is_halant_at gs) places)
 
@@ -47,12 +47,12 @@ abbrev pub fronts_from : ℕ → ℕ → List hb_glyph_info_t → List (ℕ × �
 fronts_from start i [] = []
 fronts_from start i (g ∷ gs) =
     if goes_front g then (start, suc i) ∷ fronts_from start (suc i) gs
-    else fronts_from (if is_halant g then suc i else start) (suc i) gs
+    else fronts_from (if is_universal_halant g then suc i else start) (suc i) gs
 
 -- where the piece starts in which a syllable ends, where it began in one that starts at `start`
 abbrev pub start_from : ℕ → ℕ → List hb_glyph_info_t → ℕ
 start_from start i [] = start
-start_from start i (g ∷ gs) = start_from (if is_halant g then suc i else start) (suc i) gs
+start_from start i (g ∷ gs) = start_from (if is_universal_halant g then suc i else start) (suc i) gs
 
 -- what merges in a syllable from s to e begins so: nothing does, or this first, and then what
 -- merges behind it
@@ -62,8 +62,8 @@ MergesFirst s e gs (Some p) =
     fronts_from s s (stretch_of s e gs) ≡ p ∷ fronts_from p.0 p.1 (stretch_of p.1 e gs)
 
 -- the places from s to e with the last in front
-abbrev pub last_first : ℕ → ℕ → List ℕ
-last_first s e = (e - 1) ∷ range_with_len s (e - 1 - s)
+abbrev pub last_place_first : ℕ → ℕ → List ℕ
+last_place_first s e = (e - 1) ∷ range_with_len s (e - 1 - s)
 
 -- what a change of fronts of syllables makes of the glyphs that are left, where the changes of a
 -- syllable of this byte have ended

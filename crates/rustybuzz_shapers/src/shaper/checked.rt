@@ -3,7 +3,7 @@
 //! is then unchanged. The hooks that aren't here have no conditions.
 ghost use Rattle.std.specs.Prelude.{◌≡◌, OnOk, OnErr, IfOk, Ok, Err, is_some, if◌then◌else◌};
 ghost use Rattle.rustybuzz_shapers.specs.Checked.{AsRefused, FirstUnmet, StopsAt, pause_asks};
-ghost use Rattle.rustybuzz_shapers.specs.Pauses.{PauseKeeps, Paused, RefusesPause, circles_of};
+ghost use Rattle.rustybuzz_shapers.specs.Pauses.{PauseKeeps, Paused, RefusesPause, pause_circles};
 
 use super::conditions::{are_glyph_numbers, is_arabic};
 use super::{has_positions, hb_ot_shaper_t, kinds_fit, lacks_positions, pause_fits, run_pause};
@@ -219,7 +219,7 @@ pub fn checked_run_pause<F: hb_font_t>(
     buffer: &mut hb_buffer_t,
 ) -> Result<bool, CallError>
     ensures conditions { StopsAt (pause_asks pause plan.now spans.now buffer.old) result }
-    ensures answer { let circles = circles_of pause plan.now (F.font face.now) buffer.old in
+    ensures answer { let circles = pause_circles pause plan.now (F.font face.now) buffer.old in
         IfOk result (λ answer. answer ≡ is_some circles) }
     ensures ok { let font = F.font face.now in
         OnOk result (Paused pause plan.now font spans.now buffer.old buffer.new) }

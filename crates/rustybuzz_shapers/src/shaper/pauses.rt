@@ -1,6 +1,6 @@
 //! The pauses behind one dispatcher.
 ghost use Rattle.std.specs.Prelude.{◌≡◌, ◌==◌, ◌≤◌, [], All, IfOk, OnOk, OnErr, false, is_some, not};
-ghost use Rattle.rustybuzz_shapers.specs.Pauses.{PauseFits, PauseKeeps, PauseStays, Paused, RefusesPause, circles_of, may_change};
+ghost use Rattle.rustybuzz_shapers.specs.Pauses.{PauseFits, PauseKeeps, PauseStays, Paused, RefusesPause, pause_circles, may_change};
 ghost use Rattle.shapers_stretch.specs.Recorded.{has_stch};
 ghost use Rattle.shapers_universal.specs.PlanData.{rphf_of};
 
@@ -34,7 +34,7 @@ pub fn run_pause<F: hb_font_t>(
     requires without_positions { buffer.old.positions ≡ [] }
     requires kinds { All (λ span. span.kind ≤ 15) spans.now }
     requires data { PauseFits pause plan.now }
-    ensures answer { let circles = circles_of pause plan.now (F.font face.now) buffer.old in
+    ensures answer { let circles = pause_circles pause plan.now (F.font face.now) buffer.old in
         IfOk result (λ answer. answer ≡ is_some circles) }
     ensures ok { let font = F.font face.now in
         OnOk result (Paused pause plan.now font spans.now buffer.old buffer.new) }

@@ -3,7 +3,7 @@
 ghost use Rattle.std.specs.Prelude.{◌≡◌, ◌+◌, ◌<◌, ◌≤◌, length, map, Some, slice_set};
 ghost use Rattle.std.specs.Char.{IsScalar};
 ghost use Rattle.shapers_arabic.specs.Joining.{is_passed_over, joins_back, nearest, resolved};
-ghost use Rattle.shapers_arabic.specs.JoinedText.{AreCharacters, context_types, seen};
+ghost use Rattle.shapers_arabic.specs.JoinedText.{AreCharacters, context_types, context_look_ups};
 ghost use Rattle.shapers_arabic.specs.JoiningWalk.{FlaggedBy, IsWithin, JoinsTo, SameText, WalksAll, WalksOn, cell, column_of, given_flags, given_last, joined_at, state_at_start, step_flags, unformed, waits, written};
 
 use super::arabic_action_t::{FIN2, FIN3, FINA, INIT, ISOL, MED2, MEDI, NONE};
@@ -216,7 +216,7 @@ pub(super) fn nearest_in<T: Tables, L: Ledger>(
     ensures nearest { let table = T.tables tables.now in
         result ≡ nearest (context_types table.joining table.general context.now) }
     ensures counted { let table = T.tables tables.now in
-        count.new ≡ count.old + seen (context_types table.joining table.general context.now) }
+        count.new ≡ count.old + context_look_ups (context_types table.joining table.general context.now) }
 {
     for &c in context {
         match resolve(look_up(tables, c, count), tables.general_category(c)) {

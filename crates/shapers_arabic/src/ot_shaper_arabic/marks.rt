@@ -4,8 +4,8 @@ ghost use Rattle.std.specs.List.{list_any, prefix_len};
 ghost use Rattle.shapers_buffer.specs.Clusters.{merge_all, stretch_of};
 ghost use Rattle.shapers_buffer.specs.Glyph.{order_view};
 ghost use Rattle.shapers_clusters.specs.Steps.{shifted};
-ghost use Rattle.shapers_arabic.specs.MarkParts.{is_modifier, lengths_of, end_of, passed_by, last_first};
-ghost use Rattle.shapers_arabic.specs.Marks.{MarksReordered, in_class, is_below, is_modifier_of, marks_merged, marks_reordered, merged_for, modifiers, split_marks, with_modifiers_first};
+ghost use Rattle.shapers_arabic.specs.MarkParts.{is_modifier, lengths_of, end_of, passed_by, last_marks_first};
+ghost use Rattle.shapers_arabic.specs.Marks.{ArabicMarksReordered, in_class, has_lower_class, is_modifier_of, marks_merged, marks_reordered, merged_for, modifiers, split_marks, with_modifiers_first};
 
 use shapers_base::buffer::modified_combining_class::{BELOW, CCC22, CCC26};
 use shapers_base::buffer::{
@@ -34,7 +34,7 @@ pub fn reorder_marks(_plan: &hb_ot_shape_plan_t, buffer: &mut hb_buffer_t, start
         buffer.new ≡ record buffer.old { glyphs = marks_reordered start end merged } }
     ensures order { let view = order_view buffer.old.glyphs in
         order_view buffer.new.glyphs ≡ marks_reordered start end view }
-    ensures laws { MarksReordered start end buffer.old buffer.new }
+    ensures laws { ArabicMarksReordered start end buffer.old buffer.new }
 {
     let level = buffer.cluster_level();
     buffer.walk(&mut MarkOrder { level, start, end });
@@ -143,7 +143,7 @@ fn parts_of(marks: &[hb_glyph_info_t]) -> Parts
 // How many marks in front are of classes below this one.
 #[inline]
 fn count_below(class: u8, marks: &[hb_glyph_info_t]) -> usize
-    ensures counted { result ≡ prefix_len (is_below class) marks.now }
+    ensures counted { result ≡ prefix_len (has_lower_class class) marks.now }
     ensures within { result ≤ length marks.now }
 {
     marks
@@ -234,7 +234,7 @@ fn bring_forward(marks: &mut [hb_glyph_info_t], parts: Parts)
 #[inline]
 fn bring_last(marks: &mut [hb_glyph_info_t], count: usize, class: u8)
     requires { count ≤ length marks.old }
-    ensures { marks.new ≡ last_first count class marks.old }
+    ensures { marks.new ≡ last_marks_first count class marks.old }
 {
     if count == 0 {
         return;

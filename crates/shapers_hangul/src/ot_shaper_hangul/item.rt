@@ -2,7 +2,7 @@
 ghost use Rattle.std.specs.Prelude.{◌≡◌, ◌+◌, ◌<◌, ◌≤◌, ◌++◌, ◌∷◌, [], take, drop, if◌then◌else◌, length, get_or, true, OnOk, IsOkUnless, ◌||◌, ◌&&◌, Bool};
 ghost use Rattle.shapers_buffer.specs.declared.buffer.refusal.ShaperError.TheVariants.{Memory};
 ghost use Rattle.shapers_buffer.specs.Glyph.{characters};
-ghost use Rattle.shapers_hangul.specs.Hangul.{is_s, is_lv, has_jamo_of, is_narrow, jamo_two, jamo_three, jamo_unit, parts, syllable_unit, lone_tone, lone_unit, first_unit, taken, is_syllable, is_marked, joined_tone, is_split, unsafe_len, first_item, tone_len, item_len, glyph_copies, unit_output, item_output, is_merged, item_joined, output_len, is_kept};
+ghost use Rattle.shapers_hangul.specs.Hangul.{is_s, is_lv, has_jamo_of, is_narrow, jamo_two, jamo_three, jamo_unit, jamo_parts, syllable_unit, lone_tone, lone_unit, first_unit, taken, is_syllable, is_marked, joined_tone, is_split, unsafe_len, first_item, tone_len, item_len, glyph_copies, unit_output, item_output, is_merged, item_joined, output_len, is_kept};
 
 use super::jamo::{
     compose_three, compose_two, decompose, follows, is_combined_s, is_combining_l, is_combining_t,
@@ -147,7 +147,7 @@ fn has_jamo_of<F: hb_font_t>(face: &F, s: u32) -> bool
 #[inline]
 fn parts(s: u32) -> Unit
     requires { is_s s ≡ true }
-    ensures { result ≡ parts s }
+    ensures { result ≡ jamo_parts s }
 {
     let [l, v, t] = decompose(s);
     if is_lv(s) {

@@ -2,10 +2,10 @@
 ghost use Rattle.std.specs.Prelude.{◌≡◌, ◌+◌, ◌-◌, ◌<◌, ◌≤◌, ◌++◌, ◌∷◌, [], true, false, drop, length, take, Ok, OnOk, OnErr, IfOk, IfErr, IsOk, IsOkUnless};
 ghost use Rattle.shapers_buffer.specs.Glyph.{characters};
 ghost use Rattle.shapers_hangul.specs.HangulLaws.{AllKept};
-ghost use Rattle.shapers_hangul.specs.RewritingWalk.{changes, InTurn, change_output, changed_from};
+ghost use Rattle.shapers_hangul.specs.RewritingWalk.{rewritten_items, InTurn, change_output, changed_from};
 ghost use Rattle.shapers_buffer.specs.Refusals.{RefusesLength};
 ghost use Rattle.shapers_buffer.specs.declared.buffer.refusal.ShaperError.TheVariants.{Memory, TooLong};
-ghost use Rattle.shapers_hangul.specs.Hangul.{first_item, item_len, items_at, glyph_copies, outputs, Fit, all_joined, rewritten, wants_circles, is_kept, KeptBefore};
+ghost use Rattle.shapers_hangul.specs.Hangul.{first_item, item_len, items_at, glyph_copies, outputs, Fit, all_joined, rewritten, allows_circles, is_kept, KeptBefore};
 
 use super::item::{Item, first_item, stays_alone};
 use bitflags::Flags;
@@ -90,7 +90,7 @@ impl Cut {
     #[inline]
     fn add(&mut self, place: usize, item: Item)
         ensures whole { self.new.is_whole ≡ true → self.old.is_whole ≡ true }
-        ensures added { let one = changes ((place, item) ∷ []) in
+        ensures added { let one = rewritten_items ((place, item) ∷ []) in
             self.new.is_whole ≡ true → self.new.items.items ≡ self.old.items.items ++ one }
     {
         if !item.is_kept() && self.items.push((place, item)).is_err() {
@@ -116,7 +116,7 @@ fn measure<F: hb_font_t>(
     ensures length { let cut = items_at (F.font face.now) circles (characters glyphs.now) kept in
         RefusesLength limit (kept + length (outputs glyph_copies cut glyphs.now)) result }
     ensures items { let rest = items_at (F.font face.now) circles (characters glyphs.now) kept in
-        IfOk result (λ len. cut.new.is_whole ≡ true → cut.new.items.items ≡ changes rest) }
+        IfOk result (λ len. cut.new.is_whole ≡ true → cut.new.items.items ≡ rewritten_items rest) }
     ensures refusal { IfErr result (λ e. e ≡ TooLong) }
 {
     let mut room = limit - kept;
@@ -234,7 +234,7 @@ fn rewritten(
 // Whether the caller lets circles be inserted.
 #[inline]
 fn wants_circles(buffer: &hb_buffer_t) -> bool
-    ensures { result ≡ wants_circles buffer.now }
+    ensures { result ≡ allows_circles buffer.now }
 {
     !buffer
         .flags()

@@ -6,8 +6,8 @@ ghost use Rattle.std.specs.Option.{IfSome};
 ghost use Rattle.shapers_buffer.specs.Glyph.{at_position};
 ghost use Rattle.shapers_buffer.specs.Clusters.{stretch_of, with_stretch};
 ghost use Rattle.shapers_indic.specs.Glyphs.{greatest_place, is_one_of, passes};
-ghost use Rattle.shapers_indic_final.specs.FinalBase.{as_linked, base_by_links, base_by_pref, before_halants, before_joiner, behind_halants, first_base, is_behind_base, is_from_base_on, is_unformed, is_unformed_below, last_link, links_written, may_be_settled, settled_base, stepped_back, unformed_pref, with_base, with_base_at, with_links, with_pref_base};
-ghost use Rattle.shapers_indic_final.specs.FinalGlyphs.{is_halant};
+ghost use Rattle.shapers_indic_final.specs.FinalBase.{as_linked, base_by_links, base_by_pref, before_halants, before_joiner, behind_halants, first_base, is_behind_base, is_from_base_on, is_unformed, is_unformed_below, last_link, links_written, may_be_settled, settled_base, stepped_back, unformed_pref, with_final_base, with_base_at, with_links, with_pref_base};
+ghost use Rattle.shapers_indic_final.specs.FinalGlyphs.{is_indic_halant};
 ghost use Rattle.shapers_indic_final.specs.FinalWalk.{settled};
 
 use super::glyphs::{is_formed, is_halant};
@@ -42,9 +42,9 @@ pub(super) fn settle_base(
     ensures glyphs { let changed = with_stretch start end (settled rules.now script) in
         buffer.new ≡ record buffer.old { glyphs = changed buffer.old.glyphs } }
     ensures base { let syllable = stretch_of start end buffer.old.glyphs in
-        result.base ≡ (with_base rules.now script syllable).base }
+        result.base ≡ (with_final_base rules.now script syllable).base }
     ensures tries { let syllable = stretch_of start end buffer.old.glyphs in
-        result.tries_pref ≡ (with_base rules.now script syllable).tries_pref }
+        result.tries_pref ≡ (with_final_base rules.now script syllable).tries_pref }
     ensures same_length { length buffer.new.glyphs ≡ length buffer.old.glyphs }
     ensures within { result.base ≤ end - start }
 {
@@ -89,9 +89,9 @@ impl GlyphWalk for BaseWalk {
 // Finds the base of a syllable, and gives the glyphs that become it the base's position.
 #[inline]
 fn find_base(rules: &Rules, script: Option<Script>, glyphs: &mut [hb_glyph_info_t]) -> Based
-    ensures glyphs { glyphs.new ≡ (with_base rules.now script glyphs.old).glyphs }
-    ensures base { result.base ≡ (with_base rules.now script glyphs.old).base }
-    ensures tries { result.tries_pref ≡ (with_base rules.now script glyphs.old).tries_pref }
+    ensures glyphs { glyphs.new ≡ (with_final_base rules.now script glyphs.old).glyphs }
+    ensures base { result.base ≡ (with_final_base rules.now script glyphs.old).base }
+    ensures tries { result.tries_pref ≡ (with_final_base rules.now script glyphs.old).tries_pref }
     ensures same_length { length glyphs.new ≡ length glyphs.old }
     ensures within { result.base ≤ length glyphs.old }
 {
@@ -179,7 +179,7 @@ fn behind_halants(glyphs: &[hb_glyph_info_t], i: usize) -> usize
 // How many halants stand in front.
 #[inline]
 fn halants_len(glyphs: &[hb_glyph_info_t]) -> usize
-    ensures len { result ≡ prefix_len is_halant glyphs.now }
+    ensures len { result ≡ prefix_len is_indic_halant glyphs.now }
     ensures within { result ≤ length glyphs.now }
 {
     glyphs.iter().take_while(|glyph| is_halant(glyph)).count()

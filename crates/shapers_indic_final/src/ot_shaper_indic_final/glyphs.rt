@@ -1,7 +1,7 @@
 //! What the final reordering reads of a glyph.
 ghost use Rattle.std.specs.Prelude.{◌≡◌};
 ghost use Rattle.shapers_base.specs.Masks.{has_bits};
-ghost use Rattle.shapers_indic_final.specs.FinalGlyphs.{is_formed, is_halant, is_matra_or_halant};
+ghost use Rattle.shapers_indic_final.specs.FinalGlyphs.{is_formed, is_indic_halant, is_matra_or_halant};
 
 use shapers_base::buffer::hb_glyph_info_t;
 use shapers_base::plan::ot_category_t::{OT_H, OT_M, OT_MPst};
@@ -9,7 +9,7 @@ use shapers_base::plan::ot_category_t::{OT_H, OT_M, OT_MPst};
 // Whether a glyph is a halant.
 #[inline]
 pub(super) fn is_halant(glyph: &hb_glyph_info_t) -> bool
-    ensures { result ≡ is_halant glyph.now }
+    ensures { result ≡ is_indic_halant glyph.now }
 {
     !glyph.marks.is_ligated() && glyph.category == OT_H
 }

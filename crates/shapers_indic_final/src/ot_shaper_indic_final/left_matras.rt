@@ -11,7 +11,7 @@ ghost use Rattle.shapers_buffer.specs.ListingWalk.{with_listed};
 ghost use Rattle.shapers_clusters.specs.Steps.{run_steps, widened};
 ghost use Rattle.shapers_indic.specs.Glyphs.{places};
 ghost use Rattle.shapers_indic_final.specs.FinalMatras.{is_left, parting_steps};
-ghost use Rattle.shapers_indic_final.specs.LeftMatraWalk.{Merged, Reaches, as_parted, gone, has_gone, has_stayed, is_listed, is_passed, put, staying, steps_to};
+ghost use Rattle.shapers_indic_final.specs.LeftMatraWalk.{Merged, Reaches, as_parted, gone, has_gone, has_stayed, is_listed, flood_passes, put, staying, steps_to};
 
 use super::matras::is_left;
 use super::moves::move_matra;
@@ -192,7 +192,7 @@ fn reached(i: usize, top: usize, glyphs: &[hb_glyph_info_t], start: usize, clust
 #[inline]
 fn is_passed(i: usize, top: usize, glyphs: &[hb_glyph_info_t], j: usize, cluster: u32) -> bool
     requires { j < length glyphs.now }
-    ensures { result ≡ is_passed i top cluster glyphs.now j }
+    ensures { result ≡ flood_passes i top cluster glyphs.now j }
 {
     has_gone(i, top, glyphs, j) || glyphs[j].cluster == cluster
 }

@@ -6,7 +6,7 @@ ghost use Rattle.shapers_clusters.specs.Steps.{run_step, widened};
 ghost use Rattle.shapers_indic_final.specs.FinalGlyphs.{last_goes_first};
 ghost use Rattle.shapers_indic_final.specs.FinalMatras.{matra_step};
 ghost use Rattle.shapers_indic_final.specs.FinalPref.{pref_move};
-ghost use Rattle.shapers_indic_final.specs.FinalReph.{reph_step};
+ghost use Rattle.shapers_indic_final.specs.FinalReph.{final_reph_step};
 
 use shapers_base::buffer::{GlyphWalk, hb_buffer_t, hb_glyph_info_t};
 
@@ -16,7 +16,7 @@ pub(super) fn move_reph(buffer: &mut hb_buffer_t, s: usize, j: usize)
     requires in_range { s + j < length buffer.old.glyphs }
     requires fits { s + j + 1 < 2 ^ 64 }
     ensures { (e : ℕ) → s + j < e → e ≤ length buffer.old.glyphs
-        → let step = widened s e (length buffer.old.glyphs) (reph_step (e - s) j) in
+        → let step = widened s e (length buffer.old.glyphs) (final_reph_step (e - s) j) in
         buffer.new ≡ record buffer.old {
           glyphs = run_step buffer.old.level step buffer.old.glyphs;
           places = buffer.new.places;

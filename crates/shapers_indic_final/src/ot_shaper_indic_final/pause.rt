@@ -3,7 +3,7 @@ ghost use Rattle.std.specs.Prelude.{◌≡◌, true};
 ghost use Rattle.shapers_indic.specs.Plan.{indic_in, is_indic_data};
 ghost use Rattle.shapers_indic_final.specs.FinalLaws.{FinallyKept};
 ghost use Rattle.shapers_indic_final.specs.FinalWordStart.{FinallyReordered};
-ghost use Rattle.shapers_indic_final.specs.FinalRules.{rules_of};
+ghost use Rattle.shapers_indic_final.specs.FinalRules.{final_rules};
 ghost use Rattle.shapers_syllabic.specs.CircleLaws.{NoNewCluster};
 
 use super::reordering::reorder_text;
@@ -21,9 +21,9 @@ use shapers_indic::ot_shaper_indic::indic_in;
 #[inline]
 pub fn final_reordering<F: hb_font_t>(plan: &hb_ot_shape_plan_t, face: &F, buffer: &mut hb_buffer_t)
     requires kept { is_indic_data plan.now.plan_data ≡ true }
-    ensures reordered { let rules = rules_of (F.font face.now) (indic_in plan.now) in
+    ensures reordered { let rules = final_rules (F.font face.now) (indic_in plan.now) in
         FinallyReordered rules buffer.old buffer.new }
-    ensures laws { let rules = rules_of (F.font face.now) (indic_in plan.now) in
+    ensures laws { let rules = final_rules (F.font face.now) (indic_in plan.now) in
         FinallyKept rules buffer.old buffer.new }
     ensures clusters { NoNewCluster buffer.old.glyphs buffer.new.glyphs }
 {

@@ -1,6 +1,6 @@
 //! What the final reordering reads of the plan and the font.
 ghost use Rattle.std.specs.Prelude.{◌≡◌};
-ghost use Rattle.shapers_indic_final.specs.FinalRules.{has_no_half_forms, is_malayalam, rules_of};
+ghost use Rattle.shapers_indic_final.specs.FinalRules.{has_no_half_forms, is_malayalam, final_rules};
 
 use shapers_base::buffer::Script;
 use shapers_base::font::{GlyphId, hb_font_t};
@@ -29,7 +29,7 @@ impl Rules {
     /// The rules by a plan and a font.
     #[inline]
     pub fn new<F: hb_font_t>(plan: &indic_shape_plan_t, face: &F) -> Self
-        ensures { result ≡ rules_of (F.font face.now) plan.now }
+        ensures { result ≡ final_rules (F.font face.now) plan.now }
     {
         Rules {
             reph_pos: plan.config.reph_pos,

@@ -1,7 +1,7 @@
 //! The opening of a syllable: a left matra gets the mask of `init` at the start of a word, and inside a
 //! word a break before it is unsafe.
 ghost use Rattle.std.specs.Prelude.{◌≡◌, ◌<◌, ◌≤◌, length};
-ghost use Rattle.shapers_indic_final.specs.FinalWordStart.{before_place, continues_word, in_word, opened};
+ghost use Rattle.shapers_indic_final.specs.FinalWordStart.{before_place, continues_word, word_goes_on, opened};
 
 use super::matras::is_left;
 use shapers_base::buffer::{
@@ -28,7 +28,7 @@ pub(super) fn open_syllable(init: u32, buffer: &mut hb_buffer_t, s: usize)
 #[inline]
 fn goes_on(glyphs: &[hb_glyph_info_t], s: usize) -> bool
     requires { s ≤ length glyphs.now }
-    ensures { result ≡ in_word (before_place s glyphs.now) }
+    ensures { result ≡ word_goes_on (before_place s glyphs.now) }
 {
     if s == 0 {
         return false;

@@ -2,8 +2,8 @@
 //! scripts: "Find base consonant".)
 ghost use Rattle.std.specs.Prelude.{◌≡◌, ◌<◌, ◌≤◌, ◌-◌, length, ◌&&◌, ◌||◌, not};
 ghost use Rattle.shapers_indic.specs.Glyphs.{greatest_place, has_position, least_place};
-ghost use Rattle.shapers_indic_initial.specs.InitialBase.{base_place, has_reph, is_base, is_base_candidate, last_or_first, may_be_base, search_from, stops_search};
-ghost use Rattle.shapers_indic_initial.specs.InitialRules.{rules_of};
+ghost use Rattle.shapers_indic_initial.specs.InitialBase.{base_place, has_indic_reph, is_base, is_base_candidate, last_or_first, may_be_base, search_from, stops_search};
+ghost use Rattle.shapers_indic_initial.specs.InitialRules.{initial_rules};
 
 use super::reph::{limit, reph_len};
 use super::rules::Rules;
@@ -26,11 +26,11 @@ pub(super) struct Base {
 #[inline]
 pub(super) fn find_base<F: hb_font_t>(rules: &Rules<F>, glyphs: &[hb_glyph_info_t]) -> Base
     ensures place { let font = F.font rules.now.face.now in
-        let r = rules_of font rules.now.map.now rules.now.plan.now in
+        let r = initial_rules font rules.now.map.now rules.now.plan.now in
         result.place ≡ base_place r glyphs.now }
     ensures reph { let font = F.font rules.now.face.now in
-        let r = rules_of font rules.now.map.now rules.now.plan.now in
-        result.has_reph ≡ has_reph r glyphs.now }
+        let r = initial_rules font rules.now.map.now rules.now.plan.now in
+        result.has_reph ≡ has_indic_reph r glyphs.now }
 {
     let reph = reph_len(rules, glyphs);
     let limit = limit(reph, glyphs);

@@ -13,7 +13,7 @@ ghost use Rattle.shapers_indic.specs.declared.ot_shaper_indic.indic_feature.TheC
 ghost use Rattle.shapers_indic.specs.Glyphs.{has_category, has_position, is_one_of, passes};
 ghost use Rattle.shapers_syllabic.specs.Consonants.{is_consonant};
 ghost use Rattle.shapers_indic_initial.specs.InitialMasks.{applies_before_base, bits_of, has_eyelash, is_in_eyelash, mask_after_base, mask_before_base, opens_eyelash, pref_pair, with_eyelash_mask, with_initial_masks, with_pref_mask, without_half};
-ghost use Rattle.shapers_indic_initial.specs.InitialRules.{rules_of};
+ghost use Rattle.shapers_indic_initial.specs.InitialRules.{initial_rules};
 
 use super::rules::Rules;
 use shapers_base::buffer::{Script, hb_glyph_info_t};
@@ -38,10 +38,10 @@ pub(super) fn set_masks<F: hb_font_t>(
 )
     requires { base ≤ length glyphs.old }
     ensures masks { let font = F.font rules.now.face.now in
-        let r = rules_of font rules.now.map.now rules.now.plan.now in
+        let r = initial_rules font rules.now.map.now rules.now.plan.now in
         glyphs.new ≡ with_initial_masks r script base glyphs.old }
     ensures fits { let font = F.font rules.now.face.now in
-        let r = rules_of font rules.now.map.now rules.now.plan.now in
+        let r = initial_rules font rules.now.map.now rules.now.plan.now in
         bits_of r HALF < 2 ^ 32 }
 {
     let plan = rules.plan;
@@ -110,7 +110,7 @@ fn set_bits_around(before: u32, after: u32, base: usize, glyphs: &mut [hb_glyph_
 // The bits before the base.
 #[inline]
 fn bits_before_base(plan: &indic_shape_plan_t) -> u32
-    ensures { (font : Font) (m : Map) → result ≡ mask_before_base (rules_of font m plan.now) }
+    ensures { (font : Font) (m : Map) → result ≡ mask_before_base (initial_rules font m plan.now) }
 {
     let half = bits_of(plan, HALF);
     if !plan.is_old_spec && applies_before_base(plan.config.blwf_mode) {
@@ -134,7 +134,7 @@ fn applies_before_base(mode: BlwfMode) -> bool
 // The bits after the base.
 #[inline]
 fn bits_after_base(plan: &indic_shape_plan_t) -> u32
-    ensures { (font : Font) (m : Map) → result ≡ mask_after_base (rules_of font m plan.now) }
+    ensures { (font : Font) (m : Map) → result ≡ mask_after_base (initial_rules font m plan.now) }
 {
     bits_of(plan, BLWF) | bits_of(plan, ABVF) | bits_of(plan, PSTF)
 }
@@ -148,7 +148,7 @@ fn set_eyelash_mask(
     glyphs: &mut [hb_glyph_info_t],
 )
     ensures { (font : Font) (m : Map) →
-        glyphs.new ≡ with_eyelash_mask (rules_of font m plan.now) script base glyphs.old }
+        glyphs.new ≡ with_eyelash_mask (initial_rules font m plan.now) script base glyphs.old }
 {
     if has_eyelash(plan, script) {
         set_eyelash_bits(bits_of(plan, BLWF), base, glyphs);
@@ -159,7 +159,7 @@ fn set_eyelash_mask(
 // Devanagari.
 #[inline]
 fn has_eyelash(plan: &indic_shape_plan_t, script: Option<Script>) -> bool
-    ensures { (font : Font) (m : Map) → result ≡ has_eyelash (rules_of font m plan.now) script }
+    ensures { (font : Font) (m : Map) → result ≡ has_eyelash (initial_rules font m plan.now) script }
 {
     plan.is_old_spec && script == Some(DEVANAGARI)
 }
@@ -215,7 +215,7 @@ fn is_of_category(glyphs: &[hb_glyph_info_t], i: usize, category: Category) -> b
 fn set_pref_mask<F: hb_font_t>(rules: &Rules<F>, base: usize, glyphs: &mut [hb_glyph_info_t])
     requires { base ≤ length glyphs.old }
     ensures { let font = F.font rules.now.face.now in
-        let r = rules_of font rules.now.map.now rules.now.plan.now in
+        let r = initial_rules font rules.now.map.now rules.now.plan.now in
         glyphs.new ≡ with_pref_mask r base glyphs.old }
 {
     if let Some(pair) = pref_pair(rules, base, glyphs) {
@@ -232,7 +232,7 @@ fn pref_pair<F: hb_font_t>(
 ) -> Option<usize>
     requires { base ≤ length glyphs.now }
     ensures pair { let font = F.font rules.now.face.now in
-        let r = rules_of font rules.now.map.now rules.now.plan.now in
+        let r = initial_rules font rules.now.map.now rules.now.plan.now in
         result ≡ pref_pair r base glyphs.now }
     ensures within { MatchOption result (Unit {0}) (λ place. place + 2 ≤ length glyphs.now) }
 {

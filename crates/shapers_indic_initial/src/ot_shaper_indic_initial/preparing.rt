@@ -5,7 +5,7 @@ ghost use Rattle.shapers_buffer.specs.Buffer.{but_places};
 ghost use Rattle.shapers_indic_initial.specs.InitialPositions.{moved_behind};
 ghost use Rattle.shapers_indic_initial.specs.InitialReordering.{halant_steps, joiner_steps, opening_steps, positioned, with_halant_moved, with_joiner_first, with_marks_and_owners};
 ghost use Rattle.shapers_indic_initial.specs.InitialRules as initial;
-ghost use Rattle.shapers_indic_initial.specs.InitialRules.{rules_of};
+ghost use Rattle.shapers_indic_initial.specs.InitialRules.{initial_rules};
 ghost use Rattle.shapers_syllabic.specs.Reordering.{SyllableReordered};
 
 use super::base::{Base, find_base};
@@ -29,7 +29,7 @@ pub(super) fn prepare_for_order<F: hb_font_t>(
     requires in_range { end ≤ length buffer.old.glyphs }
     ensures same_length { length buffer.new.glyphs ≡ length buffer.old.glyphs }
     ensures reordered { let font = F.font rules.now.face.now in
-        let r = rules_of font rules.now.map.now rules.now.plan.now in
+        let r = initial_rules font rules.now.map.now rules.now.plan.now in
         let meaning = positioned r buffer.old.script in
         let steps = opening_steps r buffer.old.script in
         SyllableReordered meaning steps start end buffer.old buffer.new }

@@ -1,7 +1,7 @@
 //! The initial reordering of one syllable.
 ghost use Rattle.std.specs.Prelude.{◌≡◌, ◌≤◌, [], length};
-ghost use Rattle.shapers_indic_initial.specs.InitialReordering.{is_reordered, masked_in_order};
-ghost use Rattle.shapers_indic_initial.specs.InitialRules.{rules_of};
+ghost use Rattle.shapers_indic_initial.specs.InitialReordering.{is_reordered_in_indic, masked_in_order};
+ghost use Rattle.shapers_indic_initial.specs.InitialRules.{initial_rules};
 ghost use Rattle.shapers_syllabic.specs.Reordering.{SyllableReordered};
 
 use super::masks::set_masks;
@@ -25,15 +25,15 @@ pub(super) struct InitialOrder<'a, F: hb_font_t> {
 
 impl<'a, F: hb_font_t> Reorder for InitialOrder<'a, F> {
     ghost use Rattle.shapers_indic_initial.specs.InitialReordering.{initial_order, initial_steps};
-    ghost use Rattle.shapers_indic_initial.specs.InitialRules.{rules_of};
+    ghost use Rattle.shapers_indic_initial.specs.InitialRules.{initial_rules};
 
     ghost meaning = { λ r script gs.
         let rules = r.rules.now in
-        initial_order (rules_of (F.font rules.face.now) rules.map.now rules.plan.now) script gs };
+        initial_order (initial_rules (F.font rules.face.now) rules.map.now rules.plan.now) script gs };
 
     ghost steps = { λ r script gs.
         let rules = r.rules.now in
-        initial_steps (rules_of (F.font rules.face.now) rules.map.now rules.plan.now) script gs };
+        initial_steps (initial_rules (F.font rules.face.now) rules.map.now rules.plan.now) script gs };
 
     #[inline]
     fn reorder(
@@ -61,7 +61,7 @@ impl<'a, F: hb_font_t> InitialOrder<'a, F> {
         requires in_order { start ≤ end }
         requires in_range { end ≤ length buffer.old.glyphs }
         ensures { let rules = self.now.rules.now in
-            let r = rules_of (F.font rules.face.now) rules.map.now rules.plan.now in
+            let r = initial_rules (F.font rules.face.now) rules.map.now rules.plan.now in
             SyllableReordered (masked_in_order r buffer.old.script) (λ _. [])
             start end buffer.old buffer.new }
     {
@@ -90,13 +90,13 @@ impl<'a, F: hb_font_t> GlyphWalk for Masks<'a, F> {
     ghost use Rattle.shapers_indic.specs.declared.ot_shaper_indic.indic_feature.TheConstants.{HALF};
     ghost use Rattle.shapers_indic_initial.specs.InitialMasks.{bits_of};
     ghost use Rattle.shapers_indic_initial.specs.InitialReordering.{masked_in_order};
-    ghost use Rattle.shapers_indic_initial.specs.InitialRules.{rules_of};
+    ghost use Rattle.shapers_indic_initial.specs.InitialRules.{initial_rules};
 
     ghost can_walk = { λ w gs. (w.start ≤ w.end) × (w.end ≤ length gs) };
 
     ghost walks = { λ v w gs hs.
         let rules = v.rules.now in
-        let r = rules_of (F.font rules.face.now) rules.map.now rules.plan.now in
+        let r = initial_rules (F.font rules.face.now) rules.map.now rules.plan.now in
         (hs ≡ with_stretch v.start v.end (masked_in_order r v.script) gs)
         × (bits_of r HALF < 2 ^ 32) };
 
@@ -111,7 +111,7 @@ impl<'a, F: hb_font_t> GlyphWalk for Masks<'a, F> {
 // Whether a syllable is reordered.
 #[inline]
 fn is_reordered(syllable: &[hb_glyph_info_t]) -> bool
-    ensures { result ≡ is_reordered syllable.now }
+    ensures { result ≡ is_reordered_in_indic syllable.now }
 {
     match syllable {
         [] => false,

@@ -2,9 +2,9 @@
 //! of Indic scripts.)
 ghost use Rattle.std.specs.Prelude.{◌≡◌, ◌≤◌, length};
 ghost use Rattle.std.specs.List.{prefix_len};
-ghost use Rattle.shapers_indic_initial.specs.InitialBase.{limit_behind, opens_with_repha, reph_is_formed, reph_len, third_lets_reph};
+ghost use Rattle.shapers_indic_initial.specs.InitialBase.{limit_behind, opens_with_repha, reph_is_formed, indic_reph_len, third_lets_reph};
 ghost use Rattle.shapers_indic.specs.Glyphs.{is_joiner};
-ghost use Rattle.shapers_indic_initial.specs.InitialRules.{rules_of};
+ghost use Rattle.shapers_indic_initial.specs.InitialRules.{initial_rules};
 
 use super::rules::Rules;
 use shapers_base::buffer::hb_glyph_info_t;
@@ -19,8 +19,8 @@ use shapers_indic::ot_shaper_indic::indic_feature::RPHF;
 #[inline]
 pub(crate) fn reph_len<F: hb_font_t>(rules: &Rules<F>, glyphs: &[hb_glyph_info_t]) -> usize
     ensures len { let font = F.font rules.now.face.now in
-        let r = rules_of font rules.now.map.now rules.now.plan.now in
-        result ≡ reph_len r glyphs.now }
+        let r = initial_rules font rules.now.map.now rules.now.plan.now in
+        result ≡ indic_reph_len r glyphs.now }
     ensures within { result ≤ length glyphs.now }
 {
     let mode = rules.plan.config.reph_mode;
@@ -34,8 +34,8 @@ pub(crate) fn reph_len<F: hb_font_t>(rules: &Rules<F>, glyphs: &[hb_glyph_info_t
 /// that follow it, or at the start.
 #[inline]
 pub(crate) fn limit(reph_len: usize, glyphs: &[hb_glyph_info_t]) -> usize
-    requires { reph_len ≤ length glyphs.now }
-    ensures limit { result ≡ limit_behind reph_len glyphs.now }
+    requires { indic_reph_len ≤ length glyphs.now }
+    ensures limit { result ≡ limit_behind indic_reph_len glyphs.now }
     ensures within { result ≤ length glyphs.now }
 {
     if reph_len == 0 {
@@ -70,7 +70,7 @@ fn third_lets_reph(mode: RephMode, glyphs: &[hb_glyph_info_t]) -> bool
 fn is_formed<F: hb_font_t>(rules: &Rules<F>, glyphs: &[hb_glyph_info_t]) -> bool
     requires { 3 ≤ length glyphs.now }
     ensures { let font = F.font rules.now.face.now in
-        let r = rules_of font rules.now.map.now rules.now.plan.now in
+        let r = initial_rules font rules.now.map.now rules.now.plan.now in
         result ≡ reph_is_formed r.config.reph_mode r.forms_reph glyphs.now }
 {
     let opening = [number(&glyphs[0]), number(&glyphs[1]), number(&glyphs[2])];

@@ -1,7 +1,7 @@
 //! The positions of the glyphs of a syllable. (OpenType, Myanmar script development.)
 ghost use Rattle.std.specs.Prelude.{◌≡◌, ◌==◌, ◌≤◌, length, map, position};
 ghost use Rattle.shapers_buffer.specs.Glyph.{at_position};
-ghost use Rattle.shapers_myanmar.specs.Myanmar.{before_base, behind_reph, from_base, has_reph, in_parts, own_position, reph_len, with_own_positions, with_positions};
+ghost use Rattle.shapers_myanmar.specs.Myanmar.{before_base, behind_reph, from_base, has_myanmar_reph, parts_positioned, own_position, myanmar_reph_len, with_own_positions, with_positions};
 ghost use Rattle.shapers_myanmar.specs.MyanmarWalk.{in_part, part_of};
 ghost use Rattle.shapers_syllabic.specs.Consonants.{is_consonant};
 
@@ -25,7 +25,7 @@ pub(super) fn set_positions(syllable: &mut [hb_glyph_info_t])
 // How many glyphs the reph of a syllable has: Ra, As, H, or none.
 #[inline]
 fn reph_len(syllable: &[hb_glyph_info_t]) -> usize
-    ensures len { result ≡ reph_len syllable.now }
+    ensures len { result ≡ myanmar_reph_len syllable.now }
     ensures within { result ≤ length syllable.now }
 {
     if has_reph(syllable) { 3 } else { 0 }
@@ -34,7 +34,7 @@ fn reph_len(syllable: &[hb_glyph_info_t]) -> usize
 // Whether a syllable opens with a reph.
 #[inline]
 fn has_reph(syllable: &[hb_glyph_info_t]) -> bool
-    ensures { result ≡ has_reph syllable.now }
+    ensures { result ≡ has_myanmar_reph syllable.now }
 {
     match syllable {
         [a, b, c, ..] => a.category == OT_Ra && b.category == OT_As && c.category == OT_H,
@@ -101,7 +101,7 @@ fn set_from_base(glyphs: &mut [hb_glyph_info_t])
 // The positions behind the base, each by the part in which the glyph stands.
 #[inline]
 fn set_later(glyphs: &mut [hb_glyph_info_t])
-    ensures { glyphs.new ≡ with_own_positions POS_BASE_C (in_parts glyphs.old) }
+    ensures { glyphs.new ≡ with_own_positions POS_BASE_C (parts_positioned glyphs.old) }
 {
     let mut part = POS_AFTER_MAIN;
     let mut before = POS_BASE_C;

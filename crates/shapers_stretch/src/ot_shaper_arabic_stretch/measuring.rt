@@ -4,9 +4,9 @@ ghost use Rattle.std.specs.Prelude.{◌≡◌, ◌≤◌, ◌<◌, ◌^◌, ◌*
 ghost use Rattle.std.specs.List.{list_all};
 ghost use mir.Syntax.{w32, w64};
 ghost use Rattle.shapers_stretch.specs.Cells.{repeats};
-ghost use Rattle.shapers_stretch.specs.Measure.{added, fits_i32, fitting, laid_width, left, overlap, reach, squeezes, start, total};
+ghost use Rattle.shapers_stretch.specs.Measure.{times_added, fits_i32, fitting, laid_width, left, overlap, reach, squeezes, start, total};
 ghost use Rattle.shapers_stretch.specs.Stretch.{measured, width_of};
-ghost use Rattle.shapers_stretch.specs.Lays.{RunFits, lay_if_fits, start_if_fits};
+ghost use Rattle.shapers_stretch.specs.Lays.{TileRunFits, lay_if_fits, start_if_fits};
 ghost use Rattle.std.specs.List.{AllByRecursion};
 
 use super::parts::repeats;
@@ -120,7 +120,7 @@ pub(super) fn lay_of(choice: StretchStart, right_to_left: bool, run: Run) -> Opt
 fn run_fits(run: Run) -> bool
     ensures value { result ≡ list_all fits_i32 (run.word ∷ run.fixed ∷ run.repeating
         ∷ left run ∷ []) }
-    ensures fits { IsTrue result → RunFits run }
+    ensures fits { IsTrue result → TileRunFits run }
 {
     fits_i32(run.word)
         && fits_i32(run.fixed)
@@ -132,7 +132,7 @@ fn run_fits(run: Run) -> bool
 #[tactic(auto, using(crate::proofs::Numbers::fit_yes, crate::proofs::Numbers::fit_room, crate::proofs::Numbers::fit_width))]
 #[inline]
 fn fitting(run: Run) -> usize
-    requires { RunFits run }
+    requires { TileRunFits run }
     ensures value { result ≡ fitting run }
     ensures bound { result < 2 ^ 31 }
 {
@@ -167,8 +167,8 @@ struct Rounds {
 // How many times more they are laid, and whether that is so much that the copies overlap.
 #[inline]
 fn rounds_of(run: Run) -> Rounds
-    requires { RunFits run }
-    ensures added { result.added ≡ added run }
+    requires { TileRunFits run }
+    ensures added { result.added ≡ times_added run }
     ensures bound { result.added ≤ 2 ^ 31 }
     ensures squeezes { result.squeezes ≡ squeezes run }
 {
@@ -190,9 +190,9 @@ fn rounds_of(run: Run) -> Rounds
 // How far the repeating tiles reach, laid once and these times more.
 #[inline]
 fn reach(run: Run, added: usize) -> i128
-    requires fits { RunFits run }
-    requires bound { added ≤ 2 ^ 31 }
-    ensures value { result ≡ reach run added }
+    requires fits { TileRunFits run }
+    requires bound { times_added ≤ 2 ^ 31 }
+    ensures value { result ≡ reach run times_added }
     ensures bound { FitsSigned w64 result }
 {
     (added as i128 + 1) * run.repeating
@@ -201,9 +201,9 @@ fn reach(run: Run, added: usize) -> i128
 // How far they then reach too far.
 #[inline]
 fn excess(run: Run, added: usize) -> i128
-    requires fits { RunFits run }
-    requires bound { added ≤ 2 ^ 31 }
-    ensures value { result ≡ reach run added -ℤ left run }
+    requires fits { TileRunFits run }
+    requires bound { times_added ≤ 2 ^ 31 }
+    ensures value { result ≡ reach run times_added -ℤ left run }
     ensures high { result <ℤ pos (2 ^ 65) }
 {
     reach(run, added) - (run.word - run.fixed)
@@ -212,8 +212,8 @@ fn excess(run: Run, added: usize) -> i128
 // How many copies that makes.
 #[inline]
 fn copies(run: Run, added: usize) -> i128
-    requires { added ≤ 2 ^ 31 }
-    ensures { result ≡ pos (added * run.repeaters) }
+    requires { times_added ≤ 2 ^ 31 }
+    ensures { result ≡ pos (times_added * run.repeaters) }
 {
     added as i128 * run.repeaters as i128
 }
@@ -221,11 +221,11 @@ fn copies(run: Run, added: usize) -> i128
 // Whether these numbers fit 32 bits.
 #[inline]
 fn added_fits(run: Run, added: usize) -> bool
-    requires fits { RunFits run }
-    requires bound { added ≤ 2 ^ 31 }
-    ensures value { result ≡ list_all fits_i32 (reach run added ∷ pos (added * run.repeaters)
+    requires fits { TileRunFits run }
+    requires bound { times_added ≤ 2 ^ 31 }
+    ensures value { result ≡ list_all fits_i32 (reach run times_added ∷ pos (times_added * run.repeaters)
         ∷ []) }
-    ensures reach { IsTrue result → FitsSigned w32 (reach run added) }
+    ensures reach { IsTrue result → FitsSigned w32 (reach run times_added) }
 {
     fits_i32(reach(run, added)) && fits_i32(copies(run, added))
 }
@@ -233,9 +233,9 @@ fn added_fits(run: Run, added: usize) -> bool
 // By how much each added copy overlaps the one before it.
 #[inline]
 fn overlap(run: Run, rounds: Rounds) -> i128
-    requires fits { RunFits run }
+    requires fits { TileRunFits run }
     requires bound { rounds.added ≤ 2 ^ 31 }
-    requires added { rounds.added ≡ added run }
+    requires added { rounds.added ≡ times_added run }
     requires squeezes { rounds.squeezes ≡ squeezes run }
     requires reach { FitsSigned w32 (reach run rounds.added) }
     requires copies { rounds.added * run.repeaters < 2 ^ 31 }
@@ -258,8 +258,8 @@ fn start(
     rounds: Rounds,
     shared: i128,
 ) -> Option<i128>
-    requires fits { RunFits run }
-    requires added { rounds.added ≡ added run }
+    requires fits { TileRunFits run }
+    requires added { rounds.added ≡ times_added run }
     requires squeezes { rounds.squeezes ≡ squeezes run }
     requires bound { rounds.added ≤ 2 ^ 31 }
     requires copies { rounds.added * run.repeaters < 2 ^ 31 }
@@ -277,7 +277,7 @@ fn start(
 // The first choice of a start.
 #[inline]
 fn start_as_code(run: Run, shares: bool) -> i128
-    requires fits { RunFits run }
+    requires fits { TileRunFits run }
     requires squeezes { shares ≡ squeezes run }
     ensures { result ≡ start StretchStart.AsCode false run }
 {
@@ -287,7 +287,7 @@ fn start_as_code(run: Run, shares: bool) -> i128
 // What the fixed tiles leave of the word.
 #[inline]
 fn left_of(run: Run) -> i128
-    requires fits { RunFits run }
+    requires fits { TileRunFits run }
     ensures { result ≡ left run }
 {
     run.word - run.fixed
@@ -297,8 +297,8 @@ fn left_of(run: Run) -> i128
 // width, doesn't fit 32 bits.
 #[inline]
 fn centred_start(right_to_left: bool, run: Run, times: usize, shared: i128) -> Option<i128>
-    requires fits { RunFits run }
-    requires added { times ≡ added run }
+    requires fits { TileRunFits run }
+    requires added { times ≡ times_added run }
     requires bound { times ≤ 2 ^ 31 }
     requires copies { times * run.repeaters < 2 ^ 31 }
     requires overlap { shared ≡ overlap run }
@@ -320,7 +320,7 @@ fn centred_start(right_to_left: bool, run: Run, times: usize, shared: i128) -> O
 // How much wider the word is than what is laid.
 #[inline]
 fn gap(run: Run, width: i128) -> i128
-    requires word { RunFits run }
+    requires word { TileRunFits run }
     requires width { FitsSigned w32 width }
     ensures { result ≡ run.word -ℤ width }
 {
@@ -349,8 +349,8 @@ fn along(right_to_left: bool, x: i128) -> i128
 // The width that is laid.
 #[inline]
 fn width_of_laid(run: Run, times: usize, shared: i128) -> i128
-    requires fits { RunFits run }
-    requires added { times ≡ added run }
+    requires fits { TileRunFits run }
+    requires added { times ≡ times_added run }
     requires bound { times ≤ 2 ^ 31 }
     requires copies { times * run.repeaters < 2 ^ 31 }
     requires overlap { shared ≡ overlap run }

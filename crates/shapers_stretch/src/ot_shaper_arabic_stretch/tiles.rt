@@ -5,9 +5,9 @@ ghost use Rattle.std.specs.List.{AllByRecursion, zip};
 ghost use Rattle.shapers_buffer.specs.Clusters.{stretch_of};
 ghost use Rattle.shapers_stretch.specs.Cells.{Cell, glyphs_of, positions_of};
 ghost use Rattle.shapers_stretch.specs.CountingWalk.{IsNumber, stands_at};
-ghost use Rattle.shapers_stretch.specs.LayingWalk.{CanLay, CanLayRun, HasRoom, IsLaidFrom, IsUnlaid, Lays, copies_by, laying_by, run_copies, text_of, whole_of};
+ghost use Rattle.shapers_stretch.specs.LayingWalk.{CanLay, CanLayRun, HasRoomForTiles, IsLaidFrom, IsUnlaid, Lays, copies_by, laying_by, run_copies, text_in_slices, stretched_whole};
 ghost use Rattle.shapers_stretch.specs.Lays.{lay_of};
-ghost use Rattle.shapers_stretch.specs.Measure.{added, fits_i32, overlap};
+ghost use Rattle.shapers_stretch.specs.Measure.{fits_i32, overlap};
 ghost use Rattle.shapers_stretch.specs.Stretch.{Copy, copies, laid_run, measured, stretched, unbroken};
 
 use super::counting::moved;
@@ -31,15 +31,15 @@ pub(super) struct TileLaying<'a, F> {
 impl<'a, F: hb_font_t> PositionedWalk for TileLaying<'a, F> {
     ghost use Rattle.std.specs.Prelude.{◌≡◌};
     ghost use Rattle.shapers_stretch.specs.Cells.{glyphs_of, positions_of};
-    ghost use Rattle.shapers_stretch.specs.LayingWalk.{HasRoom, laying_by, text_of};
+    ghost use Rattle.shapers_stretch.specs.LayingWalk.{HasRoomForTiles, laying_by, text_in_slices};
     ghost use Rattle.shapers_stretch.specs.Stretch.{stretched};
 
     ghost can_walk = { λ w gs ps.
-        HasRoom (laying_by (F.font w.face.now) w.choice w.right_to_left) gs ps w.len };
+        HasRoomForTiles (laying_by (F.font w.face.now) w.choice w.right_to_left) gs ps w.len };
 
     ghost walks = { λ w gs ps hs qs.
         let how = laying_by (F.font w.face.now) w.choice w.right_to_left in
-        let cs = stretched how (text_of w.len gs ps) in
+        let cs = stretched how (text_in_slices w.len gs ps) in
         (hs ≡ glyphs_of cs) × (qs ≡ positions_of cs) };
 
     #[inline]
@@ -52,12 +52,12 @@ impl<'a, F: hb_font_t> TileLaying<'a, F> {
     // Stretches the text of the first `len` cells over the whole slices.
     #[inline]
     fn lay_all(&self, glyphs: &mut [hb_glyph_info_t], positions: &mut [GlyphPosition])
-        requires { HasRoom (laying_by (F.font self.now.face.now) self.now.choice self.now.right_to_left)
+        requires { HasRoomForTiles (laying_by (F.font self.now.face.now) self.now.choice self.now.right_to_left)
             glyphs.old positions.old self.now.len }
         ensures glyphs { let how = laying_by (F.font self.now.face.now) self.now.choice self.now.right_to_left in
-            glyphs.new ≡ glyphs_of (stretched how (text_of self.now.len glyphs.old positions.old)) }
+            glyphs.new ≡ glyphs_of (stretched how (text_in_slices self.now.len glyphs.old positions.old)) }
         ensures positions { let how = laying_by (F.font self.now.face.now) self.now.choice self.now.right_to_left in
-            positions.new ≡ positions_of (stretched how (text_of self.now.len glyphs.old positions.old)) }
+            positions.new ≡ positions_of (stretched how (text_in_slices self.now.len glyphs.old positions.old)) }
     {
         let mut unlaid = Unlaid {
             end: self.len,
@@ -80,7 +80,7 @@ impl<'a, F: hb_font_t> TileLaying<'a, F> {
         requires unlaid { IsUnlaid (laying_by (F.font self.now.face.now) self.now.choice self.now.right_to_left)
             glyphs.old positions.old unlaid.end unlaid.place }
         ensures laid { let how = laying_by (F.font self.now.face.now) self.now.choice self.now.right_to_left in
-            let whole = whole_of how glyphs.old positions.old unlaid.end unlaid.place in
+            let whole = stretched_whole how glyphs.old positions.old unlaid.end unlaid.place in
             IsLaidFrom how whole glyphs.new positions.new result.end result.place }
         ensures shorter { result.end < unlaid.end }
     {

@@ -6,7 +6,7 @@ ghost use Rattle.shapers_buffer.specs.Clusters.{merge_all};
 ghost use Rattle.shapers_buffer.specs.ClusterRuns.{RunFits, with_run};
 ghost use Rattle.shapers_buffer.specs.Refusals.{RefusesLength};
 ghost use Rattle.shapers_text.specs.Thai.{is_sara_am, is_above_base, nikhahit, sara_aa, glyphs_in_two, stretch_of_sara_am, sara_am_stretches};
-ghost use Rattle.shapers_text.specs.ThaiWalk.{above_marks_before, merged_front, HasRoom, Written, IsUnwritten, whole_of};
+ghost use Rattle.shapers_text.specs.ThaiWalk.{above_marks_before, merged_front, HasRoomForSaraAms, Written, IsUnwritten, rewritten_whole};
 
 use shapers_base::buffer::{
     BufferClusterLevel, ClusterRun, GlyphWalk, ShaperError, hb_buffer_t, hb_glyph_info_t,
@@ -144,7 +144,7 @@ impl Unwritten {
     fn write_last(&mut self, glyphs: &mut [hb_glyph_info_t])
         requires some { 0 < self.old.end }
         requires unwritten { IsUnwritten glyphs.old self.old.end None self.old.place }
-        ensures written { let whole = whole_of glyphs.old self.old.end None self.old.place in
+        ensures written { let whole = rewritten_whole glyphs.old self.old.end None self.old.place in
             Written whole glyphs.new self.new.end None self.new.place }
         ensures shorter { self.new.end < self.old.end }
     {
@@ -163,7 +163,7 @@ impl Unwritten {
     fn write_nikhahit(&mut self, glyphs: &mut [hb_glyph_info_t], nikhahit: hb_glyph_info_t)
         requires { IsUnwritten glyphs.old self.old.end (Some nikhahit) self.old.place }
         ensures written { let pending = Some nikhahit in
-            let whole = whole_of glyphs.old self.old.end pending self.old.place in
+            let whole = rewritten_whole glyphs.old self.old.end pending self.old.place in
             Written whole glyphs.new self.new.end None self.new.place }
         ensures shorter { self.new.end ≤ self.old.end }
     {
@@ -204,9 +204,9 @@ struct Rewriting {
 impl GlyphWalk for Rewriting {
     ghost use Rattle.std.specs.Prelude.{◌≡◌, take};
     ghost use Rattle.shapers_text.specs.Thai.{glyphs_in_two};
-    ghost use Rattle.shapers_text.specs.ThaiWalk.{HasRoom, merged_front};
+    ghost use Rattle.shapers_text.specs.ThaiWalk.{HasRoomForSaraAms, merged_front};
 
-    ghost can_walk = { λ walk glyphs. HasRoom walk.len glyphs };
+    ghost can_walk = { λ walk glyphs. HasRoomForSaraAms walk.len glyphs };
 
     ghost walks = { λ walk _ old new.
         new ≡ glyphs_in_two (take walk.len (merged_front walk.level walk.len old)) };

@@ -3,7 +3,7 @@ ghost use Rattle.std.specs.Prelude.{◌≡◌, ◌%◌, ◌<◌, ◌≤◌, leng
 ghost use Rattle.shapers_buffer.specs.Clusters.{with_stretch};
 ghost use Rattle.shapers_buffer.specs.Syllables.{syllables};
 ghost use Rattle.shapers_clusters.specs.FlagLaw.{OnlyFlagsAdded};
-ghost use Rattle.shapers_universal.specs.UniversalSyllables.{all_forms, form_mask, form_masks, formed, in_forms, joins_runs, mask_between, with_forms, with_instead};
+ghost use Rattle.shapers_universal.specs.UniversalSyllables.{all_forms, form_mask, form_masks, formed, in_forms, joins_runs, mask_between, with_form_masks, with_instead};
 
 use shapers_base::buffer::{GlyphWalk, first_syllable_len, hb_buffer_t, hb_glyph_info_t, hb_tag_t};
 use shapers_base::map::hb_ot_map_t;
@@ -23,7 +23,7 @@ pub(super) struct FormMasks {
 #[inline]
 pub(super) fn set_forms(map: &hb_ot_map_t, buffer: &mut hb_buffer_t)
     ensures forms { let masks = form_masks map.now in
-        buffer.new ≡ record buffer.old { glyphs = with_forms masks buffer.old.glyphs } }
+        buffer.new ≡ record buffer.old { glyphs = with_form_masks masks buffer.old.glyphs } }
     ensures flags { OnlyFlagsAdded buffer.old.glyphs buffer.new.glyphs }
 {
     let mut masks = FormMasks::of(map);

@@ -7,8 +7,8 @@ ghost use Rattle.shapers_buffer.specs.Clusters.{merge, merge_all, stretch_of, wi
 ghost use Rattle.shapers_buffer.specs.ListingWalk.{with_listed};
 ghost use Rattle.shapers_buffer.specs.Places.{pick};
 ghost use Rattle.shapers_syllabic.specs.Reordering.{SyllableReordered};
-ghost use Rattle.shapers_universal.specs.Universal.{goes_front, goes_front_at, is_halant, is_passed, is_reordered, post_base, reph_run, universal_order, universal_steps};
-ghost use Rattle.shapers_universal.specs.UniversalWalk.{MergesFirst, first_piece_len, fronts_from, has_reph, last_first, piece_places, places_in_order, start_from, stays_at};
+ghost use Rattle.shapers_universal.specs.Universal.{goes_front, goes_front_at, is_universal_halant, reph_passes, is_reordered_in_universal, post_base, reph_run, universal_order, universal_steps};
+ghost use Rattle.shapers_universal.specs.UniversalWalk.{MergesFirst, first_piece_len, fronts_from, has_universal_reph, last_place_first, piece_places, syllable_places_in_order, start_from, stays_at};
 
 use super::category;
 use shapers_base::buffer::{ClusterRun, GlyphWalk, ShaperError, hb_buffer_t, hb_glyph_info_t};
@@ -76,8 +76,8 @@ impl Reorder for UniversalOrder {
 fn reorder_fronts(buffer: &mut hb_buffer_t, s: usize, e: usize)
     requires in_order { s ≤ e }
     requires in_range { e ≤ length buffer.old.glyphs }
-    requires kind { is_reordered (stretch_of s e buffer.old.glyphs) ≡ true }
-    requires no_reph { has_reph (stretch_of s e buffer.old.glyphs) ≡ false }
+    requires kind { is_reordered_in_universal (stretch_of s e buffer.old.glyphs) ≡ true }
+    requires no_reph { has_universal_reph (stretch_of s e buffer.old.glyphs) ≡ false }
     ensures { SyllableReordered universal_order universal_steps s e buffer.old buffer.new }
 {
     if let Some((start, behind)) = first_front(buffer.glyphs(), s, e) {
@@ -128,7 +128,7 @@ fn move_to_front(buffer: &mut hb_buffer_t, start: usize, end: usize)
     requires some { start < end }
     requires in_range { end ≤ length buffer.old.glyphs }
     ensures { let merged = merge buffer.old.level start end buffer.old.glyphs in
-        let moved = with_stretch start end (λ _. pick (last_first start end) merged) merged in
+        let moved = with_stretch start end (λ _. pick (last_place_first start end) merged) merged in
         buffer.new ≡ record buffer.old { glyphs = moved; places = buffer.new.places } }
 {
     buffer.merge_clusters(start, end);
@@ -169,7 +169,7 @@ fn some_go_front(glyphs: &[hb_glyph_info_t]) -> bool
 // Whether a reph stands in front.
 #[inline]
 fn has_reph(syllable: &[hb_glyph_info_t]) -> bool
-    ensures { result ≡ has_reph syllable.now }
+    ensures { result ≡ has_universal_reph syllable.now }
 {
     match syllable.first() {
         None => false,
@@ -182,7 +182,7 @@ fn has_reph(syllable: &[hb_glyph_info_t]) -> bool
 fn reorder_syllable(buffer: &mut hb_buffer_t, s: usize, e: usize)
     requires in_order { s ≤ e }
     requires in_range { e ≤ length buffer.old.glyphs }
-    requires kind { is_reordered (stretch_of s e buffer.old.glyphs) ≡ true }
+    requires kind { is_reordered_in_universal (stretch_of s e buffer.old.glyphs) ≡ true }
     ensures { SyllableReordered universal_order universal_steps s e buffer.old buffer.new }
 {
     let behind = s + reph_run(&buffer.glyphs()[s..e]);
@@ -225,7 +225,7 @@ fn list_order(buffer: &mut hb_buffer_t, s: usize, behind: usize, e: usize)
     requires in_range { e ≤ length buffer.old.glyphs }
     requires reph { behind ≡ s + reph_run (stretch_of s e buffer.old.glyphs) }
     requires inside { behind ≤ e }
-    ensures { let order = places_in_order s behind e buffer.old.glyphs in
+    ensures { let order = syllable_places_in_order s behind e buffer.old.glyphs in
         buffer.new ≡ record buffer.old { places = with_listed s order buffer.old.places } }
 {
     let end = behind + piece_len(&buffer.glyphs()[behind..e]);
@@ -238,7 +238,7 @@ fn list_order(buffer: &mut hb_buffer_t, s: usize, behind: usize, e: usize)
 fn list_pieces(buffer: &mut hb_buffer_t, s: usize, e: usize)
     requires in_order { s ≤ e }
     requires in_range { e ≤ length buffer.old.glyphs }
-    ensures { let order = places_in_order s s e buffer.old.glyphs in
+    ensures { let order = syllable_places_in_order s s e buffer.old.glyphs in
         buffer.new ≡ record buffer.old { places = with_listed s order buffer.old.places } }
 {
     let mut start = s;
@@ -333,7 +333,7 @@ fn list_rest(buffer: &mut hb_buffer_t, s: usize, e: usize, at: usize)
 // Whether syllables of this kind are reordered.
 #[inline]
 fn is_reordered(syllable: &[hb_glyph_info_t]) -> bool
-    ensures { result ≡ is_reordered syllable.now }
+    ensures { result ≡ is_reordered_in_universal syllable.now }
 {
     match syllable.first() {
         None => false,
@@ -362,7 +362,7 @@ fn reph_run(syllable: &[hb_glyph_info_t]) -> usize
 // How many glyphs in front a reph passes.
 #[inline]
 fn passed_len(glyphs: &[hb_glyph_info_t]) -> usize
-    ensures len { result ≡ prefix_len is_passed glyphs.now }
+    ensures len { result ≡ prefix_len reph_passes glyphs.now }
     ensures within { result ≤ length glyphs.now }
 {
     glyphs.iter().take_while(|glyph| is_passed(glyph)).count()
@@ -371,7 +371,7 @@ fn passed_len(glyphs: &[hb_glyph_info_t]) -> usize
 // Whether a reph passes this glyph: it is no halant and doesn't stand after the base.
 #[inline]
 fn is_passed(glyph: &hb_glyph_info_t) -> bool
-    ensures { result ≡ is_passed glyph.now }
+    ensures { result ≡ reph_passes glyph.now }
 {
     !(is_post_base(glyph.category) || is_halant(glyph))
 }
@@ -387,7 +387,7 @@ fn is_post_base(category: u8) -> bool
 // Whether a glyph is a halant, and no ligature.
 #[inline]
 fn is_halant(glyph: &hb_glyph_info_t) -> bool
-    ensures { result ≡ is_halant glyph.now }
+    ensures { result ≡ is_universal_halant glyph.now }
 {
     let category = glyph.category;
     (category == category::H || category == category::HVM || category == category::IS)
@@ -397,7 +397,7 @@ fn is_halant(glyph: &hb_glyph_info_t) -> bool
 // How long the first piece is: up to the first halant, or all.
 #[inline]
 fn piece_len(glyphs: &[hb_glyph_info_t]) -> usize
-    ensures len { result ≡ first_piece_len is_halant glyphs.now }
+    ensures len { result ≡ first_piece_len is_universal_halant glyphs.now }
     ensures within { result ≤ length glyphs.now }
 {
     for (i, glyph) in glyphs.iter().enumerate() {

@@ -8,7 +8,7 @@ ghost use Rattle.shapers_buffer.specs.Syllables.{spans_refusal, syllables};
 ghost use Rattle.shapers_clusters.specs.FlagLaw.{OnlyFlagsAdded};
 ghost use Rattle.shapers_universal.specs.PlanData.{is_universal};
 ghost use Rattle.shapers_universal.specs.UniversalCuts.{UniversalSetUpCutsAtSpans};
-ghost use Rattle.shapers_universal.specs.UniversalSyllables.{reph_len, set_up_by_its_bytes, syllables_set_up, with_rphf, with_syllable_masks};
+ghost use Rattle.shapers_universal.specs.UniversalSyllables.{rphf_len, set_up_by_its_bytes, syllables_set_up, with_rphf, with_syllable_masks};
 
 use super::category;
 use super::forms::set_forms;
@@ -114,7 +114,7 @@ impl SyllableChange for RphfMask {
 // How many glyphs in front get the mask of `rphf`: a reph alone, else three or all.
 #[inline]
 fn reph_len(syllable: &[hb_glyph_info_t]) -> usize
-    ensures len { result ≡ reph_len syllable.now }
+    ensures len { result ≡ rphf_len syllable.now }
     ensures within { result ≤ length syllable.now }
 {
     match syllable.first() {

@@ -2,7 +2,7 @@
 use Rattle.std.proofs.Common.{◌≡◌, ◌+◌, ◌++◌, sym, ap, subst, length, arith}
 use Rattle.shapers_buffer.specs.Glyph.{characters}
 use Rattle.shapers_hangul.specs.Hangul.{glyph_copies, item_len, items_at, outputs}
-use Rattle.shapers_hangul.specs.RewritingWalk.{changes}
+use Rattle.shapers_hangul.specs.RewritingWalk.{rewritten_items}
 use Rattle.shapers_hangul.proofs.Changes.{recording_next}
 use Rattle.shapers_hangul.proofs.Walks.{length_next}
 use Rattle.shapers_hangul.proofs.ot_shaper_hangul.rewriting.measure.Goals as goal
@@ -25,6 +25,6 @@ loop-place-preserved g c =
       within = omega (arith, c.item_at-item.ensures.within, c.len-place.ensures);
       room_left = omega (arith, step, ap (λ p. length (outputs glyph_copies (items_at font circles (characters gs) p) gs)) on, l.invariant.room_left, c.if-room-output_len.false, c.output_len.ensures, c.output_len-room.ensures);
       recorded = λ whole.
-          subst (λ p. c.add.new.self.items.items ++ changes (items_at font circles (characters gs) p) ≡ changes (items_at font circles (characters gs) c.args.kept)) on
+          subst (λ p. c.add.new.self.items.items ++ rewritten_items (items_at font circles (characters gs) p) ≡ rewritten_items (items_at font circles (characters gs) c.args.kept)) on
           (recording_next font circles gs l.cut.items.items c.add.new.self.items.items _ l.place item c.loop-place-test.true c.item_at-item.ensures.item (l.invariant.recorded (c.add.ensures.whole whole)) (c.add.ensures.added whole));
     }

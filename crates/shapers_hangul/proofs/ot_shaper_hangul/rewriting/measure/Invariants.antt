@@ -2,7 +2,7 @@
 use Rattle.std.proofs.Common.{◌≡◌, ◌+◌, ◌≤◌, ◌-◌, ◌++◌, length, true}
 use Rattle.shapers_buffer.specs.Glyph.{characters}
 use Rattle.shapers_hangul.specs.Hangul.{glyph_copies, items_at, outputs}
-use Rattle.shapers_hangul.specs.RewritingWalk.{changes}
+use Rattle.shapers_hangul.specs.RewritingWalk.{rewritten_items}
 use Rattle.shapers_hangul.proofs.ot_shaper_hangul.rewriting.measure.Given as goal
 
 abbrev pub invariant-loop-place : goal.invariant-loop-place
@@ -11,7 +11,7 @@ invariant-loop-place g l =
     record {
       within : l.place ≤ length l.glyphs;
       room_left : l.kept + length (outputs glyph_copies (cut l.kept) l.glyphs) + l.room ≡ length (outputs glyph_copies (cut l.place) l.glyphs) + l.limit;
-      recorded : l.cut.is_whole ≡ true → l.cut.items.items ++ changes (cut l.place) ≡ changes (cut l.kept);
+      recorded : l.cut.is_whole ≡ true → l.cut.items.items ++ rewritten_items (cut l.place) ≡ rewritten_items (cut l.kept);
     }
 
 abbrev pub decreases-loop-place : goal.decreases-loop-place

@@ -2,8 +2,8 @@
 use Rattle.std.proofs.Common.{rules, ◌≡◌, ◌+◌, ◌<◌, length, ap, subst, sym, ◌∙◌, arith}
 use Rattle.shapers_buffer.specs.Glyph.{characters}
 use Rattle.shapers_buffer.specs.Refusals.{RefusesLength}
-use Rattle.shapers_hangul.specs.Hangul.{glyph_copies, items_at, outputs, preprocessed, wants_circles, Fit}
-use Rattle.shapers_hangul.specs.RewritingWalk.{changes, InTurn}
+use Rattle.shapers_hangul.specs.Hangul.{glyph_copies, items_at, outputs, preprocessed, allows_circles, Fit}
+use Rattle.shapers_hangul.specs.RewritingWalk.{rewritten_items, InTurn}
 use Rattle.shapers_hangul.proofs.Changes.{changes_fit, changed_text, items_at_turn, replaced_by}
 use Rattle.shapers_hangul.proofs.Items.{items_at_fit}
 use Rattle.shapers_hangul.proofs.KeptTexts.{never_goes}
@@ -19,13 +19,13 @@ returns-in_err-len-clause-length g c =
     let read = c.glyphs-glyphs.result.now in
     let kept = c.kept_len-kept.result in
     let told : RefusesLength c.max_len.result (kept + length (outputs glyph_copies (items_at font circles (characters read) kept) read)) c.from_residual.result = search rules in
-    told_by_text b.max_len c.max_len.result _ _ c.from_residual.result c.max_len.ensures.limit (length_read font (wants_circles b) b.level b.glyphs circles read kept c.wants_circles-circles.ensures c.glyphs-glyphs.ensures c.kept_len-kept.ensures.kept) told
+    told_by_text b.max_len c.max_len.result _ _ c.from_residual.result c.max_len.ensures.limit (length_read font (allows_circles b) b.level b.glyphs circles read kept c.wants_circles-circles.ensures c.glyphs-glyphs.ensures c.kept_len-kept.ensures.kept) told
 
 pub returns-then-not-cut-clause-length : goal.returns-then-not-cut-clause-length
 returns-then-not-cut-clause-length g c =
     let font = g.F.hb_font_t.font c.args.face.now in
     let b = c.args.buffer.now in
-    omega (arith, length_read font (wants_circles b) b.level b.glyphs c.wants_circles-circles.result c.glyphs-glyphs.result.now c.kept_len-kept.result c.wants_circles-circles.ensures c.glyphs-glyphs.ensures c.kept_len-kept.ensures.kept, c.in_ok-len.ensures.length, c.max_len.ensures.limit)
+    omega (arith, length_read font (allows_circles b) b.level b.glyphs c.wants_circles-circles.result c.glyphs-glyphs.result.now c.kept_len-kept.result c.wants_circles-circles.ensures c.glyphs-glyphs.ensures c.kept_len-kept.ensures.kept, c.in_ok-len.ensures.length, c.max_len.ensures.limit)
 
 pub rewritten-requires-clause-fit : goal.rewritten-requires-clause-fit
 rewritten-requires-clause-fit g c =
@@ -34,7 +34,7 @@ rewritten-requires-clause-fit g c =
     let read = c.glyphs-glyphs.result.now in
     let kept = c.kept_len-kept.result in
     let cut = items_at font circles (characters read) kept in
-    let same : c.as_slice.result.now ≡ changes cut = c.as_slice.ensures.value ∙ c.in_ok-len.ensures.items c.if-not-cut.false in
+    let same : c.as_slice.result.now ≡ rewritten_items cut = c.as_slice.ensures.value ∙ c.in_ok-len.ensures.items c.if-not-cut.false in
     let fit : Fit (length read) cut = subst (λ n. Fit n cut) (length-characters read) (items_at_fit font circles (characters read) kept (omega (arith, c.kept_len-kept.ensures.kept.within, length-characters read))) in
     subst (Fit (length read)) (sym same) (changes_fit (length read) cut fit)
 
@@ -44,7 +44,7 @@ rewritten-requires-clause-in_turn g c =
     let circles = c.wants_circles-circles.result in
     let read = c.glyphs-glyphs.result.now in
     let kept = c.kept_len-kept.result in
-    let same : c.as_slice.result.now ≡ changes (items_at font circles (characters read) kept) = c.as_slice.ensures.value ∙ c.in_ok-len.ensures.items c.if-not-cut.false in
+    let same : c.as_slice.result.now ≡ rewritten_items (items_at font circles (characters read) kept) = c.as_slice.ensures.value ∙ c.in_ok-len.ensures.items c.if-not-cut.false in
     subst (InTurn (length read) kept) (sym same) (items_at_turn font circles read kept c.kept_len-kept.ensures.kept.within)
 
 pub returns-in_err-list-clause-length : goal.returns-in_err-list-clause-length
@@ -52,7 +52,7 @@ returns-in_err-list-clause-length g c =
     let font = g.F.hb_font_t.font c.args.face.now in
     let b = c.args.buffer.now in
     told_memory b.max_len _ c.from_residual-in_err-list.result (search rules)
-    (omega (arith, length_read font (wants_circles b) b.level b.glyphs c.wants_circles-circles.result c.glyphs-glyphs.result.now c.kept_len-kept.result c.wants_circles-circles.ensures c.glyphs-glyphs.ensures c.kept_len-kept.ensures.kept, c.in_ok-len.ensures.length, c.max_len.ensures.limit))
+    (omega (arith, length_read font (allows_circles b) b.level b.glyphs c.wants_circles-circles.result c.glyphs-glyphs.result.now c.kept_len-kept.result c.wants_circles-circles.ensures c.glyphs-glyphs.ensures c.kept_len-kept.ensures.kept, c.in_ok-len.ensures.length, c.max_len.ensures.limit))
 
 pub returns-clause-ok : goal.returns-clause-ok
 returns-clause-ok g c =
@@ -63,7 +63,7 @@ returns-clause-ok g c =
     let level = c.cluster_level-level.result in
     let list : c.in_ok-list.list.items ≡ preprocessed font circles level read =
     changed_text font circles level read c.kept_len-kept.result c.as_slice.result.now c.in_ok-list.list.items c.kept_len-kept.ensures.kept (c.as_slice.ensures.value ∙ c.in_ok-len.ensures.items c.if-not-cut.false) c.in_ok-list.ensures.ok in
-    replaced_by b c.replace_glyphs.new.self c.replace_glyphs.result (preprocessed-read font (wants_circles b) circles b.level level b.glyphs read c.in_ok-list.list.items c.wants_circles-circles.ensures c.cluster_level-level.ensures c.glyphs-glyphs.ensures list) c.replace_glyphs.ensures.ok
+    replaced_by b c.replace_glyphs.new.self c.replace_glyphs.result (preprocessed-read font (allows_circles b) circles b.level level b.glyphs read c.in_ok-list.list.items c.wants_circles-circles.ensures c.cluster_level-level.ensures c.glyphs-glyphs.ensures list) c.replace_glyphs.ensures.ok
 
 pub returns-clause-length : goal.returns-clause-length
 returns-clause-length g c =
@@ -74,7 +74,7 @@ returns-clause-length g c =
     let level = c.cluster_level-level.result in
     let list : c.in_ok-list.list.items ≡ preprocessed font circles level read =
     changed_text font circles level read c.kept_len-kept.result c.as_slice.result.now c.in_ok-list.list.items c.kept_len-kept.ensures.kept (c.as_slice.ensures.value ∙ c.in_ok-len.ensures.items c.if-not-cut.false) c.in_ok-list.ensures.ok in
-    subst (λ n. RefusesLength b.max_len n c.replace_glyphs.result) (ap length (preprocessed-read font (wants_circles b) circles b.level level b.glyphs read c.in_ok-list.list.items c.wants_circles-circles.ensures c.cluster_level-level.ensures c.glyphs-glyphs.ensures list)) c.replace_glyphs.ensures.length
+    subst (λ n. RefusesLength b.max_len n c.replace_glyphs.result) (ap length (preprocessed-read font (allows_circles b) circles b.level level b.glyphs read c.in_ok-list.list.items c.wants_circles-circles.ensures c.cluster_level-level.ensures c.glyphs-glyphs.ensures list)) c.replace_glyphs.ensures.length
 
 pub returns-in_err-len-clause-kept : goal.returns-in_err-len-clause-kept
 returns-in_err-len-clause-kept g c all =

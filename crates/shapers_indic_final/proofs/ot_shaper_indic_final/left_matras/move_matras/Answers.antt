@@ -5,7 +5,7 @@ use Rattle.shapers_buffer.specs.Buffer.{Buffer}
 use Rattle.shapers_buffer.specs.Places.{placed}
 use Rattle.shapers_indic.specs.Glyphs.{places}
 use Rattle.shapers_indic_final.specs.LeftMatraWalk.{has_gone}
-use Rattle.shapers_indic_final.proofs.FinalMoves.{put}
+use Rattle.shapers_indic_final.proofs.FinalMoves.{glyphs_put}
 use Rattle.shapers_indic_final.proofs.LeftMatrasListed.{parted_listed, parted_long, parted_once, parted_placed}
 use Rattle.shapers_indic_final.proofs.ot_shaper_indic_final.left_matras.move_matras.Goals as goal
 
@@ -32,5 +32,5 @@ returns-clause-moved c =
     let b2 = c.list_places.new.buffer in
     let done = parted_listed a.s a.top a.e c.list_places-at.result a.buffer.now c.list_places-at.new.buffer c.list_places.new.buffer c.list_places-at.ensures.listed c.list_places-at.ensures.behind c.list_places.ensures.listed in
     let same = ap (λ (b : Buffer). b.glyphs) done.0 in
-    put a.buffer.now b2 c.apply.new.self _ done.0 (c.apply.ensures ∙ ap (λ gs. let y : Buffer = record b2 { glyphs = gs } in y)
+    glyphs_put a.buffer.now b2 c.apply.new.self _ done.0 (c.apply.ensures ∙ ap (λ gs. let y : Buffer = record b2 { glyphs = gs } in y)
     (ap (placed a.s a.e b2.places) same ∙ parted_placed a.s a.top a.e b2.places a.buffer.now.glyphs c.requires.in_order c.requires.in_range done.1))

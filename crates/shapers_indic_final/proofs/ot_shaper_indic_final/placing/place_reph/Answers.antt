@@ -3,7 +3,7 @@ use Rattle.std.proofs.Common.{length, ◌+◌, ◌-◌, ◌<◌, sym, ap, ◌∙
 use Rattle.shapers_buffer.specs.Buffer.{Buffer}
 use Rattle.shapers_buffer.specs.Clusters.{stretch_of}
 use Rattle.shapers_buffer.proofs.ClusterLemmas.{length-stretch}
-use Rattle.shapers_indic_final.specs.FinalReph.{opens_with_reph, reph_step, reph_steps, reph_target}
+use Rattle.shapers_indic_final.specs.FinalReph.{opens_with_reph, final_reph_step, reph_steps, reph_target}
 use Rattle.shapers_indic_final.proofs.FinalPlacing.{length-reph, one_step, reph_only}
 use Rattle.shapers_indic_final.proofs.ot_shaper_indic_final.placing.place_reph.Goals as goal
 
@@ -15,7 +15,7 @@ returns-clause-glyphs c =
     let n = length-stretch a.s a.e old.glyphs c.requires.in_range in
     let inside : a.s + c.reph_target-target.result < a.e = omega (arith, n, c.reph_target-target.ensures.within) in
     let opens = ap (λ gs. opens_with_reph (stretch_of a.s a.e gs)) (sym c.glyphs.ensures) ∙ sym c.opens_with_reph.ensures ∙ c.if-not-opens_with_reph.false in
-    one_step old c.move_reph.new.buffer a.s a.e (reph_steps a.position a.base part) (reph_step (a.e - a.s) c.reph_target-target.result)
+    one_step old c.move_reph.new.buffer a.s a.e (reph_steps a.position a.base part) (final_reph_step (a.e - a.s) c.reph_target-target.result)
     (reph_only a.position a.base (a.e - a.s) c.reph_target-target.result part n opens (c.reph_target-target.ensures.target ∙ ap (λ gs. reph_target a.position a.base (stretch_of a.s a.e gs)) c.glyphs-2.ensures)) (c.move_reph.ensures a.e inside c.requires.in_range)
 
 pub returns-clause-same_length : goal.returns-clause-same_length

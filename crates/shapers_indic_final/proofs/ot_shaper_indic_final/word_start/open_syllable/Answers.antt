@@ -5,7 +5,7 @@ use Rattle.shapers_buffer.specs.Buffer.{Buffer}
 use Rattle.shapers_buffer.specs.Glyph.{default_glyph}
 use Rattle.shapers_buffer.specs.GlyphFlags.{unsafe_inside}
 use Rattle.shapers_indic_final.specs.FinalMatras.{is_left}
-use Rattle.shapers_indic_final.specs.FinalWordStart.{before_place, in_word}
+use Rattle.shapers_indic_final.specs.FinalWordStart.{before_place, word_goes_on}
 use Rattle.shapers_indic_final.proofs.FinalWordStartCases.{opened_bound, opened_init, opened_other}
 use Rattle.shapers_indic_final.proofs.ot_shaper_indic_final.word_start.open_syllable.Goals as goal
 
@@ -21,7 +21,7 @@ returns-then-goes_on c =
     let old = c.args.buffer.now in
     let s = c.args.s in
     let left = sym (c.is_left.ensures ∙ ap (λ xs. is_left (get_or xs s default_glyph)) c.glyphs.ensures) ∙ c.if-not-is_left.false in
-    let word = sym (c.goes_on.ensures ∙ ap (λ xs. in_word (before_place s xs)) c.glyphs-2.ensures) ∙ c.if-goes_on.true in
+    let word = sym (c.goes_on.ensures ∙ ap (λ xs. word_goes_on (before_place s xs)) c.glyphs-2.ensures) ∙ c.if-goes_on.true in
     c.unsafe_to_break.ensures
     ∙ ap (λ (k : ℕ). let b : Buffer = record old { glyphs = unsafe_inside k (s + 1) old.glyphs } in b) c.saturating_sub.ensures
     ∙ ap (λ (hs : List hb_glyph_info_t). let b : Buffer = record old { glyphs = hs } in b) (opened_bound c.args.init s default_glyph old.glyphs c.requires left word)
@@ -31,6 +31,6 @@ returns c =
     let old = c.args.buffer.now in
     let s = c.args.s in
     let left = sym (c.is_left.ensures ∙ ap (λ xs. is_left (get_or xs s default_glyph)) c.glyphs.ensures) ∙ c.if-not-is_left.false in
-    let word = sym (c.goes_on.ensures ∙ ap (λ xs. in_word (before_place s xs)) c.glyphs-2.ensures) ∙ c.if-goes_on.false in
+    let word = sym (c.goes_on.ensures ∙ ap (λ xs. word_goes_on (before_place s xs)) c.glyphs-2.ensures) ∙ c.if-goes_on.false in
     c.change_each.ensures
     ∙ ap (λ (hs : List hb_glyph_info_t). let b : Buffer = record old { glyphs = hs } in b) (opened_init c.args.init s default_glyph old.glyphs c.requires left word)

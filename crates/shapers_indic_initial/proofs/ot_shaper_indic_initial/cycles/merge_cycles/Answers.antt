@@ -2,7 +2,7 @@
 use Rattle.std.proofs.Common.{◌≡◌, ◌+◌, max, length, ap, refl, sym, ◌∙◌, subst, arith}
 use Rattle.shapers_buffer.specs.Buffer.{Buffer}
 use Rattle.shapers_buffer.specs.Clusters.{merge}
-use Rattle.shapers_indic_initial.proofs.CycleSteps.{Merging, others_merged, merging_next, merging_stays, merging_start, reach}
+use Rattle.shapers_indic_initial.proofs.CycleSteps.{Merging, others_merged, merging_next, merging_stays, merging_start, cycle_reach}
 use Rattle.shapers_indic_initial.proofs.ot_shaper_indic_initial.cycles.merge_cycles.Goals.{then-old_place-p, else-old_place-p}
 use Rattle.shapers_indic_initial.proofs.ot_shaper_indic_initial.cycles.merge_cycles.Goals as goal
 
@@ -12,31 +12,31 @@ loop-p-init c = record { from = omega arith; others = refl; merging = merging_st
 pub overflow_add-start : goal.overflow_add-start
 overflow_add-start c =
     let l = c.loop-p in
-    let r = reach c.args.start c.args.end c.args.base l.p c.args.buffer.now l.buffer c.spend_cycle-least.result.0 c.spend_cycle-least.result.1 c.requires.in_order l.invariant.from c.loop-p-test.true l.invariant.merging c.spend_cycle-least.ensures.least c.spend_cycle-least.ensures.greatest in
+    let r = cycle_reach c.args.start c.args.end c.args.base l.p c.args.buffer.now l.buffer c.spend_cycle-least.result.0 c.spend_cycle-least.result.1 c.requires.in_order l.invariant.from c.loop-p-test.true l.invariant.merging c.spend_cycle-least.ensures.least c.spend_cycle-least.ensures.greatest in
     omega (arith, r.ordered, r.inside, c.max.ensures, c.ranges.end.fits)
 
 pub overflow_add-start-then-old_place-p : goal.overflow_add-start-then-old_place-p
 overflow_add-start-then-old_place-p c =
     let l = c.loop-p in
-    let r = reach c.args.start c.args.end c.args.base l.p c.args.buffer.now l.buffer c.spend_cycle-least.result.0 c.spend_cycle-least.result.1 c.requires.in_order l.invariant.from c.loop-p-test.true l.invariant.merging c.spend_cycle-least.ensures.least c.spend_cycle-least.ensures.greatest in
+    let r = cycle_reach c.args.start c.args.end c.args.base l.p c.args.buffer.now l.buffer c.spend_cycle-least.result.0 c.spend_cycle-least.result.1 c.requires.in_order l.invariant.from c.loop-p-test.true l.invariant.merging c.spend_cycle-least.ensures.least c.spend_cycle-least.ensures.greatest in
     omega (arith, r.inside, c.ranges.end.fits)
 
 pub overflow_add-start-then-old_place-p-2 : goal.overflow_add-start-then-old_place-p-2
 overflow_add-start-then-old_place-p-2 c =
     let l = c.loop-p in
-    let r = reach c.args.start c.args.end c.args.base l.p c.args.buffer.now l.buffer c.spend_cycle-least.result.0 c.spend_cycle-least.result.1 c.requires.in_order l.invariant.from c.loop-p-test.true l.invariant.merging c.spend_cycle-least.ensures.least c.spend_cycle-least.ensures.greatest in
+    let r = cycle_reach c.args.start c.args.end c.args.base l.p c.args.buffer.now l.buffer c.spend_cycle-least.result.0 c.spend_cycle-least.result.1 c.requires.in_order l.invariant.from c.loop-p-test.true l.invariant.merging c.spend_cycle-least.ensures.least c.spend_cycle-least.ensures.greatest in
     omega (arith, r.inside, c.ranges.end.fits)
 
 pub merge_clusters-requires-clause-in_order : goal.merge_clusters-requires-clause-in_order
 merge_clusters-requires-clause-in_order c =
     let l = c.loop-p in
-    let r = reach c.args.start c.args.end c.args.base l.p c.args.buffer.now l.buffer c.spend_cycle-least.result.0 c.spend_cycle-least.result.1 c.requires.in_order l.invariant.from c.loop-p-test.true l.invariant.merging c.spend_cycle-least.ensures.least c.spend_cycle-least.ensures.greatest in
+    let r = cycle_reach c.args.start c.args.end c.args.base l.p c.args.buffer.now l.buffer c.spend_cycle-least.result.0 c.spend_cycle-least.result.1 c.requires.in_order l.invariant.from c.loop-p-test.true l.invariant.merging c.spend_cycle-least.ensures.least c.spend_cycle-least.ensures.greatest in
     omega (arith, r.ordered, c.max.ensures)
 
 pub merge_clusters-requires-clause-in_range : goal.merge_clusters-requires-clause-in_range
 merge_clusters-requires-clause-in_range c =
     let l = c.loop-p in
-    let r = reach c.args.start c.args.end c.args.base l.p c.args.buffer.now l.buffer c.spend_cycle-least.result.0 c.spend_cycle-least.result.1 c.requires.in_order l.invariant.from c.loop-p-test.true l.invariant.merging c.spend_cycle-least.ensures.least c.spend_cycle-least.ensures.greatest in
+    let r = cycle_reach c.args.start c.args.end c.args.base l.p c.args.buffer.now l.buffer c.spend_cycle-least.result.0 c.spend_cycle-least.result.1 c.requires.in_order l.invariant.from c.loop-p-test.true l.invariant.merging c.spend_cycle-least.ensures.least c.spend_cycle-least.ensures.greatest in
     let same : length c.spend_cycle-least.new.buffer.glyphs ≡ length l.buffer.glyphs = ap (λ b. length b.glyphs) c.spend_cycle-least.ensures.others in
     omega (arith, r.inside, same, l.invariant.merging.long, c.requires.in_range)
 

@@ -5,7 +5,7 @@ use Rattle.shapers_base.specs.declared.plan.indic.indic_shape_plan_t.{indic_shap
 use Rattle.shapers_indic.specs.Plan.{indic_in, virama_glyph}
 use Rattle.shapers_indic_initial.specs.InitialFont.{all_by_virama}
 use Rattle.shapers_indic_initial.specs.InitialPause.{initial_circles, order_by_font, steps_by_font}
-use Rattle.shapers_indic_initial.specs.InitialRules.{rules_of}
+use Rattle.shapers_indic_initial.specs.InitialRules.{initial_rules}
 use Rattle.shapers_indic_initial.proofs.FontCircles.{paused_by_font, reordered_behind_circles}
 use Rattle.shapers_indic_initial.proofs.FontPositions.{laws_by_font}
 use Rattle.shapers_indic_initial.proofs.InitialLaws.{initial_laws}
@@ -17,7 +17,7 @@ use Rattle.shapers_syllabic.proofs.ReorderingLaws.{text_reordered}
 use Rattle.shapers_indic_initial.proofs.ot_shaper_indic_initial.pause.initial_reordering.Goals as goal
 
 pub reorder_syllables-requires-clause-laws : goal.reorder_syllables-requires-clause-laws
-reorder_syllables-requires-clause-laws g c = initial_laws (rules_of (g.F.hb_font_t.font c.args.face.now) c.args.plan.now.ot_map c.indic_in.result.now) c.update_consonant_positions.new.buffer.script
+reorder_syllables-requires-clause-laws g c = initial_laws (initial_rules (g.F.hb_font_t.font c.args.face.now) c.args.plan.now.ot_map c.indic_in.result.now) c.update_consonant_positions.new.buffer.script
 
 pub returns-clause-ok : goal.returns-clause-ok
 returns-clause-ok g c =

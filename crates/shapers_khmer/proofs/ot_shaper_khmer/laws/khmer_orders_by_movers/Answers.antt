@@ -14,4 +14,4 @@ pub returns-clause-merges : goal.returns-clause-merges
 returns-clause-merges c = khmer_merges_by_movers
 
 pub returns-clause-syllable : goal.returns-clause-syllable
-returns-clause-syllable c = proofs.khmer_by_movers
+returns-clause-syllable c = proofs.by_movers_law

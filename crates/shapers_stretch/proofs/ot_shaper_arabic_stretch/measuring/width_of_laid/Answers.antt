@@ -1,7 +1,7 @@
 use Rattle.std.proofs.Common.{◌≡◌, ◌*◌, ◌*ℤ◌, pos, arith, ap, ◌∙◌, FitsSigned, to_z, of_z}
 use Rattle.std.proofs.lemmas.Int.{ints, to_z-of_z}
 use mir.Syntax.{w128}
-use Rattle.shapers_stretch.specs.Measure.{added, copies_added, overlap, reach}
+use Rattle.shapers_stretch.specs.Measure.{times_added, copies_added, overlap, reach}
 use Rattle.shapers_stretch.proofs.ot_shaper_arabic_stretch.measuring.width_of_laid.Goals as goal
 
 pub overflow_sub-result : goal.overflow_sub-result
@@ -9,7 +9,7 @@ overflow_sub-result c = omega (arith, ints)
 
 pub returns-clause-value : goal.returns-clause-value
 returns-clause-value c =
-    let reached : c.reach.result ≡ reach c.args.run (added c.args.run) = c.reach.ensures.value ∙ ap (reach c.args.run) c.requires.added in
+    let reached : c.reach.result ≡ reach c.args.run (times_added c.args.run) = c.reach.ensures.value ∙ ap (reach c.args.run) c.requires.added in
     let fits_copies : FitsSigned w128 c.copies.result = record { sfits = c.copies.type_inv } in
     let shared : c.shared_by.result ≡ c.copies.result *ℤ c.args.shared = c.shared_by.ensures.value ∙ ap (λ n. n *ℤ to_z w128 (of_z w128 c.args.shared)) (to_z-of_z w128 c.copies.result fits_copies) ∙ ap (λ o. c.copies.result *ℤ o) (to_z-of_z w128 c.args.shared c.ranges.shared) in
     let many : c.copies.result ≡ pos (copies_added c.args.run) = c.copies.ensures ∙ ap (λ n. pos (n * c.args.run.repeaters)) c.requires.added in

@@ -5,7 +5,7 @@ use Rattle.shapers_buffer.specs.Refusals.{RefusesLength}
 use Rattle.shapers_buffer.proofs.ListLaws.{count_from_none}
 use Rattle.shapers_text.specs.Thai.{is_sara_am, glyphs_in_two}
 use Rattle.shapers_text.proofs.ThaiStretches.{unchanged, length-glyphs_in_two, room_made, all_written}
-use Rattle.shapers_text.specs.ThaiWalk.{HasRoom, merged_front}
+use Rattle.shapers_text.specs.ThaiWalk.{HasRoomForSaraAms, merged_front}
 use Rattle.shapers_text.proofs.ot_shaper_thai.sara_am.rewrite_sara_am.Goals as goal
 
 pub returns-then-count-eq0-clause-ok : goal.returns-then-count-eq0-clause-ok
@@ -31,7 +31,7 @@ returns-in_err-grow-clause-without c =
 pub walk-requires : goal.walk-requires
 walk-requires c =
     let b = c.args.buffer.now in
-    subst (HasRoom c.len-len.result) (sym (ap (λ (x : Buffer). x.glyphs) c.in_ok-grow.ensures.ok)) (room_made b.glyphs c.count_sara_am-count.result c.len-len.result c.len-len.ensures.length c.count_sara_am-count.ensures)
+    subst (HasRoomForSaraAms c.len-len.result) (sym (ap (λ (x : Buffer). x.glyphs) c.in_ok-grow.ensures.ok)) (room_made b.glyphs c.count_sara_am-count.result c.len-len.result c.len-len.ensures.length c.count_sara_am-count.ensures)
 
 pub returns-clause-ok : goal.returns-clause-ok
 returns-clause-ok c =

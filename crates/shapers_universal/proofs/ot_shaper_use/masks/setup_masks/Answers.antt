@@ -2,7 +2,7 @@
 use Rattle.std.proofs.Common.{◌∙◌, ap, subst, map}
 use Rattle.shapers_arabic.specs.Breaks.{BreaksWhereClear, NoneNeedless}
 use Rattle.shapers_arabic.specs.FirstPiece.{FirstKeepsAsFlagged}
-use Rattle.shapers_arabic.specs.JoinedText.{CutsAsHalves, HoldsCut, joined}
+use Rattle.shapers_arabic.specs.JoinedText.{CutsAsHalves, HoldsCut, buffer_joined}
 use Rattle.shapers_universal.proofs.MaskLemmas.{characters_stay, text_stays}
 use Rattle.shapers_universal.proofs.ot_shaper_use.masks.setup_masks.Goals as goal
 
@@ -17,7 +17,7 @@ returns-in-Some-clause-masks g c =
     let new = c.setup_masks_inner.new.buffer in
     let auxiliaries = map (λ h. h.auxiliary) new.glyphs in
     let masks = c.in-Some.arabic_plan.mask_array in
-    let equation = c.setup_masks_inner.ensures.joined ∙ ap (joined c.in-Some.arabic_plan.break_flags masks script t.joining t.general) c.set_categories.ensures in
+    let equation = c.setup_masks_inner.ensures.joined ∙ ap (buffer_joined c.in-Some.arabic_plan.break_flags masks script t.joining t.general) c.set_categories.ensures in
     let cut = subst (λ b. CutsAsHalves script t.joining t.general b new) c.set_categories.ensures c.setup_masks_inner.ensures.cut in
     rw (c.in-Universal.is, c.in-Some.is) (equation, subst (λ text. HoldsCut script text auxiliaries) (text_stays t t.joining t.general c.args.buffer.now) cut)
 

@@ -3,7 +3,7 @@ use Rattle.std.proofs.Common.{◌+◌, ◌-◌, ◌<◌, ◌∷◌, [], length, 
 use Rattle.std.specs.List.{range_with_len}
 use Rattle.shapers_buffer.proofs.Listing.{left_as, left_one, left_starts}
 use Rattle.shapers_buffer.specs.Lists.{first_last}
-use Rattle.shapers_universal.proofs.UniversalListing.{left_ends, reph_counted, reph_left, reph_next, reph_split, same_glyphs}
+use Rattle.shapers_universal.proofs.UniversalListing.{left_ends, reph_counted, reph_left, reph_next, reph_split, same_when_placed}
 use Rattle.shapers_universal.proofs.ot_shaper_use.ordering.list_reph.Goals as goal
 
 pub loop-i-init : goal.loop-i-init
@@ -21,7 +21,7 @@ pub set_place-requires : goal.set_place-requires
 set_place-requires c =
     let l = c.loop-i in
     let left = left_as _ _ l.at _ _ c.args.buffer.now l.buffer (reph_next l.i c.args.s c.args.behind c.loop-i-test.true) l.invariant.left in
-    omega (arith, left.counted, reph_counted c.args.s c.args.behind, c.requires.in_range, ap length (same_glyphs c.args.buffer.now l.buffer l.invariant.left.others))
+    omega (arith, left.counted, reph_counted c.args.s c.args.behind, c.requires.in_range, ap length (same_when_placed c.args.buffer.now l.buffer l.invariant.left.others))
 
 pub overflow_add-at : goal.overflow_add-at
 overflow_add-at c =
@@ -43,7 +43,7 @@ pub set_place-requires-2 : goal.set_place-requires-2
 set_place-requires-2 c =
     let l = c.loop-i in
     let left = left_as _ (c.args.s ∷ []) l.at _ _ c.args.buffer.now l.buffer (reph_left l.i c.args.s c.args.behind (omega (arith, c.loop-i-test.false))) l.invariant.left in
-    omega (arith, left.counted, reph_counted c.args.s c.args.behind, c.requires.in_range, ap length (same_glyphs c.args.buffer.now l.buffer l.invariant.left.others))
+    omega (arith, left.counted, reph_counted c.args.s c.args.behind, c.requires.in_range, ap length (same_when_placed c.args.buffer.now l.buffer l.invariant.left.others))
 
 pub overflow_add-result : goal.overflow_add-result
 overflow_add-result c =

@@ -1,6 +1,6 @@
 -- One glyph more: it goes to the front, ends its piece, or stays.
 use Rattle.std.proofs.Common.{ap, arith, sym, ◌∙◌}
-use Rattle.shapers_universal.specs.Universal.{goes_front, is_halant}
+use Rattle.shapers_universal.specs.Universal.{goes_front, is_universal_halant}
 use Rattle.shapers_universal.proofs.UniversalFronts.{merging_ends, merging_front, merging_halant, merging_rest, merging_starts}
 use Rattle.shapers_universal.proofs.UniversalPlaces.{at}
 use Rattle.shapers_universal.proofs.ot_shaper_use.ordering.merge_fronts.Goals as goal
@@ -21,9 +21,9 @@ loop-i-preserved c =
       | then-goes_front w ↦
           rw (w.start-is, w.run-is, w.buffer-is) (merging_front s behind e l.start l.i l.run w.merge_run-run.result b0 l.buffer w.merge_run-run.new.self c.loop-i-test.true c.requires.in_range l.invariant (ap (λ xs. goes_front (at xs l.i)) (sym c.glyphs.ensures) ∙ sym c.goes_front.ensures ∙ w.if-goes_front.true) w.merge_run-run.ensures.others w.merge_run-run.ensures.merged w.merge_run-run.ensures.fits w.merge_run-run.ensures.same_length)
       | else-goes_front+then-is_halant w ↦
-          rw (w.start-is, w.run-is) (merging_halant s behind e l.start l.i l.run b0 l.buffer b1 c.loop-i-test.true c.requires.in_range l.invariant (ap (λ xs. goes_front (at xs l.i)) (sym c.glyphs.ensures) ∙ sym c.goes_front.ensures ∙ w.if-goes_front.false) (ap (λ xs. is_halant (at xs l.i)) (sym w.glyphs-else-goes_front.ensures) ∙ sym w.is_halant.ensures ∙ w.if-is_halant.true) w.buffer-is)
+          rw (w.start-is, w.run-is) (merging_halant s behind e l.start l.i l.run b0 l.buffer b1 c.loop-i-test.true c.requires.in_range l.invariant (ap (λ xs. goes_front (at xs l.i)) (sym c.glyphs.ensures) ∙ sym c.goes_front.ensures ∙ w.if-goes_front.false) (ap (λ xs. is_universal_halant (at xs l.i)) (sym w.glyphs-else-goes_front.ensures) ∙ sym w.is_halant.ensures ∙ w.if-is_halant.true) w.buffer-is)
       | else-goes_front+else-is_halant w ↦
-          rw (w.start-is, w.run-is) (merging_rest s behind e l.start l.i l.run b0 l.buffer b1 c.loop-i-test.true c.requires.in_range l.invariant (ap (λ xs. goes_front (at xs l.i)) (sym c.glyphs.ensures) ∙ sym c.goes_front.ensures ∙ w.if-goes_front.false) (ap (λ xs. is_halant (at xs l.i)) (sym w.glyphs-else-goes_front.ensures) ∙ sym w.is_halant.ensures ∙ w.if-is_halant.false) w.buffer-is)
+          rw (w.start-is, w.run-is) (merging_rest s behind e l.start l.i l.run b0 l.buffer b1 c.loop-i-test.true c.requires.in_range l.invariant (ap (λ xs. goes_front (at xs l.i)) (sym c.glyphs.ensures) ∙ sym c.goes_front.ensures ∙ w.if-goes_front.false) (ap (λ xs. is_universal_halant (at xs l.i)) (sym w.glyphs-else-goes_front.ensures) ∙ sym w.is_halant.ensures ∙ w.if-is_halant.false) w.buffer-is)
     ]
 
 pub returns : goal.returns

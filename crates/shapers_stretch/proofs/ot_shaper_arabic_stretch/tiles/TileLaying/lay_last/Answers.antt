@@ -1,6 +1,6 @@
 use Rattle.std.proofs.Common.{◌<◌, arith}
 use Rattle.shapers_stretch.specs.LayingWalk.{laying_by}
-use Rattle.shapers_stretch.proofs.PartLaying.{part_can, part_laid, part_moved, part_of}
+use Rattle.shapers_stretch.proofs.PartLaying.{part_can, part_laid, part_moved, part_unlaid}
 use Rattle.shapers_stretch.proofs.ot_shaper_arabic_stretch.tiles.TileLaying.lay_last.Goals as goal
 
 pub lay_run-place-requires-clause-run : goal.lay_run-place-requires-clause-run
@@ -9,7 +9,7 @@ lay_run-place-requires-clause-run g c =
     let p = c.last_part-part.result in
     let e = c.last_part-part.ensures in
     let u = c.args.unlaid in
-    let l = part_of how c.args.glyphs.now c.args.positions.now p.start p.word p.tiles u.end u.place c.requires.some c.requires.unlaid e.tiles e.word e.start in
+    let l = part_unlaid how c.args.glyphs.now c.args.positions.now p.start p.word p.tiles u.end u.place c.requires.some c.requires.unlaid e.tiles e.word e.start in
     let some : p.tiles < u.end = omega (arith, l.tiles_fit, c.if-part-unlaid.false) in
     part_can how c.args.glyphs.now c.args.positions.now p.start p.word p.tiles u.end u.place some c.requires.unlaid l
 
@@ -20,7 +20,7 @@ returns-then-part-unlaid-clause-laid g c =
     let e = c.last_part-part.ensures in
     let u = c.args.unlaid in
     let n = c.move_up.new in
-    let l = part_of how c.args.glyphs.now c.args.positions.now p.start p.word p.tiles u.end u.place c.requires.some c.requires.unlaid e.tiles e.word e.start in
+    let l = part_unlaid how c.args.glyphs.now c.args.positions.now p.start p.word p.tiles u.end u.place c.requires.some c.requires.unlaid e.tiles e.word e.start in
     part_moved how c.args.glyphs.now n.glyphs c.args.positions.now n.positions p.start p.word p.tiles u.end u.place c.if-part-unlaid.true c.requires.unlaid l c.move_up.ensures.same_length c.move_up.ensures.both c.move_up.ensures.kept c.move_up.ensures.up
 
 pub returns-then-part-unlaid-clause-shorter : goal.returns-then-part-unlaid-clause-shorter
@@ -29,7 +29,7 @@ returns-then-part-unlaid-clause-shorter g c =
     let p = c.last_part-part.result in
     let e = c.last_part-part.ensures in
     let u = c.args.unlaid in
-    (part_of how c.args.glyphs.now c.args.positions.now p.start p.word p.tiles u.end u.place c.requires.some c.requires.unlaid e.tiles e.word e.start).less
+    (part_unlaid how c.args.glyphs.now c.args.positions.now p.start p.word p.tiles u.end u.place c.requires.some c.requires.unlaid e.tiles e.word e.start).less
 
 pub move_up-requires-2-clause-ahead : goal.move_up-requires-2-clause-ahead
 move_up-requires-2-clause-ahead g c =
@@ -37,7 +37,7 @@ move_up-requires-2-clause-ahead g c =
     let p = c.last_part-part.result in
     let e = c.last_part-part.ensures in
     let u = c.args.unlaid in
-    let l = part_of how c.args.glyphs.now c.args.positions.now p.start p.word p.tiles u.end u.place c.requires.some c.requires.unlaid e.tiles e.word e.start in
+    let l = part_unlaid how c.args.glyphs.now c.args.positions.now p.start p.word p.tiles u.end u.place c.requires.some c.requires.unlaid e.tiles e.word e.start in
     let some : p.tiles < u.end = omega (arith, l.tiles_fit, c.if-part-unlaid.false) in
     let can = part_can how c.args.glyphs.now c.args.positions.now p.start p.word p.tiles u.end u.place some c.requires.unlaid l in
     omega (arith, can.room, c.lay_run-place.ensures.place)
@@ -48,7 +48,7 @@ overflow_sub-result-3 g c =
     let p = c.last_part-part.result in
     let e = c.last_part-part.ensures in
     let u = c.args.unlaid in
-    let l = part_of how c.args.glyphs.now c.args.positions.now p.start p.word p.tiles u.end u.place c.requires.some c.requires.unlaid e.tiles e.word e.start in
+    let l = part_unlaid how c.args.glyphs.now c.args.positions.now p.start p.word p.tiles u.end u.place c.requires.some c.requires.unlaid e.tiles e.word e.start in
     let some : p.tiles < u.end = omega (arith, l.tiles_fit, c.if-part-unlaid.false) in
     let can = part_can how c.args.glyphs.now c.args.positions.now p.start p.word p.tiles u.end u.place some c.requires.unlaid l in
     omega (arith, can.room, c.lay_run-place.ensures.place)
@@ -62,6 +62,6 @@ returns-clause-laid g c =
     let r = c.lay_run-place.ensures in
     let h = c.lay_run-place.new in
     let n = c.move_up-2.new in
-    let l = part_of how c.args.glyphs.now c.args.positions.now p.start p.word p.tiles u.end u.place c.requires.some c.requires.unlaid e.tiles e.word e.start in
+    let l = part_unlaid how c.args.glyphs.now c.args.positions.now p.start p.word p.tiles u.end u.place c.requires.some c.requires.unlaid e.tiles e.word e.start in
     let some : p.tiles < u.end = omega (arith, l.tiles_fit, c.if-part-unlaid.false) in
     part_laid how c.args.glyphs.now h.glyphs n.glyphs c.args.positions.now h.positions n.positions p.start p.word p.tiles u.end u.place c.lay_run-place.result some c.requires.unlaid l r.same_length c.move_up-2.ensures.same_length c.move_up-2.ensures.both r.flagged r.laid r.place c.move_up-2.ensures.kept c.move_up-2.ensures.up

@@ -3,8 +3,8 @@ use Rattle.shapers_buffer.specs.Clusters.{stretch_of}
 use Rattle.shapers_syllabic.proofs.OpenedCircles.{Opening, opening_behind, opening_front}
 use Rattle.shapers_syllabic.proofs.ot_shaper_syllabic.circles.DottedCircles.open.Goals as goal
 
-opening : (c : goal.After-glyphs-2-1) → Opening c.args.self.now c.args.broken.start c.args.broken.end (c.args.broken.start + c.rephas_len.result) c.args.left c.args.glyphs.now c.move_up.new.glyphs c.move_up-2.new.glyphs
-opening c =
+opening_there : (c : goal.After-glyphs-2-1) → Opening c.args.self.now c.args.broken.start c.args.broken.end (c.args.broken.start + c.rephas_len.result) c.args.left c.args.glyphs.now c.move_up.new.glyphs c.move_up-2.new.glyphs
+opening_there c =
     let s = c.args.broken.start in
     let p = s + c.rephas_len.result in
     let left = c.args.left in
@@ -23,7 +23,7 @@ opening c =
     }
 
 pub returns-clause-front : goal.returns-clause-front
-returns-clause-front c = opening_front c.args.self.now c.args.broken.start c.args.broken.end (c.args.broken.start + c.rephas_len.result) c.args.left c.args.glyphs.now c.move_up.new.glyphs c.move_up-2.new.glyphs (opening c)
+returns-clause-front c = opening_front c.args.self.now c.args.broken.start c.args.broken.end (c.args.broken.start + c.rephas_len.result) c.args.left c.args.glyphs.now c.move_up.new.glyphs c.move_up-2.new.glyphs (opening_there c)
 
 pub returns-clause-behind : goal.returns-clause-behind
-returns-clause-behind c = opening_behind c.args.self.now c.args.broken.start c.args.broken.end (c.args.broken.start + c.rephas_len.result) c.args.left c.args.glyphs.now c.move_up.new.glyphs c.move_up-2.new.glyphs (opening c)
+returns-clause-behind c = opening_behind c.args.self.now c.args.broken.start c.args.broken.end (c.args.broken.start + c.rephas_len.result) c.args.left c.args.glyphs.now c.move_up.new.glyphs c.move_up-2.new.glyphs (opening_there c)

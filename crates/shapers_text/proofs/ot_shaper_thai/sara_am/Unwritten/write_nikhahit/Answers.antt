@@ -1,7 +1,7 @@
 -- The start, one more mark, and the NIKHAHIT.
 use Rattle.std.proofs.Common.{◌≡◌, ◌-◌, ◌+◌, Some, refl, set, get_or, subst, ◌∙◌, arith}
 use Rattle.shapers_buffer.specs.Glyph.{default_glyph}
-use Rattle.shapers_text.specs.ThaiWalk.{whole_of}
+use Rattle.shapers_text.specs.ThaiWalk.{rewritten_whole}
 use Rattle.shapers_text.proofs.ThaiSaraAm.{MarksLeft, read_there, marks_fit, marks_next, marks_done}
 use Rattle.shapers_text.proofs.ot_shaper_thai.sara_am.Unwritten.write_nikhahit.Goals as goal
 
@@ -11,7 +11,7 @@ loop-init c =
     let u = c.args.self.now in
     let marks = c.count_marks_before-above.result in
     let none : marks - 0 ≡ marks = omega arith in
-    let walk : MarksLeft (whole_of gs u.end (Some c.args.nikhahit) u.place) gs u.end u.place (marks - 0) c.args.nikhahit =
+    let walk : MarksLeft (rewritten_whole gs u.end (Some c.args.nikhahit) u.place) gs u.end u.place (marks - 0) c.args.nikhahit =
     record { written = record { left = c.requires; joined = refl }; left = none ∙ c.count_marks_before-above.ensures.count } in
     record { walk = walk; fit = marks_fit _ gs u.end u.place (marks - 0) c.args.nikhahit walk; shorter = omega arith }
 
@@ -20,7 +20,7 @@ loop-preserved c =
     let l = c.loop in
     let u = c.args.self.now in
     let marks = c.count_marks_before-above.result in
-    let whole = whole_of c.args.glyphs.now u.end (Some c.args.nikhahit) u.place in
+    let whole = rewritten_whole c.args.glyphs.now u.end (Some c.args.nikhahit) u.place in
     let glyph = get_or l.glyphs (l.self.end - 1) default_glyph in
     let now = set l.glyphs (l.self.place - 1) glyph in
     let at = read_there l.glyphs (l.self.end - 1) default_glyph (omega (arith, c.loop-test.true, l.invariant.fit.few, l.invariant.fit.ahead, l.invariant.fit.within)) in
@@ -38,5 +38,5 @@ pub returns-clause-written : goal.returns-clause-written
 returns-clause-written c =
     let l = c.loop in
     let u = c.args.self.now in
-    let whole = whole_of c.args.glyphs.now u.end (Some c.args.nikhahit) u.place in
+    let whole = rewritten_whole c.args.glyphs.now u.end (Some c.args.nikhahit) u.place in
     marks_done whole l.glyphs l.self.end l.self.place (c.count_marks_before-above.result - l.counter) c.args.nikhahit (omega (arith, c.loop-test.false)) l.invariant.walk
