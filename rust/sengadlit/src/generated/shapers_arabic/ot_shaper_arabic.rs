@@ -126,7 +126,7 @@ fn joining_requests(flags: u32) -> [Request; 14] {
 /// requires { AreCharacters buffer.old.glyphs }
 /// ensures joined { let table = T.tables tables.now in
 ///     let masks = arabic_plan.now.mask_array in let breaks = arabic_plan.now.break_flags in
-///     buffer.new ≡ joined breaks masks script table.joining table.general buffer.old }
+///     buffer.new ≡ buffer_joined breaks masks script table.joining table.general buffer.old }
 /// ensures cut { let table = T.tables tables.now in
 ///     CutsAsHalves script table.joining table.general buffer.old buffer.new }
 /// ensures breaks { let table = T.tables tables.now in
@@ -146,7 +146,7 @@ fn joining_requests(flags: u32) -> [Request; 14] {
 ///
 /// - `BreaksWhereClear`, `NoneNeedless`: crates/shapers_arabic/specs/Breaks.antt
 /// - `FirstKeepsAsFlagged`: crates/shapers_arabic/specs/FirstPiece.antt
-/// - `AreCharacters`, `CutsAsHalves`, `joined`: crates/shapers_arabic/specs/JoinedText.antt
+/// - `AreCharacters`, `CutsAsHalves`, `buffer_joined`: crates/shapers_arabic/specs/JoinedText.antt
 /// - `OnlyFlagsAdded`: crates/shapers_clusters/specs/FlagLaw.antt
 ///
 /// </details>
@@ -184,7 +184,7 @@ pub fn setup_masks_inner<T: Tables>(
 /// requires characters { AreCharacters buffer.old.glyphs }
 /// ensures joined { let table = T.tables tables.now in let masks = masks_of plan.now.plan_data in
 ///     let breaks = breaks_of plan.now.plan_data in
-///     buffer.new ≡ joined breaks masks plan.now.script table.joining table.general buffer.old }
+///     buffer.new ≡ buffer_joined breaks masks plan.now.script table.joining table.general buffer.old }
 /// ensures cut { let table = T.tables tables.now in
 ///     CutsAsHalves plan.now.script table.joining table.general buffer.old buffer.new }
 /// ensures breaks { let table = T.tables tables.now in let script = plan.now.script in
@@ -204,7 +204,7 @@ pub fn setup_masks_inner<T: Tables>(
 ///
 /// - `BreaksWhereClear`, `NoneNeedless`: crates/shapers_arabic/specs/Breaks.antt
 /// - `FirstKeepsAsFlagged`: crates/shapers_arabic/specs/FirstPiece.antt
-/// - `AreCharacters`, `CutsAsHalves`, `joined`: crates/shapers_arabic/specs/JoinedText.antt
+/// - `AreCharacters`, `CutsAsHalves`, `buffer_joined`: crates/shapers_arabic/specs/JoinedText.antt
 /// - `IsArabic`, `breaks_of`, `masks_of`: crates/shapers_arabic/specs/PlanData.antt
 /// - `OnlyFlagsAdded`: crates/shapers_clusters/specs/FlagLaw.antt
 ///

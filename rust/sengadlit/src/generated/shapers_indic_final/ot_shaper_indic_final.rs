@@ -6,10 +6,9 @@
 
 mod base;
 mod glyphs;
+mod left_matras;
 mod matras;
 mod moves;
-mod opening;
-mod parting;
 mod pause;
 mod placing;
 mod pref;
@@ -17,5 +16,6 @@ mod reordering;
 mod reph;
 pub mod rules;
 mod viramas;
+mod word_start;
 
 pub use pause::final_reordering;

@@ -4,10 +4,10 @@
 //! `stch`.)
 
 mod counting;
-mod laying;
 mod measuring;
 mod parts;
 mod postprocessing;
 mod recording;
+mod tiles;
 pub use postprocessing::postprocess_glyphs;
 pub use recording::{record_stch, record_stch_in};

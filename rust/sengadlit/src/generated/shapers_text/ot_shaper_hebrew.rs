@@ -23,17 +23,17 @@ use crate::generated::shapers_base::plan::Plan;
 /// ```text
 /// requires in_order { start ≤ end }
 /// requires in_range { end ≤ length buffer.old.glyphs }
-/// ensures step { let step = mark_step start end buffer.old.glyphs in
+/// ensures step { let step = hebrew_mark_step start end buffer.old.glyphs in
 ///     let moved = run_step buffer.old.level step buffer.old.glyphs in
 ///     buffer.new ≡ record buffer.old { glyphs = moved } }
 /// ensures order { let old = order_view buffer.old.glyphs in
 ///     order_view buffer.new.glyphs ≡ marks_swapped start end old }
-/// ensures laws { MarksReordered start end buffer.old buffer.new }
+/// ensures laws { HebrewMarksReordered start end buffer.old buffer.new }
 /// ```
 ///
 /// - `order_view`: crates/shapers_buffer/specs/Glyph.antt
 /// - `run_step`: crates/shapers_clusters/specs/Steps.antt
-/// - `MarksReordered`, `mark_step`, `marks_swapped`: crates/shapers_text/specs/Hebrew.antt
+/// - `HebrewMarksReordered`, `hebrew_mark_step`, `marks_swapped`: crates/shapers_text/specs/Hebrew.antt
 ///
 /// </details>
 #[inline]
@@ -52,13 +52,13 @@ pub fn reorder_marks(_plan: &Plan, buffer: &mut Buffer, start: usize, end: usize
 /// ```text
 /// requires in_order { start ≤ end }
 /// requires in_range { end ≤ length glyphs.old }
-/// ensures step { glyphs.new ≡ run_step level (mark_step start end glyphs.old) glyphs.old }
+/// ensures step { glyphs.new ≡ run_step level (hebrew_mark_step start end glyphs.old) glyphs.old }
 /// ensures moved { result ≡ is_some (second_of_triple start end glyphs.old) }
 /// ensures unchanged { result ≡ false → glyphs.new ≡ glyphs.old }
 /// ```
 ///
 /// - `run_step`: crates/shapers_clusters/specs/Steps.antt
-/// - `mark_step`, `second_of_triple`: crates/shapers_text/specs/Hebrew.antt
+/// - `hebrew_mark_step`, `second_of_triple`: crates/shapers_text/specs/Hebrew.antt
 ///
 /// </details>
 pub fn reorder_marks_in(

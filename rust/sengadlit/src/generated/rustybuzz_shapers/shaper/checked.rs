@@ -237,7 +237,7 @@ impl Shaper {
 ///
 /// ```text
 /// ensures conditions { StopsAt (pause_asks pause plan.now spans.now buffer.old) result }
-/// ensures answer { let circles = circles_of pause plan.now (F.font face.now) buffer.old in
+/// ensures answer { let circles = pause_circles pause plan.now (F.font face.now) buffer.old in
 ///     IfOk result (λ answer. answer ≡ is_some circles) }
 /// ensures ok { let font = F.font face.now in
 ///     OnOk result (Paused pause plan.now font spans.now buffer.old buffer.new) }
@@ -249,7 +249,7 @@ impl Shaper {
 /// ```
 ///
 /// - `AsRefused`, `StopsAt`, `pause_asks`: crates/rustybuzz_shapers/specs/Checked.antt
-/// - `PauseKeeps`, `Paused`, `RefusesPause`, `circles_of`: crates/rustybuzz_shapers/specs/Pauses.antt
+/// - `PauseKeeps`, `Paused`, `RefusesPause`, `pause_circles`: crates/rustybuzz_shapers/specs/Pauses.antt
 ///
 /// </details>
 #[inline]

@@ -31,7 +31,7 @@ use crate::generated::shapers_universal::ot_shaper_use;
 /// requires without_positions { buffer.old.positions ≡ [] }
 /// requires kinds { All (λ span. span.kind ≤ 15) spans.now }
 /// requires data { PauseFits pause plan.now }
-/// ensures answer { let circles = circles_of pause plan.now (F.font face.now) buffer.old in
+/// ensures answer { let circles = pause_circles pause plan.now (F.font face.now) buffer.old in
 ///     IfOk result (λ answer. answer ≡ is_some circles) }
 /// ensures ok { let font = F.font face.now in
 ///     OnOk result (Paused pause plan.now font spans.now buffer.old buffer.new) }
@@ -41,7 +41,7 @@ use crate::generated::shapers_universal::ot_shaper_use;
 /// ensures err { OnErr result (buffer.new ≡ buffer.old) }
 /// ```
 ///
-/// - `PauseFits`, `PauseKeeps`, `Paused`, `RefusesPause`, `circles_of`: crates/rustybuzz_shapers/specs/Pauses.antt
+/// - `PauseFits`, `PauseKeeps`, `Paused`, `RefusesPause`, `pause_circles`: crates/rustybuzz_shapers/specs/Pauses.antt
 ///
 /// </details>
 pub fn run_pause<F: Font>(
@@ -89,18 +89,48 @@ pub fn run_pause<F: Font>(
 ///
 /// ```text
 /// requires { PauseFits pause plan.now }
-/// ensures { result ≡ false → PauseStays pause plan.now }
+/// ensures changes { result ≡ may_change pause plan.now }
+/// ensures stays { result ≡ false → PauseStays pause plan.now }
 /// ```
 ///
-/// - `PauseFits`, `PauseStays`: crates/rustybuzz_shapers/specs/Pauses.antt
+/// - `PauseFits`, `PauseStays`, `may_change`: crates/rustybuzz_shapers/specs/Pauses.antt
 ///
 /// </details>
 #[inline]
 pub fn pause_may_change(pause: Pause, plan: &Plan) -> bool {
-    match (pause, &plan.plan_data) {
-        (Pause::ArabicFallbackShape, _) => false,
-        (Pause::RecordStch, PlanData::Arabic(arabic_plan)) => arabic_plan.has_stch,
-        (Pause::RecordRphf, PlanData::Universal(universal_plan)) => universal_plan.rphf_mask != 0,
-        _ => true,
+    match pause {
+        Pause::RecordStch => stretches_marks(&plan.plan_data),
+        Pause::RecordRphf => has_rphf_mask(&plan.plan_data),
+        Pause::ArabicFallbackShape => false,
+        Pause::SetupSyllablesIndic
+        | Pause::SetupSyllablesKhmer
+        | Pause::SetupSyllablesMyanmar
+        | Pause::SetupSyllablesUse
+        | Pause::InitialReordering
+        | Pause::ReorderKhmer
+        | Pause::ReorderMyanmar
+        | Pause::ReorderUse
+        | Pause::FinalReordering
+        | Pause::RecordPref
+        | Pause::SyllabicClearVar
+        | Pause::ClearSubstitutionFlags => true,
+    }
+}
+
+// Whether the font stretches marks, as Arabic keeps it in the plan.
+#[inline]
+fn stretches_marks(plan_data: &PlanData) -> bool {
+    match plan_data {
+        PlanData::Arabic(arabic_plan) => arabic_plan.has_stch,
+        _ => false,
+    }
+}
+
+// Whether the universal shaper's plan has a mask for `rphf`.
+#[inline]
+fn has_rphf_mask(plan_data: &PlanData) -> bool {
+    match plan_data {
+        PlanData::Universal(universal_plan) => universal_plan.rphf_mask != 0,
+        _ => false,
     }
 }

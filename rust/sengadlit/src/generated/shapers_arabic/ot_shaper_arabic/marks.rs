@@ -33,10 +33,10 @@ const ABOVE: u8 = 230;
 ///     buffer.new ≡ record buffer.old { glyphs = marks_reordered start end merged } }
 /// ensures order { let view = order_view buffer.old.glyphs in
 ///     order_view buffer.new.glyphs ≡ marks_reordered start end view }
-/// ensures laws { MarksReordered start end buffer.old buffer.new }
+/// ensures laws { ArabicMarksReordered start end buffer.old buffer.new }
 /// ```
 ///
-/// - `MarksReordered`, `marks_merged`, `marks_reordered`: crates/shapers_arabic/specs/Marks.antt
+/// - `ArabicMarksReordered`, `marks_merged`, `marks_reordered`: crates/shapers_arabic/specs/Marks.antt
 /// - `order_view`: crates/shapers_buffer/specs/Glyph.antt
 ///
 /// </details>

@@ -1,4 +1,4 @@
-//! Generated from crates/shapers_indic_final/src/ot_shaper_indic_final/parting.rt by rust/erase; edit the source.
+//! Generated from crates/shapers_indic_final/src/ot_shaper_indic_final/left_matras.rt by rust/erase; edit the source.
 //!
 //! The left matras of one syllable moved to their place, in time that is linear in the syllable. Each
 //! merges with all behind it up to the base. So at any time at most two runs of glyphs are in

@@ -21,17 +21,17 @@ use crate::generated::shapers_indic::ot_shaper_indic::indic_in;
 ///
 /// ```text
 /// requires kept { is_indic_data plan.now.plan_data ≡ true }
-/// ensures reordered { let rules = rules_of (F.font face.now) (indic_in plan.now) in
+/// ensures reordered { let rules = final_rules (F.font face.now) (indic_in plan.now) in
 ///     FinallyReordered rules buffer.old buffer.new }
-/// ensures laws { let rules = rules_of (F.font face.now) (indic_in plan.now) in
+/// ensures laws { let rules = final_rules (F.font face.now) (indic_in plan.now) in
 ///     FinallyKept rules buffer.old buffer.new }
 /// ensures clusters { NoNewCluster buffer.old.glyphs buffer.new.glyphs }
 /// ```
 ///
 /// - `indic_in`, `is_indic_data`: crates/shapers_indic/specs/Plan.antt
 /// - `FinallyKept`: crates/shapers_indic_final/specs/FinalLaws.antt
-/// - `FinallyReordered`: crates/shapers_indic_final/specs/FinalOpening.antt
-/// - `rules_of`: crates/shapers_indic_final/specs/FinalRules.antt
+/// - `final_rules`: crates/shapers_indic_final/specs/FinalRules.antt
+/// - `FinallyReordered`: crates/shapers_indic_final/specs/FinalWordStart.antt
 /// - `NoNewCluster`: crates/shapers_syllabic/specs/CircleLaws.antt
 ///
 /// </details>

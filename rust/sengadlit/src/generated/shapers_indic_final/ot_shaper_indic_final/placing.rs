@@ -2,9 +2,9 @@
 //!
 //! Left matras, the reph and a formed pref glyph of one syllable, each put in its place.
 
+use super::left_matras::part_matras;
 use super::matras::{end_of_base, first_left, has_room, matra_target, matras_go};
 use super::moves::{move_pref, move_reph};
-use super::parting::part_matras;
 use super::pref::{formed_pref, pref_target};
 use super::reph::{base_after_reph, opens_with_reph, reph_target};
 use crate::generated::shapers_base::buffer::{Buffer, Script};

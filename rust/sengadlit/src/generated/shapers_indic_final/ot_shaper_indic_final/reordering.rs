@@ -3,10 +3,10 @@
 //! The final reordering of one syllable, and of a text.
 
 use super::base::settle_base;
-use super::opening::open_syllable;
 use super::placing::{place_matras, place_pref, place_reph};
 use super::rules::Rules;
 use super::viramas::recover_viramas;
+use super::word_start::open_syllable;
 use crate::generated::shapers_base::buffer::{Buffer, Script};
 use crate::generated::shapers_indic::ot_shaper_indic::glyphs::is_plain_consonant;
 

@@ -33,10 +33,10 @@ impl Rules {
     /// # Contract
     ///
     /// ```text
-    /// ensures { result ≡ rules_of (F.font face.now) plan.now }
+    /// ensures { result ≡ final_rules (F.font face.now) plan.now }
     /// ```
     ///
-    /// - `rules_of`: crates/shapers_indic_final/specs/FinalRules.antt
+    /// - `final_rules`: crates/shapers_indic_final/specs/FinalRules.antt
     ///
     /// </details>
     #[inline]

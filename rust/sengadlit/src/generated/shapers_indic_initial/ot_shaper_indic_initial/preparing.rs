@@ -1,4 +1,4 @@
-//! Generated from crates/shapers_indic_initial/src/ot_shaper_indic_initial/opening.rt by rust/erase; edit the source.
+//! Generated from crates/shapers_indic_initial/src/ot_shaper_indic_initial/preparing.rt by rust/erase; edit the source.
 //!
 //! What comes before the order of a syllable: its positions, and the moves of single glyphs.
 //! (OpenType, development of Indic scripts: "Reorder characters".)

@@ -3,9 +3,9 @@
 //! The initial reordering of one syllable.
 
 use super::masks::set_masks;
-use super::opening::prepare_for_order;
 use super::order::order_syllable;
 use super::ordered_base::ordered_base;
+use super::preparing::prepare_for_order;
 use super::rules::Rules;
 use crate::generated::shapers_base::buffer::{Buffer, GlyphInfo, GlyphWalk, Script, ShaperError};
 use crate::generated::shapers_base::font::Font;

@@ -3,7 +3,7 @@
 //! The hook behind positioning: marks stretch over the words before them.
 
 use super::counting::count_added;
-use super::laying::TileLaying;
+use super::tiles::TileLaying;
 use crate::generated::shapers_base::buffer::{Buffer, Direction, ShaperError};
 use crate::generated::shapers_base::font::Font;
 use crate::generated::shapers_base::plan::{Plan, PlanData, StretchStart};

@@ -1,4 +1,4 @@
-//! Generated from crates/shapers_stretch/src/ot_shaper_arabic_stretch/laying.rt by rust/erase; edit the source.
+//! Generated from crates/shapers_stretch/src/ot_shaper_arabic_stretch/tiles.rt by rust/erase; edit the source.
 //!
 //! The second pass over a text whose marks stretch: from behind, in place, each run is laid over
 //! its word. The writer never overtakes the reader.
