@@ -1,13 +1,16 @@
 //! The walk over the lines: which rows the page has.
 use crate::boxes::draw_boxes;
+use crate::fault::{DrawFault, MOST_GLYPHS};
+use crate::numbers::Numbers;
 use crate::origins::{Origins, Traced};
 use crate::page::{
-    FOOT, HEAD, Line, shortened, write_answers, write_fault, write_lines, write_note, write_text,
+    Context, FOOT, HEAD, Line, shortened, write_answers, write_fault, write_lines, write_note,
+    write_text,
 };
 use crate::row::Row;
 use crate::scale::draw_positions;
-use hbhook_lines::{LineFault, LineKind, Session, kind_of_line};
-use rustybuzz_shapers::buffer::hb_glyph_info_t;
+use hbhook_lines::{LineKind, Session, kind_of_line};
+use rustybuzz_shapers::buffer::{Direction, hb_glyph_info_t};
 use std::alloc::{AllocError, Global};
 
 /// A page in the making.
@@ -15,6 +18,7 @@ use std::alloc::{AllocError, Global};
 pub(crate) struct Drawing {
     alloc: Global,
     session: Session,
+    numbers: Numbers,
     page: String,
     // The lines that wrote to the buffer since the last row, and the text that they set.
     written: Vec<Line>,
@@ -27,6 +31,7 @@ impl Drawing {
         Ok(Drawing {
             alloc,
             session: Session::new(alloc),
+            numbers: Numbers::new(alloc),
             page: String::from_str(alloc, HEAD)?,
             written: Vec::new(alloc),
             text: String::new(alloc),
@@ -35,13 +40,20 @@ impl Drawing {
 
     /// Carries out a line, and draws what it did, if it is one of a hook. What other lines write to
     /// the buffer is drawn before the next hook, or the next text.
-    pub(crate) fn draw(&mut self, number: usize, line: &[u8]) -> Result<(), LineFault> {
+    pub(crate) fn draw(&mut self, number: usize, line: &[u8]) -> Result<(), DrawFault> {
         match kind_of_line(self.alloc, line)? {
-            LineKind::Setting => self.session.carry_out(line),
+            LineKind::Setting => {
+                self.session.carry_out(line)?;
+                self.numbers.add_line(self.alloc, line)?;
+                Ok(())
+            }
             LineKind::Glyphs => self.write(number, line),
             LineKind::Text => {
                 self.draw_written()?;
                 self.write(number, line)?;
+                for glyph in self.session.buffer.glyphs() {
+                    self.numbers.add_character(glyph.glyph_id)?;
+                }
                 self.text = text_of(self.alloc, self.session.buffer.glyphs())?;
                 Ok(())
             }
@@ -57,7 +69,7 @@ impl Drawing {
         &mut self,
         number: usize,
         line: &[u8],
-        fault: LineFault,
+        fault: DrawFault,
     ) -> Result<(), AllocError> {
         self.draw_written()?;
         let line = Line::new(self.alloc, number, line)?;
@@ -72,9 +84,19 @@ impl Drawing {
     }
 
     // Carries out a line that writes to the buffer.
-    fn write(&mut self, number: usize, line: &[u8]) -> Result<(), LineFault> {
-        self.session.carry_out(line)?;
+    fn write(&mut self, number: usize, line: &[u8]) -> Result<(), DrawFault> {
+        self.carry_out(line)?;
         self.keep(number, line)?;
+        Ok(())
+    }
+
+    // Carries out a line that leaves as many glyphs as a row may have.
+    fn carry_out(&mut self, line: &[u8]) -> Result<(), DrawFault> {
+        self.session.carry_out(line)?;
+        let count = self.session.buffer.len();
+        if count > MOST_GLYPHS {
+            return Err(DrawFault::TooMany(count));
+        }
         Ok(())
     }
 
@@ -91,33 +113,38 @@ impl Drawing {
         }
         write_lines(&mut self.page, self.written.as_slice())?;
         if !self.text.is_empty() {
-            write_text(&mut self.page, self.text.as_str())?;
+            let context = Context::of(&self.session.buffer)?;
+            write_text(&mut self.page, self.text.as_str(), &context)?;
         }
         self.written.clear();
         self.text.clear();
         let origins = Origins::none(&self.session);
-        draw_row(&mut self.page, &self.session, &origins)
+        draw_row(&mut self.page, &self.session, &self.numbers, &origins)
     }
 
     // Carries out the line of a hook, and draws what the hook returned and left.
-    fn draw_hook(&mut self, number: usize, line: &[u8]) -> Result<(), LineFault> {
+    fn draw_hook(&mut self, number: usize, line: &[u8]) -> Result<(), DrawFault> {
         let traced = Traced::new(&mut self.session, line)?;
-        self.session.carry_out(line)?;
+        self.carry_out(line)?;
         let origins = traced.origins(self.session.buffer.glyphs())?;
         let answers = self.session.take_answers();
         write_lines(&mut self.page, &[Line::new(self.alloc, number, line)?])?;
         write_answers(&mut self.page, answers.as_str())?;
-        draw_row(&mut self.page, &self.session, &origins)?;
+        draw_row(&mut self.page, &self.session, &self.numbers, &origins)?;
         Ok(())
     }
 }
 
-// Draws the buffer, with lines to its glyphs from where they stood.
+// Draws the buffer, with lines to its glyphs from where they stood: from left to right, but a text
+// from right to left in that direction, until it has positions: then its glyphs stand in the order
+// of the line.
 fn draw_row<'a>(
     page: &mut String,
     session: &'a Session,
+    numbers: &'a Numbers,
     origins: &'a Origins,
 ) -> Result<(), AllocError> {
+    let is_rtl = matches!(session.buffer.direction(), Direction::RightToLeft);
     let mut row = Row {
         alloc: session.buffer.alloc(),
         glyphs: session.buffer.glyphs(),
@@ -126,6 +153,8 @@ fn draw_row<'a>(
         origins: origins.places.as_slice(),
         shaper: session.shaper(),
         features: session.features(),
+        numbers,
+        is_rtl: is_rtl && session.buffer.positions_len() == 0,
     };
     if row.glyphs.is_empty() {
         return write_note(page, "The buffer is empty.");

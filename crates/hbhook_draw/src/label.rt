@@ -19,6 +19,8 @@ pub(crate) enum Style {
     Mask,
     /// What stands outside a box.
     Small,
+    /// A glyph flag.
+    Flag,
 }
 
 impl Style {
@@ -33,6 +35,7 @@ impl Style {
             Style::Auxiliary => "auxiliary",
             Style::Mask => "mask",
             Style::Small => "small",
+            Style::Flag => "flag-name",
         }
     }
 
@@ -43,6 +46,7 @@ impl Style {
             Style::Now | Style::Old => 0,
             Style::Id => 92,
             Style::Number | Style::Category => 68,
+            Style::Flag => 62,
             Style::Auxiliary | Style::Mask | Style::Small => 56,
         }
     }

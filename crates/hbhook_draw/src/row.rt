@@ -1,13 +1,14 @@
 //! A row of boxes: the glyphs of a buffer, and what is shown of them.
 use crate::label::Style;
 use crate::names::{auxiliary_name, category_name};
+use crate::numbers::Numbers;
 use hbhook_lines::Feature;
 use rustybuzz_shapers::buffer::{GlyphPosition, hb_glyph_info_t};
 use rustybuzz_shapers::shaper::hb_ot_shaper_t;
 use std::alloc::{AllocError, Global};
 
-// The glyph flags among the bits of a mask.
-const GLYPH_FLAGS: u32 = 7;
+/// The glyph flags among the bits of a mask.
+pub(crate) const GLYPH_FLAGS: u32 = 7;
 
 /// The glyphs of a buffer, where they stood before a hook, and what names there are for them.
 #[derive(Clone, Copy)]
@@ -21,6 +22,9 @@ pub(crate) struct Row<'a> {
     pub origins: &'a [usize],
     pub shaper: Option<hb_ot_shaper_t>,
     pub features: &'a [Feature],
+    pub numbers: &'a Numbers,
+    /// Whether the row is drawn from right to left.
+    pub is_rtl: bool,
 }
 
 /// A line of small text in a box, and how it looks.
@@ -55,11 +59,13 @@ impl Row<'_> {
         Ok(most)
     }
 
-    /// Whether a glyph of the row has a glyph flag.
-    pub(crate) fn has_flags(&self) -> bool {
-        self.glyphs
-            .iter()
-            .any(|glyph| glyph.mask & GLYPH_FLAGS != 0)
+    /// The glyph flags that some glyph of the row has.
+    pub(crate) fn glyph_flags(&self) -> u32 {
+        let mut flags = 0;
+        for glyph in self.glyphs {
+            flags |= glyph.mask & GLYPH_FLAGS;
+        }
+        flags
     }
 
     /// Whether a glyph of the row is in a syllable.

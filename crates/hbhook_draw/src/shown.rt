@@ -1,5 +1,6 @@
 //! How a glyph is shown: as a character, or by its number.
 use crate::marks::is_mark;
+use crate::numbers::Numbers;
 use rustybuzz_shapers::buffer::hb_glyph_info_t;
 
 /// What stands in a glyph's box.
@@ -18,10 +19,12 @@ pub(crate) enum Shown {
 }
 
 impl Shown {
-    /// What is shown of a glyph. What a lookup put in is no character any more.
-    pub(crate) fn of(glyph: &hb_glyph_info_t) -> Self {
+    /// What is shown of a glyph. What a lookup put in is no character any more, and neither is a
+    /// number that only a glyph of the font has.
+    pub(crate) fn of(glyph: &hb_glyph_info_t, numbers: &Numbers) -> Self {
         let marks = glyph.marks;
-        if marks.is_substituted() || marks.is_ligated() || marks.is_multiplied() {
+        let is_new = marks.is_substituted() || marks.is_ligated() || marks.is_multiplied();
+        if is_new || numbers.is_of_a_glyph(glyph.glyph_id) {
             return Shown::Glyph;
         }
         match char::from_u32(glyph.glyph_id) {

@@ -104,6 +104,11 @@ fn draws_and_explains() {
         Run::new(&["--why", "-", "--draw"], "text 41\ntext U+42"),
         both
     );
+    let long = format!("text{}\nset", " 41".repeat(10_001));
+    assert_eq!(
+        Run::new(&["--draw", "--explain"], &long).told,
+        "refused: TooLong\nline 1: 10001 glyphs are too many to draw; 10000 fit\n"
+    );
 }
 
 // A device that is always full: the status is that of an output that can't be written.

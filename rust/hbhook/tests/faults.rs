@@ -175,6 +175,122 @@ fn draws_each_end() {
     expect_page(unread, 2, "line 2: unreadable\n", &[boxes, told]);
 }
 
+// What HTML gives a meaning is escaped wherever the input puts it.
+#[test]
+fn draws_what_html_gives_a_meaning() {
+    let meanings = [
+        ">&lt;</text>",
+        ">&gt;</text>",
+        ">&amp;</text>",
+        ">&quot;</text>",
+        ">&#39;</text>",
+    ];
+    expect_page(b"text 3C 3E 26 22 27", 0, "", &meanings);
+    let masked = b"set shaper thai\nmask <&>' 8\ntext 41\nat 0 mask 18\nrun masks";
+    let names = [
+        "answered <code>absent",
+        ">&lt;&amp;&gt;&#39;</text>",
+        ">+10</text>",
+    ];
+    expect_page(masked, 0, "", &names);
+    let context =
+        [r#"<bdi><span class="context">&lt;</span>A<span class="context">&amp;</span></bdi>"#];
+    expect_page(b"context 0 3C\ncontext 1 26\ntext 41", 0, "", &context);
+}
+
+// The characters around a text are written in its order, whenever they were set.
+#[test]
+fn draws_contexts_beside_the_text() {
+    let around = [r#"<bdi><span class="context">ab</span>cd<span class="context">ef</span></bdi>"#];
+    expect_page(
+        b"text 63 64\ncontext 0 62 61\ncontext 1 65 66",
+        0,
+        "",
+        &around,
+    );
+    let after = [r#"<p class="text"><bdi>c<span class="context">d</span></bdi></p>"#];
+    expect_page(b"context 1 64\ntext 63", 0, "", &after);
+}
+
+// A number that `font` lines give to a glyph alone is shown as a number; one that names a character
+// too, of the text or of the font, as the character.
+#[test]
+fn draws_numbers_of_glyphs() {
+    let number = "<text class=\"id\" x=\"34\" y=\"38\">0042</text>\n\
+                  <text class=\"number\" x=\"34\" y=\"62\">glyph</text>";
+    let letter = "<text class=\"now\" x=\"34\" y=\"38\">B</text>";
+    expect_page(b"font 41 66 1\ntext 41\nat 0 glyph 66", 0, "", &[number]);
+    expect_page(b"text 41\nat 0 glyph 66", 0, "", &[letter]);
+    expect_page(
+        b"font 41 66 1\nfont 42 7 1\ntext 41\nat 0 glyph 66",
+        0,
+        "",
+        &[letter],
+    );
+    expect_page(b"font 41 66 1\ntext 42", 0, "", &[letter]);
+}
+
+// A text from right to left begins at the right, until it has positions.
+#[test]
+fn draws_from_right_to_left() {
+    let together = "set direction rtl\ntext 41 42 43\nat 1 cluster 0\nat 2 cluster 0\n";
+    let boxes =
+        |lefts: [usize; 3]| lefts.map(|left| format!("<g transform=\"translate({left} 24)\">"));
+    let in_order = |lefts, script: &str| {
+        let (_, page, _) = draw(script.as_bytes());
+        let places = boxes(lefts).map(|text| page.find(&text).unwrap());
+        assert!(places.is_sorted(), "{script}");
+        page
+    };
+    let page = in_order([136, 68, 0], together);
+    assert!(page.contains("<div class=\"row rtl\">"));
+    assert!(page.contains("<p class=\"text\" dir=\"rtl\">"));
+    let page = in_order([0, 68, 136], &format!("{together}set positions yes"));
+    assert!(page.contains("<div class=\"row\">"));
+    in_order([0, 68, 136], &together.replace("rtl", "ltr"));
+    // The bar of a glyph flag is at the edge where the text before the glyph is.
+    let flagged = "at 1 mask 1";
+    let page = in_order([136, 68, 0], &format!("{together}{flagged}"));
+    assert!(page.contains("<rect class=\"flag\" x=\"60\" width=\"5\""));
+    let page = in_order(
+        [0, 68, 136],
+        &format!("{together}{flagged}").replace("rtl", "ltr"),
+    );
+    assert!(page.contains("<rect class=\"flag\" x=\"3\" width=\"5\""));
+}
+
+// Each glyph flag that the row has keeps its line below the details.
+#[test]
+fn draws_glyph_flags() {
+    let name = |y: usize, name: &str| {
+        format!("<text class=\"flag-name\" x=\"34\" y=\"{y}\">{name}</text>")
+    };
+    let (_, page, _) = draw(b"text 41 42\nat 0 mask 7\nat 1 mask 4");
+    for (y, text) in [(85, "no break"), (105, "no concat"), (125, "tatweel")] {
+        assert!(page.contains(&name(y, text)), "{text}");
+    }
+    assert_eq!(page.matches(&name(125, "tatweel")).count(), 2);
+    let (_, page, _) = draw(b"text 41\nat 0 mask 4");
+    assert!(page.contains(&name(85, "tatweel")));
+}
+
+// More than 10,000 glyphs are refused as a text and behind a hook.
+#[test]
+fn refuses_to_draw_too_many_glyphs() {
+    let told = "refused: TooLong\nline 2: 10001 glyphs are too many to draw; 10000 fit\n";
+    let note = "<br>refused: TooLong<br>10001 glyphs are too many to draw; 10000 fit</p>";
+    let script = format!("text 41\ntext{}\nset", " 42".repeat(10_001));
+    expect_page(script.as_bytes(), 1, told, &[">A</text>", note]);
+    let (_, page, _) = draw(script.as_bytes());
+    assert!(!page.contains(">B</text>"));
+    let script = format!(
+        "set shaper thai\ntext 0E33{}\nrun preprocess",
+        " 41".repeat(9_999)
+    );
+    let told = told.replace("line 2", "line 3");
+    expect_page(script.as_bytes(), 1, &told, &[">A</text>", note]);
+}
+
 #[test]
 fn draws_characters_by_their_kinds() {
     let shown = |glyph: &str| format!(">{glyph}</text>");

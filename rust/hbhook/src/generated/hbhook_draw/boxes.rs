@@ -7,7 +7,7 @@ use crate::support::prelude::*;
 use crate::generated::hbhook_draw::label::{Place, Style};
 use crate::generated::hbhook_draw::names::{BROKEN, kind_name};
 use crate::generated::hbhook_draw::pieces::{Piece, pieces_of};
-use crate::generated::hbhook_draw::row::Row;
+use crate::generated::hbhook_draw::row::{GLYPH_FLAGS, Row};
 use crate::generated::hbhook_draw::shown::Shown;
 use crate::support::alloc::AllocError;
 use sengadlit::buffer::GlyphInfo;
@@ -15,15 +15,20 @@ use sengadlit::buffer::GlyphInfo;
 // From the left edge of one box to that of the next.
 const PITCH: usize = 68;
 
-// A box: its left edge, its width, and the width of the glyph flags at its edge.
+// A box: its left edge, its width, its middle, the room that texts have in it, and the width of the
+// bar at the edge of one with glyph flags.
 const LEFT: usize = 3;
 
 const WIDTH: usize = 62;
 
-const EDGE: usize = 13;
+const MIDDLE: usize = 34;
+
+const ROOM: usize = 58;
+
+const BAR: usize = 5;
 
 // How high the parts of a drawing are: the glyphs before the hook with their lines, the brackets of
-// clusters, what each box has, a detail of a box, a box with glyph flags, and syllables.
+// clusters, what each box has, a detail of a box, a glyph flag, and syllables.
 const BEFORE: usize = 92;
 
 const BRACKET: usize = 24;
@@ -32,28 +37,26 @@ const FACE: usize = 72;
 
 const DETAIL: usize = 15;
 
-const FLAGGED: usize = 132;
+const FLAG: usize = 20;
 
 const SYLLABLE: usize = 44;
 
 // How many colours clusters have.
 const COLOURS: u32 = 6;
 
-// The glyph flags, with what stands at the edge of a glyph that has them, and how far below its
-// box's top.
-const FLAGS: [(u32, &str, usize); 3] =
-    [(1, "no break", 0), (2, "no concat", 44), (4, "tatweel", 88)];
+// The glyph flags with their names.
+const FLAGS: [(u32, &str); 3] = [(1, "no break"), (2, "no concat"), (4, "tatweel")];
 
-// How high the drawings of a row are, how far down their parts begin, and in a box the middle of
-// its texts and the room that they have.
+// How high the drawings of a row are, how far down their parts begin, the flags in a box counted
+// from its top, and which glyph flags the row has.
 #[derive(Clone, Copy)]
 struct Layout {
     brackets: usize,
     boxes: usize,
+    flags: usize,
     syllables: usize,
     all: usize,
-    middle: usize,
-    room: usize,
+    shown_flags: u32,
     has_syllables: bool,
 }
 
@@ -61,23 +64,20 @@ impl Layout {
     fn of(row: &Row) -> Result<Self, AllocError> {
         let brackets = if row.origins.is_empty() { 0 } else { BEFORE };
         let boxes = brackets + BRACKET;
-        let details = row.most_details()?;
-        let plain = FACE.saturating_add(details.saturating_mul(DETAIL));
-        let (edge, box_height) = if row.has_flags() {
-            (EDGE, plain.max(FLAGGED))
-        } else {
-            (0, plain)
-        };
-        let syllables = boxes.saturating_add(box_height);
+        let flags = FACE.saturating_add(row.most_details()?.saturating_mul(DETAIL));
+        let shown_flags = row.glyph_flags();
+        let syllables = boxes
+            .saturating_add(flags)
+            .saturating_add(height_of_flags(shown_flags));
         let has_syllables = row.has_syllables();
         let below = if has_syllables { SYLLABLE } else { 4 };
         Ok(Layout {
             brackets,
             boxes,
+            flags,
             syllables,
             all: syllables.saturating_add(below),
-            middle: (PITCH + edge) / 2,
-            room: WIDTH - edge - 4,
+            shown_flags,
             has_syllables,
         })
     }
@@ -87,11 +87,69 @@ impl Layout {
     }
 }
 
+// How high the flags of a box are, where the row has these.
+fn height_of_flags(shown: u32) -> usize {
+    let mut height = 0usize;
+    for (flag, _) in FLAGS {
+        if shown & flag != 0 {
+            height = height.saturating_add(FLAG);
+        }
+    }
+    height
+}
+
+// The columns of a piece, one per glyph, in the direction of the row.
+#[derive(Clone, Copy)]
+struct Columns {
+    count: usize,
+    is_rtl: bool,
+}
+
+impl Columns {
+    // How wide the columns are together.
+    fn width(self) -> usize {
+        self.count.saturating_mul(PITCH)
+    }
+
+    // Where the column of a place begins.
+    fn left(self, place: usize) -> usize {
+        let column = if self.is_rtl {
+            self.count.saturating_sub(place).saturating_sub(1)
+        } else {
+            place
+        };
+        column.saturating_mul(PITCH)
+    }
+
+    // The middle of the column of a place.
+    fn middle(self, place: usize) -> usize {
+        self.left(place).saturating_add(MIDDLE)
+    }
+
+    // The boxes from `start` to `end`, as far down as `y`.
+    fn stretch(self, y: usize, start: usize, end: usize) -> Stretch {
+        let (first, last) = if self.is_rtl {
+            (end.saturating_sub(1), start)
+        } else {
+            (start, end.saturating_sub(1))
+        };
+        Stretch {
+            y,
+            left: self.left(first).saturating_add(LEFT),
+            right: self.left(last).saturating_add(LEFT + WIDTH),
+        }
+    }
+}
+
 /// Draws the boxes of a row.
 pub(crate) fn draw_boxes(page: &mut String, row: &Row) -> Result<(), AllocError> {
     let layout = Layout::of(row)?;
     let pieces = pieces_of(row)?;
-    page.push_str("<div class=\"row\">\n")?;
+    page.push_str(if row.is_rtl {
+        "<div class=\"row rtl\">\n"
+    } else {
+        "<div class=\"row\">\n"
+    })?;
     for piece in pieces.iter() {
         draw_piece(page, row, &layout, piece)?;
     }
@@ -113,17 +171,21 @@ fn draw_piece(
         .before
         .get(piece.before.start..piece.before.end)
         .unwrap_or(&[]);
-    open_drawing(page, column(glyphs.len().max(before.len())), layout.all)?;
+    let columns = Columns {
+        count: glyphs.len().max(before.len()),
+        is_rtl: row.is_rtl,
+    };
+    open_drawing(page, columns.width(), layout.all)?;
     if let Some(origins) = row.origins.get(piece.glyphs.start..piece.glyphs.end) {
-        draw_before(page, row, before)?;
-        draw_lines(page, row, piece, glyphs, origins)?;
+        draw_before(page, row, columns, before)?;
+        draw_lines(page, row, columns, piece, glyphs, origins)?;
     }
-    draw_brackets(page, row, layout.brackets, glyphs)?;
+    draw_brackets(page, row, columns, layout.brackets, glyphs)?;
     for (i, glyph) in glyphs.iter().enumerate() {
-        draw_box(page, row, layout, column(i), glyph)?;
+        draw_box(page, row, layout, columns.left(i), glyph)?;
     }
     if layout.has_syllables {
-        draw_syllables(page, row, layout.syllables, glyphs)?;
+        draw_syllables(page, row, columns, layout.syllables, glyphs)?;
     }
     page.push_str("</svg>\n")
 }
@@ -145,21 +207,16 @@ pub(crate) fn colour(cluster: u32) -> u32 {
     cluster % COLOURS
 }
 
-// Where a box begins.
-fn column(i: usize) -> usize {
-    i.saturating_mul(PITCH)
-}
-
-// The middle of a box without flags.
-fn middle(i: usize) -> usize {
-    column(i).saturating_add(PITCH / 2)
-}
-
 // Draws small what stood there before the hook.
-fn draw_before(page: &mut String, row: &Row, before: &[GlyphInfo]) -> Result<(), AllocError> {
+fn draw_before(
+    page: &mut String,
+    row: &Row,
+    columns: Columns,
+    before: &[GlyphInfo],
+) -> Result<(), AllocError> {
     for (i, glyph) in before.iter().enumerate() {
         let place = Place {
-            x: middle(i),
+            x: columns.middle(i),
             y: 24,
             room: WIDTH,
             style: Style::Old,
@@ -177,7 +234,7 @@ fn draw_shown(
     place: Place,
 ) -> Result<(), AllocError> {
     let mut text = String::new(row.alloc);
-    let style = match Shown::of(glyph) {
+    let style = match Shown::of(glyph, row.numbers) {
         Shown::Character(character) => {
             text.push(character)?;
             place.style
@@ -199,19 +256,20 @@ fn draw_shown(
 fn draw_lines(
     page: &mut String,
     row: &Row,
+    columns: Columns,
     piece: &Piece,
     glyphs: &[GlyphInfo],
     origins: &[usize],
 ) -> Result<(), AllocError> {
     for (i, (glyph, origin)) in glyphs.iter().zip(origins).enumerate() {
         if piece.before.contains(origin) {
-            let from = middle(origin.saturating_sub(piece.before.start));
-            draw_line(page, glyph.cluster, from, middle(i))?;
+            let from = columns.middle(origin.saturating_sub(piece.before.start));
+            draw_line(page, glyph.cluster, from, columns.middle(i))?;
         } else {
             let mut text = String::new(row.alloc);
             write!(text, "from {origin}")?;
             let place = Place {
-                x: middle(i),
+                x: columns.middle(i),
                 y: 80,
                 room: WIDTH,
                 style: Style::Small,
@@ -236,6 +294,7 @@ fn draw_line(page: &mut String, cluster: u32, from: usize, to: usize) -> Result<
 fn draw_brackets(
     page: &mut String,
     row: &Row,
+    columns: Columns,
     y: usize,
     glyphs: &[GlyphInfo],
 ) -> Result<(), AllocError> {
@@ -243,36 +302,29 @@ fn draw_brackets(
     for run in glyphs.chunk_by(|a, b| a.cluster == b.cluster) {
         let end = start.saturating_add(run.len());
         if let Some(glyph) = run.first() {
-            draw_bracket(page, row, glyph.cluster, Stretch { y, start, end })?;
+            draw_bracket(page, row, glyph.cluster, columns.stretch(y, start, end))?;
         }
         start = end;
     }
     Ok(())
 }
 
-// The boxes of a piece from `start` to `end`, and how far down what belongs to them is drawn.
+// Neighbouring boxes, from the left edge to the right one, and how far down what belongs to them is
+// drawn.
 #[derive(Clone, Copy)]
 struct Stretch {
     y: usize,
-    start: usize,
-    end: usize,
+    left: usize,
+    right: usize,
 }
 
 impl Stretch {
-    fn left(self) -> usize {
-        column(self.start).saturating_add(LEFT)
-    }
-
-    fn right(self) -> usize {
-        column(self.end).saturating_sub(LEFT)
-    }
-
     // Draws a label in the middle.
     fn draw_label(self, page: &mut String, down: usize, text: &str) -> Result<(), AllocError> {
         let place = Place {
-            x: self.left().midpoint(self.right()),
+            x: self.left.midpoint(self.right),
             y: self.y.saturating_add(down),
-            room: self.right().saturating_sub(self.left()),
+            room: self.right.saturating_sub(self.left),
             style: Style::Small,
         };
         place.draw(page, text)
@@ -286,7 +338,7 @@ fn draw_bracket(
     cluster: u32,
     stretch: Stretch,
 ) -> Result<(), AllocError> {
-    let (left, right, colour) = (stretch.left(), stretch.right(), colour(cluster));
+    let (left, right, colour) = (stretch.left, stretch.right, colour(cluster));
     let (top, foot) = (stretch.y.saturating_add(16), stretch.y.saturating_add(22));
     writeln!(
         page,
@@ -311,42 +363,62 @@ fn draw_box(
         page,
         "<rect class=\"box k{colour}\" x=\"{LEFT}\" width=\"{WIDTH}\" height=\"{height}\" rx=\"3\"/>"
     )?;
-    draw_flags(page, glyph)?;
-    draw_face(page, row, layout, glyph)?;
-    draw_details(page, row, layout, glyph)?;
+    draw_face(page, row, glyph)?;
+    draw_details(page, row, glyph)?;
+    draw_flags(page, row, layout, glyph)?;
     page.push_str("</g>\n")
 }
 
-// Draws the glyph flags of a glyph at the left edge of its box.
-fn draw_flags(page: &mut String, glyph: &GlyphInfo) -> Result<(), AllocError> {
-    for (flag, name, y) in FLAGS {
+// Draws the glyph flags of a glyph: their names below the details, and a bar at the edge of its box
+// where the text before it is.
+fn draw_flags(
+    page: &mut String,
+    row: &Row,
+    layout: &Layout,
+    glyph: &GlyphInfo,
+) -> Result<(), AllocError> {
+    if glyph.mask & GLYPH_FLAGS == 0 {
+        return Ok(());
+    }
+    let x = if row.is_rtl { LEFT + WIDTH - BAR } else { LEFT };
+    let height = layout.of_a_box();
+    writeln!(
+        page,
+        "<rect class=\"flag\" x=\"{x}\" width=\"{BAR}\" height=\"{height}\"/>"
+    )?;
+    let mut y = layout.flags;
+    for (flag, name) in FLAGS {
         if glyph.mask & flag != 0 {
             writeln!(
                 page,
-                "<g transform=\"translate({LEFT} {y})\"><path class=\"flag\" d=\"M0 0H13V44H0Z\"/>\
-                 <text class=\"edge\" transform=\"translate(10 22) rotate(-90)\">{name}</text></g>"
+                "<rect class=\"flag\" x=\"{LEFT}\" y=\"{y}\" width=\"{WIDTH}\" height=\"18\"/>"
             )?;
+            let place = Place {
+                x: MIDDLE,
+                y: y.saturating_add(13),
+                room: ROOM,
+                style: Style::Flag,
+            };
+            place.draw(page, name)?;
+        }
+        if layout.shown_flags & flag != 0 {
+            y = y.saturating_add(FLAG);
         }
     }
     Ok(())
 }
 
 // Draws a glyph in its box, with its number below the character that it is.
-fn draw_face(
-    page: &mut String,
-    row: &Row,
-    layout: &Layout,
-    glyph: &GlyphInfo,
-) -> Result<(), AllocError> {
+fn draw_face(page: &mut String, row: &Row, glyph: &GlyphInfo) -> Result<(), AllocError> {
     let place = Place {
-        x: layout.middle,
+        x: MIDDLE,
         y: 38,
-        room: layout.room,
+        room: ROOM,
         style: Style::Now,
     };
     draw_shown(page, row, glyph, place)?;
     let mut text = String::new(row.alloc);
-    match Shown::of(glyph) {
+    match Shown::of(glyph, row.numbers) {
         Shown::Character(_) | Shown::Mark(_) => write!(text, "{:04X}", glyph.glyph_id)?,
         Shown::Unseen => text.push_str("unseen")?,
         Shown::Private => text.push_str("private")?,
@@ -361,16 +433,11 @@ fn draw_face(
 }
 
 // Draws category, masks and the like below the number.
-fn draw_details(
-    page: &mut String,
-    row: &Row,
-    layout: &Layout,
-    glyph: &GlyphInfo,
-) -> Result<(), AllocError> {
+fn draw_details(page: &mut String, row: &Row, glyph: &GlyphInfo) -> Result<(), AllocError> {
     let mut place = Place {
-        x: layout.middle,
+        x: MIDDLE,
         y: FACE.saturating_add(DETAIL - 6),
-        room: layout.room,
+        room: ROOM,
         style: Style::Small,
     };
     for detail in row.details(glyph)?.iter() {
@@ -385,6 +452,7 @@ fn draw_details(
 fn draw_syllables(
     page: &mut String,
     row: &Row,
+    columns: Columns,
     y: usize,
     glyphs: &[GlyphInfo],
 ) -> Result<(), AllocError> {
@@ -392,7 +460,7 @@ fn draw_syllables(
     for run in glyphs.chunk_by(|a, b| a.syllable == b.syllable) {
         let end = start.saturating_add(run.len());
         if let Some(glyph) = run.first() {
-            draw_syllable(page, row, glyph.syllable, Stretch { y, start, end })?;
+            draw_syllable(page, row, glyph.syllable, columns.stretch(y, start, end))?;
         }
         start = end;
     }
@@ -413,7 +481,7 @@ fn draw_syllable(
     let name = row.shaper.and_then(|shaper| kind_name(shaper, kind));
     let is_broken = name == Some(BROKEN);
     let class = if is_broken { "broken" } else { "syllable" };
-    let (left, right) = (stretch.left(), stretch.right());
+    let (left, right) = (stretch.left, stretch.right);
     let line = stretch.y.saturating_add(8);
     writeln!(
         page,

@@ -24,6 +24,8 @@ pub(crate) enum Style {
     Mask,
     /// What stands outside a box.
     Small,
+    /// A glyph flag.
+    Flag,
 }
 
 impl Style {
@@ -38,6 +40,7 @@ impl Style {
             Style::Auxiliary => "auxiliary",
             Style::Mask => "mask",
             Style::Small => "small",
+            Style::Flag => "flag-name",
         }
     }
 
@@ -48,6 +51,7 @@ impl Style {
             Style::Now | Style::Old => 0,
             Style::Id => 92,
             Style::Number | Style::Category => 68,
+            Style::Flag => 62,
             Style::Auxiliary | Style::Mask | Style::Small => 56,
         }
     }

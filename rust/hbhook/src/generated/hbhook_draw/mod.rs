@@ -6,9 +6,11 @@
 mod boxes;
 mod drawing;
 mod escaped;
+mod fault;
 mod label;
 mod marks;
 mod names;
+mod numbers;
 mod origins;
 mod page;
 mod pieces;
@@ -20,11 +22,13 @@ use crate::generated::hbhook_lines::{Fault, lines_of, read_input, report, write_
 use crate::support::alloc::{AllocError, Global};
 use crate::support::io::{Read, Write};
 use drawing::Drawing;
+use fault::Ended;
 
 /// Carries out the lines of the input and writes a page that shows the buffer before and after each
 /// hook. A refusal or a fault ends the run: the page then shows it below all that came before it,
-/// and the message goes to `faults`. Returns the status to end with: 0, 1 for a refusal, and 2 for
-/// a rejected line, and without a message for a reader or a writer that fails.
+/// and the message goes to `faults`. A line that leaves more than 10,000 glyphs is refused as too
+/// long, with how many fit on a line of its own. Returns the status to end with: 0, 1 for a
+/// refusal, and 2 for a rejected line, and without a message for a reader or a writer that fails.
 ///
 /// <details><summary>Contract</summary>
 ///
@@ -42,12 +46,14 @@ where
     F: Write,
 {
     match draw(alloc, input, output) {
-        Ok(()) => 0,
+        Ok(None) => 0,
+        Ok(Some(ended)) => ended.report(faults),
         Err(fault) => report(faults, fault),
     }
 }
 
-fn draw<I, O>(alloc: Global, input: I, output: O) -> Result<(), Fault>
+// Draws the lines, and returns what ended the page.
+fn draw<I, O>(alloc: Global, input: I, output: O) -> Result<Option<Ended>, Fault>
 where
     I: Read,
     O: Write,
@@ -55,21 +61,19 @@ where
     let bytes = read_input(alloc, input)?;
     let lines = lines_of(alloc, &bytes)?;
     let mut drawing = Drawing::new(alloc)?;
-    let fault = draw_each(&mut drawing, lines.as_slice())?;
+    let ended = draw_each(&mut drawing, lines.as_slice())?;
     let page = drawing.finished()?;
     write_text(output, page.as_str())?;
-    match fault {
-        None => Ok(()),
-        Some(fault) => Err(fault),
-    }
+    Ok(ended)
 }
 
 // Draws the lines in order, up to the first fault, which it returns.
-fn draw_each(drawing: &mut Drawing, lines: &[&[u8]]) -> Result<Option<Fault>, AllocError> {
+fn draw_each(drawing: &mut Drawing, lines: &[&[u8]]) -> Result<Option<Ended>, AllocError> {
     for (i, line) in lines.iter().enumerate() {
-        if let Err(fault) = drawing.draw(i + 1, line) {
-            drawing.draw_fault(i + 1, line, fault)?;
-            return Ok(Some(Fault::on_line(fault, i + 1)));
+        let number = i + 1;
+        if let Err(fault) = drawing.draw(number, line) {
+            drawing.draw_fault(number, line, fault)?;
+            return Ok(Some(Ended { fault, number }));
         }
     }
     Ok(None)

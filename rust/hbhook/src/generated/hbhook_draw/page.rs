@@ -5,8 +5,10 @@
 use crate::support::prelude::*;
 
 use crate::generated::hbhook_draw::escaped::push_escaped;
+use crate::generated::hbhook_draw::fault::{DrawFault, MOST_GLYPHS};
 use crate::generated::hbhook_lines::LineFault;
 use crate::support::alloc::{AllocError, Global};
+use sengadlit::buffer::{Buffer, Direction};
 
 /// How a page begins. Colours of clusters are those of Okabe and Ito, which the colour-blind can
 /// tell apart; the reader's setting chooses between dark and light.
@@ -25,9 +27,11 @@ h2:first-child{margin-top:0}
 code{font-family:ui-monospace,monospace}
 p{margin:2px 0;overflow-wrap:anywhere}
 .text{font-size:30px;line-height:1.8;overflow:clip}
+.context{color:var(--soft);opacity:.6}
 .note{color:var(--soft)}
 .fault{border:3px double;padding:6px 10px;margin-top:28px;font-weight:bold}
 .row{display:flex;flex-wrap:wrap;align-items:flex-end;margin-top:6px}
+.rtl{flex-direction:row-reverse}
 svg{display:block;max-width:100%;height:auto}
 text{fill:currentColor;text-anchor:middle;font-size:11px}
 .now{font-size:28px}
@@ -44,7 +48,7 @@ text{fill:currentColor;text-anchor:middle;font-size:11px}
 .syllable,.measure{stroke:var(--rule)}
 .broken{stroke:currentColor;stroke-width:4;stroke-dasharray:6 5}
 .flag{fill:var(--ink)}
-.edge{fill:var(--paper);font-size:9px}
+.flag-name{fill:var(--paper);font-size:12px}
 .k0{stroke:#0072b2}.box.k0{fill:#0072b2}
 .k1{stroke:#e69f00}.box.k1{fill:#e69f00}
 .k2{stroke:#009e73}.box.k2{fill:#009e73}
@@ -101,11 +105,53 @@ pub(crate) fn write_lines(page: &mut String, lines: &[Line]) -> Result<(), Alloc
     page.push_str("</h2>\n")
 }
 
-/// Writes a text as it was set.
-pub(crate) fn write_text(page: &mut String, text: &str) -> Result<(), AllocError> {
-    page.push_str("<p class=\"text\"><bdi>")?;
+/// Writes a text as it was set, in its direction and between its contexts.
+pub(crate) fn write_text(
+    page: &mut String,
+    text: &str,
+    context: &Context,
+) -> Result<(), AllocError> {
+    page.push_str(if context.is_rtl {
+        "<p class=\"text\" dir=\"rtl\"><bdi>"
+    } else {
+        "<p class=\"text\"><bdi>"
+    })?;
+    write_context(page, context.before.as_str())?;
     push_escaped(page, text)?;
+    write_context(page, context.after.as_str())?;
     page.push_str("</bdi></p>\n")
+}
+
+// Writes the characters of a context, if it has some.
+fn write_context(page: &mut String, context: &str) -> Result<(), AllocError> {
+    if context.is_empty() {
+        return Ok(());
+    }
+    page.push_str("<span class=\"context\">")?;
+    push_escaped(page, context)?;
+    page.push_str("</span>")
+}
+
+/// What is around a text: the characters before and after it, in the order of the text, and whether
+/// it runs from right to left.
+pub(crate) struct Context {
+    before: String,
+    after: String,
+    is_rtl: bool,
+}
+
+impl Context {
+    /// What a buffer keeps of it.
+    pub(crate) fn of(buffer: &Buffer) -> Result<Self, AllocError> {
+        let alloc = buffer.alloc();
+        let before = buffer.pre_context().iter().rev().copied();
+        let after = buffer.post_context().iter().copied();
+        Ok(Context {
+            before: before.collect_in(alloc)?,
+            after: after.collect_in(alloc)?,
+            is_rtl: matches!(buffer.direction(), Direction::RightToLeft),
+        })
+    }
 }
 
 /// Writes what hooks returned, one line each.
@@ -122,14 +168,21 @@ pub(crate) fn write_answers(page: &mut String, answers: &str) -> Result<(), Allo
 pub(crate) fn write_fault(
     page: &mut String,
     line: &Line,
-    fault: LineFault,
+    fault: DrawFault,
 ) -> Result<(), AllocError> {
     page.push_str("<p class=\"fault\">")?;
     line.write(page)?;
-    match fault {
-        LineFault::Unreadable(_) => page.push_str("<br>unreadable</p>\n"),
-        LineFault::Refused(refusal) => writeln!(page, "<br>refused: {refusal}</p>"),
+    match fault.of_line() {
+        LineFault::Unreadable(_) => page.push_str("<br>unreadable")?,
+        LineFault::Refused(refusal) => write!(page, "<br>refused: {refusal}")?,
     }
+    if let DrawFault::TooMany(count) = fault {
+        write!(
+            page,
+            "<br>{count} glyphs are too many to draw; {MOST_GLYPHS} fit"
+        )?;
+    }
+    page.push_str("</p>\n")
 }
 
 /// Writes a note.

@@ -6,13 +6,14 @@ use crate::support::prelude::*;
 
 use crate::generated::hbhook_draw::label::Style;
 use crate::generated::hbhook_draw::names::{auxiliary_name, category_name};
+use crate::generated::hbhook_draw::numbers::Numbers;
 use crate::generated::hbhook_lines::Feature;
 use crate::support::alloc::{AllocError, Global};
 use sengadlit::buffer::{GlyphInfo, GlyphPosition};
 use sengadlit::shaper::Shaper;
 
-// The glyph flags among the bits of a mask.
-const GLYPH_FLAGS: u32 = 7;
+/// The glyph flags among the bits of a mask.
+pub(crate) const GLYPH_FLAGS: u32 = 7;
 
 /// The glyphs of a buffer, where they stood before a hook, and what names there are for them.
 #[derive(Clone, Copy)]
@@ -26,6 +27,9 @@ pub(crate) struct Row<'a> {
     pub origins: &'a [usize],
     pub shaper: Option<Shaper>,
     pub features: &'a [Feature],
+    pub numbers: &'a Numbers,
+    /// Whether the row is drawn from right to left.
+    pub is_rtl: bool,
 }
 
 /// A line of small text in a box, and how it looks.
@@ -59,11 +63,13 @@ impl Row<'_> {
         Ok(most)
     }
 
-    /// Whether a glyph of the row has a glyph flag.
-    pub(crate) fn has_flags(&self) -> bool {
-        self.glyphs
-            .iter()
-            .any(|glyph| glyph.mask & GLYPH_FLAGS != 0)
+    /// The glyph flags that some glyph of the row has.
+    pub(crate) fn glyph_flags(&self) -> u32 {
+        let mut flags = 0;
+        for glyph in self.glyphs {
+            flags |= glyph.mask & GLYPH_FLAGS;
+        }
+        flags
     }
 
     /// Whether a glyph of the row is in a syllable.

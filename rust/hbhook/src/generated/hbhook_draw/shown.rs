@@ -3,6 +3,7 @@
 //! How a glyph is shown: as a character, or by its number.
 
 use crate::generated::hbhook_draw::marks::is_mark;
+use crate::generated::hbhook_draw::numbers::Numbers;
 use sengadlit::buffer::GlyphInfo;
 
 /// What stands in a glyph's box.
@@ -21,10 +22,12 @@ pub(crate) enum Shown {
 }
 
 impl Shown {
-    /// What is shown of a glyph. What a lookup put in is no character any more.
-    pub(crate) fn of(glyph: &GlyphInfo) -> Self {
+    /// What is shown of a glyph. What a lookup put in is no character any more, and neither is a
+    /// number that only a glyph of the font has.
+    pub(crate) fn of(glyph: &GlyphInfo, numbers: &Numbers) -> Self {
         let marks = glyph.marks;
-        if marks.is_substituted() || marks.is_ligated() || marks.is_multiplied() {
+        let is_new = marks.is_substituted() || marks.is_ligated() || marks.is_multiplied();
+        if is_new || numbers.is_of_a_glyph(glyph.glyph_id) {
             return Shown::Glyph;
         }
         match char::from_u32(glyph.glyph_id) {
