@@ -34,8 +34,8 @@ pub(crate) fn reph_len<F: hb_font_t>(rules: &Rules<F>, glyphs: &[hb_glyph_info_t
 /// that follow it, or at the start.
 #[inline]
 pub(crate) fn limit(reph_len: usize, glyphs: &[hb_glyph_info_t]) -> usize
-    requires { indic_reph_len ≤ length glyphs.now }
-    ensures limit { result ≡ limit_behind indic_reph_len glyphs.now }
+    requires { reph_len ≤ length glyphs.now }
+    ensures limit { result ≡ limit_behind reph_len glyphs.now }
     ensures within { result ≤ length glyphs.now }
 {
     if reph_len == 0 {

@@ -191,8 +191,8 @@ fn rounds_of(run: Run) -> Rounds
 #[inline]
 fn reach(run: Run, added: usize) -> i128
     requires fits { TileRunFits run }
-    requires bound { times_added ≤ 2 ^ 31 }
-    ensures value { result ≡ reach run times_added }
+    requires bound { added ≤ 2 ^ 31 }
+    ensures value { result ≡ reach run added }
     ensures bound { FitsSigned w64 result }
 {
     (added as i128 + 1) * run.repeating
@@ -202,8 +202,8 @@ fn reach(run: Run, added: usize) -> i128
 #[inline]
 fn excess(run: Run, added: usize) -> i128
     requires fits { TileRunFits run }
-    requires bound { times_added ≤ 2 ^ 31 }
-    ensures value { result ≡ reach run times_added -ℤ left run }
+    requires bound { added ≤ 2 ^ 31 }
+    ensures value { result ≡ reach run added -ℤ left run }
     ensures high { result <ℤ pos (2 ^ 65) }
 {
     reach(run, added) - (run.word - run.fixed)
@@ -212,8 +212,8 @@ fn excess(run: Run, added: usize) -> i128
 // How many copies that makes.
 #[inline]
 fn copies(run: Run, added: usize) -> i128
-    requires { times_added ≤ 2 ^ 31 }
-    ensures { result ≡ pos (times_added * run.repeaters) }
+    requires { added ≤ 2 ^ 31 }
+    ensures { result ≡ pos (added * run.repeaters) }
 {
     added as i128 * run.repeaters as i128
 }
@@ -222,10 +222,10 @@ fn copies(run: Run, added: usize) -> i128
 #[inline]
 fn added_fits(run: Run, added: usize) -> bool
     requires fits { TileRunFits run }
-    requires bound { times_added ≤ 2 ^ 31 }
-    ensures value { result ≡ list_all fits_i32 (reach run times_added ∷ pos (times_added * run.repeaters)
+    requires bound { added ≤ 2 ^ 31 }
+    ensures value { result ≡ list_all fits_i32 (reach run added ∷ pos (added * run.repeaters)
         ∷ []) }
-    ensures reach { IsTrue result → FitsSigned w32 (reach run times_added) }
+    ensures reach { IsTrue result → FitsSigned w32 (reach run added) }
 {
     fits_i32(reach(run, added)) && fits_i32(copies(run, added))
 }
