@@ -114,6 +114,9 @@ fn unmet(session: &Session, texts: &[&str]) -> Option<String> {
             let expected = format!("at least the length of the buffer, {length}");
             Some(named(3, most, &expected))
         }
+        ["at", place, ..] if length == 0 => {
+            Some(named(2, place, "a place in the buffer, which is empty"))
+        }
         ["at", place, ..] if place.parse::<usize>().ok()? >= length => {
             let expected = format!("a place below the length of the buffer, {length}");
             Some(named(2, place, &expected))
@@ -121,6 +124,16 @@ fn unmet(session: &Session, texts: &[&str]) -> Option<String> {
         ["run", "marks", _, end] if end.parse::<usize>().ok()? > length => {
             let expected = format!("an end up to the length of the buffer, {length}");
             Some(named(4, end, &expected))
+        }
+        ["run", "marks", first, end] | ["stage", _, first, end]
+            if first.parse::<usize>().ok()? > end.parse::<usize>().ok()? =>
+        {
+            let number = texts.len() - 1;
+            Some(named(
+                number,
+                first,
+                &format!("a number up to the end, {end}"),
+            ))
         }
         ["run", "pause", name] => {
             let place = PAUSES.iter().position(|pause| *pause == name)?;

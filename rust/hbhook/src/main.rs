@@ -152,13 +152,13 @@ fn run(arguments: &[OsString]) -> Result<u8, String> {
     }
 }
 
-// Names an argument that is no option, and says which there are.
+// Names an argument that is no option, and the options that ./hbhook has too.
 fn no_option(argument: &OsStr) -> String {
     let name = Path::new(argument).display();
     if argument == "--help" || argument == "-h" {
         return format!("{name} takes no other argument");
     }
-    format!("there is no option {name}, but --draw, --explain, --why (hbhook --help)")
+    format!("there is no option {name}; there are --draw and --why (hbhook --help)")
 }
 
 fn print_usage() -> u8 {

@@ -22,7 +22,7 @@ fn rejects_bad_arguments() {
     for arguments in [&["--what"][..], &["--why", "--what"], &["a", "--what"]] {
         expect_rejected(
             arguments,
-            "there is no option --what, but --draw, --explain, --why (hbhook --help)",
+            "there is no option --what; there are --draw and --why (hbhook --help)",
         );
     }
     expect_rejected(&["no such file"], "there is no file no such file");

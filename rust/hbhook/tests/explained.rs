@@ -139,7 +139,7 @@ fn lines_have_their_fields() {
     );
     expect(
         "stage half 2 1",
-        "expected a first lookup up to the end, and an end up to 65536",
+        "field 3, `2`: expected a number up to the end, 1",
     );
 }
 
@@ -165,7 +165,9 @@ fn places_are_in_the_buffer() {
     expect("text 41 42\nset maxlen 1", most);
     let end = "field 4, `3`: expected an end up to the length of the buffer, 2";
     expect("set shaper hebrew\ntext 41 42\nrun marks 0 3", end);
-    let places = "expected a first place up to the end, and an end up to the buffer's length";
+    let empty = "field 2, `0`: expected a place in the buffer, which is empty";
+    expect("at 0 glyph 1", empty);
+    let places = "field 3, `2`: expected a number up to the end, 1";
     expect("set shaper hebrew\ntext 41 42\nrun marks 2 1", places);
     let positions = "expected positions: a line `set positions yes` before it, and after the text";
     expect("set shaper arabic\ntext 41\nrun postprocess", positions);
