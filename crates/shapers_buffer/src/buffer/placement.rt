@@ -135,10 +135,30 @@ pub(super) fn make_room(
     ensures refusal { IsOkUnless result Memory }
 {
     if places.capacity() < n {
-        places.reserve(n - places.len())?;
+        enlarge(places, n)?;
     }
     if spare.capacity() < n {
-        spare.reserve(n - spare.len())?;
+        enlarge(spare, n)?;
+    }
+    Ok(())
+}
+
+// Makes room for `n` items. An empty list takes new room, since making the old one larger copies
+// all of it.
+#[inline]
+fn enlarge<T: Copy>(list: &mut Vec<T>, n: usize) -> Result<(), ShaperError>
+    requires less { vec_capacity list.old < n }
+    ensures items { list.new.items ≡ list.old.items }
+    ensures more { vec_capacity list.old ≤ vec_capacity list.new }
+    ensures room { OnOk result (n ≤ vec_capacity list.new) }
+    ensures refusal { IsOkUnless result Memory }
+{
+    if list.is_empty() {
+        let mut larger = Vec::new(*list.allocator());
+        larger.reserve(n.max(list.capacity().saturating_mul(2)))?;
+        *list = larger;
+    } else {
+        list.reserve(n - list.len())?;
     }
     Ok(())
 }

@@ -144,10 +144,24 @@ pub(super) fn make_room(
     n: usize,
 ) -> Result<(), ShaperError> {
     if places.capacity() < n {
-        places.reserve(n - places.len())?;
+        enlarge(places, n)?;
     }
     if spare.capacity() < n {
-        spare.reserve(n - spare.len())?;
+        enlarge(spare, n)?;
+    }
+    Ok(())
+}
+
+// Makes room for `n` items. An empty list takes new room, since making the old one larger copies
+// all of it.
+#[inline]
+fn enlarge<T: Copy>(list: &mut Vec<T>, n: usize) -> Result<(), ShaperError> {
+    if list.is_empty() {
+        let mut larger = Vec::new(*list.allocator());
+        larger.reserve(n.max(list.capacity().saturating_mul(2)))?;
+        *list = larger;
+    } else {
+        list.reserve(n - list.len())?;
     }
     Ok(())
 }
