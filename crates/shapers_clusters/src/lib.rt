@@ -1,5 +1,5 @@
-//! The laws of clusters and glyph flags: what merges and moves do to any list of glyphs. Each law
-//! is the contract of a function without a body.
+//! The laws of clusters and glyph flags: what merges and moves do to any list of glyphs. Each
+//! function here does nothing, and its contract is the law.
 #![tactic(auto)]
 
 ghost use Rattle.shapers_clusters.specs.Borders.{BareLaw};
