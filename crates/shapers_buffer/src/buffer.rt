@@ -42,6 +42,7 @@ pub use laws::{marks_are_set_alone, places_are_written, syllables_are_runs};
 pub use level::{BufferClusterLevel, Direction};
 pub use merging::{least_cluster, merge_clusters_in};
 pub use refusal::ShaperError;
+pub use replacing::GlyphRewriting;
 pub use settings::{BufferSettings, context_characters};
 pub use syllables::{Span, first_syllable_len, has_span_of_kind, set_syllable, spans_cover};
 pub use tag::{Script, hb_tag_t};

@@ -4,17 +4,17 @@ use Rattle.std.specs.Prelude.{slice_index_or, Result, OnOk}
 use Rattle.shapers_buffer.specs.Glyph.{characters}
 use Rattle.shapers_buffer.specs.Buffer.{Buffer}
 use Rattle.shapers_buffer.specs.declared.buffer.refusal.ShaperError.{ShaperError}
-use Rattle.std.proofs.lemmas.List.{append_assoc, append-nil, drop_all, drop-drop, length-drop, take-append-drop}
+use Rattle.std.proofs.lemmas.List.{append_assoc, append-nil, drop_all, drop-drop, length-append, length-drop, length-take-le, take-append-drop}
 use Rattle.std.proofs.Math.Seq.{take-add}
 use Rattle.shapers_buffer.specs.declared.buffer.glyph.hb_glyph_info_t.{hb_glyph_info_t}
 use Rattle.shapers_buffer.specs.declared.buffer.level.BufferClusterLevel.{BufferClusterLevel}
 use Rattle.shapers_base.specs.Font.{Font}
 use Rattle.shapers_hangul.specs.declared.ot_shaper_hangul.item.Item.{Item}
-use Rattle.shapers_hangul.specs.Hangul.{item_len, is_kept, first_item, items_from, items_at, Fit, item_output, outputs, item_joined, all_joined, glyph_copies, preprocessed, KeptBefore}
-use Rattle.shapers_hangul.specs.RewritingWalk.{rewritten_items, InTurn, changed_from}
-use Rattle.shapers_hangul.proofs.Items.{taken_some, first_item-within}
-use Rattle.shapers_hangul.proofs.Outputs.{preprocessed-kept}
-use Rattle.shapers_hangul.proofs.Walks.{kept_stays, glyphs_next, glyphs_end, length-characters, length-all_joined}
+use Rattle.shapers_hangul.specs.Hangul.{item_len, output_len, tone_len, is_kept, first_item, items_from, items_at, Fit, item_output, outputs, item_joined, all_joined, glyph_copies, preprocessed, allows_circles, KeptBefore}
+use Rattle.shapers_hangul.specs.RewritingWalk.{rewritten_items, InTurn, change_output, changed_from}
+use Rattle.shapers_hangul.proofs.Items.{taken_some, first_item-within, items_at_fit}
+use Rattle.shapers_hangul.proofs.Outputs.{preprocessed-kept, preprocessed-read}
+use Rattle.shapers_hangul.proofs.Walks.{kept_stays, glyphs_next, glyphs_end, length-characters, length-all_joined, length-item_output}
 
 -- a choice by whether an item is kept
 by_kept : (P : List (ℕ × Item) → Type 0) (item : Item) (a b : List (ℕ × Item)) → (is_kept item ≡ true → P a) → (is_kept item ≡ false → P b) → P (cond (is_kept item) a b)
@@ -136,6 +136,38 @@ turn-at n place [] k p inside turn = absurd (omega arith)
 turn-at n place (q ∷ cut) zero p inside turn = turn_within n (q.0 + item_len q.1) cut turn.1
 turn-at n place (q ∷ cut) (suc k) p inside turn = turn-at n (q.0 + item_len q.1) cut k p (omega arith) turn.1
 
+-- the same from the start of the text, before the items
+changed_from-start : (n k : ℕ) (cut : List (ℕ × Item)) (gs : List hb_glyph_info_t) → InTurn n k cut → changed_from 0 cut gs ≡ take k gs ++ changed_from k cut gs
+changed_from-start n k [] gs turn = sym (take-append-drop k gs)
+changed_from-start n k (p ∷ cut) gs turn =
+    let m = p.0 - k in
+    let more : p.0 - 0 ≡ k + m = omega (arith, turn.0) in
+    let output = item_output glyph_copies p.1 (drop p.0 gs) in
+    let rest = changed_from (p.0 + item_len p.1) cut gs in
+    let between = take m (drop k gs) in
+    ap (λ j. (take j gs ++ output) ++ rest) more
+    ∙ ap (λ l. (l ++ output) ++ rest) (take-add k m gs)
+    ∙ ap (λ l. l ++ rest) (append_assoc (take k gs) between output)
+    ∙ append_assoc (take k gs) (between ++ output) rest
+
+-- ROOM
+pub length-change_output : (place : ℕ) (p : ℕ × Item) (gs : List hb_glyph_info_t) → place ≤ p.0 → p.0 + item_len p.1 ≤ length gs → length (change_output place p gs) ≡ (p.0 - place) + (output_len p.1.unit + tone_len p.1.tone)
+length-change_output place p gs order within =
+    let m = p.0 - place in
+    let long : length (drop place gs) ≡ length gs - place = length-drop place gs in
+    let rest : length (drop p.0 gs) ≡ length gs - p.0 = length-drop p.0 gs in
+    omega (arith, order, within, length-append (take m (drop place gs)) (item_output glyph_copies p.1 (drop p.0 gs)), length-take-le m (drop place gs) (omega (arith, long, order, within)), length-item_output glyph_copies p.1 (drop p.0 gs) (omega (arith, rest, within)))
+
+-- what the next item becomes is no longer than what all that are left become
+pub next_output : (place : ℕ) (cut : List (ℕ × Item)) (gs : List hb_glyph_info_t) (k : ℕ) (p : ℕ × Item) → k < length cut → length (change_output place (slice_index_or cut k p) gs) ≤ length (changed_from place (drop k cut) gs)
+next_output place [] gs k p inside = absurd (omega arith)
+next_output place (q ∷ cut) gs zero p inside = omega (arith, length-append (change_output place q gs) (changed_from (q.0 + item_len q.1) cut gs))
+next_output place (q ∷ cut) gs (suc k) p inside = next_output place cut gs k p (omega arith)
+
+-- what is left to write has room
+pub room_left : (list rest start whole : List hb_glyph_info_t) (room wide : ℕ) → list ++ rest ≡ start ++ whole → length start + length whole ≤ room → room ≤ wide → length list + length rest ≤ wide
+room_left list rest start whole room wide same fits more = omega (arith, ap length same, length-append list rest, length-append start whole, fits, more)
+
 -- THE WHOLE
 pub changed_text : (font : Font) (circles : Bool) (level : BufferClusterLevel) (gs : List hb_glyph_info_t) (place : ℕ) (cut : List (ℕ × Item)) (list : List hb_glyph_info_t) → KeptBefore font circles gs place → cut ≡ rewritten_items (items_at font circles (characters gs) place) → list ≡ take place (all_joined level cut gs) ++ changed_from place cut (all_joined level cut gs) → list ≡ preprocessed font circles level gs
 changed_text font circles level gs place cut list kept same is =
@@ -151,6 +183,25 @@ changed_text font circles level gs place cut list kept same is =
     ∙ ap (λ (j : List hb_glyph_info_t). take place j ++ changed_from place (rewritten_items whole) j) (joined_changes level whole gs)
     ∙ ap (λ l. take place joined ++ l) all
     ∙ sym (preprocessed-kept font circles level gs place kept)
+
+pub changed_whole : (font : Font) (circles : Bool) (level : BufferClusterLevel) (gs : List hb_glyph_info_t) (place : ℕ) (cut : List (ℕ × Item)) → KeptBefore font circles gs place → cut ≡ rewritten_items (items_at font circles (characters gs) place) → changed_from 0 cut (all_joined level cut gs) ≡ preprocessed font circles level gs
+changed_whole font circles level gs place cut kept same =
+    let joined = all_joined level cut gs in
+    let turn : InTurn (length gs) place cut = subst (InTurn (length gs) place) (sym same) (items_at_turn font circles gs place kept.within) in
+    changed_text font circles level gs place cut (changed_from 0 cut joined) kept same (changed_from-start (length gs) place cut joined turn)
+
+-- what the code asks of the items that it listed, and what it makes of a buffer by them
+pub changes_stand : (font : Font) (circles : Bool) (gs : List hb_glyph_info_t) (place : ℕ) (cut : List (ℕ × Item)) → place ≤ length gs → cut ≡ rewritten_items (items_at font circles (characters gs) place) → Fit (length gs) cut × InTurn (length gs) 0 cut
+changes_stand font circles gs place cut within same =
+    let whole = items_at font circles (characters gs) place in
+    let fit : Fit (length gs) whole = subst (λ n. Fit n whole) (length-characters gs) (items_at_fit font circles (characters gs) place (omega (arith, within, length-characters gs))) in
+    let turn : InTurn (length gs) 0 (rewritten_items whole) = sooner (length gs) 0 place (rewritten_items whole) (omega arith) (items_at_turn font circles gs place within) in
+    subst (λ (l : List (ℕ × Item)). Fit (length gs) l × InTurn (length gs) 0 l) (sym same) (changes_fit (length gs) whole fit, turn)
+
+pub buffer_changed : (font : Font) (b : Buffer) (circles : Bool) (level : BufferClusterLevel) (read : List hb_glyph_info_t) (place : ℕ) (cut : List (ℕ × Item)) → circles ≡ allows_circles b → level ≡ b.level → read ≡ b.glyphs → KeptBefore font circles read place → cut ≡ rewritten_items (items_at font circles (characters read) place) → changed_from 0 cut (all_joined level cut b.glyphs) ≡ preprocessed font (allows_circles b) b.level b.glyphs
+buffer_changed font b circles level read place cut same_circles same_level same_glyphs kept same =
+    ap (λ (xs : List hb_glyph_info_t). changed_from 0 cut (all_joined level cut xs)) (sym same_glyphs)
+    ∙ preprocessed-read font (allows_circles b) circles b.level level b.glyphs read (changed_from 0 cut (all_joined level cut read)) same_circles same_level same_glyphs (changed_whole font circles level read place cut kept same)
 
 -- a buffer that took another text
 pub replaced_by : {T : Type 0} (b after : Buffer) (r : Result T ShaperError) {list text : List hb_glyph_info_t} → list ≡ text → OnOk r (after ≡ (let new : Buffer = record b { glyphs = list } in new)) → OnOk r (after ≡ (let new : Buffer = record b { glyphs = text } in new))

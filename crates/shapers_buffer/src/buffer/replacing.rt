@@ -1,5 +1,5 @@
-//! Other glyphs for the buffer's, and glyphs copied with their positions.
-ghost use Rattle.std.specs.Prelude.{◌≡◌, ◌<◌, [], length, OnOk, OnErr};
+//! Other glyphs for the buffer's, texts rewritten, and glyphs copied with their positions.
+ghost use Rattle.std.specs.Prelude.{◌≡◌, ◌<◌, ◌≤◌, List, [], length, vec_capacity, OnOk, OnErr};
 ghost use Rattle.shapers_buffer.specs.Buffer.{copied_to};
 ghost use Rattle.shapers_buffer.specs.Refusals.{RefusesLength};
 
@@ -7,8 +7,53 @@ use super::glyph::hb_glyph_info_t;
 use super::hb_buffer_t;
 use super::placement::make_room;
 use super::refusal::ShaperError;
+use std::mem;
+
+/// A rewriting of a whole text, which may change the glyphs that it reads.
+pub trait GlyphRewriting {
+    ghost use Rattle.shapers_buffer.specs.declared.buffer.glyph.hb_glyph_info_t.{hb_glyph_info_t};
+
+    ghost can_rewrite: { Self → List hb_glyph_info_t → Type 0 };
+
+    ghost rewrites: { Self → List hb_glyph_info_t → List hb_glyph_info_t };
+
+    /// Writes what these glyphs become to an empty list, which has room for it.
+    fn rewrite(&self, glyphs: &mut [hb_glyph_info_t], to: &mut Vec<hb_glyph_info_t>)
+        requires can { can_rewrite self.now glyphs.old }
+        requires empty { to.old.items ≡ [] }
+        requires room { length (rewrites self.now glyphs.old) ≤ vec_capacity to.old }
+        ensures text { to.new.items ≡ rewrites self.now glyphs.old }
+        ensures capacity { vec_capacity to.old ≤ vec_capacity to.new };
+}
 
 impl hb_buffer_t {
+    /// Rewrites the text, which has no positions, to `len` glyphs. Refuses by their number, before
+    /// anything changes.
+    #[inline]
+    pub fn rewrite<R: GlyphRewriting>(
+        &mut self,
+        len: usize,
+        rewriting: &R,
+    ) -> Result<(), ShaperError>
+        requires unplaced { self.old.positions ≡ [] }
+        requires can { R.can_rewrite rewriting.now self.old.glyphs }
+        requires length { length (R.rewrites rewriting.now self.old.glyphs) ≡ len }
+        ensures ok { OnOk result (self.new ≡
+            record self.old { glyphs = R.rewrites rewriting.now self.old.glyphs }) }
+        ensures length { RefusesLength self.old.max_len len result }
+        ensures err { OnErr result (self.new ≡ self.old) }
+    {
+        if len > self.max_len {
+            return Err(ShaperError::TooLong);
+        }
+        make_room(&mut self.places, &mut self.spare, len)?;
+        self.info.reserve(len.saturating_sub(self.info.len()))?;
+        self.spare.clear();
+        rewriting.rewrite(&mut self.info, &mut self.spare);
+        mem::swap(&mut self.info, &mut self.spare);
+        Ok(())
+    }
+
     /// Puts these glyphs in the place of the buffer's, which has no positions. Refuses by their
     /// number, whatever the buffer held.
     #[inline]

@@ -1,6 +1,5 @@
 //! The units of a Hangul text, and the tones that join them.
-ghost use Rattle.std.specs.Prelude.{◌≡◌, ◌+◌, ◌<◌, ◌≤◌, ◌++◌, ◌∷◌, [], take, drop, if◌then◌else◌, length, get_or, true, OnOk, IsOkUnless, ◌||◌, ◌&&◌, Bool};
-ghost use Rattle.shapers_buffer.specs.declared.buffer.refusal.ShaperError.TheVariants.{Memory};
+ghost use Rattle.std.specs.Prelude.{◌≡◌, ◌+◌, ◌<◌, ◌≤◌, ◌++◌, ◌∷◌, [], take, drop, length, get_or, true, vec_capacity, ◌||◌, ◌&&◌, Bool};
 ghost use Rattle.shapers_buffer.specs.Glyph.{characters};
 ghost use Rattle.shapers_hangul.specs.Hangul.{is_s, is_lv, has_jamo_of, is_narrow, jamo_two, jamo_three, jamo_unit, jamo_parts, syllable_unit, lone_tone, lone_unit, first_unit, taken, is_syllable, is_marked, joined_tone, is_split, unsafe_len, first_item, tone_len, item_len, glyph_copies, unit_output, item_output, is_merged, item_joined, output_len, is_kept};
 
@@ -9,7 +8,7 @@ use super::jamo::{
     is_combining_v, is_hangul_tone, is_l, is_lv, is_t, is_v,
 };
 use shapers_base::buffer::{
-    BufferClusterLevel, ShaperError, hb_glyph_info_t, merge_clusters_in, unsafe_to_break_in,
+    BufferClusterLevel, hb_glyph_info_t, merge_clusters_in, unsafe_to_break_in,
 };
 use shapers_base::font::hb_font_t;
 
@@ -429,86 +428,76 @@ fn jamo_from(glyph: hb_glyph_info_t, u: u32, feature: u8) -> hb_glyph_info_t
     as_jamo(as_character(glyph, u), feature)
 }
 
-// Adds a glyph.
+// Adds a glyph to a list that has room for it.
 #[inline]
-fn put(list: &mut Vec<hb_glyph_info_t>, glyph: hb_glyph_info_t) -> Result<(), ShaperError>
-    ensures ok { OnOk result (list.new.items ≡ list.old.items ++ glyph ∷ []) }
-    ensures refusal { IsOkUnless result Memory }
+fn put(list: &mut Vec<hb_glyph_info_t>, glyph: hb_glyph_info_t)
+    requires { length list.old.items < vec_capacity list.old }
+    ensures added { list.new.items ≡ list.old.items ++ glyph ∷ [] }
+    ensures capacity { vec_capacity list.old ≤ vec_capacity list.new }
 {
-    list.push(glyph).map_err(|_| ShaperError::Memory)
+    list.push(glyph).unwrap();
 }
 
-// Adds the tone at place `i`, where it goes on this side.
+// Adds the glyph at place `i`.
 #[inline]
-fn put_tone(
-    is_here: bool,
-    glyphs: &[hb_glyph_info_t],
-    i: usize,
-    list: &mut Vec<hb_glyph_info_t>,
-) -> Result<(), ShaperError>
-    requires { is_here ≡ true → i < length glyphs.now }
-    ensures ok { let tone = if is_here then take 1 (drop i glyphs.now) else [] in
-        OnOk result (list.new.items ≡ list.old.items ++ tone) }
-    ensures refusal { IsOkUnless result Memory }
+fn put_from(glyphs: &[hb_glyph_info_t], i: usize, list: &mut Vec<hb_glyph_info_t>)
+    requires within { i < length glyphs.now }
+    requires room { length list.old.items < vec_capacity list.old }
+    ensures added { list.new.items ≡ list.old.items ++ take 1 (drop i glyphs.now) }
+    ensures capacity { vec_capacity list.old ≤ vec_capacity list.new }
 {
-    if is_here {
-        return put(list, glyphs[i]);
-    }
-    Ok(())
+    put(list, glyphs[i]);
 }
 
 impl Unit {
     // Adds what the unit that opens the text becomes.
-    fn write(
-        self,
-        glyphs: &[hb_glyph_info_t],
-        list: &mut Vec<hb_glyph_info_t>,
-    ) -> Result<(), ShaperError>
-        requires { taken self ≤ length glyphs.now }
-        ensures ok { let output = unit_output glyph_copies self glyphs.now in
-            OnOk result (list.new.items ≡ list.old.items ++ output) }
-        ensures refusal { IsOkUnless result Memory }
+    fn write(self, glyphs: &[hb_glyph_info_t], list: &mut Vec<hb_glyph_info_t>)
+        requires within { taken self ≤ length glyphs.now }
+        requires room { length list.old.items + output_len self ≤ vec_capacity list.old }
+        ensures added { let output = unit_output glyph_copies self glyphs.now in
+            list.new.items ≡ list.old.items ++ output }
+        ensures grown { length list.new.items ≡ length list.old.items + output_len self }
+        ensures capacity { vec_capacity list.old ≤ vec_capacity list.new }
     {
         match self {
             Unit::ComposedTwo(s) | Unit::ComposedThree(s) => {
-                put(list, as_character(glyphs[0], s))?;
+                put(list, as_character(glyphs[0], s));
             }
             Unit::JamoTwo => {
-                put(list, as_jamo(glyphs[0], LJMO))?;
-                put(list, as_jamo(glyphs[1], VJMO))?;
+                put(list, as_jamo(glyphs[0], LJMO));
+                put(list, as_jamo(glyphs[1], VJMO));
             }
             Unit::JamoThree => {
-                put(list, as_jamo(glyphs[0], LJMO))?;
-                put(list, as_jamo(glyphs[1], VJMO))?;
-                put(list, as_jamo(glyphs[2], TJMO))?;
+                put(list, as_jamo(glyphs[0], LJMO));
+                put(list, as_jamo(glyphs[1], VJMO));
+                put(list, as_jamo(glyphs[2], TJMO));
             }
             Unit::PartsTwo(l, v) => {
-                put(list, jamo_from(glyphs[0], l, LJMO))?;
-                put(list, jamo_from(glyphs[0], v, VJMO))?;
+                put(list, jamo_from(glyphs[0], l, LJMO));
+                put(list, jamo_from(glyphs[0], v, VJMO));
             }
             Unit::PartsThree(l, v, t) => {
-                put(list, jamo_from(glyphs[0], l, LJMO))?;
-                put(list, jamo_from(glyphs[0], v, VJMO))?;
-                put(list, jamo_from(glyphs[0], t, TJMO))?;
+                put(list, jamo_from(glyphs[0], l, LJMO));
+                put(list, jamo_from(glyphs[0], v, VJMO));
+                put(list, jamo_from(glyphs[0], t, TJMO));
             }
             Unit::PartsBeforeT(l, v) => {
-                put(list, jamo_from(glyphs[0], l, LJMO))?;
-                put(list, jamo_from(glyphs[0], v, VJMO))?;
-                put(list, as_jamo(glyphs[1], TJMO))?;
+                put(list, jamo_from(glyphs[0], l, LJMO));
+                put(list, jamo_from(glyphs[0], v, VJMO));
+                put(list, as_jamo(glyphs[1], TJMO));
             }
             Unit::ToneCircle => {
-                put(list, glyphs[0])?;
-                put(list, as_character(glyphs[0], DOTTED_CIRCLE))?;
+                put(list, glyphs[0]);
+                put(list, as_character(glyphs[0], DOTTED_CIRCLE));
             }
             Unit::CircleTone => {
-                put(list, as_character(glyphs[0], DOTTED_CIRCLE))?;
-                put(list, glyphs[0])?;
+                put(list, as_character(glyphs[0], DOTTED_CIRCLE));
+                put(list, glyphs[0]);
             }
             Unit::Syllable | Unit::Other => {
-                put(list, glyphs[0])?;
+                put(list, glyphs[0]);
             }
         }
-        Ok(())
     }
 
     // Whether all that it takes merges at this level.
@@ -580,19 +569,25 @@ impl Item {
 
     // Adds what the item that opens the text becomes.
     #[inline]
-    pub(super) fn write(
-        self,
-        glyphs: &[hb_glyph_info_t],
-        list: &mut Vec<hb_glyph_info_t>,
-    ) -> Result<(), ShaperError>
-        requires { item_len self ≤ length glyphs.now }
-        ensures ok { let output = item_output glyph_copies self glyphs.now in
-            OnOk result (list.new.items ≡ list.old.items ++ output) }
-        ensures refusal { IsOkUnless result Memory }
+    pub(super) fn write(self, glyphs: &[hb_glyph_info_t], list: &mut Vec<hb_glyph_info_t>)
+        requires within { item_len self ≤ length glyphs.now }
+        requires room { let len = output_len self.unit + tone_len self.tone in
+            length list.old.items + len ≤ vec_capacity list.old }
+        ensures added { let output = item_output glyph_copies self glyphs.now in
+            list.new.items ≡ list.old.items ++ output }
+        ensures capacity { vec_capacity list.old ≤ vec_capacity list.new }
     {
         let end = self.unit.taken();
-        put_tone(matches!(self.tone, JoinedTone::Before), glyphs, end, list)?;
-        self.unit.write(glyphs, list)?;
-        put_tone(matches!(self.tone, JoinedTone::Behind), glyphs, end, list)
+        match self.tone {
+            JoinedTone::Absent => self.unit.write(glyphs, list),
+            JoinedTone::Before => {
+                put_from(glyphs, end, list);
+                self.unit.write(glyphs, list);
+            }
+            JoinedTone::Behind => {
+                self.unit.write(glyphs, list);
+                put_from(glyphs, end, list);
+            }
+        }
     }
 }

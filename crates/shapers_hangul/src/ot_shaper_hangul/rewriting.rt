@@ -1,16 +1,16 @@
 //! The text rewritten, item after item.
-ghost use Rattle.std.specs.Prelude.{◌≡◌, ◌+◌, ◌-◌, ◌<◌, ◌≤◌, ◌++◌, ◌∷◌, [], true, false, drop, length, take, Ok, OnOk, OnErr, IfOk, IfErr, IsOk, IsOkUnless};
+ghost use Rattle.std.specs.Prelude.{◌≡◌, ◌+◌, ◌-◌, ◌<◌, ◌≤◌, ◌++◌, ◌∷◌, [], true, false, drop, length, take, vec_capacity, Ok, OnOk, OnErr, IfOk, IfErr, IsOk};
 ghost use Rattle.shapers_buffer.specs.Glyph.{characters};
 ghost use Rattle.shapers_hangul.specs.HangulLaws.{AllKept};
 ghost use Rattle.shapers_hangul.specs.RewritingWalk.{rewritten_items, InTurn, change_output, changed_from};
 ghost use Rattle.shapers_buffer.specs.Refusals.{RefusesLength};
-ghost use Rattle.shapers_buffer.specs.declared.buffer.refusal.ShaperError.TheVariants.{Memory, TooLong};
+ghost use Rattle.shapers_buffer.specs.declared.buffer.refusal.ShaperError.TheVariants.{TooLong};
 ghost use Rattle.shapers_hangul.specs.Hangul.{first_item, item_len, items_at, glyph_copies, outputs, Fit, all_joined, rewritten, allows_circles, is_kept, KeptBefore};
 
 use super::item::{Item, first_item, stays_alone};
 use bitflags::Flags;
 use shapers_base::buffer::{
-    BufferClusterLevel, BufferFlags, ShaperError, hb_buffer_t, hb_glyph_info_t,
+    BufferClusterLevel, BufferFlags, GlyphRewriting, ShaperError, hb_buffer_t, hb_glyph_info_t,
 };
 use shapers_base::font::hb_font_t;
 use std::alloc::Global;
@@ -117,6 +117,8 @@ fn measure<F: hb_font_t>(
         RefusesLength limit (kept + length (outputs glyph_copies cut glyphs.now)) result }
     ensures items { let rest = items_at (F.font face.now) circles (characters glyphs.now) kept in
         IfOk result (λ len. cut.new.is_whole ≡ true → cut.new.items.items ≡ rewritten_items rest) }
+    ensures exact { let cut = items_at (F.font face.now) circles (characters glyphs.now) kept in
+        IfOk result (λ len. len ≡ kept + length (outputs glyph_copies cut glyphs.now)) }
     ensures refusal { IfErr result (λ e. e ≡ TooLong) }
 {
     let mut room = limit - kept;
@@ -151,18 +153,18 @@ fn write_stretch(
     place: usize,
     end: usize,
     list: &mut Vec<hb_glyph_info_t>,
-) -> Result<(), ShaperError>
+)
     requires in_order { place ≤ end }
     requires within { end ≤ length glyphs.now }
-    ensures ok { let stretch = take (end - place) (drop place glyphs.now) in
-        OnOk result (list.new.items ≡ list.old.items ++ stretch) }
-    ensures refusal { IsOkUnless result Memory }
+    requires room { length list.old.items + (end - place) ≤ vec_capacity list.old }
+    ensures added { let stretch = take (end - place) (drop place glyphs.now) in
+        list.new.items ≡ list.old.items ++ stretch }
+    ensures grown { length list.new.items ≡ length list.old.items + (end - place) }
+    ensures capacity { vec_capacity list.old ≤ vec_capacity list.new }
 {
-    if place == end {
-        return Ok(());
+    if place != end {
+        list.extend_from_slice(&glyphs[place..end]).unwrap();
     }
-    list.extend_from_slice(&glyphs[place..end])
-        .map_err(|_| ShaperError::Memory)
 }
 
 // Adds the text from a place on up to an item, and what the item becomes.
@@ -172,63 +174,59 @@ fn write_change(
     glyphs: &[hb_glyph_info_t],
     place: usize,
     list: &mut Vec<hb_glyph_info_t>,
-) -> Result<(), ShaperError>
+)
     requires in_order { place ≤ entry.now.0 }
     requires within { entry.now.0 + item_len entry.now.1 ≤ length glyphs.now }
-    ensures ok { let output = change_output place entry.now glyphs.now in
-        OnOk result (list.new.items ≡ list.old.items ++ output) }
-    ensures refusal { IsOkUnless result Memory }
+    requires room { let output = change_output place entry.now glyphs.now in
+        length list.old.items + length output ≤ vec_capacity list.old }
+    ensures added { let output = change_output place entry.now glyphs.now in
+        list.new.items ≡ list.old.items ++ output }
+    ensures capacity { vec_capacity list.old ≤ vec_capacity list.new }
 {
-    write_stretch(glyphs, place, entry.0, list)?;
-    entry.1.write(rest_from(glyphs, entry.0), list)
+    write_stretch(glyphs, place, entry.0, list);
+    entry.1.write(rest_from(glyphs, entry.0), list);
 }
 
-// Adds the text from a place on, in which these items become what they become.
+// Adds the text, in which these items become what they become.
 #[inline]
-fn write_changes(
-    cut: &[(usize, Item)],
-    glyphs: &[hb_glyph_info_t],
-    start: usize,
-    list: &mut Vec<hb_glyph_info_t>,
-) -> Result<(), ShaperError>
-    requires in_turn { InTurn (length glyphs.now) start cut.now }
-    ensures ok { let output = changed_from start cut.now glyphs.now in
-        OnOk result (list.new.items ≡ list.old.items ++ output) }
-    ensures refusal { IsOkUnless result Memory }
+fn write_changes(cut: &[(usize, Item)], glyphs: &[hb_glyph_info_t], list: &mut Vec<hb_glyph_info_t>)
+    requires in_turn { InTurn (length glyphs.now) 0 cut.now }
+    requires room { let text = changed_from 0 cut.now glyphs.now in
+        length list.old.items + length text ≤ vec_capacity list.old }
+    ensures added { let text = changed_from 0 cut.now glyphs.now in
+        list.new.items ≡ list.old.items ++ text }
+    ensures capacity { vec_capacity list.old ≤ vec_capacity list.new }
 {
-    let mut place = start;
+    let mut place = 0;
     for entry in cut {
-        write_change(entry, glyphs, place, list)?;
+        write_change(entry, glyphs, place, list);
         place = entry.0 + entry.1.len();
     }
-    list.extend_from_slice(rest_from(glyphs, place))
-        .map_err(|_| ShaperError::Memory)
+    list.extend_from_slice(rest_from(glyphs, place)).unwrap();
 }
 
-// The text rewritten, to a length that is known: what its items flag and merge, on the old places,
-// and then what they become, behind what stays.
-#[inline]
-fn rewritten(
-    cut: &[(usize, Item)],
+// What rewrites a text: the items that change it.
+#[derive(Drop)]
+struct Rewriting<'a> {
+    cut: &'a [(usize, Item)],
     level: BufferClusterLevel,
-    glyphs: &[hb_glyph_info_t],
-    kept: usize,
-    len: usize,
-    alloc: Global,
-) -> Result<Vec<hb_glyph_info_t>, ShaperError>
-    requires fit { Fit (length glyphs.now) cut.now }
-    requires in_turn { InTurn (length glyphs.now) kept cut.now }
-    requires within { kept ≤ length glyphs.now }
-    ensures ok { let joined = all_joined level cut.now glyphs.now in
-        IfOk result (λ list. list.items ≡ take kept joined ++ changed_from kept cut.now joined) }
-    ensures refusal { IsOkUnless result Memory }
-{
-    let mut joined = Vec::from_slice(alloc, glyphs)?;
-    join_items(cut, level, &mut joined);
-    let mut list = Vec::with_capacity(alloc, len)?;
-    list.extend_from_slice(&joined[..kept])?;
-    write_changes(cut, joined.as_slice(), kept, &mut list)?;
-    Ok(list)
+}
+
+impl<'a> GlyphRewriting for Rewriting<'a> {
+    ghost use Rattle.std.specs.Prelude.{length};
+    ghost use Rattle.shapers_hangul.specs.Hangul.{Fit, all_joined};
+    ghost use Rattle.shapers_hangul.specs.RewritingWalk.{InTurn, changed_from};
+
+    ghost can_rewrite = { λ r gs. Fit (length gs) r.cut.now × InTurn (length gs) 0 r.cut.now };
+
+    ghost rewrites = { λ r gs. changed_from 0 r.cut.now (all_joined r.level r.cut.now gs) };
+
+    // What the items flag and merge, on the old places, and then what they become.
+    #[inline]
+    fn rewrite(&self, glyphs: &mut [hb_glyph_info_t], to: &mut Vec<hb_glyph_info_t>) {
+        join_items(self.cut, self.level, glyphs);
+        write_changes(self.cut, glyphs, to);
+    }
 }
 
 // Whether the caller lets circles be inserted.
@@ -287,6 +285,9 @@ pub(super) fn rewrite<F: hb_font_t>(face: &F, buffer: &mut hb_buffer_t) -> Resul
     if !cut.is_whole {
         return Err(ShaperError::Memory);
     }
-    let list = rewritten(cut.items.as_slice(), level, glyphs, kept, len, alloc)?;
-    buffer.replace_glyphs(list)
+    let rewriting = Rewriting {
+        cut: cut.items.as_slice(),
+        level,
+    };
+    buffer.rewrite(len, &rewriting)
 }

@@ -1,6 +1,6 @@
 //! Generated from crates/shapers_buffer/src/buffer/replacing.rt by rust/erase; edit the source.
 //!
-//! Other glyphs for the buffer's, and glyphs copied with their positions.
+//! Other glyphs for the buffer's, texts rewritten, and glyphs copied with their positions.
 
 use crate::support::prelude::*;
 
@@ -8,8 +8,66 @@ use super::Buffer;
 use super::glyph::GlyphInfo;
 use super::placement::make_room;
 use super::refusal::ShaperError;
+use core::mem;
+
+/// A rewriting of a whole text, which may change the glyphs that it reads.
+pub trait GlyphRewriting {
+    /// Writes what these glyphs become to an empty list, which has room for it.
+    ///
+    /// <details><summary>Contract</summary>
+    ///
+    /// # Contract
+    ///
+    /// ```text
+    /// requires can { can_rewrite self.now glyphs.old }
+    /// requires empty { to.old.items ≡ [] }
+    /// requires room { length (rewrites self.now glyphs.old) ≤ vec_capacity to.old }
+    /// ensures text { to.new.items ≡ rewrites self.now glyphs.old }
+    /// ensures capacity { vec_capacity to.old ≤ vec_capacity to.new }
+    /// ```
+    ///
+    /// </details>
+    fn rewrite(&self, glyphs: &mut [GlyphInfo], to: &mut Vec<GlyphInfo>);
+}
 
 impl Buffer {
+    /// Rewrites the text, which has no positions, to `len` glyphs. Refuses by their number, before
+    /// anything changes.
+    ///
+    /// <details><summary>Contract</summary>
+    ///
+    /// # Contract
+    ///
+    /// ```text
+    /// requires unplaced { self.old.positions ≡ [] }
+    /// requires can { R.can_rewrite rewriting.now self.old.glyphs }
+    /// requires length { length (R.rewrites rewriting.now self.old.glyphs) ≡ len }
+    /// ensures ok { OnOk result (self.new ≡
+    ///     record self.old { glyphs = R.rewrites rewriting.now self.old.glyphs }) }
+    /// ensures length { RefusesLength self.old.max_len len result }
+    /// ensures err { OnErr result (self.new ≡ self.old) }
+    /// ```
+    ///
+    /// - `RefusesLength`: crates/shapers_buffer/specs/Refusals.antt
+    ///
+    /// </details>
+    #[inline]
+    pub fn rewrite<R: GlyphRewriting>(
+        &mut self,
+        len: usize,
+        rewriting: &R,
+    ) -> Result<(), ShaperError> {
+        if len > self.max_len {
+            return Err(ShaperError::TooLong);
+        }
+        make_room(&mut self.places, &mut self.spare, len)?;
+        self.info.reserve(len.saturating_sub(self.info.len()))?;
+        self.spare.clear();
+        rewriting.rewrite(&mut self.info, &mut self.spare);
+        mem::swap(&mut self.info, &mut self.spare);
+        Ok(())
+    }
+
     /// Puts these glyphs in the place of the buffer's, which has no positions. Refuses by their
     /// number, whatever the buffer held.
     ///

@@ -9,7 +9,7 @@ use super::jamo::{
     is_combining_v, is_hangul_tone, is_l, is_lv, is_t, is_v,
 };
 use crate::generated::shapers_base::buffer::{
-    BufferClusterLevel, GlyphInfo, ShaperError, merge_clusters_in, unsafe_to_break_in,
+    BufferClusterLevel, GlyphInfo, merge_clusters_in, unsafe_to_break_in,
 };
 use crate::generated::shapers_base::font::Font;
 
@@ -372,69 +372,60 @@ fn jamo_from(glyph: GlyphInfo, u: u32, feature: u8) -> GlyphInfo {
     as_jamo(as_character(glyph, u), feature)
 }
 
-// Adds a glyph.
+// Adds a glyph to a list that has room for it.
 #[inline]
-fn put(list: &mut Vec<GlyphInfo>, glyph: GlyphInfo) -> Result<(), ShaperError> {
-    list.push(glyph).map_err(|_| ShaperError::Memory)
+fn put(list: &mut Vec<GlyphInfo>, glyph: GlyphInfo) {
+    list.push(glyph).unwrap();
 }
 
-// Adds the tone at place `i`, where it goes on this side.
+// Adds the glyph at place `i`.
 #[inline]
-fn put_tone(
-    is_here: bool,
-    glyphs: &[GlyphInfo],
-    i: usize,
-    list: &mut Vec<GlyphInfo>,
-) -> Result<(), ShaperError> {
-    if is_here {
-        return put(list, glyphs[i]);
-    }
-    Ok(())
+fn put_from(glyphs: &[GlyphInfo], i: usize, list: &mut Vec<GlyphInfo>) {
+    put(list, glyphs[i]);
 }
 
 impl Unit {
     // Adds what the unit that opens the text becomes.
-    fn write(self, glyphs: &[GlyphInfo], list: &mut Vec<GlyphInfo>) -> Result<(), ShaperError> {
+    fn write(self, glyphs: &[GlyphInfo], list: &mut Vec<GlyphInfo>) {
         match self {
             Unit::ComposedTwo(s) | Unit::ComposedThree(s) => {
-                put(list, as_character(glyphs[0], s))?;
+                put(list, as_character(glyphs[0], s));
             }
             Unit::JamoTwo => {
-                put(list, as_jamo(glyphs[0], LJMO))?;
-                put(list, as_jamo(glyphs[1], VJMO))?;
+                put(list, as_jamo(glyphs[0], LJMO));
+                put(list, as_jamo(glyphs[1], VJMO));
             }
             Unit::JamoThree => {
-                put(list, as_jamo(glyphs[0], LJMO))?;
-                put(list, as_jamo(glyphs[1], VJMO))?;
-                put(list, as_jamo(glyphs[2], TJMO))?;
+                put(list, as_jamo(glyphs[0], LJMO));
+                put(list, as_jamo(glyphs[1], VJMO));
+                put(list, as_jamo(glyphs[2], TJMO));
             }
             Unit::PartsTwo(l, v) => {
-                put(list, jamo_from(glyphs[0], l, LJMO))?;
-                put(list, jamo_from(glyphs[0], v, VJMO))?;
+                put(list, jamo_from(glyphs[0], l, LJMO));
+                put(list, jamo_from(glyphs[0], v, VJMO));
             }
             Unit::PartsThree(l, v, t) => {
-                put(list, jamo_from(glyphs[0], l, LJMO))?;
-                put(list, jamo_from(glyphs[0], v, VJMO))?;
-                put(list, jamo_from(glyphs[0], t, TJMO))?;
+                put(list, jamo_from(glyphs[0], l, LJMO));
+                put(list, jamo_from(glyphs[0], v, VJMO));
+                put(list, jamo_from(glyphs[0], t, TJMO));
             }
             Unit::PartsBeforeT(l, v) => {
-                put(list, jamo_from(glyphs[0], l, LJMO))?;
-                put(list, jamo_from(glyphs[0], v, VJMO))?;
-                put(list, as_jamo(glyphs[1], TJMO))?;
+                put(list, jamo_from(glyphs[0], l, LJMO));
+                put(list, jamo_from(glyphs[0], v, VJMO));
+                put(list, as_jamo(glyphs[1], TJMO));
             }
             Unit::ToneCircle => {
-                put(list, glyphs[0])?;
-                put(list, as_character(glyphs[0], DOTTED_CIRCLE))?;
+                put(list, glyphs[0]);
+                put(list, as_character(glyphs[0], DOTTED_CIRCLE));
             }
             Unit::CircleTone => {
-                put(list, as_character(glyphs[0], DOTTED_CIRCLE))?;
-                put(list, glyphs[0])?;
+                put(list, as_character(glyphs[0], DOTTED_CIRCLE));
+                put(list, glyphs[0]);
             }
             Unit::Syllable | Unit::Other => {
-                put(list, glyphs[0])?;
+                put(list, glyphs[0]);
             }
         }
-        Ok(())
     }
 
     // Whether all that it takes merges at this level.
@@ -489,14 +480,18 @@ impl Item {
 
     // Adds what the item that opens the text becomes.
     #[inline]
-    pub(super) fn write(
-        self,
-        glyphs: &[GlyphInfo],
-        list: &mut Vec<GlyphInfo>,
-    ) -> Result<(), ShaperError> {
+    pub(super) fn write(self, glyphs: &[GlyphInfo], list: &mut Vec<GlyphInfo>) {
         let end = self.unit.taken();
-        put_tone(matches!(self.tone, JoinedTone::Before), glyphs, end, list)?;
-        self.unit.write(glyphs, list)?;
-        put_tone(matches!(self.tone, JoinedTone::Behind), glyphs, end, list)
+        match self.tone {
+            JoinedTone::Absent => self.unit.write(glyphs, list),
+            JoinedTone::Before => {
+                put_from(glyphs, end, list);
+                self.unit.write(glyphs, list);
+            }
+            JoinedTone::Behind => {
+                self.unit.write(glyphs, list);
+                put_from(glyphs, end, list);
+            }
+        }
     }
 }

@@ -6,7 +6,7 @@ use crate::support::prelude::*;
 
 use super::item::{Item, first_item, stays_alone};
 use crate::generated::shapers_base::buffer::{
-    Buffer, BufferClusterLevel, BufferFlags, GlyphInfo, ShaperError,
+    Buffer, BufferClusterLevel, BufferFlags, GlyphInfo, GlyphRewriting, ShaperError,
 };
 use crate::generated::shapers_base::font::Font;
 use crate::support::alloc::Global;
@@ -106,17 +106,10 @@ fn join_items(cut: &[(usize, Item)], level: BufferClusterLevel, glyphs: &mut [Gl
 
 // Adds the text from one place to another.
 #[inline]
-fn write_stretch(
-    glyphs: &[GlyphInfo],
-    place: usize,
-    end: usize,
-    list: &mut Vec<GlyphInfo>,
-) -> Result<(), ShaperError> {
-    if place == end {
-        return Ok(());
+fn write_stretch(glyphs: &[GlyphInfo], place: usize, end: usize, list: &mut Vec<GlyphInfo>) {
+    if place != end {
+        list.extend_from_slice(&glyphs[place..end]).unwrap();
     }
-    list.extend_from_slice(&glyphs[place..end])
-        .map_err(|_| ShaperError::Memory)
 }
 
 // Adds the text from a place on up to an item, and what the item becomes.
@@ -126,45 +119,35 @@ fn write_change(
     glyphs: &[GlyphInfo],
     place: usize,
     list: &mut Vec<GlyphInfo>,
-) -> Result<(), ShaperError> {
-    write_stretch(glyphs, place, entry.0, list)?;
-    entry.1.write(rest_from(glyphs, entry.0), list)
+) {
+    write_stretch(glyphs, place, entry.0, list);
+    entry.1.write(rest_from(glyphs, entry.0), list);
 }
 
-// Adds the text from a place on, in which these items become what they become.
+// Adds the text, in which these items become what they become.
 #[inline]
-fn write_changes(
-    cut: &[(usize, Item)],
-    glyphs: &[GlyphInfo],
-    start: usize,
-    list: &mut Vec<GlyphInfo>,
-) -> Result<(), ShaperError> {
-    let mut place = start;
+fn write_changes(cut: &[(usize, Item)], glyphs: &[GlyphInfo], list: &mut Vec<GlyphInfo>) {
+    let mut place = 0;
     for entry in cut {
-        write_change(entry, glyphs, place, list)?;
+        write_change(entry, glyphs, place, list);
         place = entry.0 + entry.1.len();
     }
-    list.extend_from_slice(rest_from(glyphs, place))
-        .map_err(|_| ShaperError::Memory)
+    list.extend_from_slice(rest_from(glyphs, place)).unwrap();
 }
 
-// The text rewritten, to a length that is known: what its items flag and merge, on the old places,
-// and then what they become, behind what stays.
-#[inline]
-fn rewritten(
-    cut: &[(usize, Item)],
+// What rewrites a text: the items that change it.
+struct Rewriting<'a> {
+    cut: &'a [(usize, Item)],
     level: BufferClusterLevel,
-    glyphs: &[GlyphInfo],
-    kept: usize,
-    len: usize,
-    alloc: Global,
-) -> Result<Vec<GlyphInfo>, ShaperError> {
-    let mut joined = Vec::from_slice(alloc, glyphs)?;
-    join_items(cut, level, &mut joined);
-    let mut list = Vec::with_capacity(alloc, len)?;
-    list.extend_from_slice(&joined[..kept])?;
-    write_changes(cut, joined.as_slice(), kept, &mut list)?;
-    Ok(list)
+}
+
+impl<'a> GlyphRewriting for Rewriting<'a> {
+    // What the items flag and merge, on the old places, and then what they become.
+    #[inline]
+    fn rewrite(&self, glyphs: &mut [GlyphInfo], to: &mut Vec<GlyphInfo>) {
+        join_items(self.cut, self.level, glyphs);
+        write_changes(self.cut, glyphs, to);
+    }
 }
 
 // Whether the caller lets circles be inserted.
@@ -202,6 +185,9 @@ pub(super) fn rewrite<F: Font>(face: &F, buffer: &mut Buffer) -> Result<(), Shap
     if !cut.is_whole {
         return Err(ShaperError::Memory);
     }
-    let list = rewritten(cut.items.as_slice(), level, glyphs, kept, len, alloc)?;
-    buffer.replace_glyphs(list)
+    let rewriting = Rewriting {
+        cut: cut.items.as_slice(),
+        level,
+    };
+    buffer.rewrite(len, &rewriting)
 }
