@@ -20,4 +20,5 @@ mod SyllabicRows
 pub mod SyllableAlone
 pub mod SyllableThen
 pub mod SyllableWalks
+mod Turning
 pub mod Views

@@ -1,5 +1,5 @@
-//! The categories of the universal shaper; the numbers are those of HarfBuzz's tables, the names those of the note on the
-//! Universal Shaping Engine.
+//! The categories of the universal shaper; the numbers are those of HarfBuzz's tables, the names
+//! those of the note on the Universal Shaping Engine.
 /// Another character.
 pub const O: u8 = 0;
 

@@ -15,8 +15,8 @@ pub fn universal_reads_no_serials()
     ensures masks { UniversalReadsNoMasks }
 {}
 
-/// A set-up and a reordering pause directly after it, cut between any two spans, give what they give
-/// on the halves, serials and masks of forms apart.
+/// A set-up and a reordering pause directly after it, cut between any two spans, give what they
+/// give on the halves, serials and masks of forms apart.
 pub fn universal_cuts_between_spans()
     ensures { UniversalCutsBetweenSpans }
 {}

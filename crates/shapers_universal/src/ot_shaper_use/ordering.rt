@@ -1,5 +1,5 @@
-//! The order of a syllable: the places of its glyphs are listed in their new order, what moves merges
-//! with what it passes, and then the syllable is written once.
+//! The order of a syllable: the places of its glyphs are listed in their new order, what moves
+//! merges with what it passes, and then the syllable is written once.
 ghost use Rattle.std.specs.Prelude.{◌≡◌, ◌==◌, IfSome, false, ◌&&◌, ◌||◌, ◌+◌, ◌-◌, ◌<◌, ◌≤◌, ◌^◌, true, length, filter, reverse};
 ghost use Rattle.std.specs.List.{list_any, prefix_len, range_with_len};
 ghost use Rattle.shapers_buffer.specs.Lists.{first_last};
@@ -12,10 +12,10 @@ ghost use Rattle.shapers_universal.specs.UniversalWalk.{MergesFirst, first_piece
 
 use super::category;
 use shapers_base::buffer::{ClusterRun, GlyphWalk, ShaperError, hb_buffer_t, hb_glyph_info_t};
-use shapers_syllabic::ot_shaper_syllabic::Reorder;
 use shapers_syllabic::ot_shaper_syllabic::use_syllable::{
     BROKEN_CLUSTER, SAKOT_TERMINATED_CLUSTER, STANDARD_CLUSTER, VIRAMA_TERMINATED_CLUSTER,
 };
+use shapers_syllabic::ot_shaper_syllabic::{Reorder, turn_right};
 
 // The categories of what stands after the base.
 const POST_BASE: [u8; 18] = [
@@ -154,7 +154,7 @@ impl GlyphWalk for BringLast {
 
     #[inline]
     fn walk(&mut self, glyphs: &mut [hb_glyph_info_t]) {
-        glyphs[self.start..self.end].rotate_right(1);
+        turn_right(&mut glyphs[self.start..self.end]);
     }
 }
 

@@ -46,8 +46,8 @@ pub fn setup_syllables_use(
     Ok(())
 }
 
-/// Sets up a text whose glyphs have their syllable bytes already, with the flags, marks and masks of
-/// [`setup_syllables_use`]. It takes no memory and leaves the clusters as they are.
+/// Sets up a text whose glyphs have their syllable bytes already, with the flags, marks and masks
+/// of [`setup_syllables_use`]. It takes no memory and leaves the clusters as they are.
 #[inline]
 pub fn setup_syllables_use_by_bytes(plan: &hb_ot_shape_plan_t, buffer: &mut hb_buffer_t)
     requires { is_universal plan.now.plan_data ≡ true }

@@ -108,7 +108,8 @@ fn change_next<C: FrontChange>(
     glyph: &mut hb_glyph_info_t,
 ) -> Option<u8>
     requires { C.changed change.now [] ≡ [] }
-    ensures { (rest : List hb_glyph_info_t) → left_to_change (C.changed change.now) passed (glyph.old ∷ rest)
+    ensures { (rest : List hb_glyph_info_t)
+        → left_to_change (C.changed change.now) passed (glyph.old ∷ rest)
         ≡ glyph.new ∷ left_to_change (C.changed change.now) result rest }
 {
     let syllable = glyph.syllable;

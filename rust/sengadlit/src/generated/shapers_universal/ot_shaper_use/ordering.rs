@@ -1,16 +1,16 @@
 //! Generated from crates/shapers_universal/src/ot_shaper_use/ordering.rt by rust/erase; edit the source.
 //!
-//! The order of a syllable: the places of its glyphs are listed in their new order, what moves merges
-//! with what it passes, and then the syllable is written once.
+//! The order of a syllable: the places of its glyphs are listed in their new order, what moves
+//! merges with what it passes, and then the syllable is written once.
 
 use super::category;
 use crate::generated::shapers_base::buffer::{
     Buffer, ClusterRun, GlyphInfo, GlyphWalk, ShaperError,
 };
-use crate::generated::shapers_syllabic::ot_shaper_syllabic::Reorder;
 use crate::generated::shapers_syllabic::ot_shaper_syllabic::use_syllable::{
     BROKEN_CLUSTER, SAKOT_TERMINATED_CLUSTER, STANDARD_CLUSTER, VIRAMA_TERMINATED_CLUSTER,
 };
+use crate::generated::shapers_syllabic::ot_shaper_syllabic::{Reorder, turn_right};
 
 // The categories of what stands after the base.
 const POST_BASE: [u8; 18] = [
@@ -107,7 +107,7 @@ struct BringLast {
 impl GlyphWalk for BringLast {
     #[inline]
     fn walk(&mut self, glyphs: &mut [GlyphInfo]) {
-        glyphs[self.start..self.end].rotate_right(1);
+        turn_right(&mut glyphs[self.start..self.end]);
     }
 }
 

@@ -54,8 +54,8 @@ pub fn setup_syllables_use(
     Ok(())
 }
 
-/// Sets up a text whose glyphs have their syllable bytes already, with the flags, marks and masks of
-/// [`setup_syllables_use`]. It takes no memory and leaves the clusters as they are.
+/// Sets up a text whose glyphs have their syllable bytes already, with the flags, marks and masks
+/// of [`setup_syllables_use`]. It takes no memory and leaves the clusters as they are.
 ///
 /// <details><summary>Contract</summary>
 ///
