@@ -1,4 +1,4 @@
-//! Laws of the final reordering, each the contract of a function without a body.
+//! Laws of the final reordering, each the contract of a function that does nothing.
 ghost use Rattle.shapers_indic_final.specs.FinalClusters.{FinalCutsLaw, FinalMergesLaw};
 ghost use Rattle.shapers_indic_final.specs.FinalCuts.{FinalCutsBetweenSpans};
 ghost use Rattle.shapers_indic_final.specs.FinalLaws.{FinalReadsNoSerials, FinalReorderLaws, FinalTextLaws, FinalTextReadsNoSerials};

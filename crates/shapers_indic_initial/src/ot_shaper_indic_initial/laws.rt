@@ -1,4 +1,4 @@
-//! Laws of the initial reordering, each the contract of a function without a body.
+//! Laws of the initial reordering, each the contract of a function that does nothing.
 ghost use Rattle.shapers_indic_initial.specs.InitialClusters.{InitialClustersLaw, OrderMergesLaw};
 ghost use Rattle.shapers_indic_initial.specs.InitialLaws.{InitialCutsBetweenSpans, InitialReorderLaws, InitialTextMerges, InitiallyAsPause, OrderByFontLaws, OrderByFontReadsNoSerials};
 

@@ -1,4 +1,4 @@
-//! Laws of the reordering, each the contract of a function without a body.
+//! Laws of the reordering, each the contract of a function that does nothing.
 ghost use Rattle.shapers_khmer.specs.KhmerLaws.{KhmerCutsBetweenSpans, KhmerMovesMerged, KhmerReadsNoSerials, KhmerReorderLaws};
 ghost use Rattle.shapers_khmer.specs.KhmerMovers.{KhmerByMoversLaw, KhmerMoversLaw, KhmerMoversMasksLaw, KhmerMoversMergesLaw};
 

@@ -1,4 +1,4 @@
-//! Laws of the reordering, each the contract of a function without a body.
+//! Laws of the reordering, each the contract of a function that does nothing.
 ghost use Rattle.shapers_myanmar.specs.MyanmarLaws.{MyanmarCutsBetweenSpans, MyanmarMovesMerged, MyanmarReadsNoSerials, MyanmarReorderLaws};
 ghost use Rattle.shapers_myanmar.specs.MyanmarUnits.{MyanmarDrawingOrder};
 

@@ -1,4 +1,4 @@
-//! Laws of the reordering, each the contract of a function without a body.
+//! Laws of the reordering, each the contract of a function that does nothing.
 ghost use Rattle.shapers_universal.specs.UniversalLaws.{UniversalCutsBetweenSpans, UniversalMovesMerged, UniversalReadsNoMasks, UniversalReadsNoSerials, UniversalReorderLaws};
 
 /// The steps of a syllable take each of its places once, lead to its order, and move only inside
