@@ -27,8 +27,8 @@ pub fn khmer_orders_by_movers()
     ensures merges { KhmerMoversMergesLaw }
 {}
 
-/// A set-up and a reordering pause directly after it, cut between any two spans, give what they give
-/// on the halves, serials apart, whose own serials may be others.
+/// A set-up and a reordering pause directly after it, cut between any two spans, give what they
+/// give on the halves, serials apart, whose own serials may be others.
 pub fn khmer_cuts_between_spans()
     ensures { KhmerCutsBetweenSpans }
 {}
