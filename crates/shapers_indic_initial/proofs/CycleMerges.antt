@@ -189,7 +189,7 @@ left_spent level s f base p gs h l o own =
 
 -- the bounds of what a cycle merges
 
-fold_max-lt : (n x : ℕ) (xs : List ℕ) → x < n → ((y : ℕ) → In y xs → y < n) → fold max x xs < n
+pub fold_max-lt : (n x : ℕ) (xs : List ℕ) → x < n → ((y : ℕ) → In y xs → y < n) → fold max x xs < n
 fold_max-lt n x [] h each = h
 fold_max-lt n x (y ∷ ys) h each = fold_max-lt n (max x y) ys (omega (arith, each y (inl refl))) (λ z i. each z (inr i))
 

@@ -91,7 +91,7 @@ least_bound m (y ∷ ys) x i = elim i [
   | inr j ↦ least_bound (min m y) ys x j
 ]
 
-greatest_bound : (m : ℕ) (xs : List ℕ) (x : ℕ) → In x xs → x ≤ fold max m xs
+pub greatest_bound : (m : ℕ) (xs : List ℕ) (x : ℕ) → In x xs → x ≤ fold max m xs
 greatest_bound m [] x i = absurd i
 greatest_bound m (y ∷ ys) x i = elim i [
   | inl e ↦ (let h = fold_max-le (max m y) ys in omega arith)

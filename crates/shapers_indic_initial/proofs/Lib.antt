@@ -25,7 +25,9 @@ pub mod InitialWrites
 mod MaskViews
 mod MaskWalks
 mod MarksAttached
+pub mod MovedBefore
 pub mod Moves
+pub mod OneMoved
 mod Prepared
 pub mod OrderClusters
 pub mod OrderListing
@@ -39,4 +41,5 @@ mod PlainConsonant
 mod Positions
 pub mod StillOrder
 pub mod TextClusters
+pub mod SyllableInOrder
 mod Walks

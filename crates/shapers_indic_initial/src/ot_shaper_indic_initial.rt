@@ -6,6 +6,7 @@ mod font_positions;
 mod halant;
 pub mod laws;
 mod masks;
+mod moving;
 mod order;
 mod ordered_base;
 mod pause;

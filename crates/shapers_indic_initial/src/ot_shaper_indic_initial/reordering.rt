@@ -1,12 +1,13 @@
 //! The initial reordering of one syllable.
-ghost use Rattle.std.specs.Prelude.{◌≡◌, ◌≤◌, [], length};
+ghost use Rattle.std.specs.Prelude.{◌≡◌, ◌-◌, ◌≤◌, [], length};
+ghost use Rattle.shapers_buffer.specs.Clusters.{stretch_of};
+ghost use Rattle.shapers_indic_initial.specs.InitialOrder.{ordered_base};
 ghost use Rattle.shapers_indic_initial.specs.InitialReordering.{is_reordered_in_indic, masked_in_order};
 ghost use Rattle.shapers_indic_initial.specs.InitialRules.{initial_rules};
 ghost use Rattle.shapers_syllabic.specs.Reordering.{SyllableReordered};
 
 use super::masks::set_masks;
 use super::order::order_syllable;
-use super::ordered_base::ordered_base;
 use super::preparing::prepare_for_order;
 use super::rules::Rules;
 use shapers_base::buffer::{GlyphWalk, Script, ShaperError, hb_buffer_t, hb_glyph_info_t};
@@ -47,19 +48,21 @@ impl<'a, F: hb_font_t> Reorder for InitialOrder<'a, F> {
         }
         if is_reordered(&buffer.glyphs()[start..end]) {
             prepare_for_order(self.rules, buffer, start, end);
-            order_syllable(buffer, start, end, self.rules.plan.is_old_spec);
-            self.mask_syllable(buffer, start, end);
+            let base = order_syllable(buffer, start, end, self.rules.plan.is_old_spec);
+            self.mask_syllable(buffer, base, start, end);
         }
         Ok(())
     }
 }
 
 impl<'a, F: hb_font_t> InitialOrder<'a, F> {
-    // Gives the glyphs of an ordered syllable their masks.
+    // Gives the glyphs of an ordered syllable with its base at this place their masks.
     #[inline]
-    fn mask_syllable(&self, buffer: &mut hb_buffer_t, start: usize, end: usize)
+    fn mask_syllable(&self, buffer: &mut hb_buffer_t, base: usize, start: usize, end: usize)
         requires in_order { start ≤ end }
         requires in_range { end ≤ length buffer.old.glyphs }
+        requires base { base ≡ ordered_base (stretch_of start end buffer.old.glyphs) }
+        requires within { base ≤ end - start }
         ensures { let rules = self.now.rules.now in
             let r = initial_rules (F.font rules.face.now) rules.map.now rules.plan.now in
             SyllableReordered (masked_in_order r buffer.old.script) (λ _. [])
@@ -68,6 +71,7 @@ impl<'a, F: hb_font_t> InitialOrder<'a, F> {
         let mut masks = Masks {
             rules: self.rules,
             script: buffer.script(),
+            base,
             start,
             end,
         };
@@ -80,19 +84,22 @@ impl<'a, F: hb_font_t> InitialOrder<'a, F> {
 struct Masks<'a, F: hb_font_t> {
     rules: &'a Rules<'a, F>,
     script: Option<Script>,
+    base: usize,
     start: usize,
     end: usize,
 }
 
 impl<'a, F: hb_font_t> GlyphWalk for Masks<'a, F> {
-    ghost use Rattle.std.specs.Prelude.{◌≡◌, ◌<◌, ◌≤◌, ◌^◌, length};
-    ghost use Rattle.shapers_buffer.specs.Clusters.{with_stretch};
+    ghost use Rattle.std.specs.Prelude.{◌≡◌, ◌-◌, ◌<◌, ◌≤◌, ◌^◌, length};
+    ghost use Rattle.shapers_buffer.specs.Clusters.{stretch_of, with_stretch};
     ghost use Rattle.shapers_indic.specs.declared.ot_shaper_indic.indic_feature.TheConstants.{HALF};
     ghost use Rattle.shapers_indic_initial.specs.InitialMasks.{bits_of};
+    ghost use Rattle.shapers_indic_initial.specs.InitialOrder.{ordered_base};
     ghost use Rattle.shapers_indic_initial.specs.InitialReordering.{masked_in_order};
     ghost use Rattle.shapers_indic_initial.specs.InitialRules.{initial_rules};
 
-    ghost can_walk = { λ w gs. (w.start ≤ w.end) × (w.end ≤ length gs) };
+    ghost can_walk = { λ w gs. (w.start ≤ w.end) × (w.end ≤ length gs)
+        × (w.base ≡ ordered_base (stretch_of w.start w.end gs)) × (w.base ≤ w.end - w.start) };
 
     ghost walks = { λ v w gs hs.
         let rules = v.rules.now in
@@ -103,8 +110,7 @@ impl<'a, F: hb_font_t> GlyphWalk for Masks<'a, F> {
     #[inline]
     fn walk(&mut self, glyphs: &mut [hb_glyph_info_t]) {
         let syllable = &mut glyphs[self.start..self.end];
-        let base = ordered_base(syllable);
-        set_masks(self.rules, self.script, base, syllable);
+        set_masks(self.rules, self.script, self.base, syllable);
     }
 }
 

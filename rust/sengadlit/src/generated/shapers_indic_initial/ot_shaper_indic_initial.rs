@@ -8,6 +8,7 @@ mod cycles;
 mod font_positions;
 mod halant;
 mod masks;
+mod moving;
 mod order;
 mod ordered_base;
 mod pause;

@@ -1,5 +1,5 @@
 -- Where no feature has lookups nothing changes.
-use Rattle.std.proofs.Common.{◌∙◌, List, ap, not, sym}
+use Rattle.std.proofs.Common.{◌∙◌, List, ap, sym}
 use Rattle.shapers_buffer.specs.declared.buffer.glyph.hb_glyph_info_t.{hb_glyph_info_t}
 use Rattle.shapers_buffer.specs.Buffer.{Buffer}
 use Rattle.shapers_indic.specs.Plan.{virama_glyph}

@@ -4,7 +4,6 @@
 
 use super::masks::set_masks;
 use super::order::order_syllable;
-use super::ordered_base::ordered_base;
 use super::preparing::prepare_for_order;
 use super::rules::Rules;
 use crate::generated::shapers_base::buffer::{Buffer, GlyphInfo, GlyphWalk, Script, ShaperError};
@@ -28,20 +27,21 @@ impl<'a, F: Font> Reorder for InitialOrder<'a, F> {
         }
         if is_reordered(&buffer.glyphs()[start..end]) {
             prepare_for_order(self.rules, buffer, start, end);
-            order_syllable(buffer, start, end, self.rules.plan.is_old_spec);
-            self.mask_syllable(buffer, start, end);
+            let base = order_syllable(buffer, start, end, self.rules.plan.is_old_spec);
+            self.mask_syllable(buffer, base, start, end);
         }
         Ok(())
     }
 }
 
 impl<'a, F: Font> InitialOrder<'a, F> {
-    // Gives the glyphs of an ordered syllable their masks.
+    // Gives the glyphs of an ordered syllable with its base at this place their masks.
     #[inline]
-    fn mask_syllable(&self, buffer: &mut Buffer, start: usize, end: usize) {
+    fn mask_syllable(&self, buffer: &mut Buffer, base: usize, start: usize, end: usize) {
         let mut masks = Masks {
             rules: self.rules,
             script: buffer.script(),
+            base,
             start,
             end,
         };
@@ -53,6 +53,7 @@ impl<'a, F: Font> InitialOrder<'a, F> {
 struct Masks<'a, F: Font> {
     rules: &'a Rules<'a, F>,
     script: Option<Script>,
+    base: usize,
     start: usize,
     end: usize,
 }
@@ -61,8 +62,7 @@ impl<'a, F: Font> GlyphWalk for Masks<'a, F> {
     #[inline]
     fn walk(&mut self, glyphs: &mut [GlyphInfo]) {
         let syllable = &mut glyphs[self.start..self.end];
-        let base = ordered_base(syllable);
-        set_masks(self.rules, self.script, base, syllable);
+        set_masks(self.rules, self.script, self.base, syllable);
     }
 }
 

@@ -17,9 +17,9 @@ returns-then-is_reordered-clause-reordered g c =
     let e = c.args.end in
     let b1 = c.args.buffer.now in
     let b2 = c.prepare_for_order.new.buffer in
-    let b3 = c.order_syllable.new.buffer in
+    let b3 = c.order_syllable-base.new.buffer in
     let b4 = c.mask_syllable.new.buffer in
-    let order = c.order_syllable.ensures.syllable r refl in
+    let order = c.order_syllable-base.ensures.syllable r refl in
     let script2 : b2.script ≡ b1.script = ap (λ b. b.script) c.prepare_for_order.ensures.reordered.others in
     let script3 : b3.script ≡ b2.script = ap (λ b. b.script) order.others in
     initial_syllable r b1.script s e b1 b2 b3 b4 c.requires.in_order c.requires.in_range
