@@ -14,7 +14,7 @@ use Rattle.shapers_hangul.specs.Hangul.{item_len, output_len, tone_len, is_kept,
 use Rattle.shapers_hangul.specs.RewritingWalk.{rewritten_items, InTurn, change_output, changed_from}
 use Rattle.shapers_hangul.proofs.Items.{taken_some, first_item-within, items_at_fit}
 use Rattle.shapers_hangul.proofs.Outputs.{preprocessed-kept, preprocessed-read}
-use Rattle.shapers_hangul.proofs.Walks.{kept_stays, glyphs_next, glyphs_end, length-characters, length-all_joined, length-item_output}
+use Rattle.shapers_hangul.proofs.Walks.{kept_stays, staying_next, glyphs_next, glyphs_end, length-characters, length-all_joined, length-item_output}
 
 -- a choice by whether an item is kept
 by_kept : (P : List (ℕ × Item) → Type 0) (item : Item) (a b : List (ℕ × Item)) → (is_kept item ≡ true → P a) → (is_kept item ≡ false → P b) → P (cond (is_kept item) a b)
@@ -34,6 +34,13 @@ recording_next font circles gs list longer start place item inside is so_far add
 
 pub recording_all : (font : Font) (circles : Bool) (gs : List hb_glyph_info_t) (list start : List (ℕ × Item)) (place : ℕ) → length gs ≤ place → list ++ rewritten_items (items_at font circles (characters gs) place) ≡ start → list ≡ start
 recording_all font circles gs list start place past so_far = sym (append-nil list) ∙ ap (λ cut. list ++ rewritten_items cut) (sym (glyphs_end font circles gs (characters gs) place refl past)) ∙ so_far
+
+pub recording_staying : (font : Font) (circles : Bool) (gs : List hb_glyph_info_t) (list start : List (ℕ × Item)) (place : ℕ) → place < length gs → is_kept (first_item font circles (characters (drop place gs))) ≡ true → list ++ rewritten_items (items_at font circles (characters gs) place) ≡ start → list ++ rewritten_items (items_at font circles (characters gs) (place + 1)) ≡ start
+recording_staying font circles gs list start place inside stays so_far =
+    let item = first_item font circles (characters (drop place gs)) in
+    let rest = rewritten_items (items_at font circles (characters gs) (place + 1)) in
+    ap (λ l. list ++ l) (sym (ap rewritten_items (staying_next font circles gs place inside stays) ∙ ap (λ k. cond k rest ((place, item) ∷ rest)) stays))
+    ∙ so_far
 
 -- what is kept joins nothing
 pub joined_changes : (level : BufferClusterLevel) (cut : List (ℕ × Item)) (gs : List hb_glyph_info_t) → all_joined level (rewritten_items cut) gs ≡ all_joined level cut gs

@@ -209,3 +209,18 @@ kept_next font circles gs place item inside is kept so_far =
           ∙ ap (λ l. l ++ rest) (one_more place xs ∙ ap (λ n. take n xs) on);
       stays = λ all. so_far.stays (subst (AllByRecursion (λ (p : ℕ × Item). is_kept p.1 ≡ true)) (sym next) (kept, all));
     }
+
+-- the items from a character on that stays, and the length of what they become
+pub staying_next : (font : Font) (circles : Bool) (gs : List hb_glyph_info_t) (place : ℕ) → place < length gs → is_kept (first_item font circles (characters (drop place gs))) ≡ true → items_at font circles (characters gs) place ≡ (place, first_item font circles (characters (drop place gs))) ∷ items_at font circles (characters gs) (place + 1)
+staying_next font circles gs place inside stays =
+    let item = first_item font circles (characters (drop place gs)) in
+    glyphs_next font circles gs (characters gs) place item refl inside refl
+    ∙ ap (λ n. (place, item) ∷ items_at font circles (characters gs) (place + n)) (kept_stays item stays).one
+
+pub length_staying : (font : Font) (circles : Bool) (gs : List hb_glyph_info_t) (place : ℕ) → place < length gs → is_kept (first_item font circles (characters (drop place gs))) ≡ true → length (outputs glyph_copies (items_at font circles (characters gs) place) gs) ≡ 1 + length (outputs glyph_copies (items_at font circles (characters gs) (place + 1)) gs)
+length_staying font circles gs place inside stays =
+    let item = first_item font circles (characters (drop place gs)) in
+    let rest = items_at font circles (characters gs) (place + 1) in
+    ap (λ (cut : List (ℕ × Item)). length (outputs glyph_copies cut gs)) (staying_next font circles gs place inside stays)
+    ∙ length-append (item_output glyph_copies item (drop place gs)) (outputs glyph_copies rest gs)
+    ∙ ap (λ n. n + length (outputs glyph_copies rest gs)) (ap length ((kept_stays item stays).itself (drop place gs)) ∙ first_after place gs inside)

@@ -1,10 +1,11 @@
 -- One more item, no room for one, and the end.
-use Rattle.std.proofs.Common.{◌≡◌, ◌+◌, ◌++◌, sym, ap, subst, length, arith}
+use Rattle.std.proofs.Common.{◌≡◌, ◌+◌, ◌++◌, true, List, sym, ap, subst, drop, length, arith}
+use Rattle.shapers_buffer.specs.declared.buffer.glyph.hb_glyph_info_t.{hb_glyph_info_t}
 use Rattle.shapers_buffer.specs.Glyph.{characters}
-use Rattle.shapers_hangul.specs.Hangul.{glyph_copies, item_len, items_at, outputs}
+use Rattle.shapers_hangul.specs.Hangul.{first_item, glyph_copies, is_kept, item_len, items_at, outputs}
 use Rattle.shapers_hangul.specs.RewritingWalk.{rewritten_items}
-use Rattle.shapers_hangul.proofs.Changes.{recording_next}
-use Rattle.shapers_hangul.proofs.Walks.{length_next}
+use Rattle.shapers_hangul.proofs.Changes.{recording_next, recording_staying}
+use Rattle.shapers_hangul.proofs.Walks.{length_next, length_staying}
 use Rattle.shapers_hangul.proofs.ot_shaper_hangul.rewriting.measure.Goals as goal
 
 pub returns-then-room-output_len-clause-length : goal.returns-then-room-output_len-clause-length
@@ -27,4 +28,28 @@ loop-place-preserved g c =
       recorded = λ whole.
           subst (λ p. c.add.new.self.items.items ++ rewritten_items (items_at font circles (characters gs) p) ≡ rewritten_items (items_at font circles (characters gs) c.args.kept)) on
           (recording_next font circles gs l.cut.items.items c.add.new.self.items.items _ l.place item c.loop-place-test.true c.item_at-item.ensures.item (l.invariant.recorded (c.add.ensures.whole whole)) (c.add.ensures.added whole));
+    }
+
+pub returns-then-room-eq0-clause-length : goal.returns-then-room-eq0-clause-length
+returns-then-room-eq0-clause-length g c =
+    let l = c.loop-place in
+    let font = g.F.hb_font_t.font c.args.face.now in
+    let gs = c.args.glyphs.now in
+    let circles = c.args.circles in
+    let stays : is_kept (first_item font circles (characters (drop l.place gs))) ≡ true =
+    subst (λ (xs : List hb_glyph_info_t). is_kept (first_item font circles (characters xs)) ≡ true) c.rest_from.ensures (c.stays_alone.ensures circles c.if-stays_alone.true) in
+    omega (arith, length_staying font circles gs l.place c.loop-place-test.true stays, l.invariant.room_left, c.if-room-eq0.true)
+
+pub loop-place-preserved-then-stays_alone : goal.loop-place-preserved-then-stays_alone
+loop-place-preserved-then-stays_alone g c =
+    let l = c.loop-place in
+    let font = g.F.hb_font_t.font c.args.face.now in
+    let gs = c.args.glyphs.now in
+    let circles = c.args.circles in
+    let stays : is_kept (first_item font circles (characters (drop l.place gs))) ≡ true =
+    subst (λ (xs : List hb_glyph_info_t). is_kept (first_item font circles (characters xs)) ≡ true) c.rest_from.ensures (c.stays_alone.ensures circles c.if-stays_alone.true) in
+    record {
+      within = omega (arith, c.loop-place-test.true);
+      room_left = omega (arith, length_staying font circles gs l.place c.loop-place-test.true stays, l.invariant.room_left, c.if-room-eq0.false);
+      recorded = λ whole. recording_staying font circles gs l.cut.items.items _ l.place c.loop-place-test.true stays (l.invariant.recorded whole);
     }

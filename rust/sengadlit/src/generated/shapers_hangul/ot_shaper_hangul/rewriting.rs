@@ -85,6 +85,14 @@ fn measure<F: Font>(
     let mut room = limit - kept;
     let mut place = kept;
     while place < glyphs.len() {
+        if stays_alone(face, rest_from(glyphs, place)) {
+            if room == 0 {
+                return Err(ShaperError::TooLong);
+            }
+            room -= 1;
+            place += 1;
+            continue;
+        }
         let item = item_at(face, circles, glyphs, place);
         if room < item.output_len() {
             return Err(ShaperError::TooLong);
