@@ -1,6 +1,6 @@
-//! The final reordering of Indic syllables: after substitutions each finds its base again, and its left
-//! matras, its reph and a formed pref glyph go to their places. (OpenType, development of Indic
-//! scripts: "Final reordering".)
+//! The final reordering of Indic syllables: after substitutions each finds its base again, and its
+//! left matras, its reph and a formed pref glyph go to their places. (OpenType, development of
+//! Indic scripts: "Final reordering".)
 mod base;
 mod glyphs;
 pub mod laws;

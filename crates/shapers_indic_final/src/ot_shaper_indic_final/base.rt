@@ -78,7 +78,8 @@ impl GlyphWalk for BaseWalk {
 
     ghost can_walk = { λ w gs. (w.start ≤ w.end) × (w.end ≤ length gs) };
 
-    ghost walks = { λ v w gs hs. Settles v.rules v.script v.start v.end w.based.base w.based.tries_pref gs hs };
+    ghost walks = { λ v w gs hs.
+        Settles v.rules v.script v.start v.end w.based.base w.based.tries_pref gs hs };
 
     #[inline]
     fn walk(&mut self, glyphs: &mut [hb_glyph_info_t]) {

@@ -15,15 +15,15 @@ pub fn final_reads_no_serials()
     ensures text { FinalTextReadsNoSerials }
 {}
 
-/// After the pause no glyph is lost, no cluster rises, glyph flags stay unless it fell, but for a break
-/// before a syllable that opens inside a word, and labels that clusters and merged stretches respect are
-/// still respected.
+/// After the pause no glyph is lost, no cluster rises, glyph flags stay unless it fell, but for a
+/// break before a syllable that opens inside a word, and labels that clusters and merged stretches
+/// respect are still respected.
 pub fn final_text_laws()
     ensures { FinalTextLaws }
 {}
 
-/// At the levels that merge, each stretch of places that the steps of a syllable merge is in one cluster
-/// when they are done.
+/// At the levels that merge, each stretch of places that the steps of a syllable merge is in one
+/// cluster when they are done.
 pub fn final_merges()
     ensures { FinalMergesLaw }
 {}
@@ -34,8 +34,8 @@ pub fn final_cuts()
     ensures { FinalCutsLaw }
 {}
 
-/// A set-up, a reordering pause and the final reordering, directly after one another and cut between
-/// any two spans, give what they give on the halves, serials and the bits of init apart.
+/// A set-up, a reordering pause and the final reordering, directly after one another and cut
+/// between any two spans, give what they give on the halves, serials and the bits of init apart.
 pub fn final_cuts_between_spans()
     ensures { FinalCutsBetweenSpans }
 {}

@@ -1,8 +1,8 @@
-//! The left matras of one syllable moved to their place, in time that is linear in the syllable. Each
-//! merges with all behind it up to the base. So at any time at most two runs of glyphs are in
+//! The left matras of one syllable moved to their place, in time that is linear in the syllable.
+//! Each merges with all behind it up to the base. So at any time at most two runs of glyphs are in
 //! clusters that merges have given them: the matras that have gone with what follows them, and
-//! glyphs directly before them. These clusters are written behind the last merge, as the matras move
-//! behind it.
+//! glyphs directly before them. These clusters are written behind the last merge, as the matras
+//! move behind it.
 ghost use Rattle.std.specs.Prelude.{◌≡◌, ℕ, ◌+◌, ◌-◌, ◌<◌, ◌≤◌, ◌++◌, drop, filter, length, map, true, ◌^◌};
 ghost use Rattle.std.specs.List.{list_any, prefix_len};
 ghost use Rattle.shapers_buffer.specs.declared.buffer.level.BufferClusterLevel.{BufferClusterLevel};

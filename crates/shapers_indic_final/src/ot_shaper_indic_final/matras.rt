@@ -1,4 +1,5 @@
-//! Where the left matras of a syllable go. (OpenType, development of Indic scripts: "Reorder matras".)
+//! Where the left matras of a syllable go. (OpenType, development of Indic scripts: "Reorder
+//! matras".)
 ghost use Rattle.std.specs.Prelude.{◌≡◌, ◌<◌, ◌≤◌, ◌+◌, ◌-◌, length, unwrap_or};
 ghost use Rattle.std.specs.Option.{IfSome};
 ghost use Rattle.shapers_indic.specs.Glyphs.{greatest_place, least_place, passes};

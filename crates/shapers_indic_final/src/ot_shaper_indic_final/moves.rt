@@ -9,6 +9,7 @@ ghost use Rattle.shapers_indic_final.specs.FinalPref.{pref_move};
 ghost use Rattle.shapers_indic_final.specs.FinalReph.{final_reph_step};
 
 use shapers_base::buffer::{GlyphWalk, hb_buffer_t, hb_glyph_info_t};
+use shapers_syllabic::ot_shaper_syllabic::{turn_left, turn_right};
 
 // Merges the syllable from `s` on up to its place `j`, and moves its first glyph, the reph, there.
 #[inline]
@@ -131,22 +132,4 @@ impl GlyphWalk for LastFirst {
     fn walk(&mut self, glyphs: &mut [hb_glyph_info_t]) {
         turn_right(&mut glyphs[self.start..self.end]);
     }
-}
-
-// Moves the first glyph behind the others.
-#[inline]
-fn turn_left(glyphs: &mut [hb_glyph_info_t])
-    requires { 0 < length glyphs.old }
-    ensures { glyphs.new ≡ first_last glyphs.old }
-{
-    glyphs.rotate_left(1);
-}
-
-// Moves the last glyph before the others.
-#[inline]
-fn turn_right(glyphs: &mut [hb_glyph_info_t])
-    requires { 0 < length glyphs.old }
-    ensures { glyphs.new ≡ last_goes_first glyphs.old }
-{
-    glyphs.rotate_right(1);
 }

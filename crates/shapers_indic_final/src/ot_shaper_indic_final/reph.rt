@@ -47,7 +47,8 @@ pub(super) fn reph_target(position: RephPosition, base: usize, glyphs: &[hb_glyp
     }
 }
 
-// Where the base stands once the reph has gone to `target`: one place before, if the reph crossed it.
+// Where the base stands once the reph has gone to `target`: one place before, if the reph crossed
+// it.
 #[inline]
 pub(super) fn base_after_reph(base: usize, target: usize) -> usize
     ensures place { result ≡ carried_along base target }
@@ -140,7 +141,8 @@ fn is_with_sub(glyph: &hb_glyph_info_t) -> bool
     !matches!(glyph.auxiliary, POS_POST_C | POS_AFTER_POST | POS_SMVD)
 }
 
-// The last glyph that is no sign; where it is a halant, less the vowel signs between the base and it.
+// The last glyph that is no sign; where it is a halant, less the vowel signs between the base and
+// it.
 #[inline]
 fn at_end(base: usize, glyphs: &[hb_glyph_info_t]) -> usize
     requires { 0 < length glyphs.now }

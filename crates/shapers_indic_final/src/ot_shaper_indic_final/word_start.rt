@@ -1,5 +1,5 @@
-//! The opening of a syllable: a left matra gets the mask of `init` at the start of a word, and inside a
-//! word a break before it is unsafe.
+//! The opening of a syllable: a left matra gets the mask of `init` at the start of a word, and
+//! inside a word a break before it is unsafe.
 ghost use Rattle.std.specs.Prelude.{◌≡◌, ◌<◌, ◌≤◌, length};
 ghost use Rattle.shapers_indic_final.specs.FinalWordStart.{before_place, continues_word, word_goes_on, opened};
 

@@ -1,10 +1,10 @@
 //! Generated from crates/shapers_indic_final/src/ot_shaper_indic_final/left_matras.rt by rust/erase; edit the source.
 //!
-//! The left matras of one syllable moved to their place, in time that is linear in the syllable. Each
-//! merges with all behind it up to the base. So at any time at most two runs of glyphs are in
+//! The left matras of one syllable moved to their place, in time that is linear in the syllable.
+//! Each merges with all behind it up to the base. So at any time at most two runs of glyphs are in
 //! clusters that merges have given them: the matras that have gone with what follows them, and
-//! glyphs directly before them. These clusters are written behind the last merge, as the matras move
-//! behind it.
+//! glyphs directly before them. These clusters are written behind the last merge, as the matras
+//! move behind it.
 
 use super::matras::is_left;
 use super::moves::move_matra;

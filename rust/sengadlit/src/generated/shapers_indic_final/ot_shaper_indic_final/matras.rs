@@ -1,6 +1,7 @@
 //! Generated from crates/shapers_indic_final/src/ot_shaper_indic_final/matras.rt by rust/erase; edit the source.
 //!
-//! Where the left matras of a syllable go. (OpenType, development of Indic scripts: "Reorder matras".)
+//! Where the left matras of a syllable go. (OpenType, development of Indic scripts: "Reorder
+//! matras".)
 
 use super::glyphs::{is_halant, is_matra_or_halant};
 use super::rules::has_no_half_forms;

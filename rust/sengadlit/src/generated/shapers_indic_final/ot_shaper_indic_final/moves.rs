@@ -3,6 +3,7 @@
 //! One glyph moved to the other end of a stretch, in place.
 
 use crate::generated::shapers_base::buffer::{Buffer, GlyphInfo, GlyphWalk};
+use crate::generated::shapers_syllabic::ot_shaper_syllabic::{turn_left, turn_right};
 
 // Merges the syllable from `s` on up to its place `j`, and moves its first glyph, the reph, there.
 #[inline]
@@ -65,16 +66,4 @@ impl GlyphWalk for LastFirst {
     fn walk(&mut self, glyphs: &mut [GlyphInfo]) {
         turn_right(&mut glyphs[self.start..self.end]);
     }
-}
-
-// Moves the first glyph behind the others.
-#[inline]
-fn turn_left(glyphs: &mut [GlyphInfo]) {
-    glyphs.rotate_left(1);
-}
-
-// Moves the last glyph before the others.
-#[inline]
-fn turn_right(glyphs: &mut [GlyphInfo]) {
-    glyphs.rotate_right(1);
 }

@@ -35,7 +35,8 @@ pub(super) fn reph_target(position: RephPosition, base: usize, glyphs: &[GlyphIn
     }
 }
 
-// Where the base stands once the reph has gone to `target`: one place before, if the reph crossed it.
+// Where the base stands once the reph has gone to `target`: one place before, if the reph crossed
+// it.
 #[inline]
 pub(super) fn base_after_reph(base: usize, target: usize) -> usize {
     if base > 0 && base <= target {
@@ -103,7 +104,8 @@ fn is_with_sub(glyph: &GlyphInfo) -> bool {
     !matches!(glyph.auxiliary, POS_POST_C | POS_AFTER_POST | POS_SMVD)
 }
 
-// The last glyph that is no sign; where it is a halant, less the vowel signs between the base and it.
+// The last glyph that is no sign; where it is a halant, less the vowel signs between the base and
+// it.
 #[inline]
 fn at_end(base: usize, glyphs: &[GlyphInfo]) -> usize {
     let last = last_but_signs(glyphs);
