@@ -19,7 +19,8 @@ use shapers_indic::ot_shaper_indic::virama_glyph;
 #[inline]
 pub(super) fn update_consonant_positions<F: hb_font_t>(rules: &Rules<F>, buffer: &mut hb_buffer_t)
     ensures { let r = rules.now in
-        let changed = positions_by_font (F.font r.face.now) r.map.now r.plan.now buffer.old.glyphs in
+        let font = F.font r.face.now in
+        let changed = positions_by_font font r.map.now r.plan.now buffer.old.glyphs in
         buffer.new ≡ record buffer.old { glyphs = changed } }
 {
     if !has_forms(rules.plan, rules.map) {

@@ -159,7 +159,8 @@ fn set_eyelash_mask(
 // Devanagari.
 #[inline]
 fn has_eyelash(plan: &indic_shape_plan_t, script: Option<Script>) -> bool
-    ensures { (font : Font) (m : Map) → result ≡ has_eyelash (initial_rules font m plan.now) script }
+    ensures { (font : Font) (m : Map) →
+        result ≡ has_eyelash (initial_rules font m plan.now) script }
 {
     plan.is_old_spec && script == Some(DEVANAGARI)
 }

@@ -30,11 +30,13 @@ impl<'a, F: hb_font_t> Reorder for InitialOrder<'a, F> {
 
     ghost meaning = { λ r script gs.
         let rules = r.rules.now in
-        initial_order (initial_rules (F.font rules.face.now) rules.map.now rules.plan.now) script gs };
+        initial_order (initial_rules (F.font rules.face.now) rules.map.now rules.plan.now)
+        script gs };
 
     ghost steps = { λ r script gs.
         let rules = r.rules.now in
-        initial_steps (initial_rules (F.font rules.face.now) rules.map.now rules.plan.now) script gs };
+        initial_steps (initial_rules (F.font rules.face.now) rules.map.now rules.plan.now)
+        script gs };
 
     #[inline]
     fn reorder(
