@@ -1,6 +1,7 @@
 -- What the first pass finds: of copies at equal distances the ends tell, and a run's moves are those of its tiles.
-use Rattle.std.proofs.Common.{◌≡◌, ℕ, zero, suc, ◌+◌, ◌^◌, ◌<◌, ℤ, pos, negsuc, neg_ℤ, ◌+ℤ◌, ◌-ℤ◌, ◌*ℤ◌, ◌≤ℤ◌, Bool, true, false, cond, ◌&&◌, List, [], ◌∷◌, ◌++◌, length, replicate, flat_map, Option, None, Some, take, get_or, refl, subst, sym, ◌∙◌, ap, arith}
+use Rattle.std.proofs.Common.{◌≡◌, ℕ, zero, suc, ◌+◌, ◌*◌, ◌^◌, ◌<◌, ◌≤◌, FitsSigned, ℤ, pos, negsuc, neg_ℤ, ◌+ℤ◌, ◌-ℤ◌, ◌*ℤ◌, ◌≤ℤ◌, Bool, true, false, cond, ◌&&◌, List, [], ◌∷◌, ◌++◌, length, replicate, flat_map, Option, None, Some, take, get_or, refl, subst, sym, ◌∙◌, ap, arith}
 use Rattle.std.proofs.lemmas.Int.{ints}
+use mir.Syntax.{w32}
 use Rattle.std.proofs.lemmas.List.{reverse-append, take_more}
 use Rattle.std.specs.List.{list_all}
 use borrow.Author.Tests.{clash}
@@ -13,8 +14,8 @@ use Rattle.shapers_stretch.specs.CountingWalk.{IsNumber, WalksPen, last_at, move
 use Rattle.shapers_stretch.specs.Measure.{fits_i32, total}
 use Rattle.std.proofs.lemmas.List.Folds.{list_all-append}
 use Rattle.std.proofs.lemmas.Bool.{and_parts}
-use Rattle.shapers_stretch.proofs.Steps.{stepping, stepping_fits, fits_bounds}
-use Rattle.shapers_stretch.proofs.Sums.{times_suc, total_cons, total-append, total-replicate, times_neg}
+use Rattle.shapers_stretch.proofs.Steps.{stepping, stepping_fits, fits_bounds, times_up}
+use Rattle.shapers_stretch.proofs.Sums.{times_suc, times_sum, times_zero, total_cons, total-append, total-replicate, times_neg}
 
 leftward : (pen step : ℤ) (n : ℕ) → offsets_on true pen (replicate (suc n) step) ≡ stepping (pen -ℤ step) (neg_ℤ step) n
 leftward pen step zero = refl
@@ -34,7 +35,7 @@ ends_tell false pen step n =
     ap (list_all fits_i32) (rightward pen step n) ∙ stepping_fits pen step n ∙ ap (λ x. fits_i32 pen && fits_i32 x) last
 
 -- a pen behind copies of which the last one fits
-number_behind : (right_to_left : Bool) (behind step : ℤ) → fits_i32 (last_at right_to_left behind step) ≡ true → negsuc (2 ^ 67) ≤ℤ step → step ≤ℤ pos (2 ^ 67) → IsNumber behind
+number_behind : (right_to_left : Bool) (behind step : ℤ) → fits_i32 (last_at right_to_left behind step) ≡ true → negsuc (2 ^ 36) ≤ℤ step → step ≤ℤ pos (2 ^ 36) → IsNumber behind
 number_behind true behind step e low high = let near = fits_bounds behind e in record { low = omega (arith, ints); high = omega (arith, ints) }
 number_behind false behind step e low high = let near = fits_bounds (behind -ℤ step) e in record { low = omega (arith, ints); high = omega (arith, ints) }
 
@@ -42,7 +43,7 @@ tells : (right_to_left : Bool) (pen step behind : ℤ) (count : ℕ) → 0 < cou
 tells right_to_left pen step behind zero p e = absurd (omega arith)
 tells right_to_left pen step behind (suc n) p e = ends_tell right_to_left pen step n ∙ ap (λ b. fits_i32 (stands_at right_to_left pen step) && fits_i32 (last_at right_to_left b step)) (sym e)
 
-pub copies_walked : (right_to_left : Bool) (pen step behind : ℤ) (count : ℕ) → 0 < count → behind ≡ pen_behind right_to_left pen (pos count *ℤ step) → (fits_i32 (stands_at right_to_left pen step) && fits_i32 (last_at right_to_left behind step)) ≡ true → negsuc (2 ^ 67) ≤ℤ step → step ≤ℤ pos (2 ^ 67) → WalksPen right_to_left pen (replicate count step) (Some behind)
+pub copies_walked : (right_to_left : Bool) (pen step behind : ℤ) (count : ℕ) → 0 < count → behind ≡ pen_behind right_to_left pen (pos count *ℤ step) → (fits_i32 (stands_at right_to_left pen step) && fits_i32 (last_at right_to_left behind step)) ≡ true → negsuc (2 ^ 36) ≤ℤ step → step ≤ℤ pos (2 ^ 36) → WalksPen right_to_left pen (replicate count step) (Some behind)
 copies_walked right_to_left pen step behind count p e fits low high =
     let both = and_parts (fits_i32 (stands_at right_to_left pen step)) (fits_i32 (last_at right_to_left behind step)) fits in
     (tells right_to_left pen step behind count p e ∙ fits, e ∙ ap (pen_behind right_to_left pen) (sym (total-replicate count step)), number_behind right_to_left behind step both.1 low high)
@@ -50,12 +51,24 @@ copies_walked right_to_left pen step behind count p e fits low high =
 pub copies_stopped : (right_to_left : Bool) (pen step behind : ℤ) (count : ℕ) → 0 < count → behind ≡ pen_behind right_to_left pen (pos count *ℤ step) → (fits_i32 (stands_at right_to_left pen step) && fits_i32 (last_at right_to_left behind step)) ≡ false → WalksPen right_to_left pen (replicate count step) None
 copies_stopped right_to_left pen step behind count p e fails = tells right_to_left pen step behind count p e ∙ fails
 
+-- how far copies that each move the pen by a width less an overlap move it together
+pub widths_within : (n : ℕ) (w : ℤ) → FitsSigned w32 w → (neg_ℤ (pos (2147483648 * n)) ≤ℤ (pos n *ℤ w)) × ((pos n *ℤ w) ≤ℤ pos (2147483648 * n))
+widths_within zero w f = (omega (arith, ints, times_zero w), omega (arith, ints, times_zero w))
+widths_within (suc n) w f = let before = widths_within n w f in (omega (arith, ints, times_suc n w, before.0, f), omega (arith, ints, times_suc n w, before.1, f))
+
+pub far_moves : (n : ℕ) (w o step : ℤ) → n ≤ 2 ^ 31 → FitsSigned w32 w → pos 0 ≤ℤ o → (pos n *ℤ o) ≤ℤ pos (2 ^ 34) → step ≡ w -ℤ o → (negsuc (3 * 2 ^ 61) ≤ℤ (pos n *ℤ step)) × ((pos n *ℤ step) ≤ℤ pos (3 * 2 ^ 61))
+far_moves n w o step few f up most e =
+    let apart : step ≡ w +ℤ neg_ℤ o = omega (arith, ints, e) in
+    let sum : pos n *ℤ step ≡ pos n *ℤ w +ℤ neg_ℤ (pos n *ℤ o) = ap (λ x. pos n *ℤ x) apart ∙ times_sum n w (neg_ℤ o) ∙ ap (λ x. pos n *ℤ w +ℤ x) (times_neg n o) in
+    let width = widths_within n w f in
+    (omega (arith, ints, sum, width.0, most, few), omega (arith, ints, sum, width.1, times_up n o up, few))
+
 -- the same of one copy
-number_after : (right_to_left : Bool) (pen step : ℤ) → fits_i32 (stands_at right_to_left pen step) ≡ true → negsuc (2 ^ 67) ≤ℤ step → step ≤ℤ pos (2 ^ 67) → IsNumber (pen_behind right_to_left pen step)
+number_after : (right_to_left : Bool) (pen step : ℤ) → fits_i32 (stands_at right_to_left pen step) ≡ true → negsuc (2 ^ 36) ≤ℤ step → step ≤ℤ pos (2 ^ 36) → IsNumber (pen_behind right_to_left pen step)
 number_after true pen step e low high = let near = fits_bounds (pen -ℤ step) e in record { low = omega (arith, ints); high = omega (arith, ints) }
 number_after false pen step e low high = let near = fits_bounds pen e in record { low = omega (arith, ints); high = omega (arith, ints) }
 
-pub copy_walked : (right_to_left : Bool) (pen step behind : ℤ) → behind ≡ pen_behind right_to_left pen step → fits_i32 (stands_at right_to_left pen step) ≡ true → negsuc (2 ^ 67) ≤ℤ step → step ≤ℤ pos (2 ^ 67) → WalksPen right_to_left pen (step ∷ []) (Some behind)
+pub copy_walked : (right_to_left : Bool) (pen step behind : ℤ) → behind ≡ pen_behind right_to_left pen step → fits_i32 (stands_at right_to_left pen step) ≡ true → negsuc (2 ^ 36) ≤ℤ step → step ≤ℤ pos (2 ^ 36) → WalksPen right_to_left pen (step ∷ []) (Some behind)
 copy_walked right_to_left pen step behind e fits low high =
     let sum : total (step ∷ []) ≡ step = omega (arith, ints, total_cons step []) in
     (ap (λ b. b && true) fits, e ∙ ap (pen_behind right_to_left pen) (sym sum), subst IsNumber (sym e) (number_after right_to_left pen step fits low high))

@@ -1,6 +1,6 @@
 -- Copies laid one after another.
 use Rattle.std.proofs.Common.{cond, ◌-ℤ◌, subst, ◌≡◌, ◌≤◌, ◌<◌, ◌+◌, ◌-◌, ℕ, suc, ℤ, pos, negsuc, Bool, true, false, ◌&&◌, List, [], ◌∷◌, ◌++◌, length, take, drop, set, reverse, replicate, refl, sym, ◌∙◌, ap, arith, FitsSigned}
-use mir.Syntax.{w128}
+use mir.Syntax.{w64}
 use Rattle.std.specs.List.{zip, list_all}
 use Rattle.std.proofs.lemmas.Int.{ints}
 use Rattle.std.proofs.lemmas.List.{append_assoc, length-append, reverse-append, map-append, take-set, drop-set, take-take}
@@ -100,8 +100,8 @@ less count k p = omega arith
 pub replicate_first : {X : Type 0} (count k : ℕ) (x : X) → k < count → replicate (count - k) x ≡ (x ∷ []) ++ replicate (count - (k + 1)) x
 replicate_first count k x p = ap (λ n. replicate n x) (less count k p)
 
--- a number far from the ends of its 128 bits fits them
-pub near_fits : (x : ℤ) → IsNumber x → FitsSigned w128 x
+-- a number far from the ends of its 64 bits fits them
+pub near_fits : (x : ℤ) → IsNumber x → FitsSigned w64 x
 near_fits (pos n) near = record { sfits = omega (arith, ints, near.high) }
 near_fits (negsuc n) near = record { sfits = omega (arith, ints, near.low) }
 

@@ -1,5 +1,5 @@
 -- The numbers by which a run is laid are small where all that must fit 32 bits does.
-use Rattle.std.proofs.Common.{◌≡◌, ◌*◌, ◌^◌, ◌<◌, ◌≤◌, ℕ, suc, ℤ, pos, negsuc, neg_ℤ, ◌-ℤ◌, ◌≤ℤ◌, ◌<ℤ◌, unsigned_abs, int_div, Bool, true, false, cond, FitsSigned, [], ◌∷◌, Option, None, Some, refl, subst, sym, ◌∙◌, ap, arith, div-le_self}
+use Rattle.std.proofs.Common.{◌≡◌, ◌*◌, ◌^◌, ◌<◌, ◌≤◌, ℕ, zero, suc, ◌*ℤ◌, ℤ, pos, negsuc, neg_ℤ, ◌-ℤ◌, ◌≤ℤ◌, ◌<ℤ◌, unsigned_abs, int_div, Bool, true, false, cond, ◌&&◌, FitsSigned, List, [], ◌∷◌, Option, None, Some, refl, subst, sym, ◌∙◌, ap, arith, div-le_self, mul-suc}
 use Rattle.std.specs.List.{list_all}
 use Rattle.std.proofs.lemmas.Int.{ints, by_lt_z}
 use Rattle.std.proofs.lemmas.List.Folds.{list_all-append}
@@ -9,12 +9,17 @@ use borrow.Author.Tests.{ltb-true}
 use mir.Syntax.{w32}
 use Rattle.shapers_base.specs.declared.plan.arabic.StretchStart.{StretchStart}
 use Rattle.shapers_base.specs.declared.plan.arabic.StretchStart.TheVariants.{AsCode, Centred}
-use Rattle.shapers_stretch.specs.CountingWalk.{IsLay, IsNumber}
+use Rattle.shapers_buffer.specs.declared.buffer.glyph.hb_glyph_info_t.{hb_glyph_info_t}
+use Rattle.shapers_base.specs.Font.{Font}
+use Rattle.shapers_stretch.specs.CountingWalk.{IsLay, IsNumber, offsets_fit, run_added, run_moves}
 use Rattle.shapers_stretch.specs.declared.ot_shaper_arabic_stretch.measuring.Lay.{Lay}
 use Rattle.shapers_stretch.specs.declared.ot_shaper_arabic_stretch.measuring.Run.{Run}
 use Rattle.shapers_stretch.specs.Lays.{lay_if_fits, lay_of}
 use Rattle.shapers_stretch.specs.Measure.{times_added, copies_added, falls_short, fit, fits_i32, fitting, laid_width, left, numbers_to_fit, overlap, reach, run_numbers, squeezes, start}
-use Rattle.shapers_stretch.proofs.Numbers.{fit_room, fit_width, fit_yes, fits_from, overlap_bounds, overlap_no, quotient_abs}
+use Rattle.shapers_stretch.proofs.Numbers.{fit_room, fit_width, fit_yes, fits_from, numbers_apart, overlap_bounds, overlap_no, quotient_abs, shared_bounds, squeezed_tile}
+use Rattle.shapers_stretch.proofs.Steps.{times_up}
+use Rattle.shapers_stretch.proofs.Sums.{times_add}
+use lib.IntN.{*ℤ-zero}
 
 -- what fits, of the numbers of a run
 pub record SmallRun (z : Run) : Type 0 where
@@ -53,9 +58,17 @@ added_if : (b : Bool) (n : ℕ) → n < 2 ^ 31 → cond b (suc n) n ≤ 2 ^ 31
 added_if true n h = omega arith
 added_if false n h = omega arith
 
-overlap_small : (z : Run) (b : Bool) → squeezes z ≡ b → SmallRun z → (pos 0 ≤ℤ overlap z) × (overlap z ≤ℤ pos (2 ^ 66))
+overlap_small : (z : Run) (b : Bool) → squeezes z ≡ b → SmallRun z → (pos 0 ≤ℤ overlap z) × (overlap z ≤ℤ pos (2 ^ 34))
 overlap_small z true e s = let bounds = overlap_bounds z e in (omega (arith, ints), omega (arith, ints, s.left, s.reach))
 overlap_small z false e s = let none = overlap_no z e in (omega (arith, ints), omega (arith, ints))
+
+times_more : (n k : ℕ) (o : ℤ) → 0 < k → pos 0 ≤ℤ o → (pos n *ℤ o) ≤ℤ (pos (n * k) *ℤ o)
+times_more n zero o p h = absurd (omega arith)
+times_more n (suc k) o p h = omega (arith, ints, ap (λ m. pos m *ℤ o) (mul-suc n k), times_add n (n * k) o, times_up (n * k) o h)
+
+shared_small : (z : Run) (b : Bool) → squeezes z ≡ b → SmallRun z → (pos (times_added z) *ℤ overlap z) ≤ℤ pos (2 ^ 34)
+shared_small z true e s = omega (arith, ints, times_more (times_added z) z.repeaters (overlap z) (squeezed_tile z e) (overlap_bounds z e).0, (shared_bounds z e).1, s.left, s.reach)
+shared_small z false e s = omega (arith, ints, ap (λ o. pos (times_added z) *ℤ o) (overlap_no z e) ∙ *ℤ-zero (pos (times_added z)))
 
 half_small : (x : ℤ) → FitsSigned w32 x → IsNumber (int_div x (pos 2))
 half_small (pos n) fits = record { low = omega (arith, ints, div-le_self n 2); high = omega (arith, ints, div-le_self n 2) }
@@ -91,7 +104,7 @@ found_here choice right_to_left z e =
     let s = numbers_small choice z e in
     let over = overlap_small z (squeezes z) refl s in
     let few : times_added z ≤ 2 ^ 31 = added_if (falls_short z) (fitting z) (fit_small z.repeating (left z) s.left) in
-    record { fits = e; is = refl; small = record { added = few; low = over.0; high = over.1; start = start_small choice right_to_left z e }; copies = s.copies }
+    record { fits = e; is = refl; small = record { added = few; low = over.0; high = over.1; shared = shared_small z (squeezes z) refl s; start = start_small choice right_to_left z e }; copies = s.copies }
 
 abbrev lay_or : Lay → Option Lay → Lay
 lay_or d (Some lay) = lay
@@ -110,3 +123,8 @@ no_lay choice right_to_left z e =
       | true ↦ λ f e. absurd (none-some (lay_of choice right_to_left z) (sym e))
       | false ↦ λ f e. refl
     ] refl e
+
+-- a run of which a number doesn't fit adds nothing
+pub unmeasured : (choice : StretchStart) (right_to_left : Bool) (font : Font) (z : Run) (tiles : List hb_glyph_info_t) → list_all fits_i32 (z.word ∷ z.fixed ∷ z.repeating ∷ left z ∷ []) ≡ false → None ≡ run_added choice right_to_left font z tiles
+unmeasured choice right_to_left font z tiles e =
+    sym (ap (λ b. cond (b && offsets_fit right_to_left (start choice right_to_left z) (run_moves font (lay_of choice right_to_left z) tiles)) (Some (copies_added z)) None) (numbers_apart choice z e))

@@ -1,18 +1,19 @@
 -- What the code computes of the numbers of a run.
-use Rattle.std.proofs.Common.{◌≡◌, ◌^◌, ℕ, suc, ◌-◌, ◌/◌, ◌<◌, ◌≤◌, ◌+◌, ℤ, pos, negsuc, ◌-ℤ◌, ◌≤ℤ◌, ◌<ℤ◌, nat_abs, unsigned_abs, int_lt, int_div, Bool, true, false, cond, ◌&&◌, IsTrue, nat_lt, FitsSigned, [], ◌∷◌, Option, None, Some, refl, sym, subst, ◌∙◌, ap, arith, mul-pos, div-le_self}
+use Rattle.std.proofs.Common.{◌≡◌, ◌^◌, ℕ, zero, suc, ◌*◌, ◌*ℤ◌, ◌-◌, ◌/◌, ◌<◌, ◌≤◌, ◌+◌, ℤ, pos, negsuc, ◌-ℤ◌, ◌≤ℤ◌, ◌<ℤ◌, nat_abs, unsigned_abs, int_lt, int_div, Bool, true, false, cond, ◌&&◌, IsTrue, nat_lt, FitsSigned, [], ◌∷◌, Option, None, Some, refl, sym, subst, ◌∙◌, ap, arith, mul-pos, div-le_self}
 use Rattle.std.specs.List.{list_all}
 use Rattle.std.proofs.lemmas.Int.{ints, by_lt_z, fits_signed_mul}
 use borrow.Author.Tests.{ltb-true, clash}
 use Rattle.std.proofs.lemmas.Option.{none-some}
 use Rattle.std.proofs.lemmas.Bool.Decides.{nat_tests}
 use Rattle.std.proofs.lemmas.Bool.{and_right, and_parts}
-use mir.Syntax.{w32, w64, w128}
+use lib.IntN.{pos-*ℤ-pos, *ℤ-zero}
+use mir.Syntax.{w32, w64}
 use Rattle.shapers_stretch.specs.declared.ot_shaper_arabic_stretch.measuring.Run.{Run}
 use Rattle.shapers_base.specs.declared.plan.arabic.StretchStart.{StretchStart}
 use Rattle.shapers_base.specs.declared.plan.arabic.StretchStart.TheVariants.{AsCode, Centred}
 use Rattle.shapers_stretch.specs.declared.ot_shaper_arabic_stretch.measuring.Lay.{Lay}
 use Rattle.shapers_stretch.specs.Lays.{TileRunFits, lay_if_fits, lay_of, start_if_fits}
-use Rattle.shapers_stretch.specs.Measure.{times_added, copies_added, excess, falls_short, fit, fits_i32, fitting, left, overlap, laid_width, reach, squeezes, start}
+use Rattle.shapers_stretch.specs.Measure.{times_added, copies_added, excess, falls_short, fit, fits_i32, fitting, left, numbers_to_fit, overlap, laid_width, reach, squeezes, start}
 
 -- a number that passes the test fits, and each of a list that does
 pub fits_from : (x : ℤ) → fits_i32 x ≡ true → FitsSigned w32 x
@@ -27,14 +28,10 @@ abs_within (negsuc n) f = omega (arith, f.sfits)
 pub reach_fits : (z : Run) (n : ℕ) → TileRunFits z → n ≤ 2 ^ 31 → FitsSigned w64 (reach z n)
 reach_fits z n fits few = fits_signed_mul w64 (pos (suc n)) z.repeating (2 ^ 31 + 1) (2 ^ 31) (omega arith) (abs_within z.repeating fits.repeating) (omega arith)
 
--- what fits 32 or 64 bits fits 128
-pub wide : (x : ℤ) → FitsSigned w32 x → FitsSigned w128 x
+-- what fits 32 bits fits 64
+pub wide : (x : ℤ) → FitsSigned w32 x → FitsSigned w64 x
 wide (pos n) f = record { sfits = omega (arith, f.sfits) }
 wide (negsuc n) f = record { sfits = omega (arith, f.sfits) }
-
-pub wider : (x : ℤ) → FitsSigned w64 x → FitsSigned w128 x
-wider (pos n) f = record { sfits = omega (arith, f.sfits) }
-wider (negsuc n) f = record { sfits = omega (arith, f.sfits) }
 
 -- what IsTrue says
 pub is_true_from : (b : Bool) → IsTrue b → b ≡ true
@@ -130,6 +127,36 @@ pub quotient_bounds : (a : ℤ) (n : ℕ) → pos 0 ≤ℤ a → 0 < n → (pos 
 quotient_bounds (pos a) n h p = (omega (arith, ints), omega (arith, ints, div-le_self a n))
 quotient_bounds (negsuc a) n h p = absurd (omega (arith, ints))
 
+-- what copies that overlap share together: no more than they reach too far
+quotient_times : (a : ℤ) (n : ℕ) → pos 0 ≤ℤ a → 0 < n → (pos 0 ≤ℤ (pos n *ℤ int_div a (pos n))) × ((pos n *ℤ int_div a (pos n)) ≤ℤ a)
+quotient_times a zero h p = absurd (omega arith)
+quotient_times (pos a) (suc n) h p =
+    let product : pos (suc n) *ℤ int_div (pos a) (pos (suc n)) ≡ pos (suc n * (a / suc n)) = pos-*ℤ-pos (suc n) (a / suc n) in
+    (omega (arith, ints, product), omega (arith, ints, product))
+quotient_times (negsuc a) (suc n) h p = absurd (omega (arith, ints))
+
+pub squeezed_tile : (z : Run) → squeezes z ≡ true → 0 < z.repeaters
+squeezed_tile z e =
+    let both = and_parts (falls_short z) _ e in
+    let short = and_parts (int_lt (pos 0) (left z -ℤ reach z (fitting z))) (nat_lt 0 z.repeaters) both.0 in
+    ltb-true 0 z.repeaters short.1
+
+pub shared_bounds : (z : Run) → squeezes z ≡ true → (pos 0 ≤ℤ (pos (copies_added z) *ℤ overlap z)) × ((pos (copies_added z) *ℤ overlap z) ≤ℤ excess z)
+shared_bounds z e =
+    let some = squeezed_some z e in
+    let P : ℤ → Type 0 = λ o. (pos 0 ≤ℤ (pos (copies_added z) *ℤ o)) × ((pos (copies_added z) *ℤ o) ≤ℤ excess z) in
+    subst P (sym (overlap_yes z e)) (quotient_times (excess z) (copies_added z) (omega (arith, ints)) some.0)
+
+share_nothing : (n : ℕ) (o : ℤ) → o ≡ pos 0 → pos n *ℤ o ≡ pos 0
+share_nothing n o e = ap (λ o. pos n *ℤ o) e ∙ *ℤ-zero (pos n)
+
+shared_if : (z : Run) (b : Bool) → squeezes z ≡ b → FitsSigned w32 (left z) → FitsSigned w32 (reach z (times_added z)) → (pos 0 ≤ℤ (pos (copies_added z) *ℤ overlap z)) × ((pos (copies_added z) *ℤ overlap z) ≤ℤ pos (2 ^ 34))
+shared_if z true e l r = let bounds = shared_bounds z e in (bounds.0, omega (arith, ints, bounds.1, l, r))
+shared_if z false e l r = let none = share_nothing (copies_added z) (overlap z) (overlap_no z e) in (omega (arith, ints, none), omega (arith, ints, none))
+
+pub shared_within : (z : Run) → FitsSigned w32 (left z) → FitsSigned w32 (reach z (times_added z)) → (pos 0 ≤ℤ (pos (copies_added z) *ℤ overlap z)) × ((pos (copies_added z) *ℤ overlap z) ≤ℤ pos (2 ^ 34))
+shared_within z l r = shared_if z (squeezes z) refl l r
+
 lt_gap : (a b : ℤ) → int_lt a b ≡ int_lt (pos 0) (b -ℤ a)
 lt_gap a b = by_lt_z a b (λ h. let over : pos 0 <ℤ (b -ℤ a) = omega (arith, ints) in lt_yes a b h ∙ sym (lt_yes (pos 0) (b -ℤ a) over)) (λ h. let under : (b -ℤ a) ≤ℤ pos 0 = omega (arith, ints) in lt_not a b h ∙ sym (lt_not (pos 0) (b -ℤ a) under))
 
@@ -210,6 +237,19 @@ run_apart z rest e = four_false (fits_i32 z.word) (fits_i32 z.fixed) (fits_i32 z
 
 added_apart : (z : Run) (rest : Bool) → list_all fits_i32 (z.word ∷ z.fixed ∷ z.repeating ∷ left z ∷ []) ≡ true → list_all fits_i32 (reach z (times_added z) ∷ pos (copies_added z) ∷ []) ≡ false → (fits_i32 z.word && (fits_i32 z.fixed && (fits_i32 z.repeating && (fits_i32 (left z) && (fits_i32 (reach z (times_added z)) && (fits_i32 (pos (copies_added z)) && rest)))))) ≡ false
 added_apart z rest e f = four_true (fits_i32 z.word) (fits_i32 z.fixed) (fits_i32 z.repeating) (fits_i32 (left z)) _ e ∙ two_false (fits_i32 (reach z (times_added z))) (fits_i32 (pos (copies_added z))) rest f
+
+pub repeating_apart : (z : Run) → fits_i32 z.repeating ≡ false → list_all fits_i32 (z.word ∷ z.fixed ∷ z.repeating ∷ left z ∷ []) ≡ false
+repeating_apart z e = and_right (fits_i32 z.word) _ (and_right (fits_i32 z.fixed) _ (ap (λ b. b && (fits_i32 (left z) && true)) e))
+
+-- a run by its numbers
+pub same_run : (w v f h r s : ℤ) (n m : ℕ) → w ≡ v → f ≡ h → r ≡ s → n ≡ m → ◌≡◌ {A = Run} (record { word = w; fixed = f; repeating = r; repeaters = n }) (record { word = v; fixed = h; repeating = s; repeaters = m })
+same_run w v f h r s n m a b c d =
+    let run : ℤ → ℤ → ℤ → ℕ → Run = λ w f r n. record { word = w; fixed = f; repeating = r; repeaters = n } in
+    ap (λ w. run w f r n) a ∙ ap (λ f. run v f r n) b ∙ ap (λ r. run v h r n) c ∙ ap (run v h s) d
+
+pub numbers_apart : (choice : StretchStart) (z : Run) → list_all fits_i32 (z.word ∷ z.fixed ∷ z.repeating ∷ left z ∷ []) ≡ false → list_all fits_i32 (numbers_to_fit choice z) ≡ false
+numbers_apart AsCode z e = run_apart z _ e
+numbers_apart Centred z e = run_apart z _ e
 
 pub no_lay_run : (choice : StretchStart) (right_to_left : Bool) (z : Run) → list_all fits_i32 (z.word ∷ z.fixed ∷ z.repeating ∷ left z ∷ []) ≡ false → None ≡ lay_if_fits choice right_to_left z
 no_lay_run AsCode right_to_left z e = sym (ap (λ b. cond b (Some (lay_of AsCode right_to_left z)) None) (run_apart z _ e))

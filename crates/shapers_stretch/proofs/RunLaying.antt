@@ -6,7 +6,7 @@ use Rattle.std.proofs.lemmas.List.{length-map, take-take}
 use Rattle.std.proofs.lemmas.List.Folds.{list_all-append}
 use Rattle.std.proofs.lemmas.Bool.{and_parts}
 use borrow.Author.Tests.{clash}
-use mir.Syntax.{w128}
+use mir.Syntax.{w64}
 use Rattle.shapers_buffer.specs.declared.buffer.glyph.GlyphPosition.{GlyphPosition}
 use Rattle.shapers_buffer.specs.declared.buffer.glyph.hb_glyph_info_t.{hb_glyph_info_t}
 use Rattle.shapers_buffer.specs.Clusters.{least, stretch_of}
@@ -44,6 +44,9 @@ flagged_offsets right_to_left font z at word tiles =
     ap (λ cs. offsets (laid_on right_to_left at cs)) (copies_flagged font z word tiles) ∙ flag_offsets right_to_left (least (clusters (glyphs_of (word ++ tiles)))) at (copies font z tiles)
 
 -- what the run measures, on slices
+abbrev pub measured_slices : Font → ℕ → ℕ → ℕ → List hb_glyph_info_t → List GlyphPosition → Run
+measured_slices font w t e gs ps = measured font (stretch_of w t ps) (stretch_of t e gs)
+
 pub measured_is : (font : Font) (w t e : ℕ) (gs : List hb_glyph_info_t) (ps : List GlyphPosition) → t ≤ e → e ≤ length gs → length gs ≡ length ps → measured font (stretch_of w t ps) (stretch_of t e gs) ≡ measured font (positions_of (stretch_of w t (zip gs ps))) (glyphs_of (stretch_of t e (zip gs ps)))
 measured_is font w t e gs ps p q both =
     ap (λ x. measured font x (stretch_of t e gs)) (sym (stretch_positions w t gs ps both (omega arith))) ∙ ap (measured font (positions_of (stretch_of w t (zip gs ps)))) (sym (stretch_glyphs t e gs ps both q))
@@ -69,13 +72,13 @@ start_near choice right_to_left z lay e =
     let s = (found_lay choice right_to_left z lay e).small.start in
     record { low = s.low; high = s.high }
 
-pub start_read : (choice : StretchStart) (right_to_left : Bool) (z : Run) (lay : Lay) → lay_if_fits choice right_to_left z ≡ Some lay → to_z w128 (of_z w128 lay.start) ≡ lay.start
-start_read choice right_to_left z lay e = to_z-of_z w128 lay.start (near_fits lay.start (start_near choice right_to_left z lay e))
+pub start_read : (choice : StretchStart) (right_to_left : Bool) (z : Run) (lay : Lay) → lay_if_fits choice right_to_left z ≡ Some lay → to_z w64 (of_z w64 lay.start) ≡ lay.start
+start_read choice right_to_left z lay e = to_z-of_z w64 lay.start (near_fits lay.start (start_near choice right_to_left z lay e))
 
-pub start_is : (choice : StretchStart) (right_to_left : Bool) (z : Run) (lay : Lay) → lay_if_fits choice right_to_left z ≡ Some lay → to_z w128 (of_z w128 lay.start) ≡ start choice right_to_left z
+pub start_is : (choice : StretchStart) (right_to_left : Bool) (z : Run) (lay : Lay) → lay_if_fits choice right_to_left z ≡ Some lay → to_z w64 (of_z w64 lay.start) ≡ start choice right_to_left z
 start_is choice right_to_left z lay e = start_read choice right_to_left z lay e ∙ ap (λ (l : Lay). l.start) (found_lay choice right_to_left z lay e).is
 
-pub start_read_near : (choice : StretchStart) (right_to_left : Bool) (z : Run) (lay : Lay) → lay_if_fits choice right_to_left z ≡ Some lay → IsNumber (to_z w128 (of_z w128 lay.start))
+pub start_read_near : (choice : StretchStart) (right_to_left : Bool) (z : Run) (lay : Lay) → lay_if_fits choice right_to_left z ≡ Some lay → IsNumber (to_z w64 (of_z w64 lay.start))
 start_read_near choice right_to_left z lay e = subst IsNumber (sym (start_read choice right_to_left z lay e)) (start_near choice right_to_left z lay e)
 
 -- one is found where no number overflows

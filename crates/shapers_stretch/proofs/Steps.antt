@@ -9,7 +9,7 @@ use Rattle.shapers_stretch.proofs.Numbers.{fits_from}
 pub use Rattle.shapers_stretch.specs.LayingWalk.{laid_on, offsets}
 use Rattle.shapers_stretch.proofs.Sums.{times_add, times_suc, times_zero}
 
-times_up : (n : ℕ) (d : ℤ) → pos 0 ≤ℤ d → pos 0 ≤ℤ (pos n *ℤ d)
+pub times_up : (n : ℕ) (d : ℤ) → pos 0 ≤ℤ d → pos 0 ≤ℤ (pos n *ℤ d)
 times_up zero d h = omega (arith, ints, times_zero d)
 times_up (suc n) d h = omega (arith, ints, times_suc n d, times_up n d h)
 

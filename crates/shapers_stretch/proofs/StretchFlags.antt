@@ -1,5 +1,5 @@
 -- Each glyph of a stretched text is a copy of one of the text before, with glyph flags that are only added.
-use Rattle.std.proofs.Common.{◌≡◌, ◌==◌, ℕ, zero, suc, ◌-◌, ℤ, Bool, true, false, cond, not, List, [], ◌∷◌, ◌++◌, length, map, flat_map, take, drop, replicate, reverse, refl, sym, ◌∙◌, subst, arith}
+use Rattle.std.proofs.Common.{◌≡◌, ◌==◌, ℕ, zero, suc, ℤ, Bool, true, false, cond, not, List, [], ◌∷◌, ◌++◌, length, map, take, drop, replicate, reverse, refl, sym, ◌∙◌, subst, arith}
 use Rattle.std.specs.Prelude.{Result, Ok, Err, OnOk, bit_or, ◌-ℤ◌}
 use Rattle.std.specs.List.{AllByRecursion, Contains, onto_first, zip}
 use Rattle.std.proofs.lemmas.List.{append_assoc, reverse-append}

@@ -1,6 +1,6 @@
 -- How the first pass finds what is added: where copies stand by how far each moves the pen, and how
 -- far it has come.
-use Rattle.std.specs.Prelude.{◌≡◌, ◌≤◌, ◌+◌, ◌^◌, ◌≤ℤ◌, ℕ, ℤ, pos, negsuc, ◌+ℤ◌, ◌-ℤ◌, Bool, ◌&&◌, true, false, List, [], ◌∷◌, length, reverse, take, flat_map, replicate, Option, None, Some, if◌then◌else◌}
+use Rattle.std.specs.Prelude.{◌≡◌, ◌≤◌, ◌+◌, ◌^◌, ◌≤ℤ◌, ℕ, ℤ, pos, negsuc, ◌+ℤ◌, ◌-ℤ◌, ◌*ℤ◌, Bool, ◌&&◌, true, false, List, [], ◌∷◌, length, reverse, take, flat_map, replicate, Option, None, Some, if◌then◌else◌}
 use Rattle.std.specs.List.{list_all}
 use Rattle.shapers_buffer.specs.declared.buffer.glyph.hb_glyph_info_t.{hb_glyph_info_t}
 use Rattle.shapers_base.specs.declared.plan.arabic.StretchStart.{StretchStart}
@@ -48,16 +48,17 @@ run_moves font lay tiles = flat_map (moves_of font lay) (reverse tiles)
 abbrev pub offsets_fit : Bool → ℤ → List ℤ → Bool
 offsets_fit right_to_left pen moves = list_all fits_i32 (offsets_on right_to_left pen moves)
 
--- a number far from the ends of its 128 bits
+-- a number far from the ends of its 64 bits
 pub record IsNumber (x : ℤ) : Type 0 where
-  pub low : negsuc (2 ^ 70) ≤ℤ x
-  pub high : x ≤ℤ pos (2 ^ 70)
+  pub low : negsuc (2 ^ 40) ≤ℤ x
+  pub high : x ≤ℤ pos (2 ^ 40)
 
 -- by which numbers copies can be laid
 pub record IsLay (lay : Lay) : Type 0 where
   pub added : lay.added ≤ 2 ^ 31
   pub low : pos 0 ≤ℤ lay.overlap
-  pub high : lay.overlap ≤ℤ pos (2 ^ 66)
+  pub high : lay.overlap ≤ℤ pos (2 ^ 34)
+  pub shared : (pos lay.added *ℤ lay.overlap) ≤ℤ pos (2 ^ 34)
   pub start : IsNumber lay.start
 
 -- a walk over copies that stops where an offset doesn't fit, and else gives where the pen is behind

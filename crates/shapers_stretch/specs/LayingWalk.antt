@@ -101,7 +101,7 @@ pub record IsLayOf (z : Run) (lay : Lay) : Type 0 where
   pub added : lay.added ≡ times_added z
   pub overlap : lay.overlap ≡ overlap z
   pub low : pos 0 ≤ℤ lay.overlap
-  pub high : lay.overlap ≤ℤ pos (2 ^ 66)
+  pub high : lay.overlap ≤ℤ pos (2 ^ 34)
 
 -- What stands before `tiles` and what stands from there to `end` in slices: a word and its run,
 -- where no number overflows and where there is room for the run's copies before `place`.

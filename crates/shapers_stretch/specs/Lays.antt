@@ -1,5 +1,5 @@
 -- How a run is laid, where its numbers fit 32 bits.
-use Rattle.std.specs.Prelude.{Bool, ℤ, ◌-ℤ◌, [], ◌∷◌, FitsSigned, Option, None, Some, if◌then◌else◌}
+use Rattle.std.specs.Prelude.{◌≡◌, Bool, false, ℤ, ◌-ℤ◌, [], ◌∷◌, FitsSigned, Option, None, Some, if◌then◌else◌}
 use Rattle.std.specs.List.{list_all}
 use mir.Syntax.{w32}
 use Rattle.shapers_base.specs.declared.plan.arabic.StretchStart.{StretchStart}
@@ -14,6 +14,12 @@ pub record TileRunFits (z : Run) : Type 0 where
   pub fixed : FitsSigned w32 z.fixed
   pub repeating : FitsSigned w32 z.repeating
   pub left : FitsSigned w32 (left z)
+
+-- what a run measures, unless one of these numbers doesn't fit
+abbrev pub MeasuresRun : Run → Option Run → Type 0
+MeasuresRun z None =
+    list_all fits_i32 (z.word ∷ z.fixed ∷ z.repeating ∷ left z ∷ []) ≡ false
+MeasuresRun z (Some run) = run ≡ z
 
 abbrev pub lay_of : StretchStart → Bool → Run → Lay
 lay_of choice right_to_left z =

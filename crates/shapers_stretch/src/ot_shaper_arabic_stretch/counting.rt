@@ -94,7 +94,7 @@ fn count_run<F: hb_font_t>(
         result ≡ run_added choice right_to_left (F.font face.now) z tiles.now }
     ensures bound { MatchOption result (0 ≤ 0) (λ n. n < 2 ^ 31) }
 {
-    let run = measure(face, word, tiles);
+    let run = measure(face, word, tiles)?;
     let lay = lay_of(choice, right_to_left, run)?;
     if offsets_fit(face, right_to_left, lay, tiles) {
         Some(lay.added * run.repeaters)
@@ -134,16 +134,16 @@ fn behind_tile<F: hb_font_t>(
     face: &F,
     right_to_left: bool,
     lay: Lay,
-    pen: i128,
+    pen: i64,
     tile: &hb_glyph_info_t,
-) -> Option<i128>
+) -> Option<i64>
     requires lay { IsLay lay }
     requires pen { IsNumber pen }
     requires number { tile.now.glyph_id ≤ 65535 }
     ensures { WalksPen right_to_left pen (moves_of (F.font face.now) lay tile.now) result }
 {
     let width = advance_of(face, tile);
-    let behind = behind_copy(right_to_left, pen, i128::from(width))?;
+    let behind = behind_copy(right_to_left, pen, i64::from(width))?;
     if !repeats(tile) {
         return Some(behind);
     }
@@ -152,22 +152,22 @@ fn behind_tile<F: hb_font_t>(
 
 // How far each added copy of a tile moves the pen.
 #[inline]
-fn step_of(width: i32, lay: Lay) -> i128
+fn step_of(width: i32, lay: Lay) -> i64
     requires { IsLay lay }
     ensures value { result ≡ width -ℤ lay.overlap }
-    ensures low { negsuc (2 ^ 67) ≤ℤ result }
-    ensures high { result ≤ℤ pos (2 ^ 67) }
+    ensures low { negsuc (2 ^ 36) ≤ℤ result }
+    ensures high { result ≤ℤ pos (2 ^ 36) }
 {
-    i128::from(width) - lay.overlap
+    i64::from(width) - lay.overlap
 }
 
 // Where the pen is behind a copy that moves it so far, unless the copy's offset doesn't fit 32
 // bits.
 #[inline]
-fn behind_copy(right_to_left: bool, pen: i128, step: i128) -> Option<i128>
+fn behind_copy(right_to_left: bool, pen: i64, step: i64) -> Option<i64>
     requires pen { IsNumber pen }
-    requires low { negsuc (2 ^ 67) ≤ℤ step }
-    requires high { step ≤ℤ pos (2 ^ 67) }
+    requires low { negsuc (2 ^ 36) ≤ℤ step }
+    requires high { step ≤ℤ pos (2 ^ 36) }
     ensures { WalksPen right_to_left pen (step ∷ []) result }
 {
     if fits_i32(first_offset(right_to_left, pen, step)) {
@@ -180,10 +180,12 @@ fn behind_copy(right_to_left: bool, pen: i128, step: i128) -> Option<i128>
 // The same behind so many copies that each move the pen so far: they stand at equal distances, so
 // that the first and the last tell.
 #[inline]
-fn behind_copies(right_to_left: bool, pen: i128, step: i128, count: usize) -> Option<i128>
+fn behind_copies(right_to_left: bool, pen: i64, step: i64, count: usize) -> Option<i64>
     requires pen { IsNumber pen }
-    requires low { negsuc (2 ^ 67) ≤ℤ step }
-    requires high { step ≤ℤ pos (2 ^ 67) }
+    requires low { negsuc (2 ^ 36) ≤ℤ step }
+    requires high { step ≤ℤ pos (2 ^ 36) }
+    requires far_low { negsuc (3 * 2 ^ 61) ≤ℤ (pos count *ℤ step) }
+    requires far_high { (pos count *ℤ step) ≤ℤ pos (3 * 2 ^ 61) }
     requires count { count ≤ 2 ^ 31 }
     ensures { WalksPen right_to_left pen (replicate count step) result }
 {
@@ -200,12 +202,12 @@ fn behind_copies(right_to_left: bool, pen: i128, step: i128, count: usize) -> Op
 
 // Whether the offsets of the first and the last of copies at equal distances fit 32 bits.
 #[inline]
-fn ends_fit(right_to_left: bool, pen: i128, behind: i128, step: i128) -> bool
+fn ends_fit(right_to_left: bool, pen: i64, behind: i64, step: i64) -> bool
     requires pen { IsNumber pen }
-    requires low { negsuc (2 ^ 67) ≤ℤ step }
-    requires high { step ≤ℤ pos (2 ^ 67) }
-    requires behind_low { negsuc (2 ^ 100) ≤ℤ behind }
-    requires behind_high { behind ≤ℤ pos (2 ^ 100) }
+    requires low { negsuc (2 ^ 36) ≤ℤ step }
+    requires high { step ≤ℤ pos (2 ^ 36) }
+    requires behind_low { negsuc (7 * 2 ^ 60) ≤ℤ behind }
+    requires behind_high { behind ≤ℤ pos (7 * 2 ^ 60) }
     ensures { result ≡ (fits_i32 (stands_at right_to_left pen step)
         && fits_i32 (last_at right_to_left behind step)) }
 {
@@ -215,10 +217,10 @@ fn ends_fit(right_to_left: bool, pen: i128, behind: i128, step: i128) -> bool
 
 // The offset of the first of such copies.
 #[inline]
-fn first_offset(right_to_left: bool, pen: i128, step: i128) -> i128
+fn first_offset(right_to_left: bool, pen: i64, step: i64) -> i64
     requires pen { IsNumber pen }
-    requires low { negsuc (2 ^ 67) ≤ℤ step }
-    requires high { step ≤ℤ pos (2 ^ 67) }
+    requires low { negsuc (2 ^ 36) ≤ℤ step }
+    requires high { step ≤ℤ pos (2 ^ 36) }
     ensures { result ≡ stands_at right_to_left pen step }
 {
     if right_to_left { pen - step } else { pen }
@@ -226,11 +228,11 @@ fn first_offset(right_to_left: bool, pen: i128, step: i128) -> i128
 
 // The offset of the last of them.
 #[inline]
-fn last_offset(right_to_left: bool, behind: i128, step: i128) -> i128
-    requires low { negsuc (2 ^ 67) ≤ℤ step }
-    requires high { step ≤ℤ pos (2 ^ 67) }
-    requires behind_low { negsuc (2 ^ 100) ≤ℤ behind }
-    requires behind_high { behind ≤ℤ pos (2 ^ 100) }
+fn last_offset(right_to_left: bool, behind: i64, step: i64) -> i64
+    requires low { negsuc (2 ^ 36) ≤ℤ step }
+    requires high { step ≤ℤ pos (2 ^ 36) }
+    requires behind_low { negsuc (7 * 2 ^ 60) ≤ℤ behind }
+    requires behind_high { behind ≤ℤ pos (7 * 2 ^ 60) }
     ensures { result ≡ last_at right_to_left behind step }
 {
     if right_to_left { behind } else { behind - step }
@@ -238,26 +240,26 @@ fn last_offset(right_to_left: bool, behind: i128, step: i128) -> i128
 
 // How far so many copies move the pen.
 #[inline]
-fn product(count: usize, step: i128) -> i128
-    requires low { negsuc (2 ^ 67) ≤ℤ step }
-    requires high { step ≤ℤ pos (2 ^ 67) }
+fn product(count: usize, step: i64) -> i64
+    requires low { negsuc (3 * 2 ^ 61) ≤ℤ (pos count *ℤ step) }
+    requires high { (pos count *ℤ step) ≤ℤ pos (3 * 2 ^ 61) }
     requires count { count ≤ 2 ^ 31 }
     ensures value { result ≡ pos count *ℤ step }
-    ensures low { negsuc (2 ^ 99) ≤ℤ result }
-    ensures high { result ≤ℤ pos (2 ^ 99) }
+    ensures low { negsuc (3 * 2 ^ 61) ≤ℤ result }
+    ensures high { result ≤ℤ pos (3 * 2 ^ 61) }
 {
-    count as i128 * step
+    count as i64 * step
 }
 
 /// Where the pen is when it has moved so far.
 #[inline]
-pub(super) fn moved(right_to_left: bool, pen: i128, move_by: i128) -> i128
+pub(super) fn moved(right_to_left: bool, pen: i64, move_by: i64) -> i64
     requires pen { IsNumber pen }
-    requires low { negsuc (2 ^ 99) ≤ℤ move_by }
-    requires high { move_by ≤ℤ pos (2 ^ 99) }
+    requires low { negsuc (3 * 2 ^ 61) ≤ℤ move_by }
+    requires high { move_by ≤ℤ pos (3 * 2 ^ 61) }
     ensures value { result ≡ pen_behind right_to_left pen move_by }
-    ensures low { negsuc (2 ^ 100) ≤ℤ result }
-    ensures high { result ≤ℤ pos (2 ^ 100) }
+    ensures low { negsuc (7 * 2 ^ 60) ≤ℤ result }
+    ensures high { result ≤ℤ pos (7 * 2 ^ 60) }
 {
     if right_to_left {
         pen - move_by

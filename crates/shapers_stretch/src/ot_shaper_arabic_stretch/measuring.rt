@@ -1,12 +1,12 @@
 //! The numbers of a run: what its word and tiles measure, how often the tiles repeat, and how they
 //! are laid.
-ghost use Rattle.std.specs.Prelude.{◌≡◌, ◌≤◌, ◌<◌, ◌^◌, ◌*◌, ◌<ℤ◌, ◌≤ℤ◌, ◌-ℤ◌, ◌-◌, nat_abs, [], ◌∷◌, if◌then◌else◌, neg_ℤ, pos, negsuc, ◌*ℤ◌, false, int_div, FitsSigned, IsTrue, map};
+ghost use Rattle.std.specs.Prelude.{◌≡◌, ◌≤◌, ◌<◌, ◌^◌, ◌*◌, ◌<ℤ◌, ◌≤ℤ◌, ◌-ℤ◌, ◌-◌, nat_abs, [], ◌∷◌, if◌then◌else◌, neg_ℤ, pos, negsuc, ◌*ℤ◌, false, int_div, FitsSigned, IsTrue, MatchOption, length, map};
 ghost use Rattle.std.specs.List.{list_all};
-ghost use mir.Syntax.{w32, w64};
+ghost use mir.Syntax.{w32};
 ghost use Rattle.shapers_stretch.specs.Cells.{repeats};
 ghost use Rattle.shapers_stretch.specs.Measure.{times_added, fits_i32, fitting, laid_width, left, overlap, reach, squeezes, start, total};
 ghost use Rattle.shapers_stretch.specs.Stretch.{measured, width_of};
-ghost use Rattle.shapers_stretch.specs.Lays.{TileRunFits, lay_if_fits, start_if_fits};
+ghost use Rattle.shapers_stretch.specs.Lays.{MeasuresRun, TileRunFits, lay_if_fits, start_if_fits};
 ghost use Rattle.std.specs.List.{AllByRecursion};
 
 use super::parts::repeats;
@@ -18,9 +18,9 @@ use shapers_base::plan::StretchStart;
 /// many tiles repeat.
 #[derive(Clone, Copy)]
 pub(super) struct Run {
-    pub(super) word: i128,
-    pub(super) fixed: i128,
-    pub(super) repeating: i128,
+    pub(super) word: i64,
+    pub(super) fixed: i64,
+    pub(super) repeating: i64,
     pub(super) repeaters: usize,
 }
 
@@ -29,35 +29,54 @@ pub(super) struct Run {
 #[derive(Clone, Copy)]
 pub(super) struct Lay {
     pub(super) added: usize,
-    pub(super) overlap: i128,
-    pub(super) start: i128,
+    pub(super) overlap: i64,
+    pub(super) start: i64,
 }
 
 // Whether a number fits 32 bits with a sign.
 #[inline]
-pub(super) fn fits_i32(x: i128) -> bool
+pub(super) fn fits_i32(x: i64) -> bool
     ensures value { result ≡ fits_i32 x }
     ensures fits { IsTrue result → FitsSigned w32 x }
 {
     (-0x8000_0000..0x8000_0000).contains(&x)
 }
 
-/// What tiles and the word before them measure.
+/// What tiles and the word before them measure, unless a number of that doesn't fit 32 bits, or
+/// what the fixed tiles leave of the word doesn't.
 #[inline]
 pub(super) fn measure<F: hb_font_t>(
     face: &F,
     word: &[GlyphPosition],
     tiles: &[hb_glyph_info_t],
-) -> Run
+) -> Option<Run>
     requires { AllByRecursion (λ g. g.glyph_id ≤ 65535) tiles.now }
+    ensures { MeasuresRun (measured (F.font face.now) word.now tiles.now) result }
+{
+    if word.len() <= SHORT && tiles.len() <= SHORT {
+        Some(measure_short(face, word, tiles))
+    } else {
+        measure_long(face, word, tiles)
+    }
+}
+
+// The sum of so many numbers of 32 bits fits 64.
+const SHORT: usize = 0x7FFF_FFFF;
+
+// The same of few tiles behind a short word.
+#[inline]
+fn measure_short<F: hb_font_t>(face: &F, word: &[GlyphPosition], tiles: &[hb_glyph_info_t]) -> Run
+    requires word { length word.now < 2 ^ 31 }
+    requires tiles { length tiles.now < 2 ^ 31 }
+    requires numbers { AllByRecursion (λ g. g.glyph_id ≤ 65535) tiles.now }
     ensures { result ≡ measured (F.font face.now) word.now tiles.now }
 {
-    let word = total_advance(word);
+    let word = short_advance(word);
     let mut fixed = 0;
     let mut repeating = 0;
     let mut repeaters = 0;
     for glyph in tiles {
-        let width = i128::from(advance_of(face, glyph));
+        let width = i64::from(advance_of(face, glyph));
         if repeats(glyph) {
             repeating += width;
             repeaters += 1;
@@ -73,6 +92,41 @@ pub(super) fn measure<F: hb_font_t>(
     }
 }
 
+// The same of any number of tiles, and a word of any length, piece by piece.
+#[inline(never)]
+fn measure_long<F: hb_font_t>(
+    face: &F,
+    word: &[GlyphPosition],
+    tiles: &[hb_glyph_info_t],
+) -> Option<Run>
+    requires { AllByRecursion (λ g. g.glyph_id ≤ 65535) tiles.now }
+    ensures { MeasuresRun (measured (F.font face.now) word.now tiles.now) result }
+{
+    let word = total_advance(word);
+    let mut fixed = 0;
+    let mut repeating = 0;
+    let mut repeaters = 0;
+    for piece in tiles.chunks(SHORT) {
+        let run = measure_short(face, &[], piece);
+        fixed += i128::from(run.fixed);
+        repeating += i128::from(run.repeating);
+        repeaters += run.repeaters;
+    }
+    Some(Run {
+        word: narrowed(word)?,
+        fixed: narrowed(fixed)?,
+        repeating: narrowed(repeating)?,
+        repeaters,
+    })
+}
+
+// A sum in 64 bits, unless it doesn't fit 32.
+fn narrowed(sum: i128) -> Option<i64>
+    ensures { MatchOption result (fits_i32 sum ≡ false) (λ x. x ≡ sum) }
+{
+    i64::try_from(sum).ok()
+}
+
 /// How far a glyph of the font moves the pen.
 #[inline]
 pub(super) fn advance_of<F: hb_font_t>(face: &F, glyph: &hb_glyph_info_t) -> i32
@@ -82,16 +136,46 @@ pub(super) fn advance_of<F: hb_font_t>(face: &F, glyph: &hb_glyph_info_t) -> i32
     face.glyph_h_advance(GlyphId(u16::try_from(glyph.glyph_id).unwrap()))
 }
 
-// The advance of a word.
+// The advance of a short word.
 #[inline]
-fn total_advance(word: &[GlyphPosition]) -> i128
+fn short_advance(word: &[GlyphPosition]) -> i64
+    requires { length word.now < 2 ^ 31 }
     ensures { result ≡ total (map (λ p. p.x_advance) word.now) }
 {
     let mut sum = 0;
     for position in word {
-        sum += i128::from(position.x_advance);
+        sum += i64::from(position.x_advance);
     }
     sum
+}
+
+// The advance of a word of any length, piece by piece.
+fn total_advance(word: &[GlyphPosition]) -> i128
+    ensures { result ≡ total (map (λ p. p.x_advance) word.now) }
+{
+    let mut sum = 0;
+    for piece in word.chunks(SHORT) {
+        sum += i128::from(short_advance(piece));
+    }
+    sum
+}
+
+/// How the run of these tiles behind this word is laid, unless one of its numbers doesn't fit 32
+/// bits.
+#[inline]
+pub(super) fn lay_of_run<F: hb_font_t>(
+    face: &F,
+    choice: StretchStart,
+    right_to_left: bool,
+    word: &[GlyphPosition],
+    tiles: &[hb_glyph_info_t],
+) -> Option<Lay>
+    requires { AllByRecursion (λ g. g.glyph_id ≤ 65535) tiles.now }
+    ensures { let z = measured (F.font face.now) word.now tiles.now in
+        result ≡ lay_if_fits choice right_to_left z }
+{
+    let run = measure(face, word, tiles)?;
+    lay_of(choice, right_to_left, run)
 }
 
 /// How a run is laid, unless one of its numbers doesn't fit 32 bits.
@@ -147,14 +231,14 @@ fn fitting(run: Run) -> usize
 // The same where they do fit.
 #[tactic(auto, using(crate::proofs::Numbers::quotient_abs))]
 #[inline]
-fn times_more(run: Run, left: i128) -> usize
+fn times_more(run: Run, left: i64) -> usize
     requires fits { FitsSigned w32 left }
     requires some { pos 0 <ℤ run.repeating }
     requires room { run.repeating <ℤ left }
     ensures value { result ≡ nat_abs (int_div left run.repeating) - 1 }
     ensures bound { result < 2 ^ 31 }
 {
-    (left.unsigned_abs() as u64 / run.repeating.unsigned_abs() as u64) as usize - 1
+    (left.unsigned_abs() / run.repeating.unsigned_abs()) as usize - 1
 }
 
 // How often the repeating tiles are laid besides once, and whether these copies overlap.
@@ -189,33 +273,33 @@ fn rounds_of(run: Run) -> Rounds
 
 // How far the repeating tiles reach, laid once and these times more.
 #[inline]
-fn reach(run: Run, added: usize) -> i128
+fn reach(run: Run, added: usize) -> i64
     requires fits { TileRunFits run }
     requires bound { added ≤ 2 ^ 31 }
     ensures value { result ≡ reach run added }
-    ensures bound { FitsSigned w64 result }
+    ensures low { negsuc (3 * 2 ^ 61) ≤ℤ result }
+    ensures high { result ≤ℤ pos (3 * 2 ^ 61) }
 {
-    (added as i128 + 1) * run.repeating
+    (added as i64 + 1) * run.repeating
 }
 
 // How far they then reach too far.
 #[inline]
-fn excess(run: Run, added: usize) -> i128
+fn excess(run: Run, added: usize) -> i64
     requires fits { TileRunFits run }
     requires bound { added ≤ 2 ^ 31 }
-    ensures value { result ≡ reach run added -ℤ left run }
-    ensures high { result <ℤ pos (2 ^ 65) }
+    ensures { result ≡ reach run added -ℤ left run }
 {
     reach(run, added) - (run.word - run.fixed)
 }
 
 // How many copies that makes.
 #[inline]
-fn copies(run: Run, added: usize) -> i128
-    requires { added ≤ 2 ^ 31 }
+fn copies(run: Run, added: usize) -> i64
+    requires { added * run.repeaters < 2 ^ 31 }
     ensures { result ≡ pos (added * run.repeaters) }
 {
-    added as i128 * run.repeaters as i128
+    (added * run.repeaters) as i64
 }
 
 // Whether these numbers fit 32 bits.
@@ -227,12 +311,20 @@ fn added_fits(run: Run, added: usize) -> bool
         ∷ []) }
     ensures reach { IsTrue result → FitsSigned w32 (reach run added) }
 {
-    fits_i32(reach(run, added)) && fits_i32(copies(run, added))
+    fits_i32(reach(run, added)) && few_copies(run, added)
+}
+
+// Whether the number of copies that this makes fits 32 bits.
+#[inline]
+fn few_copies(run: Run, added: usize) -> bool
+    ensures { result ≡ fits_i32 (pos (added * run.repeaters)) }
+{
+    added as u128 * (run.repeaters as u128) < 0x8000_0000
 }
 
 // By how much each added copy overlaps the one before it.
 #[inline]
-fn overlap(run: Run, rounds: Rounds) -> i128
+fn overlap(run: Run, rounds: Rounds) -> i64
     requires fits { TileRunFits run }
     requires bound { rounds.added ≤ 2 ^ 31 }
     requires added { rounds.added ≡ times_added run }
@@ -241,7 +333,7 @@ fn overlap(run: Run, rounds: Rounds) -> i128
     requires copies { rounds.added * run.repeaters < 2 ^ 31 }
     ensures value { result ≡ overlap run }
     ensures low { pos 0 ≤ℤ result }
-    ensures high { result <ℤ pos (2 ^ 66) }
+    ensures high { result <ℤ pos (2 ^ 34) }
 {
     if !rounds.squeezes {
         return 0;
@@ -256,16 +348,17 @@ fn start(
     right_to_left: bool,
     run: Run,
     rounds: Rounds,
-    shared: i128,
-) -> Option<i128>
+    shared: i64,
+) -> Option<i64>
     requires fits { TileRunFits run }
     requires added { rounds.added ≡ times_added run }
     requires squeezes { rounds.squeezes ≡ squeezes run }
     requires bound { rounds.added ≤ 2 ^ 31 }
+    requires reach { FitsSigned w32 (reach run rounds.added) }
     requires copies { rounds.added * run.repeaters < 2 ^ 31 }
     requires overlap { shared ≡ overlap run }
     requires low { pos 0 ≤ℤ shared }
-    requires high { shared <ℤ pos (2 ^ 66) }
+    requires high { shared <ℤ pos (2 ^ 34) }
     ensures { result ≡ start_if_fits choice right_to_left run }
 {
     match choice {
@@ -276,7 +369,7 @@ fn start(
 
 // The first choice of a start.
 #[inline]
-fn start_as_code(run: Run, shares: bool) -> i128
+fn start_as_code(run: Run, shares: bool) -> i64
     requires fits { TileRunFits run }
     requires squeezes { shares ≡ squeezes run }
     ensures { result ≡ start StretchStart.AsCode false run }
@@ -286,7 +379,7 @@ fn start_as_code(run: Run, shares: bool) -> i128
 
 // What the fixed tiles leave of the word.
 #[inline]
-fn left_of(run: Run) -> i128
+fn left_of(run: Run) -> i64
     requires fits { TileRunFits run }
     ensures { result ≡ left run }
 {
@@ -296,14 +389,15 @@ fn left_of(run: Run) -> i128
 // The second choice: what is laid is centred on the word, unless its width, or the word less that
 // width, doesn't fit 32 bits.
 #[inline]
-fn centred_start(right_to_left: bool, run: Run, times: usize, shared: i128) -> Option<i128>
+fn centred_start(right_to_left: bool, run: Run, times: usize, shared: i64) -> Option<i64>
     requires fits { TileRunFits run }
     requires added { times ≡ times_added run }
     requires bound { times ≤ 2 ^ 31 }
+    requires reach { FitsSigned w32 (reach run times) }
     requires copies { times * run.repeaters < 2 ^ 31 }
     requires overlap { shared ≡ overlap run }
     requires low { pos 0 ≤ℤ shared }
-    requires high { shared <ℤ pos (2 ^ 66) }
+    requires high { shared <ℤ pos (2 ^ 34) }
     ensures { result ≡ start_if_fits StretchStart.Centred right_to_left run }
 {
     let width = width_of_laid(run, times, shared);
@@ -319,7 +413,7 @@ fn centred_start(right_to_left: bool, run: Run, times: usize, shared: i128) -> O
 
 // How much wider the word is than what is laid.
 #[inline]
-fn gap(run: Run, width: i128) -> i128
+fn gap(run: Run, width: i64) -> i64
     requires word { TileRunFits run }
     requires width { FitsSigned w32 width }
     ensures { result ≡ run.word -ℤ width }
@@ -329,7 +423,7 @@ fn gap(run: Run, width: i128) -> i128
 
 // Half of a number.
 #[inline]
-fn half(x: i128) -> i128
+fn half(x: i64) -> i64
     requires { FitsSigned w32 x }
     ensures value { result ≡ int_div x (pos 2) }
     ensures fits { FitsSigned w32 result }
@@ -339,7 +433,7 @@ fn half(x: i128) -> i128
 
 // A number counted in the direction in which tiles follow one another.
 #[inline]
-fn along(right_to_left: bool, x: i128) -> i128
+fn along(right_to_left: bool, x: i64) -> i64
     requires { FitsSigned w32 x }
     ensures { result ≡ (if right_to_left then neg_ℤ x else x) }
 {
@@ -348,42 +442,37 @@ fn along(right_to_left: bool, x: i128) -> i128
 
 // The width that is laid.
 #[inline]
-fn width_of_laid(run: Run, times: usize, shared: i128) -> i128
+fn width_of_laid(run: Run, times: usize, shared: i64) -> i64
     requires fits { TileRunFits run }
     requires added { times ≡ times_added run }
     requires bound { times ≤ 2 ^ 31 }
+    requires reach { FitsSigned w32 (reach run times) }
     requires copies { times * run.repeaters < 2 ^ 31 }
     requires overlap { shared ≡ overlap run }
     requires low { pos 0 ≤ℤ shared }
-    requires high { shared <ℤ pos (2 ^ 66) }
+    requires high { shared <ℤ pos (2 ^ 34) }
     ensures value { result ≡ laid_width run }
-    ensures low { negsuc (2 ^ 100) <ℤ result }
-    ensures high { result <ℤ pos (2 ^ 100) }
+    ensures low { negsuc (2 ^ 36) <ℤ result }
+    ensures high { result <ℤ pos (2 ^ 36) }
 {
     run.fixed + reach(run, times) - shared_by(copies(run, times), shared)
 }
 
 // What so many copies overlap together.
 #[inline]
-fn shared_by(copies: i128, shared: i128) -> i128
-    requires low { pos 0 ≤ℤ copies }
-    requires high { copies <ℤ pos (2 ^ 31) }
-    requires shared_low { pos 0 ≤ℤ shared }
-    requires shared_high { shared <ℤ pos (2 ^ 66) }
-    ensures value { result ≡ copies *ℤ shared }
-    ensures low { pos 0 ≤ℤ result }
-    ensures high { result <ℤ pos (2 ^ 97) }
+fn shared_by(copies: i64, shared: i64) -> i64
+    requires low { pos 0 ≤ℤ (copies *ℤ shared) }
+    requires high { (copies *ℤ shared) ≤ℤ pos (2 ^ 34) }
+    ensures { result ≡ copies *ℤ shared }
 {
     copies * shared
 }
 
-// The quotient of two numbers that fit 64 bits, rounded toward zero.
+// The quotient of a number by one above 0, rounded toward zero.
 #[inline]
-fn quotient(a: i128, b: i128) -> i128
-    requires above { pos 0 <ℤ b }
-    requires a { FitsSigned w64 a }
-    requires b { FitsSigned w64 b }
+fn quotient(a: i64, b: i64) -> i64
+    requires { pos 0 <ℤ b }
     ensures value { result ≡ int_div a b }
 {
-    i128::from(a as i64 / b as i64)
+    a / b
 }

@@ -6,12 +6,11 @@ ghost use Rattle.shapers_buffer.specs.Clusters.{stretch_of};
 ghost use Rattle.shapers_stretch.specs.Cells.{Cell, glyphs_of, positions_of};
 ghost use Rattle.shapers_stretch.specs.CountingWalk.{IsNumber, stands_at};
 ghost use Rattle.shapers_stretch.specs.LayingWalk.{CanLay, CanLayRun, HasRoomForTiles, IsLaidFrom, IsUnlaid, Lays, copies_by, laying_by, run_copies, text_in_slices, stretched_whole};
-ghost use Rattle.shapers_stretch.specs.Lays.{lay_of};
-ghost use Rattle.shapers_stretch.specs.Measure.{fits_i32, overlap};
+ghost use Rattle.shapers_stretch.specs.Measure.{fits_i32};
 ghost use Rattle.shapers_stretch.specs.Stretch.{Copy, copies, laid_run, measured, stretched, unbroken};
 
 use super::counting::moved;
-use super::measuring::{Lay, advance_of, lay_of, measure};
+use super::measuring::{Lay, advance_of, lay_of_run};
 use super::parts::{LastPart, last_part, repeats};
 use shapers_base::buffer::{GlyphPosition, PositionedWalk, hb_glyph_info_t, unsafe_to_break_in};
 use shapers_base::font::hb_font_t;
@@ -52,12 +51,17 @@ impl<'a, F: hb_font_t> TileLaying<'a, F> {
     // Stretches the text of the first `len` cells over the whole slices.
     #[inline]
     fn lay_all(&self, glyphs: &mut [hb_glyph_info_t], positions: &mut [GlyphPosition])
-        requires { HasRoomForTiles (laying_by (F.font self.now.face.now) self.now.choice self.now.right_to_left)
+        requires { HasRoomForTiles
+            (laying_by (F.font self.now.face.now) self.now.choice self.now.right_to_left)
             glyphs.old positions.old self.now.len }
-        ensures glyphs { let how = laying_by (F.font self.now.face.now) self.now.choice self.now.right_to_left in
-            glyphs.new ≡ glyphs_of (stretched how (text_in_slices self.now.len glyphs.old positions.old)) }
-        ensures positions { let how = laying_by (F.font self.now.face.now) self.now.choice self.now.right_to_left in
-            positions.new ≡ positions_of (stretched how (text_in_slices self.now.len glyphs.old positions.old)) }
+        ensures glyphs { let how =
+            laying_by (F.font self.now.face.now) self.now.choice self.now.right_to_left in
+            glyphs.new ≡ glyphs_of (stretched how
+            (text_in_slices self.now.len glyphs.old positions.old)) }
+        ensures positions { let how =
+            laying_by (F.font self.now.face.now) self.now.choice self.now.right_to_left in
+            positions.new ≡ positions_of (stretched how
+            (text_in_slices self.now.len glyphs.old positions.old)) }
     {
         let mut unlaid = Unlaid {
             end: self.len,
@@ -77,9 +81,11 @@ impl<'a, F: hb_font_t> TileLaying<'a, F> {
         unlaid: Unlaid,
     ) -> Unlaid
         requires some { 0 < unlaid.end }
-        requires unlaid { IsUnlaid (laying_by (F.font self.now.face.now) self.now.choice self.now.right_to_left)
+        requires unlaid { IsUnlaid
+            (laying_by (F.font self.now.face.now) self.now.choice self.now.right_to_left)
             glyphs.old positions.old unlaid.end unlaid.place }
-        ensures laid { let how = laying_by (F.font self.now.face.now) self.now.choice self.now.right_to_left in
+        ensures laid { let how =
+            laying_by (F.font self.now.face.now) self.now.choice self.now.right_to_left in
             let whole = stretched_whole how glyphs.old positions.old unlaid.end unlaid.place in
             IsLaidFrom how whole glyphs.new positions.new result.end result.place }
         ensures shorter { result.end < unlaid.end }
@@ -109,7 +115,8 @@ impl<'a, F: hb_font_t> TileLaying<'a, F> {
         unlaid: Unlaid,
     ) -> usize
         requires word { part.word ≤ part.tiles }
-        requires run { let how = laying_by (F.font self.now.face.now) self.now.choice self.now.right_to_left in
+        requires run { let how =
+            laying_by (F.font self.now.face.now) self.now.choice self.now.right_to_left in
             let old = zip glyphs.old positions.old in
             let word = stretch_of part.word part.tiles old in
             let tiles = stretch_of part.tiles unlaid.end old in
@@ -121,7 +128,8 @@ impl<'a, F: hb_font_t> TileLaying<'a, F> {
             let whole = unbroken (word ++ stretch_of part.tiles unlaid.end old) in
             take part.tiles (zip glyphs.new positions.new) ≡ take part.word old
             ++ take (length word) whole }
-        ensures laid { let how = laying_by (F.font self.now.face.now) self.now.choice self.now.right_to_left in
+        ensures laid { let how =
+            laying_by (F.font self.now.face.now) self.now.choice self.now.right_to_left in
             let old = zip glyphs.old positions.old in
             let word = stretch_of part.word part.tiles old in
             let tiles = stretch_of part.tiles unlaid.end old in
@@ -135,13 +143,15 @@ impl<'a, F: hb_font_t> TileLaying<'a, F> {
             let z = measured (F.font self.now.face.now) (positions_of word) (glyphs_of tiles) in
             result + length (copies (F.font self.now.face.now) z tiles) ≡ unlaid.place }
     {
-        let run = measure(
+        let found = lay_of_run(
             self.face,
+            self.choice,
+            self.right_to_left,
             &positions[part.word..part.tiles],
             &glyphs[part.tiles..unlaid.end],
         );
         unsafe_to_break_in(glyphs, part.word, unlaid.end);
-        match lay_of(self.choice, self.right_to_left, run) {
+        match found {
             Some(lay) => {
                 let pen = Pen {
                     at: lay.start,
@@ -165,19 +175,21 @@ impl<'a, F: hb_font_t> TileLaying<'a, F> {
         pen: Pen,
     ) -> Pen
         requires overlap_low { pos 0 ≤ℤ lay.overlap }
-        requires overlap_high { lay.overlap ≤ℤ pos (2 ^ 66) }
+        requires overlap_high { lay.overlap ≤ℤ pos (2 ^ 34) }
         requires near { IsNumber pen.at }
         requires in_order { tiles.start ≤ tiles.end }
         requires ahead { tiles.end ≤ pen.place }
         requires numbers { AllByRecursion (λ g. g.glyph_id ≤ 65535) (take tiles.end glyphs.old) }
         requires can { let cs = stretch_of tiles.start tiles.end (zip glyphs.old positions.old) in
-            CanLay self.now.right_to_left (run_copies (F.font self.now.face.now) lay cs) pen glyphs.old positions.old }
+            CanLay self.now.right_to_left (run_copies (F.font self.now.face.now) lay cs)
+            pen glyphs.old positions.old }
         requires room { let cs = stretch_of tiles.start tiles.end (zip glyphs.old positions.old) in
             tiles.start + length (run_copies (F.font self.now.face.now) lay cs) ≤ pen.place }
         ensures both { length glyphs.new ≡ length positions.new }
         ensures same_length { length glyphs.new ≡ length glyphs.old }
         ensures lays { let old = zip glyphs.old positions.old in
-            let laid = run_copies (F.font self.now.face.now) lay (stretch_of tiles.start tiles.end old) in
+            let laid =
+            run_copies (F.font self.now.face.now) lay (stretch_of tiles.start tiles.end old) in
             Lays self.now.right_to_left laid pen result old (zip glyphs.new positions.new) }
     {
         let mut pen = pen;
@@ -202,11 +214,12 @@ impl<'a, F: hb_font_t> TileLaying<'a, F> {
         pen: Pen,
     ) -> Pen
         requires overlap_low { pos 0 ≤ℤ lay.overlap }
-        requires overlap_high { lay.overlap ≤ℤ pos (2 ^ 66) }
+        requires overlap_high { lay.overlap ≤ℤ pos (2 ^ 34) }
         requires near { IsNumber pen.at }
         requires number { tile.glyph.glyph_id ≤ 65535 }
         requires can { let cell : Cell = (tile.glyph, tile.position) in
-            CanLay self.now.right_to_left (copies_by (F.font self.now.face.now) lay cell) pen glyphs.old positions.old }
+            CanLay self.now.right_to_left (copies_by (F.font self.now.face.now) lay cell)
+            pen glyphs.old positions.old }
         ensures both { length glyphs.new ≡ length positions.new }
         ensures same_length { length glyphs.new ≡ length glyphs.old }
         ensures near { IsNumber result.at }
@@ -215,7 +228,7 @@ impl<'a, F: hb_font_t> TileLaying<'a, F> {
             Lays self.now.right_to_left laid pen result
             (zip glyphs.old positions.old) (zip glyphs.new positions.new) }
     {
-        let width = i128::from(advance_of(self.face, &tile.glyph));
+        let width = i64::from(advance_of(self.face, &tile.glyph));
         let pen = lay_copies(self.right_to_left, width, 1, glyphs, positions, tile, pen);
         if !repeats(&tile.glyph) {
             return pen;
@@ -272,7 +285,7 @@ fn move_up(
 // Where the pen is, and the place before which the next copy is laid.
 #[derive(Clone, Copy)]
 struct Pen {
-    at: i128,
+    at: i64,
     place: usize,
 }
 
@@ -287,15 +300,15 @@ struct Tile {
 #[inline]
 fn lay_copies(
     right_to_left: bool,
-    step: i128,
+    step: i64,
     count: usize,
     glyphs: &mut [hb_glyph_info_t],
     positions: &mut [GlyphPosition],
     tile: Tile,
     pen: Pen,
 ) -> Pen
-    requires step_low { negsuc (2 ^ 67) ≤ℤ step }
-    requires step_high { step ≤ℤ pos (2 ^ 67) }
+    requires step_low { negsuc (2 ^ 36) ≤ℤ step }
+    requires step_high { step ≤ℤ pos (2 ^ 36) }
     requires near { IsNumber pen.at }
     requires can { let cell : Cell = (tile.glyph, tile.position) in
         let copy : Copy = record { tile = cell; move = step } in
@@ -319,14 +332,14 @@ fn lay_copies(
 #[inline]
 fn lay_copy(
     right_to_left: bool,
-    step: i128,
+    step: i64,
     glyphs: &mut [hb_glyph_info_t],
     positions: &mut [GlyphPosition],
     tile: Tile,
     pen: Pen,
 ) -> Pen
-    requires step_low { negsuc (2 ^ 67) ≤ℤ step }
-    requires step_high { step ≤ℤ pos (2 ^ 67) }
+    requires step_low { negsuc (2 ^ 36) ≤ℤ step }
+    requires step_high { step ≤ℤ pos (2 ^ 36) }
     requires near { IsNumber pen.at }
     requires can { let cell : Cell = (tile.glyph, tile.position) in
         let copy : Copy = record { tile = cell; move = step } in
@@ -353,9 +366,9 @@ fn lay_copy(
 
 // Where a copy stands.
 #[inline]
-fn offset_of(right_to_left: bool, at: i128, step: i128) -> i32
-    requires step_low { negsuc (2 ^ 67) ≤ℤ step }
-    requires step_high { step ≤ℤ pos (2 ^ 67) }
+fn offset_of(right_to_left: bool, at: i64, step: i64) -> i32
+    requires step_low { negsuc (2 ^ 36) ≤ℤ step }
+    requires step_high { step ≤ℤ pos (2 ^ 36) }
     requires near { IsNumber at }
     requires fits { fits_i32 (stands_at right_to_left at step) ≡ true }
     ensures { result ≡ stands_at right_to_left at step }

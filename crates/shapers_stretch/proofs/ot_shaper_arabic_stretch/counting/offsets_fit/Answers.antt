@@ -1,6 +1,6 @@
 use Rattle.std.proofs.Common.{◌≡◌, ◌-◌, ◌+◌, ℕ, take, sym, subst, ap, ◌∙◌, arith, rules, FitsSigned, to_z}
 use Rattle.std.proofs.lemmas.Int.{to_z-of_z}
-use mir.Syntax.{w128}
+use mir.Syntax.{w64}
 use Rattle.shapers_buffer.specs.Glyph.{default_glyph}
 use Rattle.shapers_stretch.specs.CountingWalk.{IsNumber, offsets_fit, run_moves}
 use Rattle.shapers_stretch.proofs.Counts.{fits_next, fits_not}
@@ -12,11 +12,11 @@ loop-left-preserved g c =
     let rtl = c.args.right_to_left in
     let lay = c.args.lay in
     let tiles = c.args.tiles.now in
-    let pen = to_z w128 c.loop-left.pen-bits in
+    let pen = to_z w64 c.loop-left.pen-bits in
     let i : ℕ = c.loop-left.left - 1 in
     let behind = c.in-Some.behind in
-    let fits_behind : FitsSigned w128 behind = search rules in
-    let same_behind = to_z-of_z w128 behind fits_behind in
+    let fits_behind : FitsSigned w64 behind = search rules in
+    let same_behind = to_z-of_z w64 behind fits_behind in
     let at : i + 1 ≡ c.loop-left.left = omega arith in
     record {
       within = omega arith;
@@ -30,7 +30,7 @@ returns-in-None g c =
     let rtl = c.args.right_to_left in
     let lay = c.args.lay in
     let tiles = c.args.tiles.now in
-    let pen = to_z w128 c.loop-left.pen-bits in
+    let pen = to_z w64 c.loop-left.pen-bits in
     let i : ℕ = c.loop-left.left - 1 in
     let at : i + 1 ≡ c.loop-left.left = omega arith in
     sym (fits_not font lay rtl pen tiles i default_glyph (omega arith) c.in-None.ensures) ∙ ap (λ n. offsets_fit rtl pen (run_moves font lay (take n tiles))) at ∙ c.loop-left.invariant.same

@@ -2,5 +2,5 @@ use Rattle.std.proofs.Common.{arith}
 use Rattle.std.proofs.lemmas.Int.{ints}
 use Rattle.shapers_stretch.proofs.ot_shaper_arabic_stretch.measuring.excess.Goals as goal
 
-pub returns-clause-value : goal.returns-clause-value
-returns-clause-value c = omega (arith, ints)
+pub returns : goal.returns
+returns c = omega (arith, ints)

@@ -1,5 +1,5 @@
 use Rattle.std.proofs.Common.{◌≡◌, ◌+◌, ◌<◌, ◌-ℤ◌, ◌<ℤ◌, ◌≤ℤ◌, pos, arith, sym, ap, ◌∙◌, int_lt, FitsSigned}
-use mir.Syntax.{w128}
+use mir.Syntax.{w64}
 use Rattle.std.proofs.lemmas.Int.{ints, to_z-of_z}
 use Rattle.shapers_stretch.specs.Measure.{times_added, excess, fitting, left, reach}
 use Rattle.shapers_stretch.proofs.Numbers.{added_yes, added_full, added_none, rest_at, squeezes_short, squeezes_full, squeezes_none}
@@ -34,6 +34,6 @@ returns-clause-squeezes c =
     let above : pos 0 <ℤ (left c.args.run -ℤ reach c.args.run (fitting c.args.run)) = omega (arith, ints, rest_at c.args.run c.fitting-fitting.result c.fitting-fitting.ensures.value) in
     let some : 0 < c.args.run.repeaters = omega arith in
     let at : c.fitting-fitting.result + 1 ≡ times_added c.args.run = omega (arith, added_yes c.args.run above some) in
-    let over : c.excess.result ≡ excess c.args.run = c.excess.ensures.value ∙ ap (λ n. reach c.args.run n -ℤ left c.args.run) at in
-    let fits : FitsSigned w128 c.excess.result = record { sfits = c.excess.type_inv } in
-    ap (λ x. int_lt (pos 0) x) (to_z-of_z w128 c.excess.result fits ∙ over) ∙ sym (squeezes_short c.args.run above some)
+    let over : c.excess.result ≡ excess c.args.run = c.excess.ensures ∙ ap (λ n. reach c.args.run n -ℤ left c.args.run) at in
+    let fits : FitsSigned w64 c.excess.result = record { sfits = c.excess.type_inv } in
+    ap (λ x. int_lt (pos 0) x) (to_z-of_z w64 c.excess.result fits ∙ over) ∙ sym (squeezes_short c.args.run above some)

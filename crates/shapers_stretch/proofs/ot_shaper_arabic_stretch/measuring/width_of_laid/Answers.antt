@@ -1,23 +1,47 @@
-use Rattle.std.proofs.Common.{◌≡◌, ◌*◌, ◌*ℤ◌, pos, arith, ap, ◌∙◌, FitsSigned, to_z, of_z}
+use Rattle.std.proofs.Common.{◌≡◌, ℕ, ℤ, ◌*◌, ◌^◌, ◌*ℤ◌, ◌≤ℤ◌, pos, arith, ap, subst, sym, ◌∙◌, FitsSigned, to_z, of_z}
 use Rattle.std.proofs.lemmas.Int.{ints, to_z-of_z}
-use mir.Syntax.{w128}
-use Rattle.shapers_stretch.specs.Measure.{times_added, copies_added, overlap, reach}
+use mir.Syntax.{w32, w64}
+use Rattle.shapers_stretch.specs.Measure.{times_added, copies_added, left, overlap, reach}
+use Rattle.shapers_stretch.specs.declared.ot_shaper_arabic_stretch.measuring.Run.{Run}
+use Rattle.shapers_stretch.proofs.Numbers.{shared_within}
 use Rattle.shapers_stretch.proofs.ot_shaper_arabic_stretch.measuring.width_of_laid.Goals as goal
 
+-- what the copies share together, as the code reads it, and its bounds
+product : (z : Run) (times : ℕ) (copies shared : ℤ) → FitsSigned w64 copies → FitsSigned w64 shared → copies ≡ pos (times * z.repeaters) → times ≡ times_added z → shared ≡ overlap z → to_z w64 (of_z w64 copies) *ℤ to_z w64 (of_z w64 shared) ≡ pos (copies_added z) *ℤ overlap z
+product z times copies shared fits fits_shared e f h =
+    ap (λ n. n *ℤ to_z w64 (of_z w64 shared)) (to_z-of_z w64 copies fits ∙ e ∙ ap (λ n. pos (n * z.repeaters)) f)
+    ∙ ap (λ o. pos (copies_added z) *ℤ o) (to_z-of_z w64 shared fits_shared ∙ h)
+
+within : (z : Run) (times : ℕ) → FitsSigned w32 (left z) → times ≡ times_added z → FitsSigned w32 (reach z times) → (pos 0 ≤ℤ (pos (copies_added z) *ℤ overlap z)) × ((pos (copies_added z) *ℤ overlap z) ≤ℤ pos (2 ^ 34))
+within z times rest f fits = shared_within z rest (subst (λ n. FitsSigned w32 (reach z n)) f fits)
+
+pub shared_by-requires-clause-low : goal.shared_by-requires-clause-low
+shared_by-requires-clause-low c = subst (λ x. pos 0 ≤ℤ x) (sym (product c.args.run c.args.times c.copies.result c.args.shared (record { sfits = c.copies.type_inv }) c.ranges.shared c.copies.ensures c.requires.added c.requires.overlap)) (within c.args.run c.args.times c.requires.fits.left c.requires.added c.requires.reach).0
+
+pub shared_by-requires-clause-high : goal.shared_by-requires-clause-high
+shared_by-requires-clause-high c = subst (λ x. x ≤ℤ pos (2 ^ 34)) (sym (product c.args.run c.args.times c.copies.result c.args.shared (record { sfits = c.copies.type_inv }) c.ranges.shared c.copies.ensures c.requires.added c.requires.overlap)) (within c.args.run c.args.times c.requires.fits.left c.requires.added c.requires.reach).1
+
 pub overflow_sub-result : goal.overflow_sub-result
-overflow_sub-result c = omega (arith, ints)
+overflow_sub-result c =
+    let near : FitsSigned w32 c.reach.result = subst (FitsSigned w32) (sym c.reach.ensures.value) c.requires.reach in
+    let shared = c.shared_by.ensures ∙ (product c.args.run c.args.times c.copies.result c.args.shared (record { sfits = c.copies.type_inv }) c.ranges.shared c.copies.ensures c.requires.added c.requires.overlap) in
+    omega (arith, ints, near, shared, (within c.args.run c.args.times c.requires.fits.left c.requires.added c.requires.reach).0, (within c.args.run c.args.times c.requires.fits.left c.requires.added c.requires.reach).1)
 
 pub returns-clause-value : goal.returns-clause-value
 returns-clause-value c =
+    let near : FitsSigned w32 c.reach.result = subst (FitsSigned w32) (sym c.reach.ensures.value) c.requires.reach in
     let reached : c.reach.result ≡ reach c.args.run (times_added c.args.run) = c.reach.ensures.value ∙ ap (reach c.args.run) c.requires.added in
-    let fits_copies : FitsSigned w128 c.copies.result = record { sfits = c.copies.type_inv } in
-    let shared : c.shared_by.result ≡ c.copies.result *ℤ c.args.shared = c.shared_by.ensures.value ∙ ap (λ n. n *ℤ to_z w128 (of_z w128 c.args.shared)) (to_z-of_z w128 c.copies.result fits_copies) ∙ ap (λ o. c.copies.result *ℤ o) (to_z-of_z w128 c.args.shared c.ranges.shared) in
-    let many : c.copies.result ≡ pos (copies_added c.args.run) = c.copies.ensures ∙ ap (λ n. pos (n * c.args.run.repeaters)) c.requires.added in
-    let product : c.shared_by.result ≡ pos (copies_added c.args.run) *ℤ overlap c.args.run = shared ∙ ap (λ n. n *ℤ c.args.shared) many ∙ ap (λ o. pos (copies_added c.args.run) *ℤ o) c.requires.overlap in
-    omega (arith, ints)
+    let shared = c.shared_by.ensures ∙ (product c.args.run c.args.times c.copies.result c.args.shared (record { sfits = c.copies.type_inv }) c.ranges.shared c.copies.ensures c.requires.added c.requires.overlap) in
+    omega (arith, ints, near, reached, shared, (within c.args.run c.args.times c.requires.fits.left c.requires.added c.requires.reach).0, (within c.args.run c.args.times c.requires.fits.left c.requires.added c.requires.reach).1)
 
 pub returns-clause-low : goal.returns-clause-low
-returns-clause-low c = omega (arith, ints)
+returns-clause-low c =
+    let near : FitsSigned w32 c.reach.result = subst (FitsSigned w32) (sym c.reach.ensures.value) c.requires.reach in
+    let shared = c.shared_by.ensures ∙ (product c.args.run c.args.times c.copies.result c.args.shared (record { sfits = c.copies.type_inv }) c.ranges.shared c.copies.ensures c.requires.added c.requires.overlap) in
+    omega (arith, ints, near, shared, (within c.args.run c.args.times c.requires.fits.left c.requires.added c.requires.reach).0, (within c.args.run c.args.times c.requires.fits.left c.requires.added c.requires.reach).1)
 
 pub returns-clause-high : goal.returns-clause-high
-returns-clause-high c = omega (arith, ints)
+returns-clause-high c =
+    let near : FitsSigned w32 c.reach.result = subst (FitsSigned w32) (sym c.reach.ensures.value) c.requires.reach in
+    let shared = c.shared_by.ensures ∙ (product c.args.run c.args.times c.copies.result c.args.shared (record { sfits = c.copies.type_inv }) c.ranges.shared c.copies.ensures c.requires.added c.requires.overlap) in
+    omega (arith, ints, near, shared, (within c.args.run c.args.times c.requires.fits.left c.requires.added c.requires.reach).0, (within c.args.run c.args.times c.requires.fits.left c.requires.added c.requires.reach).1)

@@ -1,7 +1,7 @@
 use Rattle.std.proofs.Common.{◌∙◌, ◌-◌, ◌+◌, of_z, subst, to_z, replicate, ◌∷◌, []}
 use Rattle.std.specs.List.{zip}
 use Rattle.std.proofs.lemmas.List.{replicate_more}
-use mir.Syntax.{w128}
+use mir.Syntax.{w64}
 use Rattle.shapers_stretch.specs.LayingWalk.{CanLay, Lays}
 use Rattle.shapers_stretch.specs.Stretch.{Copy}
 use Rattle.shapers_stretch.proofs.LaidCopies.{can_first, can_rest, lays_then, replicate_first}
@@ -9,14 +9,14 @@ use Rattle.shapers_stretch.proofs.ot_shaper_arabic_stretch.tiles.lay_copies.Goal
 
 pub lay_copy-pen-requires-clause-can : goal.lay_copy-pen-requires-clause-can
 lay_copy-pen-requires-clause-can c =
-    let copy : Copy = record { tile = (c.args.tile.glyph, c.args.tile.position); move = to_z w128 (of_z w128 c.args.step) } in
+    let copy : Copy = record { tile = (c.args.tile.glyph, c.args.tile.position); move = to_z w64 (of_z w64 c.args.step) } in
     let l = c.loop in
     let rest = replicate (c.args.count - (l.counter + 1)) copy in
     can_first c.args.right_to_left (copy ∷ []) rest l.pen l.glyphs l.positions (subst (λ copies. CanLay c.args.right_to_left copies l.pen l.glyphs l.positions) (replicate_first c.args.count l.counter copy c.loop-test.true) l.invariant.can)
 
 pub loop-preserved : goal.loop-preserved
 loop-preserved c =
-    let copy : Copy = record { tile = (c.args.tile.glyph, c.args.tile.position); move = to_z w128 (of_z w128 c.args.step) } in
+    let copy : Copy = record { tile = (c.args.tile.glyph, c.args.tile.position); move = to_z w64 (of_z w64 c.args.step) } in
     let l = c.loop in
     let n = c.lay_copy-pen.new in
     let after = c.lay_copy-pen.result in

@@ -71,7 +71,7 @@ fn count_run<F: Font>(
     word: &[GlyphPosition],
     tiles: &[GlyphInfo],
 ) -> Option<usize> {
-    let run = measure(face, word, tiles);
+    let run = measure(face, word, tiles)?;
     let lay = lay_of(choice, right_to_left, run)?;
     if offsets_fit(face, right_to_left, lay, tiles) {
         Some(lay.added * run.repeaters)
@@ -101,11 +101,11 @@ fn behind_tile<F: Font>(
     face: &F,
     right_to_left: bool,
     lay: Lay,
-    pen: i128,
+    pen: i64,
     tile: &GlyphInfo,
-) -> Option<i128> {
+) -> Option<i64> {
     let width = advance_of(face, tile);
-    let behind = behind_copy(right_to_left, pen, i128::from(width))?;
+    let behind = behind_copy(right_to_left, pen, i64::from(width))?;
     if !repeats(tile) {
         return Some(behind);
     }
@@ -114,14 +114,14 @@ fn behind_tile<F: Font>(
 
 // How far each added copy of a tile moves the pen.
 #[inline]
-fn step_of(width: i32, lay: Lay) -> i128 {
-    i128::from(width) - lay.overlap
+fn step_of(width: i32, lay: Lay) -> i64 {
+    i64::from(width) - lay.overlap
 }
 
 // Where the pen is behind a copy that moves it so far, unless the copy's offset doesn't fit 32
 // bits.
 #[inline]
-fn behind_copy(right_to_left: bool, pen: i128, step: i128) -> Option<i128> {
+fn behind_copy(right_to_left: bool, pen: i64, step: i64) -> Option<i64> {
     if fits_i32(first_offset(right_to_left, pen, step)) {
         Some(moved(right_to_left, pen, step))
     } else {
@@ -132,7 +132,7 @@ fn behind_copy(right_to_left: bool, pen: i128, step: i128) -> Option<i128> {
 // The same behind so many copies that each move the pen so far: they stand at equal distances, so
 // that the first and the last tell.
 #[inline]
-fn behind_copies(right_to_left: bool, pen: i128, step: i128, count: usize) -> Option<i128> {
+fn behind_copies(right_to_left: bool, pen: i64, step: i64, count: usize) -> Option<i64> {
     if count == 0 {
         return Some(pen);
     }
@@ -146,32 +146,32 @@ fn behind_copies(right_to_left: bool, pen: i128, step: i128, count: usize) -> Op
 
 // Whether the offsets of the first and the last of copies at equal distances fit 32 bits.
 #[inline]
-fn ends_fit(right_to_left: bool, pen: i128, behind: i128, step: i128) -> bool {
+fn ends_fit(right_to_left: bool, pen: i64, behind: i64, step: i64) -> bool {
     fits_i32(first_offset(right_to_left, pen, step))
         && fits_i32(last_offset(right_to_left, behind, step))
 }
 
 // The offset of the first of such copies.
 #[inline]
-fn first_offset(right_to_left: bool, pen: i128, step: i128) -> i128 {
+fn first_offset(right_to_left: bool, pen: i64, step: i64) -> i64 {
     if right_to_left { pen - step } else { pen }
 }
 
 // The offset of the last of them.
 #[inline]
-fn last_offset(right_to_left: bool, behind: i128, step: i128) -> i128 {
+fn last_offset(right_to_left: bool, behind: i64, step: i64) -> i64 {
     if right_to_left { behind } else { behind - step }
 }
 
 // How far so many copies move the pen.
 #[inline]
-fn product(count: usize, step: i128) -> i128 {
-    count as i128 * step
+fn product(count: usize, step: i64) -> i64 {
+    count as i64 * step
 }
 
 /// Where the pen is when it has moved so far.
 #[inline]
-pub(super) fn moved(right_to_left: bool, pen: i128, move_by: i128) -> i128 {
+pub(super) fn moved(right_to_left: bool, pen: i64, move_by: i64) -> i64 {
     if right_to_left {
         pen - move_by
     } else {

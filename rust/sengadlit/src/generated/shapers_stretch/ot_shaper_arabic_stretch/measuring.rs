@@ -12,9 +12,9 @@ use crate::generated::shapers_base::plan::StretchStart;
 /// many tiles repeat.
 #[derive(Clone, Copy)]
 pub(super) struct Run {
-    pub(super) word: i128,
-    pub(super) fixed: i128,
-    pub(super) repeating: i128,
+    pub(super) word: i64,
+    pub(super) fixed: i64,
+    pub(super) repeating: i64,
     pub(super) repeaters: usize,
 }
 
@@ -23,25 +23,43 @@ pub(super) struct Run {
 #[derive(Clone, Copy)]
 pub(super) struct Lay {
     pub(super) added: usize,
-    pub(super) overlap: i128,
-    pub(super) start: i128,
+    pub(super) overlap: i64,
+    pub(super) start: i64,
 }
 
 // Whether a number fits 32 bits with a sign.
 #[inline]
-pub(super) fn fits_i32(x: i128) -> bool {
+pub(super) fn fits_i32(x: i64) -> bool {
     (-0x8000_0000..0x8000_0000).contains(&x)
 }
 
-/// What tiles and the word before them measure.
+/// What tiles and the word before them measure, unless a number of that doesn't fit 32 bits, or
+/// what the fixed tiles leave of the word doesn't.
 #[inline]
-pub(super) fn measure<F: Font>(face: &F, word: &[GlyphPosition], tiles: &[GlyphInfo]) -> Run {
-    let word = total_advance(word);
+pub(super) fn measure<F: Font>(
+    face: &F,
+    word: &[GlyphPosition],
+    tiles: &[GlyphInfo],
+) -> Option<Run> {
+    if word.len() <= SHORT && tiles.len() <= SHORT {
+        Some(measure_short(face, word, tiles))
+    } else {
+        measure_long(face, word, tiles)
+    }
+}
+
+// The sum of so many numbers of 32 bits fits 64.
+const SHORT: usize = 0x7FFF_FFFF;
+
+// The same of few tiles behind a short word.
+#[inline]
+fn measure_short<F: Font>(face: &F, word: &[GlyphPosition], tiles: &[GlyphInfo]) -> Run {
+    let word = short_advance(word);
     let mut fixed = 0;
     let mut repeating = 0;
     let mut repeaters = 0;
     for glyph in tiles {
-        let width = i128::from(advance_of(face, glyph));
+        let width = i64::from(advance_of(face, glyph));
         if repeats(glyph) {
             repeating += width;
             repeaters += 1;
@@ -57,20 +75,69 @@ pub(super) fn measure<F: Font>(face: &F, word: &[GlyphPosition], tiles: &[GlyphI
     }
 }
 
+// The same of any number of tiles, and a word of any length, piece by piece.
+#[inline(never)]
+fn measure_long<F: Font>(face: &F, word: &[GlyphPosition], tiles: &[GlyphInfo]) -> Option<Run> {
+    let word = total_advance(word);
+    let mut fixed = 0;
+    let mut repeating = 0;
+    let mut repeaters = 0;
+    for piece in tiles.chunks(SHORT) {
+        let run = measure_short(face, &[], piece);
+        fixed += i128::from(run.fixed);
+        repeating += i128::from(run.repeating);
+        repeaters += run.repeaters;
+    }
+    Some(Run {
+        word: narrowed(word)?,
+        fixed: narrowed(fixed)?,
+        repeating: narrowed(repeating)?,
+        repeaters,
+    })
+}
+
+// A sum in 64 bits, unless it doesn't fit 32.
+fn narrowed(sum: i128) -> Option<i64> {
+    i64::try_from(sum).ok()
+}
+
 /// How far a glyph of the font moves the pen.
 #[inline]
 pub(super) fn advance_of<F: Font>(face: &F, glyph: &GlyphInfo) -> i32 {
     face.glyph_h_advance(GlyphId(u16::try_from(glyph.glyph_id).unwrap()))
 }
 
-// The advance of a word.
+// The advance of a short word.
 #[inline]
-fn total_advance(word: &[GlyphPosition]) -> i128 {
+fn short_advance(word: &[GlyphPosition]) -> i64 {
     let mut sum = 0;
     for position in word {
-        sum += i128::from(position.x_advance);
+        sum += i64::from(position.x_advance);
     }
     sum
+}
+
+// The advance of a word of any length, piece by piece.
+fn total_advance(word: &[GlyphPosition]) -> i128 {
+    let mut sum = 0;
+    for piece in word.chunks(SHORT) {
+        sum += i128::from(short_advance(piece));
+    }
+    sum
+}
+
+/// How the run of these tiles behind this word is laid, unless one of its numbers doesn't fit 32
+/// bits.
+#[inline]
+pub(super) fn lay_of_run<F: Font>(
+    face: &F,
+    choice: StretchStart,
+    right_to_left: bool,
+    word: &[GlyphPosition],
+    tiles: &[GlyphInfo],
+) -> Option<Lay> {
+    let run = measure(face, word, tiles)?;
+    lay_of(choice, right_to_left, run)
 }
 
 /// How a run is laid, unless one of its numbers doesn't fit 32 bits.
@@ -114,8 +181,8 @@ fn fitting(run: Run) -> usize {
 
 // The same where they do fit.
 #[inline]
-fn times_more(run: Run, left: i128) -> usize {
-    (left.unsigned_abs() as u64 / run.repeating.unsigned_abs() as u64) as usize - 1
+fn times_more(run: Run, left: i64) -> usize {
+    (left.unsigned_abs() / run.repeating.unsigned_abs()) as usize - 1
 }
 
 // How often the repeating tiles are laid besides once, and whether these copies overlap.
@@ -145,31 +212,37 @@ fn rounds_of(run: Run) -> Rounds {
 
 // How far the repeating tiles reach, laid once and these times more.
 #[inline]
-fn reach(run: Run, added: usize) -> i128 {
-    (added as i128 + 1) * run.repeating
+fn reach(run: Run, added: usize) -> i64 {
+    (added as i64 + 1) * run.repeating
 }
 
 // How far they then reach too far.
 #[inline]
-fn excess(run: Run, added: usize) -> i128 {
+fn excess(run: Run, added: usize) -> i64 {
     reach(run, added) - (run.word - run.fixed)
 }
 
 // How many copies that makes.
 #[inline]
-fn copies(run: Run, added: usize) -> i128 {
-    added as i128 * run.repeaters as i128
+fn copies(run: Run, added: usize) -> i64 {
+    (added * run.repeaters) as i64
 }
 
 // Whether these numbers fit 32 bits.
 #[inline]
 fn added_fits(run: Run, added: usize) -> bool {
-    fits_i32(reach(run, added)) && fits_i32(copies(run, added))
+    fits_i32(reach(run, added)) && few_copies(run, added)
+}
+
+// Whether the number of copies that this makes fits 32 bits.
+#[inline]
+fn few_copies(run: Run, added: usize) -> bool {
+    added as u128 * (run.repeaters as u128) < 0x8000_0000
 }
 
 // By how much each added copy overlaps the one before it.
 #[inline]
-fn overlap(run: Run, rounds: Rounds) -> i128 {
+fn overlap(run: Run, rounds: Rounds) -> i64 {
     if !rounds.squeezes {
         return 0;
     }
@@ -183,8 +256,8 @@ fn start(
     right_to_left: bool,
     run: Run,
     rounds: Rounds,
-    shared: i128,
-) -> Option<i128> {
+    shared: i64,
+) -> Option<i64> {
     match choice {
         StretchStart::AsCode => Some(start_as_code(run, rounds.squeezes)),
         StretchStart::Centred => centred_start(right_to_left, run, rounds.added, shared),
@@ -193,20 +266,20 @@ fn start(
 
 // The first choice of a start.
 #[inline]
-fn start_as_code(run: Run, shares: bool) -> i128 {
+fn start_as_code(run: Run, shares: bool) -> i64 {
     if shares { 0 } else { half(left_of(run)) }
 }
 
 // What the fixed tiles leave of the word.
 #[inline]
-fn left_of(run: Run) -> i128 {
+fn left_of(run: Run) -> i64 {
     run.word - run.fixed
 }
 
 // The second choice: what is laid is centred on the word, unless its width, or the word less that
 // width, doesn't fit 32 bits.
 #[inline]
-fn centred_start(right_to_left: bool, run: Run, times: usize, shared: i128) -> Option<i128> {
+fn centred_start(right_to_left: bool, run: Run, times: usize, shared: i64) -> Option<i64> {
     let width = width_of_laid(run, times, shared);
     if !fits_i32(width) {
         return None;
@@ -220,36 +293,36 @@ fn centred_start(right_to_left: bool, run: Run, times: usize, shared: i128) -> O
 
 // How much wider the word is than what is laid.
 #[inline]
-fn gap(run: Run, width: i128) -> i128 {
+fn gap(run: Run, width: i64) -> i64 {
     run.word - width
 }
 
 // Half of a number.
 #[inline]
-fn half(x: i128) -> i128 {
+fn half(x: i64) -> i64 {
     x / 2
 }
 
 // A number counted in the direction in which tiles follow one another.
 #[inline]
-fn along(right_to_left: bool, x: i128) -> i128 {
+fn along(right_to_left: bool, x: i64) -> i64 {
     if right_to_left { -x } else { x }
 }
 
 // The width that is laid.
 #[inline]
-fn width_of_laid(run: Run, times: usize, shared: i128) -> i128 {
+fn width_of_laid(run: Run, times: usize, shared: i64) -> i64 {
     run.fixed + reach(run, times) - shared_by(copies(run, times), shared)
 }
 
 // What so many copies overlap together.
 #[inline]
-fn shared_by(copies: i128, shared: i128) -> i128 {
+fn shared_by(copies: i64, shared: i64) -> i64 {
     copies * shared
 }
 
-// The quotient of two numbers that fit 64 bits, rounded toward zero.
+// The quotient of a number by one above 0, rounded toward zero.
 #[inline]
-fn quotient(a: i128, b: i128) -> i128 {
-    i128::from(a as i64 / b as i64)
+fn quotient(a: i64, b: i64) -> i64 {
+    a / b
 }

@@ -4,7 +4,7 @@
 //! its word. The writer never overtakes the reader.
 
 use super::counting::moved;
-use super::measuring::{Lay, advance_of, lay_of, measure};
+use super::measuring::{Lay, advance_of, lay_of_run};
 use super::parts::{LastPart, last_part, repeats};
 use crate::generated::shapers_base::buffer::{
     GlyphInfo, GlyphPosition, PositionedWalk, unsafe_to_break_in,
@@ -75,13 +75,15 @@ impl<'a, F: Font> TileLaying<'a, F> {
         part: LastPart,
         unlaid: Unlaid,
     ) -> usize {
-        let run = measure(
+        let found = lay_of_run(
             self.face,
+            self.choice,
+            self.right_to_left,
             &positions[part.word..part.tiles],
             &glyphs[part.tiles..unlaid.end],
         );
         unsafe_to_break_in(glyphs, part.word, unlaid.end);
-        match lay_of(self.choice, self.right_to_left, run) {
+        match found {
             Some(lay) => {
                 let pen = Pen {
                     at: lay.start,
@@ -125,7 +127,7 @@ impl<'a, F: Font> TileLaying<'a, F> {
         tile: Tile,
         pen: Pen,
     ) -> Pen {
-        let width = i128::from(advance_of(self.face, &tile.glyph));
+        let width = i64::from(advance_of(self.face, &tile.glyph));
         let pen = lay_copies(self.right_to_left, width, 1, glyphs, positions, tile, pen);
         if !repeats(&tile.glyph) {
             return pen;
@@ -170,7 +172,7 @@ fn move_up(
 // Where the pen is, and the place before which the next copy is laid.
 #[derive(Clone, Copy)]
 struct Pen {
-    at: i128,
+    at: i64,
     place: usize,
 }
 
@@ -185,7 +187,7 @@ struct Tile {
 #[inline]
 fn lay_copies(
     right_to_left: bool,
-    step: i128,
+    step: i64,
     count: usize,
     glyphs: &mut [GlyphInfo],
     positions: &mut [GlyphPosition],
@@ -203,7 +205,7 @@ fn lay_copies(
 #[inline]
 fn lay_copy(
     right_to_left: bool,
-    step: i128,
+    step: i64,
     glyphs: &mut [GlyphInfo],
     positions: &mut [GlyphPosition],
     tile: Tile,
@@ -223,7 +225,7 @@ fn lay_copy(
 
 // Where a copy stands.
 #[inline]
-fn offset_of(right_to_left: bool, at: i128, step: i128) -> i32 {
+fn offset_of(right_to_left: bool, at: i64, step: i64) -> i32 {
     let offset = if right_to_left { at - step } else { at };
     i32::try_from(offset).unwrap()
 }

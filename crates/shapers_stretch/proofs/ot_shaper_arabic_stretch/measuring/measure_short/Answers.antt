@@ -3,8 +3,8 @@ use Rattle.std.proofs.lemmas.Int.{ints, to_z-of_z}
 use Rattle.shapers_stretch.specs.Cells.{repeats}
 use Rattle.shapers_stretch.specs.Stretch.{width_of}
 use Rattle.shapers_stretch.proofs.Sums.{sum_next, count_next}
-use Rattle.shapers_stretch.proofs.ot_shaper_arabic_stretch.measuring.measure.Goals as goal
-use Rattle.shapers_stretch.proofs.ot_shaper_arabic_stretch.measuring.measure.Goals.{then-repeats, else-repeats}
+use Rattle.shapers_stretch.proofs.ot_shaper_arabic_stretch.measuring.measure_short.Goals as goal
+use Rattle.shapers_stretch.proofs.ot_shaper_arabic_stretch.measuring.measure_short.Goals.{then-repeats, else-repeats}
 
 pub loop-glyph-preserved : goal.loop-glyph-preserved
 loop-glyph-preserved g c =

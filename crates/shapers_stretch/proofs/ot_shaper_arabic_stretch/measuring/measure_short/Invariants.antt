@@ -2,7 +2,7 @@
 use Rattle.std.proofs.Common.{◌≡◌, ◌*◌, ◌≤◌, length, map, take, pos, neg_ℤ, ◌≤ℤ◌}
 use Rattle.shapers_stretch.specs.Measure.{total}
 use Rattle.shapers_stretch.specs.Stretch.{fixed, repeating, width_of}
-use Rattle.shapers_stretch.proofs.ot_shaper_arabic_stretch.measuring.measure.Given as goal
+use Rattle.shapers_stretch.proofs.ot_shaper_arabic_stretch.measuring.measure_short.Given as goal
 
 abbrev pub invariant-loop-glyph : goal.invariant-loop-glyph
 invariant-loop-glyph g l = record {
