@@ -43,7 +43,7 @@ fn kept_len<F: Font>(face: &F, circles: bool, glyphs: &[GlyphInfo]) -> usize {
     place
 }
 
-// For so many items room is made at once.
+// For so many items room is made at least, where there are as many characters.
 const FEW: usize = 24;
 
 // The items that change a text from a place on, each with the place of its first character, as long
@@ -54,11 +54,11 @@ struct Cut {
 }
 
 impl Cut {
-    // None so far, with room for the items of so many characters, as far as they are few.
+    // None so far, with room for the items of so many characters, if most take two or more.
     #[inline]
     fn new(alloc: Global, len: usize) -> Self {
         let mut items = Vec::new(alloc);
-        let is_whole = items.reserve_exact(len.min(FEW)).is_ok();
+        let is_whole = items.reserve_exact(len.min(FEW.max(len / 2))).is_ok();
         Cut { items, is_whole }
     }
 
