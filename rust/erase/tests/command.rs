@@ -53,7 +53,6 @@ fn check_tells_what_differs() {
     }
     let top = copied_sources();
     assert!(run(&top, &[]).status.success());
-    assert_eq!(different(&top), None);
     let tag = "rust/sengadlit/src/generated/shapers_buffer/buffer/tag.rs";
     let text = fs::read_to_string(top.join(tag)).unwrap();
     fs::write(top.join(tag), text.replace("\n", "\n\n ").replace("[u8; 4]", "[u8;4,]")).unwrap();
