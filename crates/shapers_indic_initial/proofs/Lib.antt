@@ -25,7 +25,7 @@ pub mod InitialWrites
 mod MaskViews
 mod MaskWalks
 mod MarksAttached
-pub mod MovedBefore
+pub mod MovedForward
 pub mod Moves
 pub mod OneMoved
 mod Prepared
