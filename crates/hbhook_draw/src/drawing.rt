@@ -1,15 +1,11 @@
 //! The walk over the lines: which rows the page has.
-use crate::boxes::draw_boxes;
-use crate::fault::{DrawFault, MOST_GLYPHS};
-use crate::numbers::Numbers;
 use crate::origins::{Origins, Traced};
-use crate::page::{
-    Context, FOOT, HEAD, Line, shortened, write_answers, write_fault, write_lines, write_note,
-    write_text,
+use hbhook_boxes::{
+    Context, DrawFault, FOOT, HEAD, Line, MOST_GLYPHS, Numbers, Row, draw_boxes, draw_positions,
+    shortened, write_answers, write_fault, write_lines, write_note, write_text,
 };
-use crate::row::Row;
-use crate::scale::draw_positions;
-use hbhook_lines::{LineKind, Session, kind_of_line};
+use hbhook_commands::{LineKind, kind_of_line};
+use hbhook_lines::Session;
 use rustybuzz_shapers::buffer::{Direction, hb_glyph_info_t};
 use std::alloc::{AllocError, Global};
 
@@ -151,7 +147,7 @@ fn draw_row<'a>(
         positions: session.buffer.positions(),
         before: origins.before.as_slice(),
         origins: origins.places.as_slice(),
-        shaper: session.shaper(),
+        shaper: session.shaper_name(),
         features: session.features(),
         numbers,
         is_rtl: is_rtl && session.buffer.positions_len() == 0,
@@ -164,7 +160,7 @@ fn draw_row<'a>(
         row.origins = &[];
     }
     draw_boxes(page, &row)?;
-    draw_positions(page, &row, session)
+    draw_positions(page, &row, session.font())
 }
 
 // The characters of a text, as the buffer has them.

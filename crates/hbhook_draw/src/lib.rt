@@ -2,26 +2,14 @@
 //! of boxes, one per glyph, for the text and after each hook.
 #![tactic(auto)]
 
-mod boxes;
 mod drawing;
-mod escaped;
-mod fault;
-mod label;
-mod marks;
-mod names;
-mod numbers;
 mod origins;
-mod page;
-mod pieces;
-mod row;
-mod scale;
-mod shown;
 
 ghost use Rattle.std.specs.Prelude.{◌≤◌};
 
 use drawing::Drawing;
-use fault::Ended;
-use hbhook_lines::{Fault, lines_of, read_input, report, write_text};
+use hbhook_boxes::Ended;
+use hbhook_commands::{Fault, lines_of, read_input, report, write_text};
 use std::alloc::{AllocError, Global};
 use std::io::{Read, Write};
 

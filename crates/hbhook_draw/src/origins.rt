@@ -1,5 +1,6 @@
 //! Where the glyphs that a hook left stood before it.
-use hbhook_lines::{LineFault, Session};
+use hbhook_commands::LineFault;
+use hbhook_lines::Session;
 use rustybuzz_shapers::buffer::{BufferClusterLevel, ShaperError, hb_buffer_t, hb_glyph_info_t};
 use std::alloc::AllocError;
 use std::mem;

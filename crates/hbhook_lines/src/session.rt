@@ -3,13 +3,13 @@ mod hooks;
 
 ghost use Rattle.std.specs.Prelude.{◌≡◌, []};
 
-use crate::command::{Command, GlyphField, LineKind, Setting, Side};
-use crate::expected::Expected;
-use crate::fault::LineFault;
-use crate::printing::print_buffer;
-use crate::settings::{Feature, Settings};
+use crate::shapers::shaper_of;
+use hbhook_commands::{
+    Command, Expected, Feature, GlyphField, LineFault, LineFont, Setting, Settings, ShaperName,
+    Side, print_buffer, read_line,
+};
 use rustybuzz_shapers::buffer::{GlyphPosition, hb_buffer_t, hb_glyph_info_t};
-use rustybuzz_shapers::font::{GlyphId, Tables, hb_font_t};
+use rustybuzz_shapers::font::Tables;
 use rustybuzz_shapers::shaper::hb_ot_shaper_t;
 use std::alloc::{AllocError, Global};
 use std::mem;
@@ -50,6 +50,11 @@ impl Session {
 
     /// The shaper, once a line has set one.
     pub fn shaper(&self) -> Option<hb_ot_shaper_t> {
+        self.settings.shaper.map(shaper_of)
+    }
+
+    /// The name of the shaper, once a line has set one.
+    pub fn shaper_name(&self) -> Option<ShaperName> {
         self.settings.shaper
     }
 
@@ -58,12 +63,9 @@ impl Session {
         self.settings.features()
     }
 
-    /// The advance of a glyph in the font, 0 for a number that no glyph has.
-    pub fn advance(&self, glyph_id: u32) -> i32 {
-        match u16::try_from(glyph_id) {
-            Ok(glyph) => self.settings.font.glyph_h_advance(GlyphId(glyph)),
-            Err(_) => 0,
-        }
+    /// The font of the lines.
+    pub fn font(&self) -> &LineFont {
+        &self.settings.font
     }
 
     /// What the hooks have returned since the last call of this, one line each.
@@ -140,7 +142,7 @@ impl Session {
     fn add_positions(&mut self) -> Result<(), AllocError> {
         let alloc = self.buffer.alloc();
         let positions = self.buffer.glyphs().iter().map(|glyph| GlyphPosition {
-            x_advance: self.advance(glyph.glyph_id),
+            x_advance: self.settings.font.advance(glyph.glyph_id),
             ..GlyphPosition::ZERO
         });
         let positions = positions.collect(alloc)?;
@@ -198,15 +200,4 @@ impl Session {
         self.buffer.set_position(place, position);
         Ok(())
     }
-}
-
-/// What a line does, if it reads.
-pub fn kind_of_line(alloc: Global, line: &[u8]) -> Result<LineKind, LineFault> {
-    Ok(read_line(alloc, line)?.kind())
-}
-
-// The command of a line, which is text.
-fn read_line(alloc: Global, line: &[u8]) -> Result<Command, LineFault> {
-    let line = str::from_utf8(line).map_err(|_| LineFault::Unreadable(Expected::Text))?;
-    Command::parse(alloc, line).map_err(|fault| fault.of_line(line))
 }

@@ -5,7 +5,8 @@
 
 mod field;
 
-use crate::generated::hbhook_lines::{Expected, Fault, LineFault, Session, lines_of};
+use crate::generated::hbhook_commands::{Expected, Fault, LineFault, lines_of};
+use crate::generated::hbhook_lines::Session;
 use field::{PAUSES, SHAPERS, fields_of};
 use sengadlit::alloc::Global;
 use sengadlit::buffer::{Buffer, ShaperError};

@@ -28,6 +28,8 @@
     reason = "the sources import a trait for methods that the types have of their own in Rust"
 )]
 mod generated {
+    pub(crate) mod hbhook_boxes;
+    pub(crate) mod hbhook_commands;
     pub(crate) mod hbhook_draw;
     pub(crate) mod hbhook_lines;
 }

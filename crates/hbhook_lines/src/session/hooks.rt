@@ -3,9 +3,7 @@ ghost use Rattle.std.specs.Prelude.{◌≡◌, ◌≤◌, ◌↔◌, [], is_ok, 
 ghost use Rattle.rustybuzz_shapers.specs.Hooks.{PlanFits};
 
 use super::Session;
-use crate::command::HookCall;
-use crate::expected::Expected;
-use crate::fault::LineFault;
+use hbhook_commands::{Expected, HookCall, LineFault};
 use rustybuzz_shapers::buffer::{Span, hb_glyph_info_t};
 use rustybuzz_shapers::plan::hb_ot_shape_plan_t;
 use rustybuzz_shapers::shaper::{Pause, Preprocess, hb_ot_shaper_t, pause_fits, run_pause};
@@ -41,7 +39,7 @@ impl Session {
     /// Calls a hook of the shaper. Without a shaper, and where the call's conditions fail, the line
     /// is rejected.
     pub(super) fn run(&mut self, call: HookCall) -> Result<(), LineFault> {
-        let shaper = self.settings.shaper.ok_or(LineFault::Unreadable(SHAPER))?;
+        let shaper = self.shaper().ok_or(LineFault::Unreadable(SHAPER))?;
         let plan = shaper.with_data(self.settings.plan()?);
         match call {
             HookCall::Preprocess => self.preprocess(shaper, &plan),

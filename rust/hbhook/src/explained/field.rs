@@ -254,7 +254,8 @@ fn one_of(words: &[&str], text: &str) -> String {
 #[cfg(test)]
 mod tests {
     use super::*;
-    use crate::generated::hbhook_lines::{Expected, LineFault, Session};
+    use crate::generated::hbhook_commands::{Expected, LineFault};
+    use crate::generated::hbhook_lines::Session;
     use sengadlit::alloc::Global;
     use sengadlit::plan::Pause;
 

@@ -1,6 +1,6 @@
 //! The messages of the errors that the sources declare.
 
-use crate::generated::hbhook_lines::{Expected, Fault};
+use crate::generated::hbhook_commands::{Expected, Fault};
 use std::error::Error;
 use std::fmt;
 
@@ -76,7 +76,7 @@ mod tests {
 
     fn expect_messages(source: &str, errors: &[(&str, &dyn Error, &str)]) {
         let path = Path::new(env!("CARGO_MANIFEST_DIR"))
-            .join("../../crates/hbhook_lines/src")
+            .join("../../crates/hbhook_commands/src")
             .join(source);
         let source = fs::read_to_string(path).unwrap();
         let declared = declared(&source);

@@ -4,17 +4,13 @@
 
 use crate::support::prelude::*;
 
-use crate::generated::hbhook_draw::boxes::draw_boxes;
-use crate::generated::hbhook_draw::fault::{DrawFault, MOST_GLYPHS};
-use crate::generated::hbhook_draw::numbers::Numbers;
-use crate::generated::hbhook_draw::origins::{Origins, Traced};
-use crate::generated::hbhook_draw::page::{
-    Context, FOOT, HEAD, Line, shortened, write_answers, write_fault, write_lines, write_note,
-    write_text,
+use crate::generated::hbhook_boxes::{
+    Context, DrawFault, FOOT, HEAD, Line, MOST_GLYPHS, Numbers, Row, draw_boxes, draw_positions,
+    shortened, write_answers, write_fault, write_lines, write_note, write_text,
 };
-use crate::generated::hbhook_draw::row::Row;
-use crate::generated::hbhook_draw::scale::draw_positions;
-use crate::generated::hbhook_lines::{LineKind, Session, kind_of_line};
+use crate::generated::hbhook_commands::{LineKind, kind_of_line};
+use crate::generated::hbhook_draw::origins::{Origins, Traced};
+use crate::generated::hbhook_lines::Session;
 use crate::support::alloc::{AllocError, Global};
 use sengadlit::buffer::{Direction, GlyphInfo};
 
@@ -155,7 +151,7 @@ fn draw_row<'a>(
         positions: session.buffer.positions(),
         before: origins.before.as_slice(),
         origins: origins.places.as_slice(),
-        shaper: session.shaper(),
+        shaper: session.shaper_name(),
         features: session.features(),
         numbers,
         is_rtl: is_rtl && session.buffer.positions_len() == 0,
@@ -168,7 +164,7 @@ fn draw_row<'a>(
         row.origins = &[];
     }
     draw_boxes(page, &row)?;
-    draw_positions(page, &row, session)
+    draw_positions(page, &row, session.font())
 }
 
 // The characters of a text, as the buffer has them.

@@ -3,26 +3,14 @@
 //! Draws what hooks do: carries out the lines of the program, and writes a page of HTML with a row
 //! of boxes, one per glyph, for the text and after each hook.
 
-mod boxes;
 mod drawing;
-mod escaped;
-mod fault;
-mod label;
-mod marks;
-mod names;
-mod numbers;
 mod origins;
-mod page;
-mod pieces;
-mod row;
-mod scale;
-mod shown;
 
-use crate::generated::hbhook_lines::{Fault, lines_of, read_input, report, write_text};
+use crate::generated::hbhook_boxes::Ended;
+use crate::generated::hbhook_commands::{Fault, lines_of, read_input, report, write_text};
 use crate::support::alloc::{AllocError, Global};
 use crate::support::io::{Read, Write};
 use drawing::Drawing;
-use fault::Ended;
 
 /// Carries out the lines of the input and writes a page that shows the buffer before and after each
 /// hook. A refusal or a fault ends the run: the page then shows it below all that came before it,

@@ -4,7 +4,8 @@
 
 use crate::support::prelude::*;
 
-use crate::generated::hbhook_lines::{LineFault, Session};
+use crate::generated::hbhook_commands::LineFault;
+use crate::generated::hbhook_lines::Session;
 use crate::support::alloc::AllocError;
 use core::mem;
 use sengadlit::buffer::{Buffer, BufferClusterLevel, GlyphInfo, ShaperError};

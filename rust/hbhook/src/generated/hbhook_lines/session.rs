@@ -6,15 +6,15 @@ use crate::support::prelude::*;
 
 mod hooks;
 
-use crate::generated::hbhook_lines::command::{Command, GlyphField, LineKind, Setting, Side};
-use crate::generated::hbhook_lines::expected::Expected;
-use crate::generated::hbhook_lines::fault::LineFault;
-use crate::generated::hbhook_lines::printing::print_buffer;
-use crate::generated::hbhook_lines::settings::{Feature, Settings};
+use crate::generated::hbhook_commands::{
+    Command, Expected, Feature, GlyphField, LineFault, LineFont, Setting, Settings, ShaperName,
+    Side, print_buffer, read_line,
+};
+use crate::generated::hbhook_lines::shapers::shaper_of;
 use crate::support::alloc::{AllocError, Global};
 use core::mem;
 use sengadlit::buffer::{Buffer, GlyphInfo, GlyphPosition};
-use sengadlit::font::{Font, GlyphId, Tables};
+use sengadlit::font::Tables;
 use sengadlit::shaper::Shaper;
 
 // The greatest length of a buffer before a line sets it.
@@ -60,6 +60,11 @@ impl Session {
 
     /// The shaper, once a line has set one.
     pub fn shaper(&self) -> Option<Shaper> {
+        self.settings.shaper.map(shaper_of)
+    }
+
+    /// The name of the shaper, once a line has set one.
+    pub fn shaper_name(&self) -> Option<ShaperName> {
         self.settings.shaper
     }
 
@@ -68,12 +73,9 @@ impl Session {
         self.settings.features()
     }
 
-    /// The advance of a glyph in the font, 0 for a number that no glyph has.
-    pub fn advance(&self, glyph_id: u32) -> i32 {
-        match u16::try_from(glyph_id) {
-            Ok(glyph) => self.settings.font.glyph_h_advance(GlyphId(glyph)),
-            Err(_) => 0,
-        }
+    /// The font of the lines.
+    pub fn font(&self) -> &LineFont {
+        &self.settings.font
     }
 
     /// What the hooks have returned since the last call of this, one line each.
@@ -150,7 +152,7 @@ impl Session {
     fn add_positions(&mut self) -> Result<(), AllocError> {
         let alloc = self.buffer.alloc();
         let positions = self.buffer.glyphs().iter().map(|glyph| GlyphPosition {
-            x_advance: self.advance(glyph.glyph_id),
+            x_advance: self.settings.font.advance(glyph.glyph_id),
             ..GlyphPosition::ZERO
         });
         let positions = positions.collect_in(alloc)?;
@@ -208,15 +210,4 @@ impl Session {
         self.buffer.set_position(place, position);
         Ok(())
     }
-}
-
-/// What a line does, if it reads.
-pub fn kind_of_line(alloc: Global, line: &[u8]) -> Result<LineKind, LineFault> {
-    Ok(read_line(alloc, line)?.kind())
-}
-
-// The command of a line, which is text.
-fn read_line(alloc: Global, line: &[u8]) -> Result<Command, LineFault> {
-    let line = core::str::from_utf8(line).map_err(|_| LineFault::Unreadable(Expected::Text))?;
-    Command::parse(alloc, line).map_err(|fault| fault.of_line(line))
 }

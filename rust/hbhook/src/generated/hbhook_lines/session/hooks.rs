@@ -3,9 +3,7 @@
 //! The lines `run NAME ..`: the conditions of a call are tested before the call is made.
 
 use super::Session;
-use crate::generated::hbhook_lines::command::HookCall;
-use crate::generated::hbhook_lines::expected::Expected;
-use crate::generated::hbhook_lines::fault::LineFault;
+use crate::generated::hbhook_commands::{Expected, HookCall, LineFault};
 use sengadlit::buffer::{GlyphInfo, Span};
 use sengadlit::plan::Plan;
 use sengadlit::shaper::{Pause, Preprocess, Shaper, pause_fits, run_pause};
@@ -38,7 +36,7 @@ impl Session {
     /// Calls a hook of the shaper. Without a shaper, and where the call's conditions fail, the line
     /// is rejected.
     pub(super) fn run(&mut self, call: HookCall) -> Result<(), LineFault> {
-        let shaper = self.settings.shaper.ok_or(LineFault::Unreadable(SHAPER))?;
+        let shaper = self.shaper().ok_or(LineFault::Unreadable(SHAPER))?;
         let plan = shaper.with_data(self.settings.plan()?);
         match call {
             HookCall::Preprocess => self.preprocess(shaper, &plan),

@@ -1,0 +1,79 @@
+//! The lines `at I FIELD V`.
+use super::fields::{decimal, decimal_to, general_category, hexadecimal, signed};
+use crate::expected::{BYTE, Expected, FOUR_BYTES};
+use crate::fault::LineFault;
+use shapers_base::buffer::{GlyphMarks, hb_glyph_info_t, hb_unicode_general_category_t};
+
+// The names of the fields.
+const FIELDS: &str = "glyph, cluster, mask, syllable, cat, aux, gc, class, comp, marks, adv";
+
+// What names marks.
+const MARKS: &str = "letters of slmic, or - alone for none";
+
+/// A field of a glyph or of its position, and its value.
+#[derive(Clone, Copy)]
+pub enum GlyphField {
+    Glyph(u32),
+    Cluster(u32),
+    Mask(u32),
+    Syllable(u8),
+    Category(u8),
+    Auxiliary(u8),
+    GeneralCategory(hb_unicode_general_category_t),
+    CombiningClass(u8),
+    Component(u8),
+    Marks(GlyphMarks),
+    Advance(i32),
+}
+
+impl GlyphField {
+    /// The field of this name, with its value.
+    pub(super) fn parse(name: &str, value: &str) -> Result<GlyphField, LineFault> {
+        match name {
+            "glyph" => Ok(GlyphField::Glyph(decimal(value, FOUR_BYTES)?)),
+            "cluster" => Ok(GlyphField::Cluster(decimal(value, FOUR_BYTES)?)),
+            "mask" => Ok(GlyphField::Mask(hexadecimal(value)?)),
+            "syllable" => Ok(GlyphField::Syllable(decimal(value, BYTE)?)),
+            "cat" => Ok(GlyphField::Category(decimal(value, BYTE)?)),
+            "aux" => Ok(GlyphField::Auxiliary(decimal(value, BYTE)?)),
+            "gc" => Ok(GlyphField::GeneralCategory(general_category(value)?)),
+            "class" => Ok(GlyphField::CombiningClass(decimal(value, BYTE)?)),
+            "comp" => Ok(GlyphField::Component(decimal_to(value, 15)?)),
+            "marks" => Ok(GlyphField::Marks(marks_of(value)?)),
+            "adv" => Ok(GlyphField::Advance(signed(value)?)),
+            _ => Err(LineFault::Unreadable(Expected::Word(FIELDS))),
+        }
+    }
+
+    /// Writes the field into a glyph; the advance is no field of a glyph.
+    pub fn write(self, glyph: &mut hb_glyph_info_t) {
+        match self {
+            GlyphField::Glyph(number) => glyph.glyph_id = number,
+            GlyphField::Cluster(cluster) => glyph.cluster = cluster,
+            GlyphField::Mask(mask) => glyph.mask = mask,
+            GlyphField::Syllable(syllable) => glyph.syllable = syllable,
+            GlyphField::Category(category) => glyph.category = category,
+            GlyphField::Auxiliary(auxiliary) => glyph.auxiliary = auxiliary,
+            GlyphField::GeneralCategory(category) => glyph.general_category = category,
+            GlyphField::CombiningClass(class) => glyph.modified_combining_class = class,
+            GlyphField::Component(component) => glyph.lig_comp = component,
+            GlyphField::Marks(marks) => glyph.marks = marks,
+            GlyphField::Advance(_) => {}
+        }
+    }
+}
+
+// The marks of these letters; `-` alone is none.
+fn marks_of(letters: &str) -> Result<GlyphMarks, LineFault> {
+    let is_mark = |letter: u8| b"slmic".contains(&letter);
+    if letters.is_empty() || letters != "-" && !letters.bytes().all(is_mark) {
+        return Err(LineFault::Unreadable(Expected::Word(MARKS)));
+    }
+    let mut marks = GlyphMarks::NONE;
+    marks.set_substituted(letters.contains('s'));
+    marks.set_ligated(letters.contains('l'));
+    marks.set_multiplied(letters.contains('m'));
+    marks.set_ignorable(letters.contains('i'));
+    marks.set_continuation(letters.contains('c'));
+    Ok(marks)
+}
