@@ -9,6 +9,7 @@ mod laws;
 mod pause;
 mod reordering;
 mod set_up;
+mod turning;
 
 pub use characters::{
     compose, set_categories, set_categories_and_positions, set_categories_and_positions_in,
@@ -28,3 +29,4 @@ pub use laws::{
 pub use pause::reorder_pause;
 pub use reordering::{Reorder, reorder_syllables};
 pub use set_up::{flag_syllables_in, set_up_by_bytes, set_up_syllables};
+pub use turning::{move_before, place_among};

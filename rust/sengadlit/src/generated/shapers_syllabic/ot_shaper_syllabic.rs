@@ -11,6 +11,7 @@ mod kinds;
 mod pause;
 mod reordering;
 mod set_up;
+mod turning;
 
 pub use characters::{
     compose, set_categories, set_categories_and_positions, set_categories_and_positions_in,
@@ -25,3 +26,4 @@ pub use kinds::{indic_syllable, khmer_syllable, myanmar_syllable, use_syllable};
 pub use pause::reorder_pause;
 pub use reordering::{Reorder, reorder_syllables};
 pub use set_up::{flag_syllables_in, set_up_by_bytes, set_up_syllables};
+pub use turning::{move_before, place_among};
