@@ -25,7 +25,6 @@ pub mod InitialWrites
 mod MaskViews
 mod MaskWalks
 mod MarksAttached
-pub mod MovedForward
 pub mod Moves
 pub mod OneMoved
 mod Prepared

@@ -8,6 +8,7 @@ pub mod MyanmarPlaces
 pub mod MyanmarPlain
 mod MyanmarRows
 pub mod MyanmarSerials
+mod OneMoved
 mod Positioned
 mod Reordered
 mod RequestRows

@@ -17,6 +17,7 @@ ghost use Rattle.shapers_myanmar.specs.Myanmar.{myanmar_circles, myanmar_order, 
 ghost use Rattle.shapers_myanmar.specs.Requests.{myanmar_list};
 
 mod laws;
+mod moving;
 mod positions;
 mod reordering;
 

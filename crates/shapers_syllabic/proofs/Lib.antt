@@ -4,6 +4,7 @@ mod CircleRows
 mod ConsonantRows
 pub mod HiddenCuts
 mod LastBroken
+pub mod MovedForward
 mod OpenedCircles
 pub mod LawsThen
 pub mod PauseCuts

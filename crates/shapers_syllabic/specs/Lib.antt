@@ -4,6 +4,7 @@ pub mod CircleLaws
 pub mod Circles
 pub mod Consonants
 pub mod FirstBroken
+pub mod MovedForward
 pub mod Reordering
 pub mod ReorderingLaws
 pub mod SpanCuts

@@ -29,4 +29,4 @@ pub use laws::{
 pub use pause::reorder_pause;
 pub use reordering::{Reorder, reorder_syllables};
 pub use set_up::{flag_syllables_in, set_up_by_bytes, set_up_syllables};
-pub use turning::{turn_left, turn_right};
+pub use turning::{move_before, place_among, turn_left, turn_right};

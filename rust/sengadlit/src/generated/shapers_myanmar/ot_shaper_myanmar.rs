@@ -2,6 +2,7 @@
 //!
 //! The shaper of Myanmar.
 
+mod moving;
 mod positions;
 mod reordering;
 use crate::generated::shapers_base::buffer::{Buffer, Tag};
