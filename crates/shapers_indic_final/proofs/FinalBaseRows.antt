@@ -1,11 +1,14 @@
 -- Viramas and the base, computed case by case.
-use Rattle.std.specs.Prelude.{◌≡◌, ℕ, true, false, Bool, List, [], ◌∷◌, map, None, Some, refl}
+use Prim.Native.String.{String}
+use Rattle.std.specs.Prelude.{◌≡◌, ℕ, true, false, Bool, List, [], ◌∷◌, filter, map, None, Some, refl}
+use Rattle.std.specs.List.{range_with_len}
 use Rattle.shapers_buffer.specs.declared.buffer.glyph.hb_glyph_info_t.{hb_glyph_info_t}
 use Rattle.shapers_buffer.specs.Glyph.{default_glyph}
 use Rattle.shapers_indic.proofs.RowWords.{C, H, N, ZWNJ, ZWJ, M, Ra, CM, of, plainly, row_positions, script}
 use Rattle.shapers_indic_final.proofs.FinalWords.{formed_at, marks_at, mask_given, rules, unformed_at}
 use Rattle.shapers_indic_final.specs.FinalBase.{first_base, links_from, settled_base, with_final_base}
 use Rattle.shapers_indic_final.specs.FinalGlyphs.{is_formed, recovered}
+use Rattle.shapers_indic_final.specs.FinalWalk.{changes_syllable}
 use Rattle.shapers_indic_final.specs.declared.ot_shaper_indic_final.rules.Rules.{Rules}
 
 -- a virama: by number, ligated and multiplied; by its marks it keeps the others
@@ -100,3 +103,22 @@ of_few = refl
 
 none : deva [] ≡ (0, [], true)
 none = refl
+
+-- what may change a syllable: by its position, in Devanagari and in Malayalam; with a bit of pref's mask; and the virama taken apart
+abbrev changing_in : String → List hb_glyph_info_t → List Bool
+changing_in tag gs = map (changes_syllable (rules tag) (script tag)) gs
+
+abbrev changing_positions : String → List ℕ
+changing_positions tag = filter (λ p. changes_syllable (rules tag) (script tag) (record default_glyph { category = C; auxiliary = p })) (range_with_len 0 20)
+
+changing_by_position : map changing_positions ("Deva" ∷ "Mlym" ∷ "Taml" ∷ []) ≡ (1 ∷ 2 ∷ []) ∷ (1 ∷ 2 ∷ 8 ∷ []) ∷ (1 ∷ 2 ∷ []) ∷ []
+changing_by_position = refl
+
+changing_by_mask : map (λ m. changes_syllable (rules "Deva") (script "Deva") (record default_glyph { mask = m; auxiliary = 4 })) (0 ∷ 7 ∷ 8 ∷ 16 ∷ 32 ∷ 48 ∷ 0xFFFFFFEF ∷ []) ≡ false ∷ false ∷ false ∷ true ∷ false ∷ true ∷ false ∷ []
+changing_by_mask = refl
+
+changing_viramas : changing_in "Deva" (of_marks 90 6 ∷ of_marks 90 31 ∷ of_marks 90 2 ∷ of_marks 90 4 ∷ of_marks 90 0 ∷ of_marks 91 6 ∷ []) ≡ true ∷ true ∷ false ∷ false ∷ false ∷ false ∷ []
+changing_viramas = refl
+
+changing_without_virama : changes_syllable (record (rules "Deva") { virama = None }) (script "Deva") (of_marks 90 6) ≡ false
+changing_without_virama = refl

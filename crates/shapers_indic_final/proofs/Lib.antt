@@ -15,16 +15,17 @@ mod FinalNoMask
 pub mod FinalWordStartCases
 mod FinalWordStartRows
 pub mod LeftMatraMoves
+mod FinalPassed
 pub mod FinalPlaces
 pub mod FinalPlacing
 pub mod FinalPlain
-mod FinalPlainConsonant
 mod FinalPrefRows
 pub mod FinalReads
 mod FinalReorderingRows
 mod FinalRephRows
 pub mod FinalSerials
-pub mod FinalSteps
+mod FinalStill
+mod FinalSteps
 pub mod FinalSyllable
 pub mod FinalTargets
 pub mod FinalText

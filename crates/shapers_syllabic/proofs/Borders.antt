@@ -79,7 +79,7 @@ first-front : (xs ys : List hb_glyph_info_t) → 0 < length xs → first_byte (x
 first-front [] ys h = absurd (omega arith)
 first-front (x ∷ xs) ys h = refl
 
-last-behind : (xs ys : List hb_glyph_info_t) → 0 < length ys → last_byte (xs ++ ys) ≡ last_byte ys
+pub last-behind : (xs ys : List hb_glyph_info_t) → 0 < length ys → last_byte (xs ++ ys) ≡ last_byte ys
 last-behind xs ys h =
     let byte : hb_glyph_info_t → ℕ = λ g. g.syllable in
     let n = length-map xs byte in

@@ -2,11 +2,13 @@ pub mod Borders
 pub mod CircleLaws
 mod CircleRows
 mod ConsonantRows
+pub mod Found
 pub mod HiddenCuts
 mod LastBroken
 pub mod MovedForward
 mod OpenedCircles
 pub mod LawsThen
+pub mod NonePass
 pub mod PauseCuts
 pub mod ReorderingCuts
 pub mod ReorderingLaws
@@ -15,6 +17,7 @@ mod ReorderingRows
 pub mod ReorderingWalk
 pub mod Serials
 pub mod SetUpFlags
+pub mod Skipping
 pub mod SpanCuts
 pub mod SyllabicLemmas
 mod SyllabicRows

@@ -27,6 +27,6 @@ pub use laws::{
     text_reordered_law,
 };
 pub use pause::reorder_pause;
-pub use reordering::{Reorder, reorder_syllables};
+pub use reordering::{Reorder, reorder_syllables, syllable_start};
 pub use set_up::{flag_syllables_in, set_up_by_bytes, set_up_syllables};
 pub use turning::{move_before, place_among, turn_left, turn_right};

@@ -20,7 +20,8 @@ use Rattle.shapers_universal.specs.Universal.{goes_front, goes_front_at, is_univ
 use Rattle.shapers_universal.specs.UniversalWalk.{MergesFirst, fronts_from, has_universal_reph, is_halant_at, last_place_first, syllable_places_in_order, start_from}
 use Rattle.shapers_universal.proofs.Reordered.{merge_nothing, no_reph, still_pieces, still_reordered, syllable_ran, syllable_reordered}
 use Rattle.shapers_universal.proofs.UniversalFronts.{fronts_next}
-use Rattle.shapers_universal.proofs.UniversalLists.{cut_after-concat, filter-none, filter_not-none, reversed_first-no, reversed_first-yes}
+use Rattle.shapers_syllabic.proofs.NonePass.{filter-none, filter_not-none}
+use Rattle.shapers_universal.proofs.UniversalLists.{cut_after-concat, reversed_first-no, reversed_first-yes}
 use Rattle.shapers_universal.proofs.UniversalPlaces.{at, goes_front_is, halant_at, labels_any, nothing_behind, stretch_at}
 
 -- a piece with no place to cut but its end
@@ -292,57 +293,6 @@ front_moved s e b0 b1 b2 h l joined walked others =
     let glyphs : b2.glyphs ≡ moved = walked ∙ ap (λ (x : Buffer). with_stretch s e (λ ys. slice_rotate_right ys 1) x.glyphs) joined ∙ turned_is s e ms h (omega (arith, length-merge b0.level s e b0.glyphs l)) in
     let whole : b2 ≡ record b0 { glyphs = moved } = others ∙ ap (λ (x : Buffer). let y : Buffer = record x { glyphs = b2.glyphs } in y) joined ∙ ap (λ xs. let y : Buffer = record b0 { glyphs = xs } in y) glyphs in
     whole ∙ ap (λ qs. let y : Buffer = record b0 { glyphs = moved; places = qs } in y) (sym (ap (λ (x : Buffer). x.places) whole))
-
--- one glyph that is no reph is left alone
-merge_one : (level : BufferClusterLevel) (s : ℕ) (gs : List hb_glyph_info_t) → merge level s (s + 1) gs ≡ gs
-merge_one level s gs =
-    let few : nat_lt (s + 1 - s) 2 ≡ true = grind (arith, nat_tests) in
-    rw few (elim (merges level) as (λ b. (if b && false then merged s (s + 1) gs else gs) ≡ gs) [ true ↦ refl | false ↦ refl ])
-
-nothing_moved : (s : ℕ) (b : Buffer) → s + 1 ≤ length b.glyphs → b ≡ record b { glyphs = (let ms = merge b.level s (s + 1) b.glyphs in with_stretch s (s + 1) (λ _. pick (last_place_first s (s + 1)) ms) ms) }
-nothing_moved s b l =
-    let gs = b.glyphs in
-    let n : s + 1 - s ≡ 1 = omega arith in
-    let m : s + 1 - 1 ≡ s = omega arith in
-    let k : s - s ≡ 0 = omega arith in
-    let order : last_place_first s (s + 1) ≡ range_with_len s 1 = ap (λ i. i ∷ range_with_len s (i - s)) m ∙ ap (λ i. s ∷ range_with_len s i) k in
-    let picked : pick (last_place_first s (s + 1)) gs ≡ stretch_of s (s + 1) gs = ap (λ ps. pick ps gs) order ∙ pick-range s 1 gs l ∙ ap (λ i. take i (drop s gs)) (sym n) in
-    let same : with_stretch s (s + 1) (λ _. pick (last_place_first s (s + 1)) gs) gs ≡ gs = ap (λ ys. take s gs ++ (ys ++ drop (s + 1) gs)) picked ∙ three_parts s (s + 1) gs (omega arith) in
-    sym (ap (λ ms. let y : Buffer = record b { glyphs = with_stretch s (s + 1) (λ _. pick (last_place_first s (s + 1)) ms) ms } in y) (merge_one b.level s gs) ∙ ap (λ xs. let y : Buffer = record b { glyphs = xs } in y) same)
-
-short_front : (s e : ℕ) (b : Buffer) → s ≤ e → e < s + 2 → e ≤ length b.glyphs → is_reordered_in_universal (stretch_of s e b.glyphs) ≡ true → has_universal_reph (stretch_of s e b.glyphs) ≡ false → list_any goes_front (stretch_of s e b.glyphs) ≡ true → SyllableReordered universal_order universal_steps s e b b
-short_front s e b h few l kind reph goes =
-    let gs = b.glyphs in
-    let g = at gs s in
-    elim (cases_lt s e) [
-      | inl more ↦
-          let one : e - s ≡ 1 = omega arith in
-          let next : suc s ≡ s + 1 = omega arith in
-          let alone : stretch_of s e gs ≡ g ∷ [] = stretch_at s e gs l ∙ ap (λ i. map (at gs) (range_with_len s i)) one in
-          let seen : list_any goes_front (g ∷ []) ≡ true = ap (list_any goes_front) (sym alone) ∙ goes in
-          elim (cases_Bool (goes_front g)) [
-            | inl on ↦
-                let fronts : fronts_from s s (stretch_of s e gs) ≡ (s, s + 1) ∷ [] = ap (fronts_from s s) alone ∙ ap (λ k. if k then (s, suc s) ∷ [] else fronts_from (if is_universal_halant g then suc s else s) (suc s) []) on ∙ ap (λ k. (s, k) ∷ []) next in
-                one_reordered s e s (s + 1) b b h l kind reph fronts (nothing_moved s b (omega arith))
-            | inr off ↦ absurd (let none : list_any goes_front (g ∷ []) ≡ false = rw off refl in cc)
-          ]
-      | inr none ↦
-          let no_more : e - s ≡ 0 = omega arith in
-          let empty : list_any goes_front (stretch_of s e gs) ≡ false = ap (λ i. list_any goes_front (take i (drop s gs))) no_more in
-          absurd (cc)
-    ]
-
-pub short_reordered : (s e : ℕ) (b : Buffer) → s ≤ e → e < s + 2 → e ≤ length b.glyphs → has_universal_reph (stretch_of s e b.glyphs) ≡ false → SyllableReordered universal_order universal_steps s e b b
-short_reordered s e b h few l reph =
-    let gs = b.glyphs in
-    let zs = stretch_of s e gs in
-    elim (cases_Bool (is_reordered_in_universal zs)) [
-      | inl kind ↦ elim (cases_Bool (list_any goes_front zs)) [
-        | inl goes ↦ short_front s e b h few l kind reph goes
-        | inr stays ↦ still_reordered s e b h l (rw (reph, stays, kind) refl)
-      ]
-      | inr other ↦ still_reordered s e b h l (rw other refl)
-    ]
 
 pub start_back : (s k : ℕ) (gs : List hb_glyph_info_t) → s + 1 < k → k ≤ length gs + 1 → start_from s s (stretch_of s (k - 1) gs) ≡ (if is_universal_halant (at gs (k - 1 - 1)) then k - 1 else start_from s s (stretch_of s (k - 1 - 1) gs))
 start_back s k gs h l =

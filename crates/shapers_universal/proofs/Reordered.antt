@@ -1,5 +1,5 @@
 -- What the parts of the reordering of a syllable make of the buffer together.
-use Rattle.std.proofs.Common.{◌≡◌, ℕ, ◌+◌, ◌-◌, ◌≤◌, Bool, true, false, not, ◌&&◌, ◌||◌, inl, inr, nat_lt, if◌then◌else◌, List, [], ◌∷◌, ◌++◌, map, filter, reverse, take, drop, length, refl, ap, sym, ◌∙◌, subst, arith}
+use Rattle.std.proofs.Common.{◌≡◌, ◌==◌, ℕ, ◌+◌, ◌-◌, ◌≤◌, Bool, true, false, not, ◌&&◌, ◌||◌, inl, inr, nat_lt, if◌then◌else◌, List, [], ◌∷◌, ◌++◌, map, filter, reverse, take, drop, length, refl, ap, sym, ◌∙◌, subst, arith}
 use Rattle.std.specs.List.{AllByRecursion, flat_map, list_any, range_with_len}
 use Rattle.std.specs.List.Sorted.{IsPermutation}
 use Rattle.std.proofs.lemmas.Bool.{cases_Bool, or_parts}
@@ -24,11 +24,14 @@ use Rattle.shapers_clusters.proofs.Moves.{within-old_places}
 use Rattle.shapers_clusters.proofs.Picks.{pick-pick, pick-range, within_range}
 use Rattle.shapers_clusters.proofs.Widened.{all_moves-widened, old_places-widened, order_view-widened, pick-widened}
 use Rattle.shapers_syllabic.specs.Reordering.{SyllableReordered, carried}
+use Rattle.shapers_syllabic.specs.ReorderingLaws.{StaysWithout}
 use Rattle.shapers_universal.specs.Universal.{goes_front, goes_front_at, is_reordered_in_universal, reph_run, reversed_first, universal_order, universal_steps}
-use Rattle.shapers_universal.specs.UniversalWalk.{fronts_from, has_universal_reph, is_halant_at, syllable_places_in_order}
+use Rattle.shapers_universal.specs.UniversalWalk.{fronts_from, has_universal_reph, is_halant_at, may_reorder, syllable_places_in_order}
+use Rattle.shapers_universal.specs.declared.ot_shaper_use.category.TheConstants.{R}
 use Rattle.shapers_universal.proofs.StepsAtOnce.{run_at_once}
 use Rattle.shapers_universal.proofs.UniversalFronts.{all_merges, fronts_from-none, fronts_from-view}
-use Rattle.shapers_universal.proofs.UniversalLists.{cut_after-concat, filter-none, filter_not-none}
+use Rattle.shapers_syllabic.proofs.NonePass.{filter-none, filter_not-none}
+use Rattle.shapers_universal.proofs.UniversalLists.{cut_after-concat}
 use Rattle.shapers_universal.proofs.UniversalPlaces.{goes_front_is, labels_any, nothing_behind, order-permuted, steps_place, stretch_at}
 use Rattle.shapers_universal.proofs.UniversalSteps.{universal_fits, universal_moves}
 use Rattle.shapers_universal.proofs.UniversalView.{picked_order, universal_order-view, universal_steps-view}
@@ -185,3 +188,24 @@ still_reordered s e b h l still =
           let parts : (has_universal_reph zs ≡ false) × (list_any goes_front zs ≡ false) = or_parts (has_universal_reph zs) (list_any goes_front zs) none in
           still_ran b.level s e b.glyphs h l kind parts.0 parts.1
     ])
+
+-- so where nothing may change it
+not_front : (gs : List hb_glyph_info_t) → list_any may_reorder gs ≡ false → (has_universal_reph gs || list_any goes_front gs) ≡ false
+not_front [] none = refl
+not_front (g ∷ gs) none =
+    let parts : ((g.category == R || goes_front g) ≡ false) × (list_any may_reorder gs ≡ false) = or_parts (may_reorder g) (list_any may_reorder gs) none in
+    let first : ((g.category == R) ≡ false) × (goes_front g ≡ false) = or_parts (g.category == R) (goes_front g) parts.0 in
+    let rest = no_front gs parts.1 in
+    rw (first.0, first.1, rest) refl
+  where
+    no_front : (gs : List hb_glyph_info_t) → list_any may_reorder gs ≡ false → list_any goes_front gs ≡ false
+    no_front [] none = refl
+    no_front (g ∷ gs) none =
+        let parts : ((g.category == R || goes_front g) ≡ false) × (list_any may_reorder gs ≡ false) = or_parts (may_reorder g) (list_any may_reorder gs) none in
+        let first : ((g.category == R) ≡ false) × (goes_front g ≡ false) = or_parts (g.category == R) (goes_front g) parts.0 in
+        rw (first.1, no_front gs parts.1) refl
+
+pub universal_stays : StaysWithout may_reorder universal_order universal_steps
+universal_stays s e b some within none =
+    let zs = stretch_of s e b.glyphs in
+    still_reordered s e b (omega arith) within (rw (not_front zs none) (elim (is_reordered_in_universal zs) as (λ k. (k && false) ≡ false) [ true ↦ refl | false ↦ refl ]))

@@ -12,6 +12,7 @@ use Rattle.shapers_buffer.specs.Lists.{cut_after, first_last}
 use Rattle.shapers_buffer.specs.Places.{pick}
 use Rattle.shapers_clusters.proofs.Picks.{pick-append, pick-all, pick-range}
 use Rattle.shapers_clusters.proofs.Widened.{range-append}
+use Rattle.shapers_syllabic.proofs.NonePass.{filter-none, filter_not-none}
 use Rattle.shapers_universal.specs.Universal.{first_behind, reversed_first}
 
 -- what is picked at the places that pass
@@ -115,7 +116,7 @@ map-first_last : {X Y : Type 0} (f : X → Y) (xs : List X) → map f (first_las
 map-first_last f [] = refl
 map-first_last f (x ∷ xs) = map-append f xs (x ∷ [])
 
--- a filter keeps what all are, and where none passes it keeps none
+-- a filter keeps what all are
 pub all-filter : {X : Type 0} (P : X → Type 0) (test : X → Bool) (xs : List X) → AllByRecursion P xs → AllByRecursion P (filter test xs)
 all-filter P test [] h = tt
 all-filter P test (x ∷ xs) h =
@@ -123,18 +124,6 @@ all-filter P test (x ∷ xs) h =
       | true ↦ (h.0, all-filter P test xs h.1)
       | false ↦ all-filter P test xs h.1
     ]
-
-pub filter-none : {X : Type 0} (test : X → Bool) (xs : List X) → list_any test xs ≡ false → filter test xs ≡ []
-filter-none test [] h = refl
-filter-none test (x ∷ xs) h =
-    let parts : (test x ≡ false) × (list_any test xs ≡ false) = or_parts (test x) (list_any test xs) h in
-    rw parts.0 (filter-none test xs parts.1)
-
-pub filter_not-none : {X : Type 0} (test : X → Bool) (xs : List X) → list_any test xs ≡ false → filter (λ x. not (test x)) xs ≡ xs
-filter_not-none test [] h = refl
-filter_not-none test (x ∷ xs) h =
-    let parts : (test x ≡ false) × (list_any test xs ≡ false) = or_parts (test x) (list_any test xs) h in
-    rw parts.0 (ap (λ ys. x ∷ ys) (filter_not-none test xs parts.1))
 
 -- elements behind that don't pass stay behind
 pub reversed_first-append : {X : Type 0} (test : X → Bool) (xs ys : List X) → list_any test ys ≡ false → reversed_first test (xs ++ ys) ≡ reversed_first test xs ++ ys

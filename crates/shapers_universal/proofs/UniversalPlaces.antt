@@ -26,7 +26,8 @@ use Rattle.shapers_clusters.proofs.Widened.{old_places-widened, pick-widened, ra
 use Rattle.shapers_syllabic.proofs.ReorderingLemmas.{old_places_one}
 use Rattle.shapers_universal.specs.Universal.{first_behind, goes_front, goes_front_at, is_universal_halant, reph_passes, is_reordered_in_universal, piece_step, piece_steps, pieces, reph_moved, reph_run, universal_reph_step, reversed_first, universal_steps}
 use Rattle.shapers_universal.specs.UniversalWalk.{first_piece_len, is_halant_at, piece_places, syllable_places_in_order}
-use Rattle.shapers_universal.proofs.UniversalLists.{cut_after-concat, filter-none, filter_not-none, first_behind-map, length-first_behind, length-first_last, permuted-first_behind, permuted-first_last, permuted-reversed_first, pick-first_behind, pick-reversed_first}
+use Rattle.shapers_syllabic.proofs.NonePass.{filter-none, filter_not-none}
+use Rattle.shapers_universal.proofs.UniversalLists.{cut_after-concat, first_behind-map, length-first_behind, length-first_last, permuted-first_behind, permuted-first_last, permuted-reversed_first, pick-first_behind, pick-reversed_first}
 use Rattle.shapers_universal.proofs.Pieces.{cut_first}
 use Rattle.shapers_universal.proofs.UniversalSteps.{all_pieces, piece_fits, pieces_sum, reph_run-within}
 

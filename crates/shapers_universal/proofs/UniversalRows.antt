@@ -7,6 +7,7 @@ use Rattle.shapers_buffer.specs.declared.buffer.level.BufferClusterLevel.TheVari
 use Rattle.shapers_buffer.specs.Glyph.{clusters, default_glyph}
 use Rattle.shapers_clusters.specs.Steps.{run_steps}
 use Rattle.shapers_universal.specs.UniversalText.{universal_circles}
+use Rattle.shapers_universal.specs.UniversalWalk.{may_reorder}
 use Rattle.shapers_universal.specs.Universal.{goes_front, is_universal_halant, reph_passes, is_reordered_in_universal, universal_order, universal_steps}
 
 -- glyphs of one syllable of kind 2 by their categories, numbered from 0 in clusters of their own
@@ -80,6 +81,10 @@ halants = refl
 fronts : that_pass goes_front ≡ 22 ∷ 23 ∷ []
 fronts = refl
 
+-- what may change a syllable: R too
+changing : that_pass may_reorder ≡ 18 ∷ 22 ∷ 23 ∷ []
+changing = refl
+
 -- a ligature is no halant; of several glyphs for one the first alone goes to the front
 ligatures : map (λ category. is_universal_halant (record (of_category category) { marks = record { 0 = 2 } })) (12 ∷ 44 ∷ 53 ∷ []) ≡ false ∷ false ∷ false ∷ []
 ligatures = refl
@@ -93,6 +98,12 @@ ligatures_passed = refl
 
 components : map (λ comp. goes_front (record (of_category 22) { lig_comp = comp })) (0 ∷ 1 ∷ 15 ∷ []) ≡ true ∷ false ∷ false ∷ []
 components = refl
+
+changing_components : map (λ comp. may_reorder (record (of_category 22) { lig_comp = comp })) (0 ∷ 1 ∷ 15 ∷ []) ≡ true ∷ false ∷ false ∷ []
+changing_components = refl
+
+changing_reph : may_reorder (record (of_category 18) { lig_comp = 1 }) ≡ true
+changing_reph = refl
 
 -- dotted circles, of category 1, come into broken syllables, of kind 7, behind leading glyphs of category 18
 circles : universal_circles ≡ record { broken_kind = 7; category = 1; repha = Some 18; position = None }

@@ -21,7 +21,8 @@ use Rattle.shapers_clusters.proofs.Picks.{within_at, within_range}
 use Rattle.shapers_clusters.proofs.Swaps.{still_moves_merged}
 use Rattle.shapers_clusters.proofs.Widened.{all_along, fits-widened, moves-widened}
 use Rattle.shapers_universal.specs.Universal.{first_behind, goes_front_at, is_universal_halant, reph_passes, is_reordered_in_universal, piece_step, piece_steps, pieces, places_within, reph_moved, reph_run, universal_reph_step, reversed_first, universal_steps}
-use Rattle.shapers_universal.proofs.UniversalLists.{all-filter, cut_after-concat, filter-none, filter_not-none, length-first_behind, length-first_last, permuted-first_last, permuted-first_behind, permuted-reversed_first, reversed_first-append, take-range}
+use Rattle.shapers_syllabic.proofs.NonePass.{filter-none, filter_not-none}
+use Rattle.shapers_universal.proofs.UniversalLists.{all-filter, cut_after-concat, length-first_behind, length-first_last, permuted-first_last, permuted-first_behind, permuted-reversed_first, reversed_first-append, take-range}
 
 -- a step that takes each place once fits
 all_range : (n : ℕ) (ps : List ℕ) → IsPermutation (range_with_len 0 n) ps → AllByRecursion (λ q. q < n) ps

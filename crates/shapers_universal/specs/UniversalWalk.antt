@@ -1,5 +1,5 @@
 -- Words of the walk over the places of a syllable.
-use Rattle.std.specs.Prelude.{ℕ, suc, ◌≡◌, ◌-◌, ◌==◌, Bool, false, not, List, [], ◌∷◌, ◌++◌, filter, reverse, Option, None, Some, if◌then◌else◌, take, drop}
+use Rattle.std.specs.Prelude.{ℕ, suc, ◌≡◌, ◌-◌, ◌==◌, ◌||◌, Bool, false, not, List, [], ◌∷◌, ◌++◌, filter, reverse, Option, None, Some, if◌then◌else◌, take, drop}
 use Rattle.std.specs.List.{flat_map, range_with_len, slice_get, prefix_len}
 use Rattle.std.specs.Option.{option_map_or}
 use Rattle.shapers_buffer.specs.declared.buffer.glyph.hb_glyph_info_t.{hb_glyph_info_t}
@@ -13,6 +13,10 @@ use Rattle.shapers_buffer.specs.Syllables.{has_byte, syllables}
 abbrev pub has_universal_reph : List hb_glyph_info_t → Bool
 has_universal_reph [] = false
 has_universal_reph (g ∷ gs) = g.category == R
+
+-- what may change a syllable: a reph, and what goes to the front of its piece
+abbrev pub may_reorder : hb_glyph_info_t → Bool
+may_reorder g = g.category == R || goes_front g
 
 -- how long the first piece is of a list that is cut after each element that passes the test
 abbrev pub first_piece_len : {X : Type 0} → (X → Bool) → List X → ℕ

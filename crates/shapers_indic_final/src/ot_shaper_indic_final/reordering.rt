@@ -1,16 +1,21 @@
 //! The final reordering of one syllable, and of a text.
 ghost use Rattle.std.specs.Prelude.{◌%◌, ◌≡◌, ◌≤◌, length};
+ghost use Rattle.std.specs.List.{position};
 ghost use Rattle.shapers_indic_final.specs.FinalWordStart.{FinallyReordered};
 ghost use Rattle.shapers_indic_final.specs.FinalReordering.{final_order, final_steps};
+ghost use Rattle.shapers_indic_final.specs.FinalWalk.{changes_syllable};
 ghost use Rattle.shapers_syllabic.specs.Reordering.{SyllableReordered};
+ghost use Rattle.shapers_syllabic.specs.ReorderingLaws.{NextChanging};
 
 use super::base::settle_base;
+use super::glyphs::has_mask;
 use super::placing::{place_matras, place_pref, place_reph};
-use super::rules::Rules;
-use super::viramas::recover_viramas;
+use super::rules::{Rules, is_malayalam};
+use super::viramas::{is_lost_virama, recover_viramas};
 use super::word_start::open_syllable;
-use shapers_base::buffer::{Script, hb_buffer_t};
-use shapers_indic::ot_shaper_indic::glyphs::is_plain_consonant;
+use shapers_base::buffer::{Script, hb_buffer_t, hb_glyph_info_t};
+use shapers_base::plan::ot_position_t::{POS_BELOW_C, POS_PRE_M, POS_RA_TO_BECOME_REPH};
+use shapers_syllabic::ot_shaper_syllabic::syllable_start;
 
 // Reorders each syllable of the text and opens it, from left to right.
 #[inline]
@@ -21,13 +26,56 @@ pub(super) fn reorder_text(rules: &Rules, script: Option<Script>, buffer: &mut h
     ensures { FinallyReordered rules.now buffer.old buffer.new }
 {
     let mut start = 0;
-    while start < buffer.len() {
-        let end = buffer.next_syllable(start);
-        reorder_syllable(rules, script, buffer, start, end);
-        open_syllable(rules.init, buffer, start);
+    while let Some(first) = next_changing(rules, script, buffer.glyphs(), start) {
+        let end = buffer.next_syllable(first);
+        reorder_syllable(rules, script, buffer, first, end);
+        open_syllable(rules.init, buffer, first);
         start = end;
     }
     buffer.clear_places();
+}
+
+// Where the next syllable starts that may change, of those from `start` on.
+#[inline]
+fn next_changing(
+    rules: &Rules,
+    script: Option<Script>,
+    glyphs: &[hb_glyph_info_t],
+    start: usize,
+) -> Option<usize>
+    requires { start ≤ length glyphs.now }
+    ensures { NextChanging (changes_syllable rules.now script) start glyphs.now result }
+{
+    match first_changing(rules, script, &glyphs[start..]) {
+        None => None,
+        Some(count) => Some(syllable_start(glyphs, start, start + count)),
+    }
+}
+
+// The first glyph that may change its syllable.
+#[inline]
+fn first_changing(
+    rules: &Rules,
+    script: Option<Script>,
+    glyphs: &[hb_glyph_info_t],
+) -> Option<usize>
+    ensures { result ≡ position (changes_syllable rules.now script) glyphs.now }
+{
+    glyphs
+        .iter()
+        .position(|glyph| changes_syllable(rules, script, glyph))
+}
+
+// Whether a glyph may change its syllable: a left matra, a reph, what `pref` may form, a virama to
+// be recovered; in Malayalam what stands below the base, too.
+#[inline]
+fn changes_syllable(rules: &Rules, script: Option<Script>, glyph: &hb_glyph_info_t) -> bool
+    ensures { result ≡ changes_syllable rules.now script glyph.now }
+{
+    matches!(glyph.auxiliary, POS_PRE_M | POS_RA_TO_BECOME_REPH)
+        || has_mask(rules.pref, glyph)
+        || is_lost_virama(rules.virama, glyph)
+        || (glyph.auxiliary == POS_BELOW_C && is_malayalam(script))
 }
 
 // Reorders the syllable from `s` to `e`: its viramas, its base, its left matras, its reph, and a
@@ -47,9 +95,6 @@ fn reorder_syllable(
         (final_order rules.now script) (final_steps rules.now script) s e buffer.old buffer.new }
     ensures same_length { length buffer.new.glyphs ≡ length buffer.old.glyphs }
 {
-    if is_plain_consonant(&buffer.glyphs()[s..e]) {
-        return;
-    }
     recover_viramas(rules.virama, buffer, s, e);
     let based = settle_base(rules, script, buffer, s, e);
     place_matras(script, based.base, buffer, s, e);

@@ -41,7 +41,7 @@ impl GlyphChange for Recover {
 
 // Whether a glyph is the virama's, and lookups put it in for several and then took it apart.
 #[inline]
-fn is_lost_virama(virama: Option<GlyphId>, glyph: &hb_glyph_info_t) -> bool
+pub(super) fn is_lost_virama(virama: Option<GlyphId>, glyph: &hb_glyph_info_t) -> bool
     ensures { result ≡ is_lost_virama virama glyph.now }
 {
     match virama {

@@ -1,5 +1,5 @@
 //! The initial reordering of one syllable.
-ghost use Rattle.std.specs.Prelude.{◌≡◌, ◌-◌, ◌≤◌, [], length};
+ghost use Rattle.std.specs.Prelude.{◌≡◌, ◌-◌, ◌≤◌, [], length, true};
 ghost use Rattle.shapers_buffer.specs.Clusters.{stretch_of};
 ghost use Rattle.shapers_indic_initial.specs.InitialOrder.{ordered_base};
 ghost use Rattle.shapers_indic_initial.specs.InitialReordering.{is_reordered_in_indic, masked_in_order};
@@ -37,6 +37,14 @@ impl<'a, F: hb_font_t> Reorder for InitialOrder<'a, F> {
         let rules = r.rules.now in
         initial_steps (initial_rules (F.font rules.face.now) rules.map.now rules.plan.now)
         script gs };
+
+    ghost changes = { λ _ _. true };
+
+    // each may: it gets a position and masks
+    #[inline]
+    fn may_change(&self, _: &hb_glyph_info_t) -> bool {
+        true
+    }
 
     #[inline]
     fn reorder(

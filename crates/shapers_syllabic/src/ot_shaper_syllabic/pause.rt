@@ -4,7 +4,7 @@ ghost use Rattle.shapers_buffer.specs.Refusals.{Refuses};
 ghost use Rattle.shapers_syllabic.specs.CircleLaws.{NoNewCluster};
 ghost use Rattle.shapers_syllabic.specs.Circles.{circled};
 ghost use Rattle.shapers_syllabic.specs.Reordering.{PauseReordered, script_circles, first_unknown, kind_refusal};
-ghost use Rattle.shapers_syllabic.specs.ReorderingLaws.{PauseCutsAtBorders, ReorderLaws, TextReordered};
+ghost use Rattle.shapers_syllabic.specs.ReorderingLaws.{PauseCutsAtBorders, ReorderLaws, StaysWithout, TextReordered};
 
 use super::circles::ScriptCircles;
 use super::reordering::{Reorder, reorder_syllables};
@@ -25,6 +25,8 @@ pub fn reorder_pause<F: hb_font_t, R: Reorder>(
 ) -> Result<bool, ShaperError>
     requires without_positions { buffer.old.positions ≡ [] }
     requires laws { ReorderLaws
+        (R.meaning order.now buffer.old.script) (R.steps order.now buffer.old.script) }
+    requires stays { StaysWithout (R.changes order.now)
         (R.meaning order.now buffer.old.script) (R.steps order.now buffer.old.script) }
     ensures answer { let circles = script_circles script.now (F.font face.now) buffer.old in
         IfOk result (λ answer. answer ≡ is_some circles) }

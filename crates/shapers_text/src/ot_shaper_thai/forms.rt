@@ -260,28 +260,24 @@ impl Base {
             glyphs.new ≡ after_character has self i u glyphs.old }
     {
         let Types(consonant, mark) = types_of(u);
-        match mark {
-            Mark::NotMark => {
-                flag_marks(glyphs, self.place, i);
-                Base {
-                    place: i,
-                    consonant,
-                    ..Base::NONE
-                }
+        if matches!(mark, Mark::NotMark) {
+            flag_marks(glyphs, self.place, i);
+            return Base {
+                place: i,
+                consonant,
+                ..Base::NONE
+            };
+        }
+        self.act(face, glyphs, i, mark);
+        if matches!(mark, Mark::BV) {
+            Base {
+                below: self.below + 1,
+                ..self
             }
-            Mark::AV | Mark::T => {
-                self.act(face, glyphs, i, mark);
-                Base {
-                    above: self.above + 1,
-                    ..self
-                }
-            }
-            Mark::BV => {
-                self.act(face, glyphs, i, mark);
-                Base {
-                    below: self.below + 1,
-                    ..self
-                }
+        } else {
+            Base {
+                above: self.above + 1,
+                ..self
             }
         }
     }

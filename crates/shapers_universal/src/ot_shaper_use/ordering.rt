@@ -47,10 +47,18 @@ pub struct UniversalOrder;
 
 impl Reorder for UniversalOrder {
     ghost use Rattle.shapers_universal.specs.Universal.{universal_order, universal_steps};
+    ghost use Rattle.shapers_universal.specs.UniversalWalk.{may_reorder};
 
     ghost meaning = { λ _ _ gs. universal_order gs };
 
     ghost steps = { λ _ _ gs. universal_steps gs };
+
+    ghost changes = { λ _ g. may_reorder g };
+
+    #[inline]
+    fn may_change(&self, glyph: &hb_glyph_info_t) -> bool {
+        glyph.category == category::R || goes_front(glyph)
+    }
 
     #[inline]
     fn reorder(
@@ -59,8 +67,7 @@ impl Reorder for UniversalOrder {
         start: usize,
         end: usize,
     ) -> Result<(), ShaperError> {
-        let is_short = end - start < 2 && !has_reph(&buffer.glyphs()[start..end]);
-        if !is_short && is_reordered(&buffer.glyphs()[start..end]) {
+        if is_reordered(&buffer.glyphs()[start..end]) {
             if has_reph(&buffer.glyphs()[start..end]) {
                 reorder_syllable(buffer, start, end);
             } else {

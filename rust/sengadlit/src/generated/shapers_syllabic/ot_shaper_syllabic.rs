@@ -24,6 +24,6 @@ pub use clearing::{
 pub use consonants::is_consonant;
 pub use kinds::{indic_syllable, khmer_syllable, myanmar_syllable, use_syllable};
 pub use pause::reorder_pause;
-pub use reordering::{Reorder, reorder_syllables};
+pub use reordering::{Reorder, reorder_syllables, syllable_start};
 pub use set_up::{flag_syllables_in, set_up_by_bytes, set_up_syllables};
 pub use turning::{move_before, place_among, turn_left, turn_right};

@@ -1,9 +1,5 @@
 -- The calls, one after another; a pref glyph is tried or not.
 use Rattle.shapers_indic_final.proofs.FinalSyllable.{Calls, final_syllable, last_none, last_tried, viewed_in}
-use Rattle.std.proofs.Common.{sym, ap, ◌∙◌}
-use Rattle.shapers_buffer.specs.Clusters.{stretch_of}
-use Rattle.shapers_indic.specs.Glyphs.{is_plain_consonant}
-use Rattle.shapers_indic_final.proofs.FinalPlainConsonant.{plain_here}
 use Rattle.shapers_indic_final.proofs.ot_shaper_indic_final.reordering.reorder_syllable.Goals as goal
 
 pub returns-then-based-clause-reordered : goal.returns-then-based-clause-reordered
@@ -62,8 +58,3 @@ returns-else-based-clause-reordered c =
       next_is = c.place_reph-base.ensures.place;
     } in
     final_syllable r script s e base next tries b0 b1 b2 b3 b4 b4 viewed calls (last_none r script s e next tries b4 c.requires.in_order c.if-based.false)
-
-pub returns-then-is_plain_consonant-clause-reordered : goal.returns-then-is_plain_consonant-clause-reordered
-returns-then-is_plain_consonant-clause-reordered c =
-    plain_here c.args.rules.now c.args.script c.args.s c.args.e c.args.buffer.now c.requires.in_order
-    (ap (λ gs. is_plain_consonant (stretch_of c.args.s c.args.e gs)) (sym c.glyphs.ensures) ∙ sym c.is_plain_consonant.ensures ∙ c.if-is_plain_consonant.true)

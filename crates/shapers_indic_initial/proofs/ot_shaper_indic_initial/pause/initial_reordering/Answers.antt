@@ -14,10 +14,14 @@ use Rattle.shapers_syllabic.specs.Circles.{circled}
 use Rattle.shapers_syllabic.proofs.CircleLaws.{no_new_cluster}
 use Rattle.shapers_syllabic.proofs.ReorderingCuts.{cuts_at_borders}
 use Rattle.shapers_syllabic.proofs.ReorderingLaws.{text_reordered}
+use Rattle.shapers_syllabic.proofs.Skipping.{each_may}
 use Rattle.shapers_indic_initial.proofs.ot_shaper_indic_initial.pause.initial_reordering.Goals as goal
 
 pub reorder_syllables-requires-clause-laws : goal.reorder_syllables-requires-clause-laws
 reorder_syllables-requires-clause-laws g c = initial_laws (initial_rules (g.F.hb_font_t.font c.args.face.now) c.args.plan.now.ot_map c.indic_in.result.now) c.update_consonant_positions.new.buffer.script
+
+pub reorder_syllables-requires-clause-stays : goal.reorder_syllables-requires-clause-stays
+reorder_syllables-requires-clause-stays g c = each_may _ _
 
 pub returns-clause-ok : goal.returns-clause-ok
 returns-clause-ok g c =

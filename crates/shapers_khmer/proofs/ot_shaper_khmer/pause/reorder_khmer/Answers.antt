@@ -7,10 +7,14 @@ use Rattle.shapers_khmer.proofs.KhmerPauseMovers.{pause_by_movers}
 use Rattle.shapers_khmer.proofs.KhmerLaws.{khmer_laws, khmer_moves_merged}
 use Rattle.shapers_syllabic.specs.Reordering.{PauseReordered, script_circles}
 use Rattle.shapers_syllabic.specs.ReorderingLaws.{PauseCutsAtBorders}
+use Rattle.shapers_syllabic.proofs.Skipping.{each_may}
 use Rattle.shapers_khmer.proofs.ot_shaper_khmer.pause.reorder_khmer.Goals as goal
 
 pub reorder_pause-requires-clause-laws : goal.reorder_pause-requires-clause-laws
 reorder_pause-requires-clause-laws g c = khmer_laws c.order_of-order.result
+
+pub reorder_pause-requires-clause-stays : goal.reorder_pause-requires-clause-stays
+reorder_pause-requires-clause-stays g c = each_may (khmer_order c.order_of-order.result) khmer_steps
 
 pub returns-clause-ok : goal.returns-clause-ok
 returns-clause-ok g c =

@@ -31,7 +31,7 @@ impl GlyphChange for Recover {
 
 // Whether a glyph is the virama's, and lookups put it in for several and then took it apart.
 #[inline]
-fn is_lost_virama(virama: Option<GlyphId>, glyph: &GlyphInfo) -> bool {
+pub(super) fn is_lost_virama(virama: Option<GlyphId>, glyph: &GlyphInfo) -> bool {
     match virama {
         Some(virama) => {
             glyph.glyph_id == virama.0 as u32

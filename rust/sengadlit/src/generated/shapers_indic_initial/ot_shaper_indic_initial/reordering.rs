@@ -20,6 +20,12 @@ pub(super) struct InitialOrder<'a, F: Font> {
 }
 
 impl<'a, F: Font> Reorder for InitialOrder<'a, F> {
+    // each may: it gets a position and masks
+    #[inline]
+    fn may_change(&self, _: &GlyphInfo) -> bool {
+        true
+    }
+
     #[inline]
     fn reorder(&self, buffer: &mut Buffer, start: usize, end: usize) -> Result<(), ShaperError> {
         if is_plain_consonant(&buffer.glyphs()[start..end]) {

@@ -20,6 +20,8 @@ use crate::generated::shapers_base::font::Font;
 /// requires without_positions { buffer.old.positions ≡ [] }
 /// requires laws { ReorderLaws
 ///     (R.meaning order.now buffer.old.script) (R.steps order.now buffer.old.script) }
+/// requires stays { StaysWithout (R.changes order.now)
+///     (R.meaning order.now buffer.old.script) (R.steps order.now buffer.old.script) }
 /// ensures answer { let circles = script_circles script.now (F.font face.now) buffer.old in
 ///     IfOk result (λ answer. answer ≡ is_some circles) }
 /// ensures ok { let circles = script_circles script.now (F.font face.now) buffer.old in
@@ -47,7 +49,7 @@ use crate::generated::shapers_base::font::Font;
 /// - `NoNewCluster`: crates/shapers_syllabic/specs/CircleLaws.antt
 /// - `circled`: crates/shapers_syllabic/specs/Circles.antt
 /// - `PauseReordered`, `kind_refusal`, `script_circles`: crates/shapers_syllabic/specs/Reordering.antt
-/// - `PauseCutsAtBorders`, `ReorderLaws`, `TextReordered`: crates/shapers_syllabic/specs/ReorderingLaws.antt
+/// - `PauseCutsAtBorders`, `ReorderLaws`, `StaysWithout`, `TextReordered`: crates/shapers_syllabic/specs/ReorderingLaws.antt
 ///
 /// </details>
 #[inline]

@@ -2,11 +2,25 @@
 //!
 //! Reordering a text syllable by syllable.
 
-use crate::generated::shapers_base::buffer::{Buffer, ShaperError};
+use crate::generated::shapers_base::buffer::{Buffer, GlyphInfo, ShaperError};
 
 /// How one syllable is reordered. What a syllable becomes, and the merges and moves that lead
 /// there, are functions of that syllable and the buffer's script alone.
 pub trait Reorder {
+    /// Whether a syllable with this glyph may change. A syllable without such a glyph stays as it
+    /// is, and need not be looked at.
+    ///
+    /// <details><summary>Contract</summary>
+    ///
+    /// # Contract
+    ///
+    /// ```text
+    /// ensures { result ≡ changes self.now glyph.now }
+    /// ```
+    ///
+    /// </details>
+    fn may_change(&self, glyph: &GlyphInfo) -> bool;
+
     /// Reorders the syllable from `start` to `end`. It never refuses.
     ///
     /// <details><summary>Contract</summary>
@@ -30,8 +44,9 @@ pub trait Reorder {
 }
 
 /// Reorders each syllable of the text, from left to right. It requires the laws of the order: its
-/// steps fit a syllable, lose nothing and lead to what the syllable becomes. The placement list is
-/// empty afterwards, so that no place depends on how syllables were moved. It never refuses.
+/// steps fit a syllable, lose nothing and lead to what the syllable becomes, and a syllable without
+/// a glyph that may change it stays. The placement list is empty afterwards, so that no place
+/// depends on how syllables were moved. It never refuses.
 ///
 /// <details><summary>Contract</summary>
 ///
@@ -41,6 +56,8 @@ pub trait Reorder {
 /// requires without_positions { buffer.old.positions ≡ [] }
 /// requires laws { ReorderLaws
 ///     (R.meaning order.now buffer.old.script) (R.steps order.now buffer.old.script) }
+/// requires stays { StaysWithout (R.changes order.now)
+///     (R.meaning order.now buffer.old.script) (R.steps order.now buffer.old.script) }
 /// ensures reordered { SyllablesReordered
 ///     (R.meaning order.now buffer.old.script) (R.steps order.now buffer.old.script)
 ///     buffer.old buffer.new }
@@ -48,17 +65,60 @@ pub trait Reorder {
 /// ```
 ///
 /// - `SyllablesReordered`: crates/shapers_syllabic/specs/Reordering.antt
-/// - `ReorderLaws`: crates/shapers_syllabic/specs/ReorderingLaws.antt
+/// - `ReorderLaws`, `StaysWithout`: crates/shapers_syllabic/specs/ReorderingLaws.antt
 ///
 /// </details>
 #[inline]
 pub fn reorder_syllables<R: Reorder>(order: &R, buffer: &mut Buffer) -> Result<(), ShaperError> {
     let mut start = 0;
-    while start < buffer.len() {
-        let end = buffer.next_syllable(start);
-        order.reorder(buffer, start, end)?;
+    while let Some(first) = next_changing(order, buffer.glyphs(), start) {
+        let end = buffer.next_syllable(first);
+        order.reorder(buffer, first, end)?;
         start = end;
     }
     buffer.clear_places();
     Ok(())
+}
+
+// Where the next syllable starts that may change, of those from `start` on.
+#[inline]
+fn next_changing<R: Reorder>(order: &R, glyphs: &[GlyphInfo], start: usize) -> Option<usize> {
+    match first_changing(order, &glyphs[start..]) {
+        None => None,
+        Some(count) => Some(syllable_start(glyphs, start, start + count)),
+    }
+}
+
+// The first glyph that may change its syllable.
+#[inline]
+fn first_changing<R: Reorder>(order: &R, glyphs: &[GlyphInfo]) -> Option<usize> {
+    glyphs.iter().position(|glyph| order.may_change(glyph))
+}
+
+/// Where the syllable starts that `place` stands in, if one starts at `start`.
+///
+/// <details><summary>Contract</summary>
+///
+/// # Contract
+///
+/// ```text
+/// requires in_order { start ≤ place }
+/// requires in_range { place < length glyphs.now }
+/// ensures from { start ≤ result }
+/// ensures to { result ≤ place }
+/// ensures border { MeetAtBorder (stretch_of start result glyphs.now) (drop result glyphs.now) }
+/// ```
+///
+/// - `stretch_of`: crates/shapers_buffer/specs/Clusters.antt
+/// - `MeetAtBorder`: crates/shapers_syllabic/specs/Borders.antt
+///
+/// </details>
+#[inline]
+pub fn syllable_start(glyphs: &[GlyphInfo], start: usize, place: usize) -> usize {
+    for i in (start..place).rev() {
+        if glyphs[i].syllable != glyphs[i + 1].syllable {
+            return i + 1;
+        }
+    }
+    start
 }

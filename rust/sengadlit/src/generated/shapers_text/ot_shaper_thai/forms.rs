@@ -224,28 +224,24 @@ impl Base {
     // its action, and another character flags the marks before it.
     fn pass<F: Font>(self, face: &F, glyphs: &mut [GlyphInfo], i: usize, u: u32) -> Base {
         let Types(consonant, mark) = types_of(u);
-        match mark {
-            Mark::NotMark => {
-                flag_marks(glyphs, self.place, i);
-                Base {
-                    place: i,
-                    consonant,
-                    ..Base::NONE
-                }
+        if matches!(mark, Mark::NotMark) {
+            flag_marks(glyphs, self.place, i);
+            return Base {
+                place: i,
+                consonant,
+                ..Base::NONE
+            };
+        }
+        self.act(face, glyphs, i, mark);
+        if matches!(mark, Mark::BV) {
+            Base {
+                below: self.below + 1,
+                ..self
             }
-            Mark::AV | Mark::T => {
-                self.act(face, glyphs, i, mark);
-                Base {
-                    above: self.above + 1,
-                    ..self
-                }
-            }
-            Mark::BV => {
-                self.act(face, glyphs, i, mark);
-                Base {
-                    below: self.below + 1,
-                    ..self
-                }
+        } else {
+            Base {
+                above: self.above + 1,
+                ..self
             }
         }
     }

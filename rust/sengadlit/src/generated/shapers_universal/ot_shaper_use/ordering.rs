@@ -42,9 +42,13 @@ pub struct UniversalOrder;
 
 impl Reorder for UniversalOrder {
     #[inline]
+    fn may_change(&self, glyph: &GlyphInfo) -> bool {
+        glyph.category == category::R || goes_front(glyph)
+    }
+
+    #[inline]
     fn reorder(&self, buffer: &mut Buffer, start: usize, end: usize) -> Result<(), ShaperError> {
-        let is_short = end - start < 2 && !has_reph(&buffer.glyphs()[start..end]);
-        if !is_short && is_reordered(&buffer.glyphs()[start..end]) {
+        if is_reordered(&buffer.glyphs()[start..end]) {
             if has_reph(&buffer.glyphs()[start..end]) {
                 reorder_syllable(buffer, start, end);
             } else {

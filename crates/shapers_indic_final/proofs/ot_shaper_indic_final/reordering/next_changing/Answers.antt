@@ -1,0 +1,11 @@
+-- A glyph that may change its syllable, or none.
+use Rattle.shapers_indic_final.specs.FinalWalk.{changes_syllable}
+use Rattle.shapers_syllabic.proofs.Skipping.{next_found, none_found}
+use Rattle.shapers_indic_final.proofs.ot_shaper_indic_final.reordering.next_changing.Goals as goal
+
+pub returns-in-None : goal.returns-in-None
+returns-in-None c = none_found (changes_syllable c.args.rules.now c.args.script) c.args.start c.args.glyphs.now c.in-None.ensures
+
+pub returns-in-Some : goal.returns-in-Some
+returns-in-Some c =
+    next_found (changes_syllable c.args.rules.now c.args.script) c.args.start c.in-Some.count c.args.glyphs.now c.syllable_start.result c.in-Some.ensures c.syllable_start.ensures.from c.syllable_start.ensures.to c.syllable_start.ensures.border
