@@ -1,5 +1,5 @@
 -- Lists of which no element passes a test.
-use Rattle.std.proofs.Common.{ℕ, zero, suc, ◌≡◌, Bool, false, not, List, [], ◌∷◌, filter, take, drop, refl, sym, ◌∙◌, ap, take-append-drop}
+use Rattle.std.proofs.Common.{ℕ, ◌≡◌, Bool, false, not, List, [], ◌∷◌, filter, take, drop, refl, sym, ◌∙◌, ap, take-append-drop}
 use Rattle.std.specs.List.{list_any}
 use Rattle.std.proofs.lemmas.Bool.{or_parts}
 use Rattle.std.proofs.lemmas.List.Folds.{list_any-append}

@@ -1,9 +1,7 @@
 -- The walk that reorders passes over syllables that stay.
 use Rattle.std.proofs.Common.{ℕ, zero, suc, ◌+◌, ◌-◌, ◌<◌, ◌≤◌, ◌≡◌, ◌≢◌, Bool, false, None, Option, Some, is_some, true, List, [], ◌∷◌, ◌++◌, get_or, length, map, take, drop, sym, ◌∙◌, ap, subst, arith, length-append, length-take-le, length-drop}
 use Rattle.std.specs.List.{list_any, position}
-use Rattle.std.proofs.lemmas.Bool.{or_parts}
 use Rattle.std.proofs.lemmas.List.{append-nil, drop-append-le, drop-drop, drop_all, get_or-drop, get_or-map, get_or-take, length-map, take-append-drop, take-append-le, take_all, take_rest}
-use Rattle.std.proofs.lemmas.List.Folds.{list_any-append}
 use Rattle.shapers_buffer.specs.declared.buffer.glyph.hb_glyph_info_t.{hb_glyph_info_t}
 use Rattle.shapers_buffer.specs.declared.buffer.tag.Script.{Script}
 use Rattle.shapers_buffer.specs.Buffer.{Buffer, but_places}

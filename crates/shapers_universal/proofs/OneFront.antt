@@ -1,24 +1,23 @@
 -- A syllable in which one glyph alone goes to the front: its places in order.
-use Rattle.std.proofs.Common.{◌≡◌, ℕ, zero, suc, ◌+◌, ◌-◌, ◌<◌, ◌≤◌, inl, inr, Bool, true, false, not, nat_lt, ◌&&◌, if◌then◌else◌, List, [], ◌∷◌, ◌++◌, map, filter, reverse, length, take, drop, get_or, refl, ap, sym, ◌∙◌, arith, append_assoc, Some}
+use Rattle.std.proofs.Common.{◌≡◌, ℕ, zero, suc, ◌+◌, ◌-◌, ◌<◌, ◌≤◌, inl, inr, Bool, true, false, not, if◌then◌else◌, List, [], ◌∷◌, ◌++◌, map, filter, reverse, length, take, drop, get_or, refl, ap, sym, ◌∙◌, arith, append_assoc, Some}
 use Rattle.std.specs.List.{flat_map, list_any, onto_first, range_with_len, slice_rotate_right}
-use Rattle.std.proofs.lemmas.Bool.{cases_Bool, cases_lt, or_parts}
+use Rattle.std.proofs.lemmas.Bool.{cases_Bool, or_parts}
 use Rattle.std.proofs.lemmas.Bool.Decides.{nat_tests}
 use Rattle.std.proofs.lemmas.List.{append-nil, drop-drop, drop-take, map-append, take-append-drop, take-take}
 use Rattle.std.proofs.lemmas.List.Folds.{list_any-append}
 use Rattle.shapers_buffer.specs.declared.buffer.glyph.hb_glyph_info_t.{hb_glyph_info_t}
-use Rattle.shapers_buffer.specs.declared.buffer.level.BufferClusterLevel.{BufferClusterLevel}
 use Rattle.shapers_buffer.specs.Buffer.{Buffer, but_places}
-use Rattle.shapers_buffer.specs.Clusters.{merge, merge_all, merged, merges, stretch_of, with_stretch}
+use Rattle.shapers_buffer.specs.Clusters.{merge, merge_all, stretch_of, with_stretch}
 use Rattle.shapers_buffer.specs.Lists.{cut_after}
 use Rattle.shapers_buffer.specs.Places.{pick}
-use Rattle.shapers_buffer.proofs.ClusterLemmas.{length-stretch, three_parts}
+use Rattle.shapers_buffer.proofs.ClusterLemmas.{length-stretch}
 use Rattle.shapers_clusters.proofs.Merging.{length-merge}
 use Rattle.shapers_clusters.proofs.Picks.{pick-append, pick-range}
 use Rattle.shapers_clusters.proofs.Widened.{range-append}
 use Rattle.shapers_syllabic.specs.Reordering.{SyllableReordered}
 use Rattle.shapers_universal.specs.Universal.{goes_front, goes_front_at, is_universal_halant, is_reordered_in_universal, reph_run, reversed_first, universal_order, universal_steps}
 use Rattle.shapers_universal.specs.UniversalWalk.{MergesFirst, fronts_from, has_universal_reph, is_halant_at, last_place_first, syllable_places_in_order, start_from}
-use Rattle.shapers_universal.proofs.Reordered.{merge_nothing, no_reph, still_pieces, still_reordered, syllable_ran, syllable_reordered}
+use Rattle.shapers_universal.proofs.Reordered.{merge_nothing, no_reph, still_pieces, syllable_ran, syllable_reordered}
 use Rattle.shapers_universal.proofs.UniversalFronts.{fronts_next}
 use Rattle.shapers_syllabic.proofs.NonePass.{filter-none, filter_not-none}
 use Rattle.shapers_universal.proofs.UniversalLists.{cut_after-concat, reversed_first-no, reversed_first-yes}

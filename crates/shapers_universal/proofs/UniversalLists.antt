@@ -7,7 +7,6 @@ use Rattle.std.proofs.lemmas.List.FromFn.{length-range_with_len}
 use Rattle.shapers_buffer.proofs.MappedLists.{drop-range, map-reverse}
 use Rattle.std.proofs.lemmas.List.Elements.{filter-append}
 use Rattle.std.proofs.lemmas.List.Sorted.{IsPermutation-refl, IsPermutation-trans, IsPermutation-append_comm, IsPermutation-append_left, IsPermutation-filter_both, IsPermutation-reverse}
-use Rattle.std.proofs.lemmas.Bool.{or_parts}
 use Rattle.shapers_buffer.specs.Lists.{cut_after, first_last}
 use Rattle.shapers_buffer.specs.Places.{pick}
 use Rattle.shapers_clusters.proofs.Picks.{pick-append, pick-all, pick-range}

@@ -46,10 +46,8 @@ fn next_changing(
     requires { start ≤ length glyphs.now }
     ensures { NextChanging (changes_syllable rules.now script) start glyphs.now result }
 {
-    match first_changing(rules, script, &glyphs[start..]) {
-        None => None,
-        Some(count) => Some(syllable_start(glyphs, start, start + count)),
-    }
+    let count = first_changing(rules, script, &glyphs[start..])?;
+    Some(syllable_start(glyphs, start, start + count))
 }
 
 // The first glyph that may change its syllable.

@@ -1,7 +1,8 @@
 //! Reordering a text syllable by syllable.
-ghost use Rattle.std.specs.Prelude.{◌≡◌, ◌<◌, ◌≤◌, [], IsOk, drop, length};
+ghost use Rattle.std.specs.Prelude.{◌≡◌, ◌<◌, ◌≤◌, ℕ, [], IsOk, drop, get_or, length};
 ghost use Rattle.std.specs.List.{position};
 ghost use Rattle.shapers_buffer.specs.Clusters.{stretch_of};
+ghost use Rattle.shapers_buffer.specs.Glyph.{default_glyph};
 ghost use Rattle.shapers_syllabic.specs.Borders.{MeetAtBorder};
 ghost use Rattle.shapers_syllabic.specs.Reordering.{SyllableReordered, SyllablesReordered};
 ghost use Rattle.shapers_syllabic.specs.ReorderingLaws.{NextChanging, ReorderLaws, StaysWithout};
@@ -70,10 +71,8 @@ fn next_changing<R: Reorder>(order: &R, glyphs: &[hb_glyph_info_t], start: usize
     requires { start ≤ length glyphs.now }
     ensures { NextChanging (R.changes order.now) start glyphs.now result }
 {
-    match first_changing(order, &glyphs[start..]) {
-        None => None,
-        Some(count) => Some(syllable_start(glyphs, start, start + count)),
-    }
+    let count = first_changing(order, &glyphs[start..])?;
+    Some(syllable_start(glyphs, start, start + count))
 }
 
 // The first glyph that may change its syllable.
@@ -91,6 +90,9 @@ pub fn syllable_start(glyphs: &[hb_glyph_info_t], start: usize, place: usize) ->
     requires in_range { place < length glyphs.now }
     ensures from { start ≤ result }
     ensures to { result ≤ place }
+    ensures together { (k : ℕ) → result ≤ k → k < place →
+        (get_or glyphs.now k default_glyph).syllable
+        ≡ (get_or glyphs.now place default_glyph).syllable }
     ensures border { MeetAtBorder (stretch_of start result glyphs.now) (drop result glyphs.now) }
 {
     for i in (start..place).rev() {

@@ -1,11 +1,15 @@
 -- A glyph that may change its syllable, or none.
+use Rattle.std.proofs.Common.{subst, sym}
 use Rattle.shapers_indic_final.specs.FinalWalk.{changes_syllable}
+use Rattle.shapers_syllabic.specs.ReorderingLaws.{NextChanging}
 use Rattle.shapers_syllabic.proofs.Skipping.{next_found, none_found}
 use Rattle.shapers_indic_final.proofs.ot_shaper_indic_final.reordering.next_changing.Goals as goal
 
-pub returns-in-None : goal.returns-in-None
-returns-in-None c = none_found (changes_syllable c.args.rules.now c.args.script) c.args.start c.args.glyphs.now c.in-None.ensures
+pub returns-in_err-count : goal.returns-in_err-count
+returns-in_err-count c =
+    let changes = changes_syllable c.args.rules.now c.args.script in
+    subst (NextChanging changes c.args.start c.args.glyphs.now) (sym c.from_residual.ensures) (none_found changes c.args.start c.args.glyphs.now c.in_err-count.ensures)
 
-pub returns-in-Some : goal.returns-in-Some
-returns-in-Some c =
-    next_found (changes_syllable c.args.rules.now c.args.script) c.args.start c.in-Some.count c.args.glyphs.now c.syllable_start.result c.in-Some.ensures c.syllable_start.ensures.from c.syllable_start.ensures.to c.syllable_start.ensures.border
+pub returns : goal.returns
+returns c =
+    next_found (changes_syllable c.args.rules.now c.args.script) c.args.start c.in_ok-count.count c.args.glyphs.now c.syllable_start.result c.in_ok-count.ensures c.syllable_start.ensures.from c.syllable_start.ensures.to c.syllable_start.ensures.border

@@ -35,10 +35,8 @@ fn next_changing(
     glyphs: &[GlyphInfo],
     start: usize,
 ) -> Option<usize> {
-    match first_changing(rules, script, &glyphs[start..]) {
-        None => None,
-        Some(count) => Some(syllable_start(glyphs, start, start + count)),
-    }
+    let count = first_changing(rules, script, &glyphs[start..])?;
+    Some(syllable_start(glyphs, start, start + count))
 }
 
 // The first glyph that may change its syllable.

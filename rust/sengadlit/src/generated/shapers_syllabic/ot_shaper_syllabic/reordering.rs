@@ -83,10 +83,8 @@ pub fn reorder_syllables<R: Reorder>(order: &R, buffer: &mut Buffer) -> Result<(
 // Where the next syllable starts that may change, of those from `start` on.
 #[inline]
 fn next_changing<R: Reorder>(order: &R, glyphs: &[GlyphInfo], start: usize) -> Option<usize> {
-    match first_changing(order, &glyphs[start..]) {
-        None => None,
-        Some(count) => Some(syllable_start(glyphs, start, start + count)),
-    }
+    let count = first_changing(order, &glyphs[start..])?;
+    Some(syllable_start(glyphs, start, start + count))
 }
 
 // The first glyph that may change its syllable.
@@ -106,10 +104,14 @@ fn first_changing<R: Reorder>(order: &R, glyphs: &[GlyphInfo]) -> Option<usize> 
 /// requires in_range { place < length glyphs.now }
 /// ensures from { start ≤ result }
 /// ensures to { result ≤ place }
+/// ensures together { (k : ℕ) → result ≤ k → k < place →
+///     (get_or glyphs.now k default_glyph).syllable
+///     ≡ (get_or glyphs.now place default_glyph).syllable }
 /// ensures border { MeetAtBorder (stretch_of start result glyphs.now) (drop result glyphs.now) }
 /// ```
 ///
 /// - `stretch_of`: crates/shapers_buffer/specs/Clusters.antt
+/// - `default_glyph`: crates/shapers_buffer/specs/Glyph.antt
 /// - `MeetAtBorder`: crates/shapers_syllabic/specs/Borders.antt
 ///
 /// </details>
