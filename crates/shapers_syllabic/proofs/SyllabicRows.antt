@@ -8,6 +8,7 @@ use Rattle.shapers_syllabic.specs.declared.ot_shaper_syllabic.kinds.myanmar_syll
 use Rattle.shapers_syllabic.specs.declared.ot_shaper_syllabic.kinds.use_syllable.TheConstants as universal
 use Rattle.shapers_buffer.specs.Buffer.{Buffer, new_buffer}
 use Rattle.shapers_buffer.specs.Glyph.{default_glyph}
+use Rattle.shapers_syllabic.specs.MovedForward.{moved_forward}
 use Rattle.shapers_syllabic.specs.Syllabic.{in_unsafe_syllable, set_up_by_bytes, unsafe_spans, unsafe_syllables, unsubstituted, with_unsafe_syllables}
 use Rattle.shapers_buffer.specs.Syllables.{in_syllable, kind_of, with_spans}
 
@@ -79,3 +80,8 @@ unmarked_by_bytes = refl
 
 still_marked : (set_up_by_bytes 4 (record (new_buffer 9) { broken = true })).broken ≡ true
 still_marked = refl
+
+-- an element moved before others: to the start, past one and two, from the end, and to where it stands
+moved : map (λ (ends : ℕ × ℕ). moved_forward {X = ℕ} ends.0 ends.1 (1 ∷ 2 ∷ 3 ∷ 4 ∷ 5 ∷ [])) ((0, 1) ∷ (1, 3) ∷ (0, 4) ∷ (3, 4) ∷ (2, 2) ∷ (4, 4) ∷ [])
+    ≡ (2 ∷ 1 ∷ 3 ∷ 4 ∷ 5 ∷ []) ∷ (1 ∷ 4 ∷ 2 ∷ 3 ∷ 5 ∷ []) ∷ (5 ∷ 1 ∷ 2 ∷ 3 ∷ 4 ∷ []) ∷ (1 ∷ 2 ∷ 3 ∷ 5 ∷ 4 ∷ []) ∷ (1 ∷ 2 ∷ 3 ∷ 4 ∷ 5 ∷ []) ∷ (1 ∷ 2 ∷ 3 ∷ 4 ∷ 5 ∷ []) ∷ []
+moved = refl
